@@ -1,0 +1,28 @@
+//! The limits that a client meets, each in one place.
+
+/// The longest key, and the longest field, in bytes.
+pub const MAX_KEY_BYTES: usize = 512;
+
+/// The longest value, in bytes.
+pub const MAX_VALUE_BYTES: usize = 65_536;
+
+/// How long a request may be.
+#[derive(Clone, Copy, Debug, PartialEq, Eq)]
+pub struct Limits {
+    /// The most words in a request, the command's name among them.
+    pub words: u64,
+    /// The longest word, in bytes.
+    pub word_bytes: u64,
+}
+
+/// The limits of the protocol: the type `Request` holds no longer request.
+pub const FULL_LIMITS: Limits = Limits {
+    words: 1_024,
+    word_bytes: 65_536,
+};
+
+/// The limits that are served today.
+pub const SERVED_LIMITS: Limits = Limits {
+    words: 3,
+    word_bytes: 9,
+};

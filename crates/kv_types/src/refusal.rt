@@ -1,0 +1,68 @@
+//! Why a call of any layer was refused.
+ghost use Rattle.std.specs.Prelude.{◌≡◌};
+
+use std::alloc::{AllocError, AllocFailed};
+
+/// Why a call was refused. Each has a number of its own, which programs print.
+#[derive(Clone, Copy, Debug, PartialEq, Eq)]
+pub enum Refusal {
+    /// The device's failure count rose, in this call or in an earlier call of the same engine; or a file could not be opened, made or read.
+    Fault = 1,
+    /// The image does not begin with the magic word.
+    BadMagic,
+    /// The image is of another version.
+    BadVersion,
+    /// The device or file has not the number of lines that it should have.
+    WrongSize,
+    /// No free run of lines is long enough, or no entry is free.
+    Full,
+    /// The next stamp limit, position, epoch or record number would reach 2^62.
+    Exhausted,
+    /// The image breaks a rule of its format.
+    Damaged,
+    /// 1,024 seats are taken.
+    SeatsFull,
+    /// The pipe held as many items as it can.
+    PipeFull,
+    /// No continuation of the bytes is a frame.
+    FrameFault,
+    /// The epoch is another one.
+    WrongEpoch,
+    /// The frame does not begin at the standby's position.
+    PositionGap,
+    /// An acknowledgement above the own position, or a delta that would go backwards.
+    StandbyAhead,
+    /// Memory for a growth was refused.
+    Memory,
+    /// Nobody said that the old primary is stopped.
+    NotFenced,
+    /// The image is to be served in the other role.
+    WrongRole,
+}
+
+impl From<AllocError> for Refusal {
+    ghost use Rattle.kv_types.specs.declared.refusal.Refusal.TheVariants.{Memory};
+
+    ghost from_gives = { λ _ r. r ≡ Memory };
+
+    fn from(_e: AllocError) -> Refusal {
+        Refusal::Memory
+    }
+}
+
+impl<T: Drop> From<AllocFailed<T>> for Refusal {
+    ghost use Rattle.kv_types.specs.declared.refusal.Refusal.TheVariants.{Memory};
+
+    ghost from_gives = { λ _ r. r ≡ Memory };
+
+    fn from(_e: AllocFailed<T>) -> Refusal {
+        Refusal::Memory
+    }
+}
+
+impl Refusal {
+    /// The number that programs print, 1 to 16.
+    pub fn number(self) -> u8 {
+        self as u8
+    }
+}

@@ -1,0 +1,64 @@
+-- What the calls of a device do to the candidates of a word, and to the images.
+use Rattle.std.proofs.Common.{◌≡◌, ◌⊎◌, ℕ, ◌+◌, ◌/◌, Bool, true, false, not, ◌==◌, if◌then◌else◌, List, [], ◌∷◌, ◌++◌, map, filter, refl, inl, inr, sym}
+use Rattle.pmem.specs.Device.{Older, Word, IsOlder, MayBe, Only, settled, store_word, flush_word, fence_word, store_at, flush_at, fenced}
+use Rattle.pmem.specs.Crash.{IsImage}
+use Rattle.pmem.specs.Runs.{IsNoted, AllPassed}
+
+pub IsOlder-append_left : (a b : List Older) (x : ℕ) → IsOlder a x → IsOlder (a ++ b) x
+IsOlder-append_left [] b x h = absurd h
+IsOlder-append_left (o ∷ a) b x (inl here) = inl here
+IsOlder-append_left (o ∷ a) b x (inr there) = inr (IsOlder-append_left a b x there)
+
+pub IsOlder-append_right : (a b : List Older) (x : ℕ) → IsOlder b x → IsOlder (a ++ b) x
+IsOlder-append_right [] b x h = h
+IsOlder-append_right (o ∷ a) b x h = inr (IsOlder-append_right a b x h)
+
+pub IsOlder-append_cases : (a b : List Older) (x : ℕ) → IsOlder (a ++ b) x → IsOlder a x ⊎ IsOlder b x
+IsOlder-append_cases [] b x h = inr h
+IsOlder-append_cases (o ∷ a) b x (inl here) = inl (inl here)
+IsOlder-append_cases (o ∷ a) b x (inr there) =
+    elim (IsOlder-append_cases a b x there) [ inl front ↦ inl (inr front) | inr back ↦ inr back ]
+
+-- a store keeps each candidate
+pub MayBe-store_word : (x : ℕ) (word : Word) (y : ℕ) → MayBe word y → MayBe (store_word x word) y
+MayBe-store_word x word y (inl newest) =
+    inr (IsOlder-append_right word.older (record { value = word.newest; passed = false } ∷ []) y (inl newest))
+MayBe-store_word x word y (inr older) =
+    inr (IsOlder-append_left word.older (record { value = word.newest; passed = false } ∷ []) y older)
+
+-- and adds one
+pub MayBe-store_word-cases : (x : ℕ) (word : Word) (y : ℕ) → MayBe (store_word x word) y → MayBe word y ⊎ (x ≡ y)
+MayBe-store_word-cases x word y (inl newest) = inr (sym newest)
+MayBe-store_word-cases x word y (inr older) =
+    elim (IsOlder-append_cases word.older (record { value = word.newest; passed = false } ∷ []) y older) [
+      inl before ↦ inl (inr before)
+    | inr last ↦ elim last [ inl is ↦ inl (inl is) | inr none ↦ absurd none ]
+    ]
+
+IsOlder-passed : (older : List Older) (x : ℕ) → IsOlder (map (λ o. record { value = o.value; passed = true }) older) x → IsOlder older x
+IsOlder-passed [] x h = h
+IsOlder-passed (o ∷ older) x (inl here) = inl here
+IsOlder-passed (o ∷ older) x (inr there) = inr (IsOlder-passed older x there)
+
+IsOlder-to_passed : (older : List Older) (x : ℕ) → IsOlder older x → IsOlder (map (λ o. record { value = o.value; passed = true }) older) x
+IsOlder-to_passed [] x h = h
+IsOlder-to_passed (o ∷ older) x (inl here) = inl here
+IsOlder-to_passed (o ∷ older) x (inr there) = inr (IsOlder-to_passed older x there)
+
+-- a flush changes no candidate
+pub MayBe-flush_word : (word : Word) (x : ℕ) → MayBe (flush_word word) x → MayBe word x
+MayBe-flush_word word x (inl newest) = inl newest
+MayBe-flush_word word x (inr older) = inr (IsOlder-passed word.older x older)
+
+pub flush_word-MayBe : (word : Word) (x : ℕ) → MayBe word x → MayBe (flush_word word) x
+flush_word-MayBe word x (inl newest) = inl newest
+flush_word-MayBe word x (inr older) = inr (IsOlder-to_passed word.older x older)
+
+IsOlder-fence : (older : List Older) (x : ℕ) → IsOlder (filter (λ o. not o.passed) older) x → IsOlder older x
+IsOlder-fence [] x h = h
+IsOlder-fence (o ∷ older) x h = ?
+
+-- a fence adds no candidate
+pub MayBe-fence_word : (word : Word) (x : ℕ) → MayBe (fence_word word) x → MayBe word x
+MayBe-fence_word word x (inl newest) = inl newest
+MayBe-fence_word word x (inr older) = inr (IsOlder-fence word.older x older)

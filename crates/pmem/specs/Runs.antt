@@ -1,0 +1,77 @@
+-- What runs of calls do, for the layers above.
+use Rattle.std.specs.Prelude.{◌≡◌, ◌⊎◌, ℕ, zero, suc, ◌+◌, ◌/◌, ◌≤◌, Bool, true, ◌==◌, if◌then◌else◌, List, [], ◌∷◌, Option, Some, None}
+use Rattle.pmem.specs.Device.{Older, Word, State, Fences, MayBe, store_at, flush_at, moment}
+use Rattle.pmem.specs.Crash.{IsImage, MayLeave}
+
+-- stores of these pairs of a word and a value, in this order
+abbrev pub stores : List (ℕ × ℕ) → (ℕ → Word) → ℕ → Word
+stores [] words = words
+stores (pair ∷ pairs) words = stores pairs (store_at pair.0 pair.1 words)
+
+-- flushes of these lines, in this order
+abbrev pub flushes : List ℕ → (ℕ → Word) → ℕ → Word
+flushes [] words = words
+flushes (line ∷ lines) words = flushes lines (flush_at line words)
+
+-- these values and the words that they go to, one after another from the first
+abbrev pub pairs_from : ℕ → List ℕ → List (ℕ × ℕ)
+pairs_from first [] = []
+pairs_from first (x ∷ values) = (first, x) ∷ pairs_from (first + 1) values
+
+-- so many lines, one after another from the first
+abbrev pub lines_from : ℕ → ℕ → List ℕ
+lines_from first zero = []
+lines_from first (suc n) = first ∷ lines_from (first + 1) n
+
+-- one of the pairs stores this value at this word
+abbrev pub IsStored : List (ℕ × ℕ) → ℕ → ℕ → Type 0
+IsStored [] word x = ⊥
+IsStored (pair ∷ pairs) word x = ((pair.0 ≡ word) × (pair.1 ≡ x)) ⊎ IsStored pairs word x
+
+-- no pair stores at this word
+abbrev pub IsOutside : List (ℕ × ℕ) → ℕ → Type 0
+IsOutside pairs word = (x : ℕ) → IsStored pairs word x → ⊥
+
+-- what the last of the pairs at this word stores there
+abbrev pub last_stored : List (ℕ × ℕ) → ℕ → Option ℕ → Option ℕ
+last_stored [] word before = before
+last_stored (pair ∷ pairs) word before = last_stored pairs word (if word == pair.0 then Some pair.1 else before)
+
+-- a line is one of these
+abbrev pub IsLine : List ℕ → ℕ → Type 0
+IsLine [] line = ⊥
+IsLine (l ∷ lines) line = (l ≡ line) ⊎ IsLine lines line
+
+abbrev pub AllPassed : List Older → Type 0
+AllPassed [] = Unit {0}
+AllPassed (o ∷ older) = (o.passed ≡ true) × AllPassed older
+
+-- a fence that succeeds leaves only the newest candidate of this word
+pub record IsNoted (word : Word) : Type 0 where
+  pub all : AllPassed word.older
+
+-- The candidates of each word since old are those that it had and those that the pairs stored there, and no word but theirs has changed.
+pub record Gains (pairs : List (ℕ × ℕ)) (old new : ℕ → Word) : Type 0 where
+  pub within : (word x : ℕ) → MayBe (new word) x → MayBe (old word) x ⊎ IsStored pairs word x
+  pub elsewhere : (word : ℕ) → IsOutside pairs word → new word ≡ old word
+
+-- what no store, flush or fence of a run changes
+pub record Stays (old new : State) : Type 0 where
+  pub lines : new.lines ≡ old.lines
+  pub kept : new.kept ≡ old.kept
+  pub starved : old.starved ≡ true → new.starved ≡ true
+
+-- A crash at any moment since old leaves an image that has P.
+pub record LeavesOnly (old new : State) (P : (ℕ → ℕ) → Type 0) : Type 0 where
+  pub later : moment old ≤ moment new
+  pub each : (image : ℕ → ℕ) → MayLeave new (moment old) image → P image
+  -- for a run that began earlier
+  pub before : (t : ℕ) (image : ℕ → ℕ) → t ≤ moment old → MayLeave new t image → MayLeave old t image ⊎ P image
+
+-- A run without a fence led from old to new: its words are these, and a crash at any moment of it leaves one of their images.
+pub record Runs (old new : State) (words' : ℕ → Word) : Type 0 where
+  pub words : new.words ≡ words'
+  pub failures : new.failures ≡ old.failures
+  pub fences : new.fences ≡ old.fences
+  pub stays : Stays old new
+  pub moments : LeavesOnly old new (IsImage words')

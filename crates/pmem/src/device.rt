@@ -1,0 +1,88 @@
+// A device of persistent memory, as the layers above see it.
+ghost use Rattle.std.specs.Prelude.{◌≡◌, ◌⊎◌, ℕ, suc, ◌+◌, ◌-◌, ◌*◌, ◌^◌, ◌<◌, ◌==◌, if◌then◌else◌, Some, None, false, true, min, length, IsTrue, IsErr, OnOk, OnErr};
+ghost use Rattle.pmem.specs.Device.{State, Fences, Steps, store_at, flush_at, fenced, fences_after, must_fail, may_fail, newest_at, moment};
+ghost use Rattle.pmem.specs.Device.Fences.{Sure};
+ghost use Rattle.pmem.specs.Crash.{IsImage, Keeps, Restarts, image_of, words_to_crash, picked};
+
+/// A fence failed. What it should have made durable may still be lost: the node stops, crashes and reopens.
+#[derive(Clone, Copy, Debug, PartialEq, Eq)]
+pub struct Fault;
+
+/// Lines of eight words of 64 bits behind a cache that writes lines back in any order.
+///
+/// A word is named by its number, 0 to 8 * lines - 1, and word w is of line w / 8. A store adds a candidate to its word; a crash leaves any
+/// one candidate of each word; a flush of the line and then a fence that succeeds make the newest the only one.
+pub trait Pmem {
+    /// What the device has gone through: the candidates of each word now and at each earlier moment.
+    ghost state: { Self → State };
+
+    /// The newest value of a word.
+    fn load(&self, word: u64) -> u64
+        requires { word < 8 * (state self.now).lines }
+        ensures { result ≡ newest_at (state self.now) word };
+
+    /// Stores a value, which a crash may or may not leave.
+    fn store(&mut self, word: u64, value: u64)
+        requires { word < 8 * (state self.old).lines }
+        ensures { Steps (state self.old) (state self.new)
+            (store_at word value (state self.old).words) (state self.old).failures (state self.old).fences };
+
+    /// Notes the newest candidate of each word of a line, for the next fence.
+    fn flush(&mut self, line: u64)
+        requires { line < (state self.old).lines }
+        ensures { Steps (state self.old) (state self.new)
+            (flush_at line (state self.old).words) (state self.old).failures (state self.old).fences };
+
+    /// Drops the candidates that are older than one noted by a flush. An `Err` drops none, and one more fence has failed.
+    fn fence(&mut self) -> Result<(), Fault>
+        ensures ok { OnOk result (Steps (state self.old) (state self.new)
+            (fenced (state self.old).words) (state self.old).failures (fences_after (state self.old).fences)) }
+        ensures err { OnErr result (Steps (state self.old) (state self.new)
+            (state self.old).words (suc (state self.old).failures) (fences_after (state self.old).fences)) }
+        ensures asked { IsTrue (must_fail (state self.old)) → IsErr result }
+        ensures unasked { IsErr result → IsTrue (may_fail (state self.old)) };
+
+    /// How many lines the device has. Their words can be counted in 64 bits.
+    fn lines(&self) -> u64
+        ensures count { result ≡ (state self.now).lines }
+        ensures bound { 8 * result < 2 ^ 64 };
+
+    /// How many fences have failed, or 2^64 - 1 where more have.
+    fn failures(&self) -> u64
+        ensures { result ≡ min (state self.now).failures (2 ^ 64 - 1) };
+}
+
+/// A device that fails and crashes as it is told to.
+pub trait Crashing: Pmem {
+    /// Whether growth of the device's own lists was ever refused. Loads are still right; each later fence fails, and a crash leaves some of
+    /// the images that it may leave.
+    fn starved(&self) -> bool
+        ensures { result ≡ (Self.state self.now).starved };
+
+    /// Lets the n-th fence from now fail, counted from 1, in place of one that was asked to before. At 0 none is asked to.
+    fn fail_at(&mut self, n: u64)
+        ensures { Self.state self.new ≡ record (Self.state self.old) { fences = Sure (if n == 0 then None else Some n) } };
+
+    /// Lets the next crash pick from the candidates as they will be after `k` more calls of `store`, `flush` and `fence`, if so many
+    /// come, in place of a moment that was asked for before. Where there is no memory for the copy, the device is starved.
+    fn keep_at(&mut self, k: u64)
+        ensures { Keeps (Self.state self.old) (Self.state self.new) (moment (Self.state self.old) + k) };
+
+    /// Crashes: the i-th word with several candidates, in rising order, gets candidate `picks[i]` modulo their number, the oldest being
+    /// 0, and the oldest where the list ends.
+    fn crash(&mut self, picks: &[u64])
+        ensures restarts { Restarts (Self.state self.old) (Self.state self.new) }
+        ensures picked { (Self.state self.old).starved ≡ false → (word : ℕ) →
+            newest_at (Self.state self.new) word
+                ≡ picked (words_to_crash (Self.state self.old) (Self.state self.old).kept) picks.now word }
+        // starved or not
+        ensures within { IsImage (words_to_crash (Self.state self.old) (Self.state self.old).kept) (image_of (Self.state self.new).words)
+            ⊎ IsImage (Self.state self.old).words (image_of (Self.state self.new).words) };
+}
+
+fn probe<P: Crashing>(p: &mut P) -> bool
+    ensures { result ≡ true }
+{
+    p.fail_at(1);
+    p.fence().is_err()
+}
