@@ -1,2 +1,4 @@
+pub mod Chaining
 pub mod Leaving
+pub mod Staging
 pub mod Words

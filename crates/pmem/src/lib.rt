@@ -2,7 +2,8 @@
 #![tactic(auto)]
 
 mod device;
+mod history;
 mod runs;
 
 pub use device::{Crashing, Fault, Pmem};
-pub use runs::{flush_all, flush_lines, store_all, store_words};
+pub use runs::{flush_all, flush_lines, persist, store_all, store_words};

@@ -1,0 +1,2 @@
+//! The seats of a server, free and taken.
+#![tactic(auto)]
