@@ -6,13 +6,13 @@ use Rattle.pmem.specs.Crash.{IsImage, IsSettled, image_of}
 use Rattle.pmem.specs.Runs.{IsNoted, AllPassed, stores, flushes, IsStored, IsOutside, IsLine, written, IsPartlyStored, pairs_from, lines_from}
 use Rattle.pmem.proofs.Words.{MayBe-store_word, MayBe-store_word-cases, MayBe-flush_word, flush_word-MayBe, MayBe-fence_word, IsNoted-flush_word, IsNoted-alone, older-fence_word, MayBe-alone, Only-alone}
 
-same_or_other : (a b : ℕ) → (a ≡ b) ⊎ (a ≢ b)
+pub same_or_other : (a b : ℕ) → (a ≡ b) ⊎ (a ≢ b)
 same_or_other a b =
     let go : (t : Bool) → (a == b) ≡ t → (a ≡ b) ⊎ (a ≢ b) =
         elim [ true ↦ λ e. inl (eqb-true a b e) | false ↦ λ e. inr (eqb-false a b e) ] in
     go (a == b) refl
 
-unequal : (a b : ℕ) → a ≢ b → (a == b) ≡ false
+pub unequal : (a b : ℕ) → a ≢ b → (a == b) ≡ false
 unequal a b n =
     let go : (t : Bool) → (a == b) ≡ t → (a == b) ≡ false =
         elim [ true ↦ λ e. absurd (n (eqb-true a b e)) | false ↦ λ e. e ] in

@@ -1,3 +1,4 @@
+pub mod Cells
 pub mod Crash
 pub mod Device
 pub mod History
