@@ -131,3 +131,93 @@ IsChained-push heads pool c chained below next =
               subst (λ (x : Candidate). x.word / 8 < length heads) (sym (at-push pool c k old)) (chained.lines k old)
           ]);
     }
+
+-- A store
+
+newest-set : (newest : List ℕ) (words : ℕ → Word) (at' x : ℕ) → at' < length newest → ((word : ℕ) → get_or newest word 0 ≡ (words word).newest)
+    → (word : ℕ) → get_or (set newest at' x) word 0 ≡ (store_at at' x words word).newest
+newest-set newest words at' x below same word =
+    elim (same_or_other word at') [
+      inl e ↦
+        subst (λ (w : ℕ). get_or (set newest at' x) w 0 ≡ x) (sym e) (get_or-set_same newest at' x 0 below)
+          ∙ sym (ap (λ (w : Word). w.newest) (store_at-same at' x words word e))
+    | inr n ↦
+        get_or-set_other newest at' word x 0 n ∙ same word ∙ sym (ap (λ (w : Word). w.newest) (store_at-other at' x words word n))
+    ]
+
+store_at-MayBe : (at' x : ℕ) (words : ℕ → Word) (word y : ℕ) → MayBe (words word) y → MayBe (store_at at' x words word) y
+store_at-MayBe at' x words word y may =
+    elim (same_or_other word at') [
+      inl e ↦ subst (λ (w : Word). MayBe w y) (sym (store_at-same at' x words word e)) (MayBe-store_word x (words word) y may)
+    | inr n ↦ subst (λ (w : Word). MayBe w y) (sym (store_at-other at' x words word n)) may
+    ]
+
+-- the candidate that a store adds to the pool
+abbrev pub overtaken : List ℕ → List (Option ℕ) → ℕ → Candidate
+overtaken newest heads word = record { word = word; value = get_or newest word 0; passed = false; next = get_or heads (word / 8) None }
+
+abbrev fresh : ℕ → List Older
+fresh x = record { value = x; passed = false } ∷ []
+
+overtaken-same : (newest : List ℕ) (heads : List (Option ℕ)) (words : ℕ → Word) (at' word : ℕ) → ((w : ℕ) → get_or newest w 0 ≡ (words w).newest)
+    → word ≡ at' → older_of (overtaken newest heads at') word ≡ record { value = (words word).newest; passed = false } ∷ []
+overtaken-same newest heads words at' word same e =
+    cond-true (word == at') _ _ (eq-eqb word at' e)
+        ∙ ap fresh (subst (λ (w : ℕ). get_or newest w 0 ≡ (words word).newest) e (same word))
+
+overtaken-other : (newest : List ℕ) (heads : List (Option ℕ)) (at' word : ℕ) → word ≢ at' → older_of (overtaken newest heads at') word ≡ []
+overtaken-other newest heads at' word n = cond-false (word == at') _ _ (unequal word at' n)
+
+pub HoldsIn-store : (newest : List ℕ) (heads : List (Option ℕ)) (pool : List Candidate) (words : ℕ → Word) (starved : Bool) (at' x : ℕ)
+    → at' < length newest → HoldsIn newest heads pool words starved
+    → HoldsIn (set newest at' x) (set heads (at' / 8) (Some (length pool))) (pool ++ overtaken newest heads at' ∷ []) (store_at at' x words) starved
+HoldsIn-store newest heads pool words starved at' x below holds =
+    let c : Candidate = overtaken newest heads at' in
+    record {
+      sizes = length-set newest at' x ∙ holds.sizes ∙ ap (λ (n : ℕ). 8 * n) (sym (length-set heads (at' / 8) (Some (length pool))));
+      chained = IsChained-push heads pool c holds.chained (omega (arith, holds.sizes)) refl;
+      newest = newest-set newest words at' x below holds.newest;
+      exact = λ fed word.
+        older_in-push pool c word ∙
+          elim (same_or_other word at') [
+            inl e ↦
+              ap (λ (os : List Older). older_in pool word ++ os) (overtaken-same newest heads words at' word holds.newest e)
+                ∙ ap (λ (os : List Older). os ++ record { value = (words word).newest; passed = false } ∷ []) (holds.exact fed word)
+                ∙ sym (ap (λ (w : Word). w.older) (store_at-same at' x words word e))
+          | inr n ↦
+              ap (λ (os : List Older). older_in pool word ++ os) (overtaken-other newest heads at' word n)
+                ∙ append-nil (older_in pool word)
+                ∙ holds.exact fed word
+                ∙ sym (ap (λ (w : Word). w.older) (store_at-other at' x words word n))
+          ];
+      within = λ word y is.
+        MayBe-may_be (store_at at' x words word) y
+          (store_at-MayBe at' x words word y
+            (elim (IsOlder-append_cases (older_in pool word) (older_of c word) y
+                (subst (λ (os : List Older). IsOlder os y) (older_in-push pool c word) (is_older-IsOlder (older_in (pool ++ c ∷ []) word) y is))) [
+              inl was ↦ may_be-MayBe (words word) y (holds.within word y (IsOlder-is_older (older_in pool word) y was))
+            | inr new ↦
+                elim (same_or_other word at') [
+                  inl e ↦
+                    elim (subst (λ (os : List Older). IsOlder os y) (overtaken-same newest heads words at' word holds.newest e) new) [
+                      inl is' ↦ inl is'
+                    | inr nothing ↦ absurd nothing
+                    ]
+                | inr n ↦ absurd (subst (λ (os : List Older). IsOlder os y) (overtaken-other newest heads at' word n) new)
+                ]
+            ]));
+    }
+
+-- a store for which there was no memory
+pub HoldsIn-starved_store : (newest : List ℕ) (heads : List (Option ℕ)) (pool : List Candidate) (words : ℕ → Word) (starved : Bool) (at' x : ℕ)
+    → at' < length newest → HoldsIn newest heads pool words starved → HoldsIn (set newest at' x) heads pool (store_at at' x words) true
+HoldsIn-starved_store newest heads pool words starved at' x below holds =
+    record {
+      sizes = length-set newest at' x ∙ holds.sizes;
+      chained = holds.chained;
+      newest = newest-set newest words at' x below holds.newest;
+      exact = λ fed word. absurd (cc);
+      within = λ word y is.
+        MayBe-may_be (store_at at' x words word) y
+          (store_at-MayBe at' x words word y (may_be-MayBe (words word) y (holds.within word y is)));
+    }
