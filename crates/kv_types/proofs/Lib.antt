@@ -1,0 +1,4 @@
+pub mod OrderLemmas
+pub mod LookUpLemmas
+pub mod PlayLemmas
+pub mod PutLemmas
