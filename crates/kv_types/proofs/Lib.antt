@@ -1,3 +1,4 @@
+pub mod MemberLemmas
 pub mod OrderLemmas
 pub mod LookUpLemmas
 pub mod PlayLemmas

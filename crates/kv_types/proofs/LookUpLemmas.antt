@@ -1,15 +1,17 @@
 -- What a look-up finds after a record was put or left out, and after each change.
-use Rattle.std.proofs.Common.{◌≡◌, ◌≢◌, ℕ, List, Bool, true, false, cond, not, Some, None, nat_eq, refl, sym, ap, ◌∙◌}
+use Rattle.std.proofs.Common.{◌≡◌, ◌≢◌, ℕ, List, Bool, true, false, cond, not, Option, Some, None, nat_eq, refl, sym, ap, ap₂, ◌∙◌}
 use Rattle.std.proofs.lemmas.Bool.{false_from_ne_true}
 use Rattle.std.specs.Cmp.Lexicographic.{pointwise}
 use Rattle.std.specs.FinMap.Entries.{find-put, find-where_key}
 use Rattle.std.specs.Ordering.{eq_by_cmp}
 use Rattle.kv_types.specs.declared.record_id.RecordId.{RecordId}
 use Rattle.kv_types.specs.declared.record_id.RecordId.TheVariants.{Str, Field}
-use Rattle.kv_types.specs.declared.change.Change.TheVariants.{Put}
+use Rattle.kv_types.specs.declared.change.Change.{Change}
+use Rattle.kv_types.specs.declared.change.Change.TheVariants.{Put, Drop, DropKey, Clear}
 use Rattle.kv_types.specs.Keyspaces.{Keyspace, key_of, record_cmp, value_at, with_record, without_record, without_key, play}
+use Rattle.kv_types.specs.LookUps.{IsLookedUpAfter, PutsString, PutsField, DropsRecord, DropsKey}
 use Rattle.kv_types.specs.Orders.{record_cmp_total}
-use Rattle.kv_types.proofs.OrderLemmas.{record_cmp_equal, same_record, record_itself, same_key, key_itself}
+use Rattle.kv_types.proofs.OrderLemmas.{record_cmp_equal, same_record, record_itself, same_key, key_itself, field_is_no_string, string_is_no_field}
 
 -- whether two names are those of one record, and whether two keys are one
 abbrev pub is_same : RecordId → RecordId → Bool
@@ -54,3 +56,37 @@ is_same_at x y e = ap (is_same x) (sym e) ∙ record_itself x
 
 pub is_same_key_at : (xs ys : List ℕ) → xs ≡ ys → is_same_key xs ys ≡ true
 is_same_key_at xs ys e = ap (is_same_key xs) (sym e) ∙ key_itself xs
+
+-- after each change, in words
+puts_string : (s : Keyspace) (key value : List ℕ) → PutsString key value s (play s (Put (Str key) value))
+puts_string s key value = record {
+  there = value_at-put_string s key value (Str key) ∙ ap (λ b. cond b (Some value) (cond (is_same_key key key) None (value_at s (Str key)))) (record_itself (Str key));
+  no_fields = λ field. value_at-put_string s key value (Field key field) ∙ ap₂ (λ b c. cond b (Some value) (cond c None (value_at s (Field key field)))) (field_is_no_string key field key) (key_itself key);
+  others = λ id differ. value_at-put_string s key value id ∙ ap₂ (λ b c. cond b (Some value) (cond c None (value_at s id))) (is_other id (Str key) (λ e. differ (ap key_of e))) (is_other_key (key_of id) key differ)
+}
+
+puts_field : (s : Keyspace) (key field value : List ℕ) → PutsField key field value s (play s (Put (Field key field) value))
+puts_field s key field value = record {
+  there = value_at-put_field s key field value (Field key field) ∙ ap (λ b. cond b (Some value) (cond (is_same (Field key field) (Str key)) None (value_at s (Field key field)))) (record_itself (Field key field));
+  no_string = value_at-put_field s key field value (Str key) ∙ ap₂ (λ b c. cond b (Some value) (cond c None (value_at s (Str key)))) (string_is_no_field key key field) (record_itself (Str key));
+  others = λ id differ. value_at-put_field s key field value id ∙ ap₂ (λ b c. cond b (Some value) (cond c None (value_at s id))) (is_other id (Field key field) differ.0) (is_other id (Str key) differ.1)
+}
+
+drops_record : (s : Keyspace) (id : RecordId) → DropsRecord id s (play s (Drop id))
+drops_record s id = record {
+  gone = value_at-without_record s id id ∙ ap (λ b. cond b None (value_at s id)) (record_itself id);
+  others = λ other differ. value_at-without_record s id other ∙ ap (λ b. cond b None (value_at s other)) (is_other other id differ)
+}
+
+drops_key : (s : Keyspace) (key : List ℕ) → DropsKey key s (play s (DropKey key))
+drops_key s key = record {
+  gone = λ id e. value_at-without_key s key id ∙ ap (λ b. cond b None (value_at s id)) (is_same_key_at (key_of id) key e);
+  others = λ id differ. value_at-without_key s key id ∙ ap (λ b. cond b None (value_at s id)) (is_other_key (key_of id) key differ)
+}
+
+pub looked_up-play : (s : Keyspace) (change : Change) → IsLookedUpAfter change s (play s change)
+looked_up-play s (Put (Str key) value) = puts_string s key value
+looked_up-play s (Put (Field key field) value) = puts_field s key field value
+looked_up-play s (Drop id) = drops_record s id
+looked_up-play s (DropKey key) = drops_key s key
+looked_up-play s Clear = λ id. refl

@@ -1,6 +1,6 @@
 -- A keyspace stays a keyspace under every change, and changes are played one after another.
 use Rattle.std.proofs.Common.{◌≡◌, ℕ, List, [], ◌∷◌, ◌++◌, Bool, true, false, IsTrue, cond, not, T, Option, Some, None, IsSome, Ordering, Less, Equal, Greater, refl, sym, ap, subst, subst₂, ◌∙◌, is_eq, Result, Ok, Err, OnOk, OnErr}
-use Rattle.std.specs.FinMap.Entries.{where_key, is_sorted, is_sorted-put, is_sorted-where_key}
+use Rattle.std.specs.FinMap.Entries.{where_key, is_sorted, is_sorted-put, is_sorted-where_key, same_entries}
 use Rattle.std.specs.Ordering.{ordering_then}
 use Rattle.kv_types.specs.declared.record_id.RecordId.{RecordId}
 use Rattle.kv_types.specs.declared.record_id.RecordId.TheVariants.{Str, Field}
@@ -8,7 +8,7 @@ use Rattle.kv_types.specs.declared.change.Change.{Change}
 use Rattle.kv_types.specs.declared.change.Change.TheVariants.{Put, Drop, DropKey, Clear}
 use Rattle.kv_types.specs.Keyspaces.{Keyspace, IsKeyspace, key_of, bytes_cmp, record_cmp, value_at, with_record, without_record, without_key, play, play_all}
 use Rattle.kv_types.specs.Orders.{record_cmp_total}
-use Rattle.kv_types.proofs.OrderLemmas.{same_strings, field_is_no_string, string_is_no_field}
+use Rattle.kv_types.proofs.OrderLemmas.{record_cmp_equal, same_strings, field_is_no_string, string_is_no_field}
 use Rattle.kv_types.proofs.LookUpLemmas.{is_same, is_same_key, value_at-without_record, value_at-without_key, value_at-put_string, value_at-put_field}
 
 -- ---- in order
@@ -101,3 +101,9 @@ is_keyspace-played (Err e) old new change ok played unchanged = subst IsKeyspace
 
 pub play_all-push : (s : Keyspace) (changes : List Change) (change : Change) → play_all s (changes ++ change ∷ []) ≡ play (play_all s changes) change
 play_all-push s changes change = play_all-append s changes (change ∷ [])
+
+pub is_keyspace-empty : IsKeyspace []
+is_keyspace-empty = record { sorted = refl; one_kind = λ key field is. refl }
+
+pub same_keyspace : (s t : Keyspace) → IsKeyspace s → IsKeyspace t → ((id : RecordId) → value_at s id ≡ value_at t id) → s ≡ t
+same_keyspace s t a b alike = same_entries record_cmp record_cmp_total record_cmp_equal s t (T_from _ a.sorted) (T_from _ b.sorted) alike

@@ -4,6 +4,7 @@
 mod bounded;
 mod change;
 mod item;
+mod laws;
 mod limits;
 mod place;
 mod plain_keyspace;
@@ -15,6 +16,7 @@ mod request;
 pub use bounded::{BoundedBytes, Field, Key, Value};
 pub use change::Change;
 pub use item::{Item, ProtocolFault};
+pub use laws::{keyspace_stays, look_up_after_change, look_ups_tell_apart, play_in_two_parts, records_are_found};
 pub use limits::{FULL_LIMITS, Limits, MAX_KEY_BYTES, MAX_VALUE_BYTES, SERVED_LIMITS};
 pub use place::{EntryNo, Extent};
 pub use plain_keyspace::PlainKeyspace;
