@@ -14,7 +14,8 @@ pub enum RecordId {
 impl RecordId {
     ghost use Rattle.std.specs.Prelude.{◌≡◌};
     ghost use Rattle.std.specs.Option.{option_copied};
-    ghost use Rattle.kv_types.specs.Keyspaces.{key_of, field_of};
+    ghost use Rattle.std.specs.Ordering.{eq_by_cmp};
+    ghost use Rattle.kv_types.specs.Keyspaces.{key_of, field_of, record_cmp};
 
     /// The key of the record.
     pub fn key(&self) -> &Key
@@ -23,6 +24,16 @@ impl RecordId {
         match self {
             RecordId::Str(key) => key,
             RecordId::Field(key, _) => key,
+        }
+    }
+
+    /// Whether the record is the string of this key.
+    pub(crate) fn is_string_at(&self, key: &Key) -> bool
+        ensures { result ≡ eq_by_cmp record_cmp self.now (Self.Str key.now) }
+    {
+        match self {
+            RecordId::Str(own) => *own == *key,
+            RecordId::Field(..) => false,
         }
     }
 

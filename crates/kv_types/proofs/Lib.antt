@@ -1,0 +1,5 @@
+pub mod MemberLemmas
+pub mod OrderLemmas
+pub mod LookUpLemmas
+pub mod PlayLemmas
+pub mod PutLemmas
