@@ -3,6 +3,7 @@
 
 mod bounded;
 mod change;
+mod grammar_laws;
 mod item;
 mod limits;
 mod place;
@@ -13,6 +14,7 @@ mod request;
 
 pub use bounded::{BoundedBytes, Field, Key, Value};
 pub use change::Change;
+pub use grammar_laws::items_grow;
 pub use item::{Item, ProtocolFault};
 pub use limits::{FULL_LIMITS, Limits, MAX_KEY_BYTES, MAX_VALUE_BYTES, SERVED_LIMITS};
 pub use place::{EntryNo, Extent};

@@ -1,0 +1,3 @@
+pub mod GrammarGrows
+pub mod GrammarItems
+pub mod GrammarRests
