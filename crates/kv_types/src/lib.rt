@@ -3,6 +3,7 @@
 
 mod bounded;
 mod change;
+mod integer;
 mod item;
 mod laws;
 mod limits;
@@ -15,6 +16,7 @@ mod request;
 
 pub use bounded::{BoundedBytes, Field, Key, Value};
 pub use change::Change;
+pub use integer::{read_int, write_int};
 pub use item::{Item, ProtocolFault};
 pub use laws::{keyspace_stays, look_up_after_change, look_ups_tell_apart, play_in_two_parts, records_are_found};
 pub use limits::{FULL_LIMITS, Limits, MAX_KEY_BYTES, MAX_VALUE_BYTES, SERVED_LIMITS};
