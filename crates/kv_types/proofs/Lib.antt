@@ -1,5 +1,7 @@
 pub mod MemberLemmas
 pub mod OrderLemmas
+pub mod ChangeTextLemmas
+pub mod IntegerLemmas
 pub mod LookUpLemmas
 pub mod PlayLemmas
 pub mod PutLemmas
