@@ -11,6 +11,10 @@ pub record Room : Type 0 where
   pub next_entry : ℕ
   pub end_entry : ℕ
 
+-- all lines from the first up to the end, and all entries below their number
+abbrev pub fresh_room : ℕ → ℕ → ℕ → Room
+fresh_room first end entries = record { next_line = first; end_line = end; next_entry = 0; end_entry = entries }
+
 -- ---- lines
 
 abbrev pub is_free_line : Room → ℕ → Bool

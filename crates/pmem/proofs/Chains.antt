@@ -49,8 +49,8 @@ MayBe-may_be word x (inr there) = true-or (x == word.newest) (is_older word.olde
 pub last_below-same : (f h : ℕ → Candidate) (line n : ℕ) → ((k : ℕ) → k < n → (f k).word ≡ (h k).word) → last_below f line n ≡ last_below h line n
 last_below-same f h line zero same = refl
 last_below-same f h line (suc n) same =
-    ap (λ (w : ℕ). cond (line == w / 8) (Some n) (last_below f line n)) (same n (omega arith))
-        ∙ ap (λ (rest : Option ℕ). cond (line == (h n).word / 8) (Some n) rest) (last_below-same f h line n (λ k below. same k (omega arith)))
+    ap (λ (w : ℕ). cond (w / 8 == line) (Some n) (last_below f line n)) (same n (omega arith))
+        ∙ ap (λ (rest : Option ℕ). cond ((h n).word / 8 == line) (Some n) rest) (last_below-same f h line n (λ k below. same k (omega arith)))
 
 pub older_below-same : (f h : ℕ → Candidate) (word n : ℕ) → ((k : ℕ) → k < n → older_of (f k) word ≡ older_of (h k) word)
     → older_below f word n ≡ older_below h word n
@@ -87,11 +87,11 @@ last_below-push pool c line n low =
         (λ k below. ap (λ (x : Candidate). x.word) (at-push pool c k (omega arith)))
 
 last-push : (pool : List Candidate) (c : Candidate) (line : ℕ)
-    → last_below (at (pool ++ c ∷ [])) line (length (pool ++ c ∷ [])) ≡ cond (line == c.word / 8) (Some (length pool)) (last_below (at pool) line (length pool))
+    → last_below (at (pool ++ c ∷ [])) line (length (pool ++ c ∷ [])) ≡ cond (c.word / 8 == line) (Some (length pool)) (last_below (at pool) line (length pool))
 last-push pool c line =
     ap (λ (n : ℕ). last_below (at (pool ++ c ∷ [])) line n) (length-push pool c)
-        ∙ ap (λ (x : Candidate). cond (line == x.word / 8) (Some (length pool)) (last_below (at (pool ++ c ∷ [])) line (length pool))) (at-pushed pool c)
-        ∙ ap (λ (rest : Option ℕ). cond (line == c.word / 8) (Some (length pool)) rest) (last_below-push pool c line (length pool) (omega arith))
+        ∙ ap (λ (x : Candidate). cond (x.word / 8 == line) (Some (length pool)) (last_below (at (pool ++ c ∷ [])) line (length pool))) (at-pushed pool c)
+        ∙ ap (λ (rest : Option ℕ). cond (c.word / 8 == line) (Some (length pool)) rest) (last_below-push pool c line (length pool) (omega arith))
 
 -- the head of its line leads to a new candidate, and that to the one before
 pub IsChained-push : (heads : List (Option ℕ)) (pool : List Candidate) (c : Candidate) → IsChained heads pool → c.word / 8 < length heads
@@ -104,11 +104,11 @@ IsChained-push heads pool c chained below next =
           inl e ↦
             subst (λ (l : ℕ). get_or (set heads (c.word / 8) (Some (length pool))) l None ≡ Some (length pool)) (sym e)
                 (get_or-set_same heads (c.word / 8) (Some (length pool)) None below)
-              ∙ sym (last-push pool c line ∙ cond-true (line == c.word / 8) _ _ (eq-eqb line (c.word / 8) e))
+              ∙ sym (last-push pool c line ∙ cond-true (c.word / 8 == line) _ _ (eq-eqb (c.word / 8) line (sym e)))
         | inr n ↦
             get_or-set_other heads (c.word / 8) line (Some (length pool)) None n
               ∙ chained.heads line inside
-              ∙ sym (last-push pool c line ∙ cond-false (line == c.word / 8) _ _ (unequal line (c.word / 8) n))
+              ∙ sym (last-push pool c line ∙ cond-false (c.word / 8 == line) _ _ (unequal (c.word / 8) line (λ e. n (sym e))))
         ];
       nexts = λ k in_range.
         elim (same_or_other k (length pool)) [
@@ -221,3 +221,18 @@ HoldsIn-starved_store newest heads pool words starved at' x below holds =
         MayBe-may_be (store_at at' x words word) y
           (store_at-MayBe at' x words word y (may_be-MayBe (words word) y (holds.within word y is)));
     }
+
+-- the same of what the code reads and writes
+pub HoldsIn-stored : (newest : List ℕ) (heads : List (Option ℕ)) (pool pool' : List Candidate) (words : ℕ → Word) (starved : Bool) (at' x value place : ℕ)
+    (next : Option ℕ) → at' < length newest → value ≡ get_or newest at' 0 → next ≡ get_or heads (at' / 8) None → place ≡ length pool
+    → pool' ≡ pool ++ record { word = at'; value = value; passed = false; next = next } ∷ []
+    → HoldsIn newest heads pool words starved
+    → HoldsIn (set newest at' x) (set heads (at' / 8) (Some place)) pool' (store_at at' x words) starved
+HoldsIn-stored newest heads pool pool' words starved at' x value place next below value_is next_is place_is pool_is holds =
+    let same : pool' ≡ pool ++ overtaken newest heads at' ∷ [] =
+        pool_is
+          ∙ ap (λ (v : ℕ). pool ++ record { word = at'; value = v; passed = false; next = next } ∷ []) value_is
+          ∙ ap (λ (n : Option ℕ). pool ++ record { word = at'; value = get_or newest at' 0; passed = false; next = n } ∷ []) next_is in
+    subst (λ (p : List Candidate). HoldsIn (set newest at' x) (set heads (at' / 8) (Some place)) p (store_at at' x words) starved) (sym same)
+        (subst (λ (k : ℕ). HoldsIn (set newest at' x) (set heads (at' / 8) (Some k)) (pool ++ overtaken newest heads at' ∷ []) (store_at at' x words) starved)
+          (sym place_is) (HoldsIn-store newest heads pool words starved at' x below holds))

@@ -74,11 +74,11 @@ MayBe-flush_at line words word y may =
 pub IsImage-fenced : (words : ℕ → Word) (image : ℕ → ℕ) → IsImage (fenced words) image → IsImage words image
 IsImage-fenced words image is word = MayBe-fence_word (words word) (image word) (is word)
 
-newest-store_at : (at x : ℕ) (words : ℕ → Word) (word : ℕ) → (store_at at x words word).newest ≡ cond (word == at) x (words word).newest
+pub newest-store_at : (at x : ℕ) (words : ℕ → Word) (word : ℕ) → (store_at at x words word).newest ≡ cond (word == at) x (words word).newest
 newest-store_at at x words word =
     elim (word == at) as (λ b. (cond b (store_word x (words word)) (words word)).newest ≡ cond b x (words word).newest) [ true ↦ refl | false ↦ refl ]
 
-newest-flush_at : (line : ℕ) (words : ℕ → Word) (word : ℕ) → (flush_at line words word).newest ≡ (words word).newest
+pub newest-flush_at : (line : ℕ) (words : ℕ → Word) (word : ℕ) → (flush_at line words word).newest ≡ (words word).newest
 newest-flush_at line words word =
     elim (word / 8 == line) as (λ b. (cond b (flush_word (words word)) (words word)).newest ≡ (words word).newest) [ true ↦ refl | false ↦ refl ]
 

@@ -34,12 +34,12 @@ MayBe-store_word-cases x word y (inr older) =
     | inr last ↦ elim last [ inl is ↦ inl (inl is) | inr none ↦ absurd none ]
     ]
 
-IsOlder-passed : (older : List Older) (x : ℕ) → IsOlder (map (λ o. record { value = o.value; passed = true }) older) x → IsOlder older x
+pub IsOlder-passed : (older : List Older) (x : ℕ) → IsOlder (map (λ o. record { value = o.value; passed = true }) older) x → IsOlder older x
 IsOlder-passed [] x h = h
 IsOlder-passed (o ∷ older) x (inl here) = inl here
 IsOlder-passed (o ∷ older) x (inr there) = inr (IsOlder-passed older x there)
 
-IsOlder-to_passed : (older : List Older) (x : ℕ) → IsOlder older x → IsOlder (map (λ o. record { value = o.value; passed = true }) older) x
+pub IsOlder-to_passed : (older : List Older) (x : ℕ) → IsOlder older x → IsOlder (map (λ o. record { value = o.value; passed = true }) older) x
 IsOlder-to_passed [] x h = h
 IsOlder-to_passed (o ∷ older) x (inl here) = inl here
 IsOlder-to_passed (o ∷ older) x (inr there) = inr (IsOlder-to_passed older x there)

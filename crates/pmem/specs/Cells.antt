@@ -11,7 +11,7 @@ at pool k = slice_index_or pool k (record { word = 0; value = 0; passed = false;
 -- the place of the last candidate of the line among the first n
 abbrev pub last_below : (ℕ → Candidate) → ℕ → ℕ → Option ℕ
 last_below pool line zero = None
-last_below pool line (suc n) = if line == (pool n).word / 8 then Some n else last_below pool line n
+last_below pool line (suc n) = if (pool n).word / 8 == line then Some n else last_below pool line n
 
 abbrev pub older_of : Candidate → ℕ → List Older
 older_of c word = if word == c.word then record { value = c.value; passed = c.passed } ∷ [] else []
@@ -50,6 +50,9 @@ pub record HoldsIn (newest' : List ℕ) (heads : List (Option ℕ)) (pool : List
 abbrev pub Holds : Cells → (ℕ → Word) → Bool → Type 0
 Holds cells words starved = HoldsIn cells.newest.items cells.heads.items cells.pool.items words starved
 
--- what the cells themselves hold
+-- what the lists themselves hold
+abbrev pub held_in : List ℕ → List Candidate → ℕ → Word
+held_in newest pool word = record { newest = slice_index newest word; older = older_in pool word }
+
 abbrev pub held : Cells → ℕ → Word
-held cells word = record { newest = slice_index cells.newest.items word; older = older_in cells.pool.items word }
+held cells = held_in cells.newest.items cells.pool.items
