@@ -5,3 +5,5 @@ pub mod IntegerLemmas
 pub mod LookUpLemmas
 pub mod PlayLemmas
 pub mod PutLemmas
+pub mod ReplyLemmas
+mod WorkedCases
