@@ -3,6 +3,7 @@
 
 mod bounded;
 mod change;
+mod grammar_laws;
 mod integer;
 mod item;
 mod laws;
@@ -16,6 +17,7 @@ mod request;
 
 pub use bounded::{BoundedBytes, Field, Key, Value};
 pub use change::{Change, changes_fit};
+pub use grammar_laws::items_grow;
 pub use integer::{read_int, write_int};
 pub use item::{Item, ProtocolFault};
 pub use laws::{array_text, keyspace_stays, look_up_after_change, look_ups_tell_apart, play_in_two_parts, records_are_found};

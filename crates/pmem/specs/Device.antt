@@ -26,10 +26,9 @@ IsOlder (o ∷ older) x = (x ≡ o.value) ⊎ IsOlder older x
 abbrev pub MayBe : Word → ℕ → Type 0
 MayBe word x = (x ≡ word.newest) ⊎ IsOlder word.older x
 
--- the word has one candidate, this one
+-- a crash leaves this value in the word
 pub record Only (word : Word) (x : ℕ) : Type 0 where
-  pub newest : word.newest ≡ x
-  pub alone : word.older ≡ []
+  pub only : (y : ℕ) → MayBe word y → y ≡ x
 
 -- a word of one candidate
 abbrev pub settled : ℕ → Word

@@ -1,3 +1,5 @@
+pub mod Cells
 pub mod Crash
 pub mod Device
+pub mod History
 pub mod Runs

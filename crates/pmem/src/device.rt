@@ -42,7 +42,7 @@ pub trait Pmem {
         ensures asked { IsTrue (must_fail (state self.old)) → IsErr result }
         ensures unasked { IsErr result → IsTrue (may_fail (state self.old)) };
 
-    /// How many lines the device has. Their words can be counted in 64 bits.
+    /// How many lines the device has.
     fn lines(&self) -> u64
         ensures count { result ≡ (state self.now).lines }
         ensures bound { 8 * result < 2 ^ 64 };
@@ -50,6 +50,9 @@ pub trait Pmem {
     /// How many fences have failed, or 2^64 - 1 where more have.
     fn failures(&self) -> u64
         ensures { result ≡ min (state self.now).failures (2 ^ 64 - 1) };
+
+    /// The words of a device can be counted in 64 bits.
+    ghost countable: { (device : Self) → 8 * (state device).lines < 2 ^ 64 };
 }
 
 /// A device that fails and crashes as it is told to.
@@ -78,11 +81,4 @@ pub trait Crashing: Pmem {
         // starved or not
         ensures within { IsImage (words_to_crash (Self.state self.old) (Self.state self.old).kept) (image_of (Self.state self.new).words)
             ⊎ IsImage (Self.state self.old).words (image_of (Self.state self.new).words) };
-}
-
-fn probe<P: Crashing>(p: &mut P) -> bool
-    ensures { result ≡ true }
-{
-    p.fail_at(1);
-    p.fence().is_err()
 }

@@ -1,8 +1,10 @@
 //! Persistent memory as lists of candidates, and a simulated device that can be crashed.
 #![tactic(auto)]
 
+mod cells;
 mod device;
+mod history;
 mod runs;
 
 pub use device::{Crashing, Fault, Pmem};
-pub use runs::{flush_all, flush_lines, store_all, store_words};
+pub use runs::{flush_all, flush_lines, persist, store_all, store_words};

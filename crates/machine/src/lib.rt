@@ -1,0 +1,6 @@
+//! The pair of nodes as a machine: what may happen, and what is promised of every run.
+#![tactic(auto)]
+
+mod event;
+
+pub use event::{Event, KEPT_GROUPS, Mark, OPEN_CHANGES, PIPE_ITEMS, SEATS};

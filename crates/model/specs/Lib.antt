@@ -1,0 +1,5 @@
+pub mod Commands
+pub mod Calls
+pub mod Images
+pub mod Standing
+pub mod Groups

@@ -1,0 +1,9 @@
+//! Write-behind logging on persistent memory: an image that is formatted, and commits that move its map whole or not at all.
+#![tactic(auto)]
+
+mod committed;
+mod durable;
+
+pub use committed::Committed;
+pub use durable::Durable;
+pub use model::{Gap, Record, Role};
