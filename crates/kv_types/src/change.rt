@@ -5,6 +5,7 @@ ghost use Rattle.kv_types.specs.Changes.{short_bytes, long_bytes, changes_size};
 use crate::bounded::{Key, Value};
 use crate::limits::{MAX_CHANGE_BYTES, MAX_KEY_BYTES, MAX_VALUE_BYTES};
 use crate::record_id::RecordId;
+use std::alloc::AllocError;
 
 /// One change of the keyspace.
 #[derive(Debug, PartialEq, Eq, Drop)]
@@ -35,6 +36,21 @@ impl Change {
             Change::DropKey(key) => 1 + short_size(key),
             Change::Clear => 1,
         }
+    }
+}
+
+impl Clone for Change {
+    ghost use Rattle.std.specs.Prelude.{◌≡◌};
+
+    ghost is_clone = { λ change copy. copy ≡ change };
+
+    fn clone(&self) -> Result<Change, AllocError> {
+        Ok(match self {
+            Change::Put(id, value) => Change::Put(id.clone()?, value.clone()?),
+            Change::Drop(id) => Change::Drop(id.clone()?),
+            Change::DropKey(key) => Change::DropKey(key.clone()?),
+            Change::Clear => Change::Clear,
+        })
     }
 }
 

@@ -14,6 +14,19 @@ pub enum Item {
     Fault(ProtocolFault),
 }
 
+impl Clone for Item {
+    ghost use Rattle.std.specs.Prelude.{◌≡◌};
+
+    ghost is_clone = { λ item copy. copy ≡ item };
+
+    fn clone(&self) -> Result<Item, AllocError> {
+        Ok(match self {
+            Item::Request(request) => Item::Request(request.clone()?),
+            Item::Fault(fault) => Item::Fault(*fault),
+        })
+    }
+}
+
 /// What is wrong with bytes that begin no request, by the place where the first wrong byte stands.
 #[derive(Clone, Copy, Debug, PartialEq, Eq)]
 pub enum ProtocolFault {

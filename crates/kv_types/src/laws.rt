@@ -1,9 +1,13 @@
 //! Laws of the definitions, each the contract of a function that does nothing.
-ghost use Rattle.std.specs.Prelude.{◌≡◌, ◌↔◌, ℕ, List, [], ◌++◌, Some, Contains};
+ghost use Rattle.std.specs.Prelude.{◌≡◌, ◌↔◌, ℕ, List, [], ◌∷◌, ◌++◌, length, flat_map, Some, Contains, Vec};
 ghost use Rattle.kv_types.specs.declared.change.Change.{Change};
+ghost use Rattle.std.specs.Global.{Global};
 ghost use Rattle.kv_types.specs.declared.record_id.RecordId.{RecordId};
+ghost use Rattle.kv_types.specs.declared.reply.Reply.{Reply, Array};
 ghost use Rattle.kv_types.specs.Keyspaces.{Keyspace, IsKeyspace, value_at, play, play_all};
 ghost use Rattle.kv_types.specs.LookUps.{IsLookedUpAfter};
+ghost use Rattle.kv_types.specs.Replies.{text_of};
+ghost use Rattle.kv_types.specs.Requests.{number_line};
 
 /// Changes played in two parts are the changes played at once.
 pub fn play_in_two_parts()
@@ -34,5 +38,11 @@ pub fn look_ups_tell_apart()
 /// A record stands in a keyspace exactly where the look-up finds it.
 pub fn records_are_found()
     ensures { (s : Keyspace) (id : RecordId) (value : List ℕ) → IsKeyspace s → (value_at s id ≡ Some value) ↔ Contains s (id, value) }
+{
+}
+
+/// The text of an array is `*`, the number of its replies, and their texts.
+pub fn array_text()
+    ensures { (replies : Vec Reply Global) → text_of (Array replies) ≡ 42 ∷ number_line (length replies.items) ++ flat_map text_of replies.items }
 {
 }

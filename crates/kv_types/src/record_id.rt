@@ -1,5 +1,6 @@
 //! The name of a record: a string's key, or a key and a field of a hash.
 use crate::bounded::{Field, Key};
+use std::alloc::AllocError;
 use std::cmp::Ordering;
 
 /// The name of one record of the keyspace: a string, or one field of a hash.
@@ -45,6 +46,19 @@ impl RecordId {
             RecordId::Str(_) => None,
             RecordId::Field(_, field) => Some(field),
         }
+    }
+}
+
+impl Clone for RecordId {
+    ghost use Rattle.std.specs.Prelude.{◌≡◌};
+
+    ghost is_clone = { λ id copy. copy ≡ id };
+
+    fn clone(&self) -> Result<RecordId, AllocError> {
+        Ok(match self {
+            RecordId::Str(key) => RecordId::Str(key.clone()?),
+            RecordId::Field(key, field) => RecordId::Field(key.clone()?, field.clone()?),
+        })
     }
 }
 
