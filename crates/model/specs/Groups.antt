@@ -64,7 +64,11 @@ ends_record change.Clear id = true
 abbrev pub ended_by : Change → Version → Version
 ended_by change version =
     record {
-      id = version.id; value = version.value; position = version.position; first_line = version.first_line; lines = version.lines;
+      id = version.id;
+      value = version.value;
+      position = version.position;
+      first_line = version.first_line;
+      lines = version.lines;
       is_ended = version.is_ended || ends_record change version.id;
     }
 
@@ -151,7 +155,7 @@ is_put_at i (put ∷ puts) = nat_eq i put.entry.0 || is_put_at i puts
 abbrev pub NamesEnded : Versions → Part → Type 0
 NamesEnded versions part =
     (i : ℕ) → Contains (map (λ entry. entry.0) part.ended.items) i
-      ↔ (IsTrue (is_live_version (versions i) || is_put_at i (puts_of_part part)) × IsTrue (is_ended_version (part_versions versions part i)))
+    ↔ (IsTrue (is_live_version (versions i) || is_put_at i (puts_of_part part)) × IsTrue (is_ended_version (part_versions versions part i)))
 
 -- the parts follow one another: positions rise, and each names what it ended
 abbrev pub AreParts : ℕ → Versions → List Part → Type 0
@@ -192,7 +196,9 @@ next_record r group =
       position = last_position r.position group.parts.items;
       cp = r.cp + length group.parts.items;
       cd = r.cp + length group.parts.items + 1 + STAMP_WINDOW;
-      epoch = r.epoch; role = r.role; gaps = r.gaps;
+      epoch = r.epoch;
+      role = r.role;
+      gaps = r.gaps;
     }
 
 -- the contents after a group

@@ -1,0 +1,4 @@
+pub mod PrefixLemmas
+pub mod CallsLemmas
+pub mod PositionsLemmas
+pub mod ServesLemmas
