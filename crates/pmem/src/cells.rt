@@ -1,5 +1,5 @@
 // The words of a simulated device: the newest value of each, and one pool of older candidates, chained by line.
-ghost use Rattle.std.specs.Prelude.{◌≡◌, ℕ, ◌+◌, ◌*◌, ◌^◌, ◌/◌, ◌<◌, ◌≤◌, Bool, true, false, vec_len, vec_capacity, OnOk, OnErr, IfOk, slice_index, slice_index_or, filter, not, map, length, ◌-◌};
+ghost use Rattle.std.specs.Prelude.{◌≡◌, ℕ, ◌+◌, ◌*◌, ◌^◌, ◌/◌, ◌<◌, ◌≤◌, Bool, true, false, vec_len, vec_capacity, OnOk, OnErr, IfOk, slice_index, slice_index_or, filter, not, map, length, ◌-◌, ◌%◌, ◌++◌, ◌∷◌, []};
 ghost use Rattle.pmem.specs.Cells.{IsChained, at, older_in, held_in};
 ghost use Rattle.pmem.specs.Crash.{picked};
 ghost use Rattle.pmem.specs.Device.{Word, store_at, flush_at, fenced, settled};
@@ -162,14 +162,33 @@ fn pick_all(newest: &mut Vec<u64>, heads: &Vec<Option<usize>>, pool: &Vec<Candid
 {
     let mut used = 0;
     for word in 0..newest.len() {
-        let count = older_count(heads, pool, word as u64);
-        if count > 0 {
-            let pick = picks.get(used).copied().unwrap_or(0) % (count as u64 + 1);
-            if pick < count as u64 {
-                newest[word] = older_value(heads, pool, word as u64, count - 1 - pick as usize);
-            }
+        if older_count(heads, pool, word as u64) > 0 {
+            newest[word] = candidate_at(heads, pool, word as u64, newest[word], pick_at(picks, used));
             used += 1;
         }
+    }
+}
+
+/// The pick at a place, or 0 past their end.
+fn pick_at(picks: &[u64], place: usize) -> u64
+    ensures { result ≡ slice_index picks.now place }
+{
+    picks.get(place).copied().unwrap_or(0)
+}
+
+/// The candidate of a word that a pick names: the pick modulo their number, the oldest being 0 and the newest the last.
+fn candidate_at(heads: &Vec<Option<usize>>, pool: &Vec<Candidate>, word: u64, newest: u64, pick: u64) -> u64
+    requires chained { IsChained heads.now.items pool.now.items }
+    requires in_range { word < 8 * vec_len heads.now }
+    ensures { result ≡ slice_index (map (λ o. o.value) (older_in pool.now.items word) ++ newest ∷ [])
+        (pick % (length (older_in pool.now.items word) + 1)) }
+{
+    let count = older_count(heads, pool, word);
+    let place = (pick % (count as u64 + 1)) as usize;
+    if place == count {
+        newest
+    } else {
+        older_value(heads, pool, word, count - 1 - place)
     }
 }
 
@@ -177,7 +196,8 @@ fn pick_all(newest: &mut Vec<u64>, heads: &Vec<Option<usize>>, pool: &Vec<Candid
 fn older_count(heads: &Vec<Option<usize>>, pool: &Vec<Candidate>, word: u64) -> usize
     requires chained { IsChained heads.now.items pool.now.items }
     requires in_range { word < 8 * vec_len heads.now }
-    ensures { result ≡ length (older_in pool.now.items word) }
+    ensures count { result ≡ length (older_in pool.now.items word) }
+    ensures bound { result ≤ vec_len pool.now }
 {
     let mut count = 0;
     let mut place = heads[word as usize / 8];

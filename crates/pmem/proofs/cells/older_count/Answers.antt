@@ -1,4 +1,4 @@
-use Rattle.std.proofs.Common.{◌≡◌, ◌<◌, ◌/◌, ◌+◌, ◌≤◌, Fits, w64, length, ap, arith}
+use Rattle.std.proofs.Common.{◌≡◌, ◌<◌, ◌/◌, ◌+◌, ◌≤◌, Fits, w64, length, ap, arith, ◌∙◌, ℕ}
 use Rattle.pmem.specs.Cells.{at, older_below, older_in}
 use Rattle.pmem.proofs.Walks.{end_of}
 use Rattle.pmem.proofs.Picking.{Walking-start, Walking-next, count-hit, count-miss, length-older_in}
@@ -14,7 +14,10 @@ loop-place-init c =
     record { walking = start.0; counted = omega (arith, same) }
 
 pub overflow_add-count : goal.overflow_add-count
-overflow_add-count c = ?
+overflow_add-count c =
+    let pool = c.args.pool.now in
+    let all = length-older_in pool.items c.args.word in
+    omega (arith, all, pool.ok.0, pool.ok.1, pool.small, c.loop-place.invariant.counted)
 
 pub loop-place-smaller : goal.loop-place-smaller
 loop-place-smaller c =
@@ -35,10 +38,16 @@ loop-place-preserved c =
       counted =
         elim c.if-candidate-word.branch [
           then-candidate-word w ↦
-            ap (λ n. n + length rest) w.count-is
+            ap (λ (n : ℕ). n + length rest) w.count-is
               ∙ count-hit os rest candidate c.args.word c.loop-place.count total next.3 w.if-candidate-word.true c.loop-place.invariant.counted
         | else-candidate-word w ↦
-            ap (λ n. n + length rest) w.count-is
+            ap (λ (n : ℕ). n + length rest) w.count-is
               ∙ count-miss os rest candidate c.args.word c.loop-place.count total next.3 w.if-candidate-word.false c.loop-place.invariant.counted
         ];
     }
+
+pub returns-clause-bound : goal.returns-clause-bound
+returns-clause-bound c =
+    let pool = c.args.pool.now in
+    let all = length-older_in pool.items c.args.word in
+    omega (arith, all, pool.ok.0, c.loop-place.invariant.counted)
