@@ -13,18 +13,19 @@ pub free_line-bounds : (room : Room) (line : ℕ) → IsTrue (is_free_line room 
 free_line-bounds room line free = grind (arith, nat_tests)
 
 -- what was handed out is what came next
-pub TakesExtent-first : (old : Room) (lines : ℕ) (extent : Extent) (new : Room) → 0 < lines → TakesExtent old lines extent new → extent.first_line ≡ old.next_line
-TakesExtent-first old lines extent new some takes =
+pub TakesExtent-first : (old : Room) (extent : Extent) (new : Room) → 0 < extent.lines → TakesExtent old extent new → extent.first_line ≡ old.next_line
+TakesExtent-first old extent new some takes =
     let front = free_line-bounds old extent.first_line (takes.free extent.first_line (omega arith) (omega arith)) in
-    let back = free_line-bounds old (extent.first_line + (lines - 1)) (takes.free (extent.first_line + (lines - 1)) (omega arith) (omega arith)) in
+    let last = extent.first_line + (extent.lines - 1) in
+    let back = free_line-bounds old last (takes.free last (omega arith) (omega arith)) in
     let low = takes.lowest old.next_line (λ line from below. free_line old line from (omega arith)) in
     omega arith
 
 -- a room is known by what was handed out of it and what is left
-pub room_before_extent : (old : Room) (lines : ℕ) (extent : Extent) (new : Room) → 0 < lines → TakesExtent old lines extent new → record new { next_line = extent.first_line } ≡ old
-room_before_extent old lines extent new some takes =
+pub room_before_extent : (old : Room) (extent : Extent) (new : Room) → 0 < extent.lines → TakesExtent old extent new → record new { next_line = extent.first_line } ≡ old
+room_before_extent old extent new some takes =
     ap (λ (room : Room). record room { next_line = extent.first_line }) takes.after
-    ∙ ap (λ first. record old { next_line = first }) (TakesExtent-first old lines extent new some takes)
+    ∙ ap (λ first. record old { next_line = first }) (TakesExtent-first old extent new some takes)
 
 pub TakesEntry-first : (old : Room) (entry : EntryNo) (new : Room) → TakesEntry old entry new → entry.0 ≡ old.next_entry
 TakesEntry-first old entry new takes =

@@ -37,10 +37,9 @@ abbrev pub without_extent : Extent → Room → Room
 without_extent extent room = record room { next_line = extent.first_line + extent.lines }
 
 -- The extent is the lowest run of so many free lines, and is free no longer. Nothing else changed.
-pub record TakesExtent (old : Room) (lines : ℕ) (extent : Extent) (new : Room) : Type 0 where
-  pub count : extent.lines ≡ lines
-  pub free : IsFreeRun old extent.first_line lines
-  pub lowest : (first : ℕ) → IsFreeRun old first lines → extent.first_line ≤ first
+pub record TakesExtent (old : Room) (extent : Extent) (new : Room) : Type 0 where
+  pub free : IsFreeRun old extent.first_line extent.lines
+  pub lowest : (first : ℕ) → IsFreeRun old first extent.lines → extent.first_line ≤ first
   pub after : new ≡ without_extent extent old
   pub taken : (line : ℕ) → is_free_line new line ≡ (is_free_line old line && not (is_line_of extent line))
 

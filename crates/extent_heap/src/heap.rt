@@ -22,7 +22,10 @@ impl Model for ExtentHeap {
     ghost Value = { Room };
 
     ghost view = { λ heap. record {
-        next_line = heap.next_line; end_line = heap.end_line; next_entry = heap.next_entry; end_entry = heap.end_entry
+      next_line = heap.next_line;
+      end_line = heap.end_line;
+      next_entry = heap.next_entry;
+      end_entry = heap.end_entry;
     } };
 }
 
@@ -44,7 +47,8 @@ impl ExtentHeap {
     /// Hands out the lowest run of so many free lines. `Refusal::Full` where no run is long enough, and then nothing changed.
     pub fn take(&mut self, lines: u64) -> Result<Extent, Refusal>
         requires { 0 < lines }
-        ensures ok { IfOk result (λ extent. TakesExtent self.old lines extent self.new) }
+        ensures count { IfOk result (λ extent. extent.lines ≡ lines) }
+        ensures ok { IfOk result (λ extent. TakesExtent self.old extent self.new) }
         ensures full { IfErr result (λ refusal. refusal ≡ Refusal.Full) }
         ensures full_only { OnErr result ((first : ℕ) → ¬ IsFreeRun self.old first lines) }
         ensures err { OnErr result (self.new ≡ self.old) }
@@ -60,8 +64,8 @@ impl ExtentHeap {
     /// Gives back the extent that was taken last. The heap is as it was before it was taken.
     pub fn give(&mut self, extent: Extent)
         requires some { 0 < extent.lines }
-        requires last { (before : Room) × TakesExtent before extent.lines extent self.old }
-        ensures { (before : Room) → TakesExtent before extent.lines extent self.old → self.new ≡ before }
+        requires last { (before : Room) × TakesExtent before extent self.old }
+        ensures { (before : Room) → TakesExtent before extent self.old → self.new ≡ before }
     {
         self.next_line = extent.first_line;
     }

@@ -1,5 +1,6 @@
 -- The table of a node: each live record with its value and the directory entry that holds it, in the order of records.
 use Rattle.std.specs.Prelude.{◌≡◌, ℕ, Bool, not, ◌⊎◌, ◌↔◌, List, [], ◌∷◌, map, length, Option, Some, None, Contains, IsTrue}
+use Rattle.std.specs.List.{flat_map}
 use Rattle.std.specs.Ordering.{eq_by_cmp}
 use Rattle.std.specs.Cmp.Lexicographic.{pointwise}
 use Rattle.std.specs.Prelude.{nat_eq}
@@ -62,13 +63,20 @@ place_all table (change ∷ changes) = place_all (place table change) changes
 abbrev pub entries_of : Table → List ℕ
 entries_of table = map (λ row. row.1.entry) table
 
+-- the puts among the changes, in order
 abbrev pub puts_of : List PlacedChange → List Put
-puts_of [] = []
-puts_of (change ∷ changes) = append_puts (put_of change) (puts_of changes)
-  where
-    append_puts : List Put → List Put → List Put
-    append_puts [] puts = puts
-    append_puts (put ∷ more) puts = put ∷ append_puts more puts
+puts_of = flat_map put_of
+
+-- a table whose records are in order, with one kind a key, and whose entries are each of one record
+pub record IsLawful (table : Table) : Type 0 where
+  pub keyspace : IsKeyspace (records table)
+  pub once : (id other : RecordId) (cell cell' : Cell) → cell_at table id ≡ Some cell → cell_at table other ≡ Some cell' → cell.entry ≡ cell'.entry → id ≡ other
+
+-- none of the puts has the entry of a record, or of another put
+abbrev pub AreFresh : Table → List Put → Type 0
+AreFresh table [] = Unit {0}
+AreFresh table (put ∷ puts) =
+    (¬ Contains (entries_of table) put.entry.0) × (¬ IsTrue (is_put_at put.entry.0 puts)) × AreFresh table puts
 
 -- These are just the entries that the changes ended: those that were live before, or that the changes made, and are not live after them.
 abbrev pub AreEnded : Table → List PlacedChange → List EntryNo → Type 0

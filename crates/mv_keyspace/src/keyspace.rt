@@ -4,7 +4,7 @@ ghost use Rattle.std.specs.Option.{option_copied};
 ghost use Rattle.kv_types.specs.declared.record_id.RecordId.TheVariants.{Str};
 ghost use Rattle.kv_types.specs.declared.refusal.Refusal.TheVariants.{Memory};
 ghost use Rattle.kv_types.specs.Keyspaces.{value_at, IsKeyspace};
-ghost use Rattle.mv_keyspace.specs.Tables.{Table, records, place_all, AreEnded};
+ghost use Rattle.mv_keyspace.specs.Tables.{Table, records, place_all, puts_of, AreEnded, AreFresh, IsLawful};
 
 use kv_types::{EntryNo, Refusal, Value};
 use model::PlacedChange;
@@ -22,6 +22,8 @@ pub trait Keyspace {
     /// Makes all changes of a command or of a frame, made at this position of the list, and answers the entries that they ended, each once.
     /// Refused with `Memory` where a growth was refused, and then nothing changed.
     fn apply(&mut self, alloc: Global, changes: &[PlacedChange], position: u64) -> Result<Vec<EntryNo>, Refusal>
+        requires lawful { IsLawful (table self.old) }
+        requires fresh { AreFresh (table self.old) (puts_of changes.now) }
         ensures table { OnOk result (table self.new ≡ place_all (table self.old) changes.now) }
         ensures ended { IfOk result (λ ended. AreEnded (table self.old) changes.now ended.items) }
         ensures err { OnErr result (table self.new ≡ table self.old) }
