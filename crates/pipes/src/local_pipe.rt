@@ -1,5 +1,6 @@
 //! A pipe within one thread.
 ghost use Rattle.std.specs.Prelude.{◌≡◌, ◌+◌, ◌-◌, ◌≤◌, ◌<◌, ◌==◌, ◌↔◌, length, [], ◌∷◌, ◌++◌, IsOk, IfOk, MatchOption, refl};
+ghost use Rattle.std.specs.VecDeque.{deque_capacity};
 ghost use Rattle.pipes.specs.declared.limits.TheConstants.{PIPE_ITEMS};
 
 use crate::ends::{Inlet, Outlet};
@@ -13,7 +14,8 @@ use std::marker::Model;
 pub struct LocalPipe<T> {
     waiting: VecDeque<T>,
     ghost within: { length waiting.items ≤ PIPE_ITEMS },
-    ghost has_room: { PIPE_ITEMS ≤ waiting.cap },
+    // The room is made with the pipe, so that no later call takes memory.
+    ghost has_room: { PIPE_ITEMS ≤ deque_capacity waiting },
 }
 
 impl<T> Model for LocalPipe<T> {
