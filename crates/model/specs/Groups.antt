@@ -1,10 +1,8 @@
 -- What a group does to the versions of an image, and all that a commit asks of it.
-use Rattle.std.specs.Prelude.{◌≡◌, ℕ, zero, suc, ◌+◌, ◌<◌, ◌≤◌, Bool, true, false, not, ◌&&◌, ◌||◌, ◌==◌, ◌⊎◌, ◌↔◌, nat_eq, if◌then◌else◌, List, [], ◌∷◌, ◌++◌, length, map, Contains, Option, Some, None, IsTrue}
+use Rattle.std.specs.Prelude.{◌≡◌, ℕ, ◌+◌, ◌<◌, ◌≤◌, Bool, true, false, not, ◌&&◌, ◌||◌, ◌⊎◌, ◌↔◌, nat_eq, if◌then◌else◌, List, [], ◌∷◌, length, map, Contains, Option, Some, None, IsTrue}
 use Rattle.std.specs.List.{flat_map, AllByRecursion}
 use Rattle.std.specs.Ordering.{eq_by_cmp}
 use Rattle.std.specs.Cmp.Lexicographic.{pointwise}
-use Rattle.kv_types.specs.declared.place.EntryNo.{EntryNo}
-use Rattle.kv_types.specs.declared.place.Extent.{Extent}
 use Rattle.kv_types.specs.declared.record_id.RecordId.{RecordId}
 use Rattle.kv_types.specs.declared.record_id.RecordId.TheVariants.{Str, Field}
 use Rattle.kv_types.specs.declared.change.Change.{Change}
@@ -172,6 +170,11 @@ pub record Contents : Type 0 where
   pub versions : Versions
   -- the entry's begin is 0
   pub is_free : ℕ → Bool
+
+-- what every engine's contents keep: a free entry holds no version, and behind the directory there is none
+pub record IsConsistent (contents : Contents) : Type 0 where
+  pub free : (i : ℕ) → IsTrue (contents.is_free i) → contents.versions i ≡ None
+  pub beyond : (i : ℕ) → entries_of_lines contents.lines ≤ i → contents.versions i ≡ None
 
 -- all that a commit asks of a group
 pub record IsGroup (contents : Contents) (group : Group) : Type 0 where
