@@ -1,13 +1,6 @@
-// A library with one function.
+//! Which lines and entries of an image are free.
 #![tactic(auto)]
 
-ghost use Rattle.std.specs.Prelude.{◌≡◌};
-ghost use Rattle.extent_heap.specs.Echo.{echo_of};
+mod heap;
 
-// The `ensures` clause is the contract: what `echo` returns is `echo_of` of its argument, a definition
-// in `specs/Echo.antt`, which a caller's clause can cite too.
-pub fn echo(x: usize) -> usize
-    ensures { result ≡ echo_of x }
-{
-    x
-}
+pub use heap::ExtentHeap;

@@ -1,5 +1,6 @@
 pub mod Words
 pub mod Keyspaces
+pub mod LookUps
 pub mod Orders
 pub mod Changes
 pub mod Faults

@@ -1,13 +1,6 @@
-// A library with one function.
+//! The pair of nodes as a machine: what may happen, and what is promised of every run.
 #![tactic(auto)]
 
-ghost use Rattle.std.specs.Prelude.{◌≡◌};
-ghost use Rattle.machine.specs.Echo.{echo_of};
+mod event;
 
-// The `ensures` clause is the contract: what `echo` returns is `echo_of` of its argument, a definition
-// in `specs/Echo.antt`, which a caller's clause can cite too.
-pub fn echo(x: usize) -> usize
-    ensures { result ≡ echo_of x }
-{
-    x
-}
+pub use event::{Event, KEPT_GROUPS, Mark, OPEN_CHANGES, PIPE_ITEMS, SEATS};

@@ -213,3 +213,8 @@ after_group contents group =
       versions = parts_versions contents.versions group.parts.items;
       is_free = λ i. contents.is_free i && not (is_put_at i (puts_of_group group));
     }
+
+-- a free entry has no version, and neither has one beyond the directory
+pub record IsConsistent (contents : Contents) : Type 0 where
+  pub free : (i : ℕ) → IsTrue (contents.is_free i) → contents.versions i ≡ None
+  pub beyond : (i : ℕ) → entries_of_lines contents.lines ≤ i → contents.versions i ≡ None

@@ -4,7 +4,11 @@
 mod ends;
 mod limits;
 mod local_pipe;
+mod seat;
+#[cfg(test)]
+mod tests;
 
 pub use ends::{Inlet, Outlet};
 pub use limits::{MAX_SEATS, PIPE_ITEMS};
 pub use local_pipe::LocalPipe;
+pub use seat::Seat;

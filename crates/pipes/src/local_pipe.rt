@@ -9,7 +9,7 @@ use std::collections::VecDeque;
 use std::marker::Model;
 
 /// A pipe that is one object with both ends. A clause sees the items that wait in it, oldest first.
-#[derive(Drop)]
+#[derive(Debug, Drop)]
 pub struct LocalPipe<T> {
     waiting: VecDeque<T>,
     ghost within: { length waiting.items ≤ PIPE_ITEMS },

@@ -1,4 +1,3 @@
 pub mod Crash
 pub mod Device
-pub mod History
 pub mod Runs

@@ -2,7 +2,6 @@
 #![tactic(auto)]
 
 mod device;
-mod history;
 mod runs;
 
 pub use device::{Crashing, Fault, Pmem};

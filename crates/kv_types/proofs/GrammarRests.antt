@@ -1,0 +1,107 @@
+-- What a reader leaves is the end of what it was given.
+use Rattle.std.proofs.Common.{◌≡◌, ℕ, zero, suc, ◌+◌, ◌-◌, ◌*◌, ◌≤◌, Bool, true, false, cond, ◌&&◌, ◌==◌, nat_lt, nat_le, List, [], ◌∷◌, ◌++◌, length, take, drop, Result, Ok, Err, refl, ap, sym, ◌∙◌, arith}
+use Rattle.std.proofs.lemmas.List.{append_assoc, length-append, take-append-drop}
+use Rattle.kv_types.specs.declared.limits.Limits.{Limits}
+use Rattle.kv_types.specs.declared.item.ProtocolFault.{ProtocolFault}
+use Rattle.kv_types.specs.declared.item.ProtocolFault.TheVariants.{ExpectedArray, InvalidMultibulkLength, ExpectedBulk, InvalidBulkLength, ExpectedLineEnd}
+use Rattle.kv_types.specs.Reading.{Stop, Short, Broken, Read, ◌>>=◌, is_digit, after_byte, with_line_feed, number_from, number_at, after_dollar, payload_at, word_at, with_first, words_at, request_at}
+
+-- part is the end of whole
+pub record IsEndOf (whole part : List ℕ) : Type 0 where
+  pub front : List ℕ
+  pub joined : whole ≡ front ++ part
+
+pub IsEndOf-self : (whole : List ℕ) → IsEndOf whole whole
+IsEndOf-self whole = record { front = []; joined = refl }
+
+pub IsEndOf-trans : {a b c : List ℕ} → IsEndOf a b → IsEndOf b c → IsEndOf a c
+IsEndOf-trans {a} {b} {c} ab bc =
+    record { front = ab.front ++ bc.front; joined = ab.joined ∙ ap (λ part. ab.front ++ part) bc.joined ∙ sym (append_assoc ab.front bc.front c) }
+
+pub IsEndOf-cons : (byte : ℕ) (bytes : List ℕ) → IsEndOf (byte ∷ bytes) bytes
+IsEndOf-cons byte bytes = record { front = byte ∷ []; joined = refl }
+
+IsEndOf-tail : (whole : List ℕ) (byte : ℕ) (bytes : List ℕ) → IsEndOf whole (byte ∷ bytes) → IsEndOf whole bytes
+IsEndOf-tail whole byte bytes end = record { front = end.front ++ byte ∷ []; joined = end.joined ∙ sym (append_assoc end.front (byte ∷ []) bytes) }
+
+IsEndOf-drop : (whole : List ℕ) (n : ℕ) (bytes : List ℕ) → IsEndOf whole bytes → IsEndOf whole (drop n bytes)
+IsEndOf-drop whole n bytes end =
+    record { front = end.front ++ take n bytes; joined = end.joined ∙ ap (λ b. end.front ++ b) (sym (take-append-drop n bytes)) ∙ sym (append_assoc end.front (take n bytes) (drop n bytes)) }
+
+pub length-IsEndOf : {whole part : List ℕ} → IsEndOf whole part → length part ≤ length whole
+length-IsEndOf {whole} {part} end = omega (arith, ap length end.joined, length-append end.front part)
+
+-- what is left after what was read is the end of whole
+abbrev pub Leaves : {A : Type 0} → (A → List ℕ) → List ℕ → Result A Stop → Type 0
+Leaves rest whole (Ok x) = IsEndOf whole (rest x)
+Leaves rest whole (Err stop) = Unit {0}
+
+Leaves-bind : {A B : Type 0} (rest_a : A → List ℕ) (rest_b : B → List ℕ) (f : A → Result B Stop) (whole : List ℕ) → ((x : A) → IsEndOf whole (rest_a x) → Leaves rest_b whole (f x)) → (r : Result A Stop) → Leaves rest_a whole r → Leaves rest_b whole (r >>= f)
+Leaves-bind rest_a rest_b f whole each (Ok x) h = each x h
+Leaves-bind rest_a rest_b f whole each (Err stop) h = tt
+
+Leaves-if : {A : Type 0} (rest : A → List ℕ) (whole : List ℕ) (test : Bool) (x y : Result A Stop) → Leaves rest whole x → Leaves rest whole y → Leaves rest whole (cond test x y)
+Leaves-if rest whole true x y h k = h
+Leaves-if rest whole false x y h k = k
+
+abbrev pub itself : List ℕ → List ℕ
+itself bytes = bytes
+
+abbrev pub rest_of : {A : Type 0} → Read A → List ℕ
+rest_of read = read.1
+
+after_byte-leaves : (expected : ℕ) (fault : ProtocolFault) (whole bytes : List ℕ) → IsEndOf whole bytes → Leaves itself whole (after_byte expected fault bytes)
+after_byte-leaves expected fault whole [] end = tt
+after_byte-leaves expected fault whole (byte ∷ bytes) end = Leaves-if itself whole (byte == expected) (Ok bytes) (Err (Broken fault)) (IsEndOf-tail whole byte bytes end) tt
+
+with_line_feed-leaves : (fault : ProtocolFault) (n : ℕ) (whole bytes : List ℕ) → IsEndOf whole bytes → Leaves rest_of whole (with_line_feed fault n bytes)
+with_line_feed-leaves fault n whole bytes end =
+    Leaves-bind itself rest_of (λ rest. Ok (n, rest)) whole (λ rest k. k) (after_byte 10 fault bytes) (after_byte-leaves 10 fault whole bytes end)
+
+number_from-leaves : (limit : ℕ) (fault : ProtocolFault) (n : ℕ) (whole bytes : List ℕ) → IsEndOf whole bytes → Leaves rest_of whole (number_from limit fault n bytes)
+number_from-leaves limit fault n whole [] end = tt
+number_from-leaves limit fault n whole (byte ∷ bytes) end =
+    let tail = IsEndOf-tail whole byte bytes end in
+    Leaves-if rest_of whole (byte == 13) (with_line_feed fault n bytes) _ (with_line_feed-leaves fault n whole bytes tail)
+    (Leaves-if rest_of whole (is_digit byte && nat_lt 0 n && nat_le (10 * n + (byte - 48)) limit) (number_from limit fault (10 * n + (byte - 48)) bytes) (Err (Broken fault))
+    (number_from-leaves limit fault (10 * n + (byte - 48)) whole bytes tail) tt)
+
+number_at-leaves : (limit : ℕ) (fault : ProtocolFault) (whole bytes : List ℕ) → IsEndOf whole bytes → Leaves rest_of whole (number_at limit fault bytes)
+number_at-leaves limit fault whole [] end = tt
+number_at-leaves limit fault whole (byte ∷ bytes) end =
+    Leaves-if rest_of whole (is_digit byte && nat_le (byte - 48) limit) (number_from limit fault (byte - 48) bytes) (Err (Broken fault))
+    (number_from-leaves limit fault (byte - 48) whole bytes (IsEndOf-tail whole byte bytes end)) tt
+
+after_dollar-leaves : (whole bytes : List ℕ) → IsEndOf whole bytes → Leaves itself whole (after_dollar bytes)
+after_dollar-leaves whole [] end = tt
+after_dollar-leaves whole (byte ∷ bytes) end = Leaves-if itself whole (byte == 36) (Ok bytes) (Err (Broken (ExpectedBulk byte))) (IsEndOf-tail whole byte bytes end) tt
+
+payload_at-leaves : (len : ℕ) (whole bytes : List ℕ) → IsEndOf whole bytes → Leaves rest_of whole (payload_at len bytes)
+payload_at-leaves len whole bytes end =
+    Leaves-if rest_of whole (nat_lt (length bytes) len) (Err Short) _ tt
+    (Leaves-bind itself rest_of (λ rest. after_byte 10 ExpectedLineEnd rest >>= λ after. Ok (take len bytes, after)) whole
+    (λ rest k. Leaves-bind itself rest_of (λ after. Ok (take len bytes, after)) whole (λ after j. j) (after_byte 10 ExpectedLineEnd rest) (after_byte-leaves 10 ExpectedLineEnd whole rest k))
+    (after_byte 13 ExpectedLineEnd (drop len bytes)) (after_byte-leaves 13 ExpectedLineEnd whole (drop len bytes) (IsEndOf-drop whole len bytes end)))
+
+word_at-leaves : (limits : Limits) (whole bytes : List ℕ) → IsEndOf whole bytes → Leaves rest_of whole (word_at limits bytes)
+word_at-leaves limits whole bytes end =
+    Leaves-bind itself rest_of (λ rest. number_at limits.word_bytes InvalidBulkLength rest >>= λ len. payload_at len.0 len.1) whole
+    (λ rest k. Leaves-bind rest_of rest_of (λ len. payload_at len.0 len.1) whole (λ len j. payload_at-leaves len.0 whole len.1 j)
+    (number_at limits.word_bytes InvalidBulkLength rest) (number_at-leaves limits.word_bytes InvalidBulkLength whole rest k))
+    (after_dollar bytes) (after_dollar-leaves whole bytes end)
+
+words_at-leaves : (limits : Limits) (count : ℕ) (whole bytes : List ℕ) → IsEndOf whole bytes → Leaves rest_of whole (words_at limits count bytes)
+words_at-leaves limits zero whole bytes end = end
+words_at-leaves limits (suc count) whole bytes end =
+    Leaves-bind rest_of rest_of (λ word. words_at limits count word.1 >>= λ others. Ok (with_first word.0 others)) whole
+    (λ word k. Leaves-bind rest_of rest_of (λ others. Ok (with_first word.0 others)) whole (λ others j. j)
+    (words_at limits count word.1) (words_at-leaves limits count whole word.1 k))
+    (word_at limits bytes) (word_at-leaves limits whole bytes end)
+
+-- what is left after a request does not have its first byte
+pub request_at-leaves : (limits : Limits) (byte : ℕ) (bytes : List ℕ) → Leaves rest_of bytes (request_at limits (byte ∷ bytes))
+request_at-leaves limits byte bytes =
+    Leaves-bind itself rest_of (λ rest. number_at limits.words InvalidMultibulkLength rest >>= λ count. words_at limits count.0 count.1) bytes
+    (λ rest k. Leaves-bind rest_of rest_of (λ count. words_at limits count.0 count.1) bytes (λ count j. words_at-leaves limits count.0 bytes count.1 j)
+    (number_at limits.words InvalidMultibulkLength rest) (number_at-leaves limits.words InvalidMultibulkLength bytes rest k))
+    (after_byte 42 ExpectedArray (byte ∷ bytes)) (Leaves-if itself bytes (byte == 42) (Ok bytes) (Err (Broken ExpectedArray)) (IsEndOf-self bytes) tt)

@@ -1,0 +1,12 @@
+pub mod OrderLemmas
+pub mod LookUpLemmas
+pub mod PlayLemmas
+pub mod MemberLemmas
+pub mod PutLemmas
+pub mod ChangeTextLemmas
+pub mod IntegerLemmas
+pub mod ReplyLemmas
+pub mod GrammarGrows
+pub mod GrammarItems
+pub mod GrammarRests
+mod WorkedCases
