@@ -171,11 +171,6 @@ pub record Contents : Type 0 where
   -- the entry's begin is 0
   pub is_free : ℕ → Bool
 
--- what every engine's contents keep: a free entry holds no version, and behind the directory there is none
-pub record IsConsistent (contents : Contents) : Type 0 where
-  pub free : (i : ℕ) → IsTrue (contents.is_free i) → contents.versions i ≡ None
-  pub beyond : (i : ℕ) → entries_of_lines contents.lines ≤ i → contents.versions i ≡ None
-
 -- all that a commit asks of a group
 pub record IsGroup (contents : Contents) (group : Group) : Type 0 where
   pub before : group.before ≡ contents.current.position
