@@ -1,7 +1,8 @@
 -- Laws of the list of calls: how legality, keyspace, position, cut and the lists of one connection grow with it.
-use Rattle.std.proofs.Common.{◌≡◌, ℕ, zero, suc, ◌+◌, ◌-◌, ◌≤◌, min, Bool, true, false, cond, List, [], ◌∷◌, ◌++◌, refl, sym, ap, subst, ◌∙◌, arith, add-zero}
+use Rattle.std.proofs.Common.{◌≡◌, ℕ, zero, suc, ◌+◌, ◌-◌, ◌≤◌, min, true, false, cond, List, [], ◌∷◌, ◌++◌, refl, sym, ap, subst, ◌∙◌, arith, add-zero}
 use Rattle.kv_types.specs.declared.reply.Reply.{Error}
-use Rattle.kv_types.specs.Keyspaces.{Keyspace, play_all}
+use Rattle.kv_types.specs.Keyspaces.{Keyspace, IsKeyspace, play_all}
+use Rattle.kv_types.proofs.PlayLemmas.{is_keyspace-empty, is_keyspace-play_all}
 use Rattle.model.specs.declared.call.Call.{Call}
 use Rattle.model.specs.Commands.{outcome_of}
 use Rattle.model.specs.Calls.{MayReply, unless_error, changes_of, after_call, IsLegalFrom, IsLegal, keyspace_from, keyspace_after, is_nonempty, is_changing, position_from, position_of, cut_changing, cut_from, cut_at, IsPrefix}
@@ -28,6 +29,13 @@ IsLegalFrom-rest s (call ∷ xs) ys all = IsLegalFrom-rest (after_call s call) x
 pub position_from-append : (s : Keyspace) (xs ys : List Call) → position_from s (xs ++ ys) ≡ position_from s xs + position_from (keyspace_from s xs) ys
 position_from-append s [] ys = omega arith
 position_from-append s (call ∷ xs) ys = let rest = position_from-append (after_call s call) xs ys in omega arith
+
+pub IsKeyspace-keyspace_from : (s : Keyspace) (calls : List Call) → IsKeyspace s → IsKeyspace (keyspace_from s calls)
+IsKeyspace-keyspace_from s [] lawful = lawful
+IsKeyspace-keyspace_from s (call ∷ calls) lawful = IsKeyspace-keyspace_from (after_call s call) calls (is_keyspace-play_all s (changes_of s call) lawful)
+
+pub IsKeyspace-keyspace_after : (calls : List Call) → IsKeyspace (keyspace_after calls)
+IsKeyspace-keyspace_after calls = IsKeyspace-keyspace_from [] calls is_keyspace-empty
 
 -- what one call more changes of the whole list
 

@@ -1,12 +1,11 @@
 -- Laws of the changes of a list by their position.
-use Rattle.std.proofs.Common.{◌≡◌, ℕ, zero, suc, ◌+◌, ◌<◌, ◌≤◌, Bool, true, false, cond, List, [], ◌∷◌, ◌++◌, refl, sym, ap, ◌∙◌, arith, add-one, add-zero, append_assoc, append-nil}
-use Rattle.kv_types.specs.declared.change.Change.{Change}
-use Rattle.kv_types.specs.Keyspaces.{Keyspace, play, play_all}
+use Rattle.std.proofs.Common.{◌≡◌, ℕ, zero, suc, ◌+◌, ◌<◌, ◌≤◌, true, false, cond, List, [], ◌∷◌, ◌++◌, refl, sym, ap, ◌∙◌, arith, add-one, add-zero, append_assoc, append-nil}
+use Rattle.kv_types.specs.Keyspaces.{Keyspace, play_all}
 use Rattle.kv_types.proofs.PlayLemmas.{play_all-append}
 use Rattle.model.specs.declared.call.Call.{Call}
 use Rattle.model.specs.Calls.{changes_of, after_call, keyspace_from, keyspace_after, is_nonempty, is_changing, position_from, position_of, cut_changing, cut_from, cut_at}
 use Rattle.model.specs.Positions.{changes_or, changes_at_from, changes_at, changes_since}
-use Rattle.model.proofs.CallsLemmas.{keyspace_from-cut_zero, keyspace_from-append}
+use Rattle.model.proofs.CallsLemmas.{keyspace_from-cut_zero}
 
 -- the changes of a position take the keyspace of the cut there to that of the next cut
 pub keyspace_from-cut_suc : (s : Keyspace) (calls : List Call) (p : ℕ) → p < position_from s calls → keyspace_from s (cut_from s calls (suc p)) ≡ play_all (keyspace_from s (cut_from s calls p)) (changes_at_from s calls p)

@@ -1,5 +1,5 @@
 -- Laws of the calls of one connection, and of what its bytes ask for.
-use Rattle.std.proofs.Common.{◌≡◌, ◌≢◌, ℕ, Bool, true, false, cond, ◌||◌, List, [], ◌∷◌, ◌++◌, map, filter, nat_eq, refl, sym, ap, subst, ◌∙◌, append-nil, eq-eqb, ne_eqb, eqb-true}
+use Rattle.std.proofs.Common.{◌≡◌, ◌≢◌, ℕ, Bool, true, false, cond, ◌||◌, List, [], ◌∷◌, ◌++◌, map, nat_eq, refl, sym, ap, subst, ◌∙◌, append-nil, eq-eqb, ne_eqb, eqb-true}
 use Rattle.std.proofs.lemmas.Bool.{eqb-false}
 use Rattle.std.specs.List.{flat_map, list_any}
 use Rattle.std.proofs.lemmas.Grind.{flat_map-append}
@@ -10,7 +10,7 @@ use Rattle.kv_types.specs.Replies.{text_of}
 use Rattle.model.specs.declared.call.Call.{Call}
 use Rattle.model.specs.Commands.{closes}
 use Rattle.model.specs.Calls.{calls_of, items_of, replies_to, up_to_closing, IsPrefix, Serves}
-use Rattle.model.proofs.PrefixLemmas.{IsPrefix-itself, IsPrefix-none, IsPrefix-cons, IsPrefix-front, IsPrefix-trans, IsPrefix-map, IsPrefix-flat_map, IsPrefix-filter}
+use Rattle.model.proofs.PrefixLemmas.{IsPrefix-itself, IsPrefix-none, IsPrefix-cons, IsPrefix-trans, IsPrefix-map, IsPrefix-flat_map, IsPrefix-filter}
 
 -- ---- the lists of one connection
 

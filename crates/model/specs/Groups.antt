@@ -1,10 +1,8 @@
 -- What a group does to the versions of an image, and all that a commit asks of it.
-use Rattle.std.specs.Prelude.{◌≡◌, ℕ, zero, suc, ◌+◌, ◌<◌, ◌≤◌, Bool, true, false, not, ◌&&◌, ◌||◌, ◌==◌, ◌⊎◌, ◌↔◌, nat_eq, if◌then◌else◌, List, [], ◌∷◌, ◌++◌, length, map, Contains, Option, Some, None, IsTrue}
+use Rattle.std.specs.Prelude.{◌≡◌, ℕ, ◌+◌, ◌<◌, ◌≤◌, Bool, true, false, not, ◌&&◌, ◌||◌, ◌⊎◌, ◌↔◌, nat_eq, if◌then◌else◌, List, [], ◌∷◌, length, map, Contains, Option, Some, None, IsTrue}
 use Rattle.std.specs.List.{flat_map, AllByRecursion}
 use Rattle.std.specs.Ordering.{eq_by_cmp}
 use Rattle.std.specs.Cmp.Lexicographic.{pointwise}
-use Rattle.kv_types.specs.declared.place.EntryNo.{EntryNo}
-use Rattle.kv_types.specs.declared.place.Extent.{Extent}
 use Rattle.kv_types.specs.declared.record_id.RecordId.{RecordId}
 use Rattle.kv_types.specs.declared.record_id.RecordId.TheVariants.{Str, Field}
 use Rattle.kv_types.specs.declared.change.Change.{Change}
