@@ -1,13 +1,14 @@
-// A library with one function.
+//! Any list of events over two devices, through the crates that serve them, and what is promised of it.
 #![tactic(auto)]
 
-ghost use Rattle.std.specs.Prelude.{◌≡◌};
-ghost use Rattle.world.specs.Echo.{echo_of};
+mod committing;
+mod inbound;
+mod link;
+mod outbound;
+mod pair;
+mod run;
+mod trace;
 
-// The `ensures` clause is the contract: what `echo` returns is `echo_of` of its argument, a definition
-// in `specs/Echo.antt`, which a caller's clause can cite too.
-pub fn echo(x: usize) -> usize
-    ensures { result ≡ echo_of x }
-{
-    x
-}
+pub use machine::{Event, Mark};
+pub use run::run;
+pub use trace::{Ended, Trace};

@@ -1,0 +1,11 @@
+pub mod CountLemmas
+pub mod GroupSteps
+pub mod Packing
+pub mod PartEffects
+pub mod PartWords
+pub mod PartSteps
+pub mod PutPairs
+pub mod ReadBack
+pub mod Staged
+pub mod StoredBy
+pub mod VersionLemmas
