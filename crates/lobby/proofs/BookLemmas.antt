@@ -69,13 +69,13 @@ module _ (slots left : List (Option ℕ)) (sound : IsSound slots) (before : Book
     enter-err None takes = (refl, Book-same after before (becomes ∙ (ap (map status_of) takes.1 ∙ sym is)))
     enter-err (Some seat) takes = tt
 
-module _ (slots : List (Option ℕ)) (before after : Book) (place seat : ℕ) (here : place ≡ seat) (is : before.statuses ≡ map status_of slots)
-    (becomes : after.statuses ≡ map status_of (set slots place (Some seat))) where
+module _ (slots left : List (Option ℕ)) (seat : ℕ) (puts : left ≡ set slots seat (Some seat)) (before after : Book)
+    (is : before.statuses ≡ map status_of slots) (becomes : after.statuses ≡ map status_of left) where
   -- the status of the number is free afterwards
   freed : after.statuses ≡ slice_set before.statuses seat free
   freed =
-      becomes ∙ (map-set status_of slots place (Some seat)
-      ∙ (ap (λ n. set (map status_of slots) n free) here ∙ ap (λ statuses. set statuses seat free) (sym is)))
+      becomes
+      ∙ (ap (map status_of) puts ∙ (map-set status_of slots seat (Some seat) ∙ ap (λ statuses. set statuses seat free) (sym is)))
 
   pub leave-moves : slice_get before.statuses seat ≡ Some taken → Moves before seat taken free after
   leave-moves was = record { was = was; becomes = freed }

@@ -25,8 +25,9 @@ IsSound-set slots place slot own sound = record {
       each_once_from_complete (map status_of (set slots place slot)) (length-map (set slots place slot) status_of ∙ (length-set slots place slot ∙ sound.complete));
 }
 
-pub IsSound-put : (slots : List (Option ℕ)) (place seat : ℕ) → place ≡ seat → IsSound slots → IsSound (set slots place (Some seat))
-IsSound-put slots place seat here sound = IsSound-set slots place (Some seat) (λ other e. let same : seat ≡ other = cc in sym same ∙ sym here) sound
+pub IsSound-put : (slots : List (Option ℕ)) (seat : ℕ) (after : List (Option ℕ)) → after ≡ set slots seat (Some seat) → IsSound slots → IsSound after
+IsSound-put slots seat after puts sound =
+    subst IsSound (sym puts) (IsSound-set slots seat (Some seat) (λ other e. let same : seat ≡ other = cc in sym same) sound)
 
 pub IsSound-taken : (slots : List (Option ℕ)) (seat : Option ℕ) (after : List (Option ℕ)) → TakesLowest slots seat after → IsSound slots → IsSound after
 IsSound-taken slots None after takes sound = subst IsSound (sym takes.1) sound

@@ -59,11 +59,11 @@ fed_by-not : (d : ℕ) (event : Event) → fed_by d event false ≡ []
 fed_by-not d (Feed c piece) = refl
 fed_by-not d event = refl
 
-fed-step : (old : World) (event : Event) (did : Bool) (new : World) (d : ℕ) → Step old event did new → fed_in new d ≡ fed_in old d ++ fed_by d event did
+pub fed-step : (old : World) (event : Event) (did : Bool) (new : World) (d : ℕ) → Step old event did new → fed_in new d ≡ fed_in old d ++ fed_by d event did
 fed-step old event true new d step = fed-happens old event new d (sym step.done) (step.happens refl)
 fed-step old event false new d step = ap (λ x. fed_in x d) (step.stands refl) ∙ sym (append-nil (fed_in old d)) ∙ ap (λ piece. fed_in old d ++ piece) (sym (fed_by-not d event))
 
-fed-from : (w : World) (events : List Event) (done : List Bool) (worlds : List World) (d : ℕ) → Run w events done worlds → fed_in (last_world w worlds) d ≡ fed_in w d ++ fed_to d events done
+pub fed-from : (w : World) (events : List Event) (done : List Bool) (worlds : List World) (d : ℕ) → Run w events done worlds → fed_in (last_world w worlds) d ≡ fed_in w d ++ fed_to d events done
 fed-from w [] [] [] d run = sym (append-nil (fed_in w d))
 fed-from w (event ∷ events) (did ∷ done) (new ∷ worlds) d run =
     fed-from new events done worlds d run.1 ∙ ap (λ front. front ++ fed_to d events done) (fed-step w event did new d run.0)

@@ -10,3 +10,6 @@ pub mod SoundEvents
 pub mod RunLemmas
 pub mod FedLemmas
 pub mod PromiseLemmas
+pub mod GrowLemmas
+pub mod LawLemmas
+pub mod WorkedRun

@@ -1,6 +1,7 @@
 -- Every run keeps the promise.
 use Rattle.std.proofs.Common.{◌≡◌, ◌≢◌, ℕ, zero, suc, ◌+◌, ◌<◌, ◌≤◌, Bool, true, false, List, [], ◌∷◌, ◌++◌, length, take, drop, All, refl, sym, ap, subst, ◌∙◌, arith, append_assoc, append-nil, length-append, take-append-drop}
 use Rattle.std.proofs.lemmas.List.Elements.{All-head, All-tail}
+use mathlib.Core.Path.{fun_ext}
 use Rattle.kv_types.specs.declared.limits.TheConstants.{SERVED_LIMITS}
 use Rattle.kv_types.specs.declared.item.Item.{Item}
 use Rattle.kv_types.specs.declared.reply.Held.{Held}
@@ -60,7 +61,7 @@ replies-add_up w s c =
 
 -- ---- the promise
 
-serves-run : (events : List Event) (done : List Bool) (worlds : List World) → Run start events done worlds → Serves (λ c. items_at SERVED_LIMITS (fed_to c events done)) (last_world start worlds).calls
+pub serves-run : (events : List Event) (done : List Bool) (worlds : List World) → Run start events done worlds → Serves (λ c. items_at SERVED_LIMITS (fed_to c events done)) (last_world start worlds).calls
 serves-run events done worlds run = λ c.
     let w = last_world start worlds in
     let inbound = (connection_of w c).inbound in
@@ -93,3 +94,14 @@ every_run_is_promised events done worlds run =
       behind = omega (arith, s.standby.behind, chain-le _ _ _ s.link.waiting);
       within = omega (arith, s.committer.closed, chain-le _ _ _ s.committer.waiting);
     }
+
+-- the promise of whatever tells the last world of a run
+pub promised-told : (events : List Event) (done : List Bool) (worlds : List World) (calls : List Call) (released : ℕ → List ℕ) (primary standby : ℕ) → Run start events done worlds
+    → Tells (last_world start worlds) calls released primary standby → IsPromised events done calls released primary standby
+promised-told events done worlds calls released primary standby run tells =
+    let w = last_world start worlds in
+    let promised : IsPromised events done w.calls (released_in w) w.committer.position w.standby.position = every_run_is_promised events done worlds run in
+    subst (λ x. IsPromised events done x released primary standby) (sym tells.list)
+      (subst (λ x. IsPromised events done w.calls x primary standby) (sym (fun_ext tells.bytes))
+        (subst (λ x. IsPromised events done w.calls (released_in w) x standby) (sym tells.primary_position)
+          (subst (λ x. IsPromised events done w.calls (released_in w) w.committer.position x) (sym tells.standby_position) promised)))

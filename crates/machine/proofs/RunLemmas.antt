@@ -1,9 +1,9 @@
 -- Laws of runs: they go on, they are cut, and what holds between any two events.
-use Rattle.std.proofs.Common.{◌≡◌, ◌≢◌, ℕ, zero, suc, ◌+◌, ◌<◌, ◌≤◌, Bool, true, false, cond, nat_eq, List, [], ◌∷◌, ◌++◌, length, take, drop, All, refl, sym, ap, subst, ◌∙◌, arith, append_assoc, append-nil, inl, inr}
+use Rattle.std.proofs.Common.{◌≡◌, ◌≢◌, ℕ, zero, suc, ◌+◌, ◌<◌, ◌≤◌, Bool, true, false, cond, nat_eq, List, [], ◌∷◌, ◌++◌, length, take, drop, All, refl, sym, ap, subst, ◌∙◌, arith, append_assoc, append-nil, inl, inr, true≢false}
 use Rattle.std.proofs.lemmas.List.Elements.{All-nil, All-cons}
 use Rattle.std.proofs.lemmas.Bool.{ltb-true}
 use Rattle.machine.specs.declared.event.Event.{Event}
-use Rattle.machine.specs.Events.{World, Step, Run, start, last_world}
+use Rattle.machine.specs.Events.{World, is_enabled, Happens, Step, Run, start, last_world}
 use Rattle.machine.specs.Promises.{SomeWorld}
 use Rattle.machine.specs.Sound.{Sound}
 use Rattle.machine.proofs.InboundLemmas.{inbound-start}
@@ -12,6 +12,14 @@ use Rattle.machine.proofs.CommitterLemmas.{committer-start}
 use Rattle.machine.proofs.LinkLemmas.{link-start}
 use Rattle.machine.proofs.StandbyLemmas.{standby-start}
 use Rattle.machine.proofs.SoundEvents.{sound-step}
+
+-- ---- steps
+
+pub step-does : {old new : World} {event : Event} → is_enabled old event ≡ true → Happens old event new → Step old event true new
+step-does e h = record { done = sym e; happens = λ did. h; stands = λ did. absurd (true≢false did) }
+
+pub step-stays : {old : World} {event : Event} → is_enabled old event ≡ false → Step old event false old
+step-stays e = record { done = sym e; happens = λ did. absurd (true≢false (sym did)); stands = λ did. refl }
 
 -- ---- runs go on, and are cut
 

@@ -230,7 +230,7 @@ sound-OpenLink w s =
       standby = standby-acknowledged s.sent w.link.known w.standby s.standby;
     }
 
-sent-known : (groups : List Span) (link : Link) → (sent_next groups link).known ≡ link.known
+pub sent-known : (groups : List Span) (link : Link) → (sent_next groups link).known ≡ link.known
 sent-known [] link = go link.waiting
   where
     go : (waiting : List Span) → (sent_waiting waiting link).known ≡ link.known
@@ -238,7 +238,7 @@ sent-known [] link = go link.waiting
     go (group ∷ groups) = refl
 sent-known (group ∷ groups) link = refl
 
-sent-remote : (groups : List Span) (link : Link) → (sent_next groups link).remote ≡ link.remote
+pub sent-remote : (groups : List Span) (link : Link) → (sent_next groups link).remote ≡ link.remote
 sent-remote [] link = go link.waiting
   where
     go : (waiting : List Span) → (sent_waiting waiting link).remote ≡ link.remote

@@ -3,7 +3,9 @@
 
 mod committed;
 mod durable;
+mod record;
 
 pub use committed::Committed;
 pub use durable::Durable;
 pub use model::{Gap, Record, Role};
+pub use record::write_next;
