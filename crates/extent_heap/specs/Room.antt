@@ -11,6 +11,10 @@ pub record Room : Type 0 where
   pub next_entry : ℕ
   pub end_entry : ℕ
 
+-- all lines from the first up to the end, and all entries below their number
+abbrev pub fresh_room : ℕ → ℕ → ℕ → Room
+fresh_room first end entries = record { next_line = first; end_line = end; next_entry = 0; end_entry = entries }
+
 -- ---- lines
 
 abbrev pub is_free_line : Room → ℕ → Bool
@@ -33,10 +37,9 @@ abbrev pub without_extent : Extent → Room → Room
 without_extent extent room = record room { next_line = extent.first_line + extent.lines }
 
 -- The extent is the lowest run of so many free lines, and is free no longer. Nothing else changed.
-pub record TakesExtent (old : Room) (lines : ℕ) (extent : Extent) (new : Room) : Type 0 where
-  pub count : extent.lines ≡ lines
-  pub free : IsFreeRun old extent.first_line lines
-  pub lowest : (first : ℕ) → IsFreeRun old first lines → extent.first_line ≤ first
+pub record TakesExtent (old : Room) (extent : Extent) (new : Room) : Type 0 where
+  pub free : IsFreeRun old extent.first_line extent.lines
+  pub lowest : (first : ℕ) → IsFreeRun old first extent.lines → extent.first_line ≤ first
   pub after : new ≡ without_extent extent old
   pub taken : (line : ℕ) → is_free_line new line ≡ (is_free_line old line && not (is_line_of extent line))
 

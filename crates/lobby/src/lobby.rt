@@ -1,12 +1,11 @@
 //! The lobby and its book of seats.
-ghost use Rattle.std.specs.Prelude.{◌≡◌, ◌≢◌, ℕ, ◌<◌, ◌↔◌, length, All, IfOk, IfErr, IsErrOf, Some, is_some, position, slice_get};
-ghost use Rattle.pipes.specs.declared.limits.TheConstants.{MAX_SEATS};
+ghost use Rattle.std.specs.Prelude.{◌≡◌, ◌≢◌, ℕ, ◌<◌, ◌↔◌, All, IfOk, IfErr, IsErrOf, Some, map, slice_get};
 ghost use Rattle.lobby.specs.Book.{Moves, free, taken};
-ghost use Rattle.lobby.specs.Slots.{IsOwn};
+ghost use Rattle.lobby.specs.Slots.{IsSound, TakesLowest};
 
 use kv_types::Refusal;
 use pipes::Seat;
-use std::alloc::Global;
+use std::alloc::{AllocError, Global};
 use std::marker::Model;
 
 /// The 1,024 seats of a server, of which the free ones lie here. A clause sees whether each number is free or taken.
@@ -14,8 +13,7 @@ use std::marker::Model;
 pub struct Lobby {
     // At its number's place each seat that is free.
     slots: Vec<Option<Seat>>,
-    ghost complete: { length slots.items ≡ MAX_SEATS },
-    ghost own: { IsOwn slots.items },
+    ghost sound: { IsSound slots.items },
 }
 
 impl Model for Lobby {
@@ -24,7 +22,7 @@ impl Model for Lobby {
 
     ghost Value = { Book };
 
-    ghost view = { λ lobby. book_of lobby.slots.items lobby.complete };
+    ghost view = { λ lobby. book_of lobby.slots.items lobby.sound };
 }
 
 impl Lobby {
@@ -37,7 +35,7 @@ impl Lobby {
         ensures all_free { IfOk result (λ lobby. All (λ status. status ≡ free) lobby.statuses) }
         ensures err { IfErr result (λ refusal. refusal ≡ Refusal.Memory) }
     {
-        let slots = Seat::all(alloc)?.into_iter().map(Some).collect(alloc)?;
+        let slots = slots_of(alloc, Seat::all(alloc)?)?;
         Ok(Lobby { slots })
     }
 
@@ -52,10 +50,7 @@ impl Lobby {
         ensures full { IsErrOf result Refusal.SeatsFull ↔ All (λ status. status ≡ taken) self.old.statuses }
         ensures err { IfErr result (λ refusal. (refusal ≡ Refusal.SeatsFull) × (self.new ≡ self.old)) }
     {
-        match lowest_free(&self.slots) {
-            None => Err(Refusal::SeatsFull),
-            Some(place) => Ok(self.slots[place].take().unwrap()),
-        }
+        take_lowest(&mut self.slots).ok_or(Refusal::SeatsFull)
     }
 
     /// Takes a seat back. A seat whose number is not taken here changes nothing.
@@ -68,9 +63,17 @@ impl Lobby {
     }
 }
 
-// The lowest place at which a seat lies.
-fn lowest_free(slots: &[Option<Seat>]) -> Option<usize>
-    ensures { result ≡ position is_some slots.now }
+// Each seat in a slot of its own.
+fn slots_of(alloc: Global, seats: Vec<Seat>) -> Result<Vec<Option<Seat>>, AllocError>
+    ensures { IfOk result (λ slots. slots.items ≡ map Some seats.items) }
 {
-    slots.iter().position(|slot| slot.is_some())
+    seats.into_iter().map(Some).collect(alloc)
+}
+
+// Takes out the seat at the lowest place at which one lies.
+fn take_lowest(slots: &mut Vec<Option<Seat>>) -> Option<Seat>
+    ensures { TakesLowest slots.old.items result slots.new.items }
+{
+    let place = slots.iter().position(|slot| slot.is_some())?;
+    slots[place].take()
 }

@@ -34,11 +34,24 @@ pub record HasMarks (front : List Call) (call : Call) (w : World) : Type 0 where
   pub local : position_of (front ++ call ∷ []) ≤ w.committer.local
   pub remote : position_of (front ++ call ∷ []) ≤ w.link.remote
 
+-- the bytes released to each connection in a world
+abbrev pub released_in : World → ℕ → List ℕ
+released_in w c = (connection_of w c).outbound.released
+
+-- a world has this list of calls, these released bytes, and these positions of the two records
+pub record Tells (w : World) (calls : List Call) (released : ℕ → List ℕ) (primary standby : ℕ) : Type 0 where
+  pub list : calls ≡ w.calls
+  pub bytes : (c : ℕ) → released c ≡ released_in w c
+  pub primary_position : primary ≡ w.committer.position
+  pub standby_position : standby ≡ w.standby.position
+
 -- What is promised of the list of calls and the bytes released to each connection, where these events, or some of them, did their step.
 pub record IsPromised (events : List Event) (done : List Bool) (calls : List Call) (released : ℕ → List ℕ) (primary standby : ℕ) : Type 0 where
   -- the machine's run: the world after each event
   pub worlds : List World
   pub run : Run start events done worlds
+  -- what is told is the last of them
+  pub tells : Tells (last_world start worlds) calls released primary standby
   -- one sequential Redis answers this list
   pub legal : IsLegal calls
   -- it takes the requests of each connection in order
@@ -51,10 +64,6 @@ pub record IsPromised (events : List Event) (done : List Bool) (calls : List Cal
   pub held : (front : List Call) (call : Call) → IsReleased calls released front call → position_of (front ++ call ∷ []) ≤ standby
   pub behind : standby ≤ primary
   pub within : primary ≤ position_of calls
-
--- the bytes released to each connection in a world
-abbrev pub released_in : World → ℕ → List ℕ
-released_in w c = (connection_of w c).outbound.released
 
 -- every run keeps the promise
 abbrev pub EveryRunIsPromised : Type 0

@@ -1,6 +1,6 @@
 -- What a command answers and what it changes: the Redis pages of SET and GET. The error texts, and the order in which a request is
 -- refused, are this project's profile.
-use Rattle.std.specs.Prelude.{ℕ, ◌<◌, Bool, true, false, nat_le, nat_eq, if◌then◌else◌, List, [], ◌∷◌, ◌++◌, length, Option, Some, None, Result, Ok, Err, codes}
+use Rattle.std.specs.Prelude.{ℕ, Bool, true, false, nat_le, nat_eq, if◌then◌else◌, List, [], ◌∷◌, ◌++◌, length, Option, Some, None, Result, Ok, Err, codes}
 use Rattle.std.specs.Str.{str_to_ascii_lowercase}
 use Rattle.std.specs.Cmp.Lexicographic.{pointwise}
 use Rattle.kv_types.specs.declared.limits.TheConstants.{MAX_KEY_BYTES}

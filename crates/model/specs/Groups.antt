@@ -1,10 +1,8 @@
 -- What a group does to the versions of an image, and all that a commit asks of it.
-use Rattle.std.specs.Prelude.{◌≡◌, ℕ, zero, suc, ◌+◌, ◌<◌, ◌≤◌, Bool, true, false, not, ◌&&◌, ◌||◌, ◌==◌, ◌⊎◌, ◌↔◌, nat_eq, if◌then◌else◌, List, [], ◌∷◌, ◌++◌, length, map, Contains, Option, Some, None, IsTrue}
+use Rattle.std.specs.Prelude.{◌≡◌, ℕ, ◌+◌, ◌<◌, ◌≤◌, Bool, true, false, not, ◌&&◌, ◌||◌, ◌⊎◌, ◌↔◌, nat_eq, if◌then◌else◌, List, [], ◌∷◌, length, map, Contains, Option, Some, None, IsTrue}
 use Rattle.std.specs.List.{flat_map, AllByRecursion}
 use Rattle.std.specs.Ordering.{eq_by_cmp}
 use Rattle.std.specs.Cmp.Lexicographic.{pointwise}
-use Rattle.kv_types.specs.declared.place.EntryNo.{EntryNo}
-use Rattle.kv_types.specs.declared.place.Extent.{Extent}
 use Rattle.kv_types.specs.declared.record_id.RecordId.{RecordId}
 use Rattle.kv_types.specs.declared.record_id.RecordId.TheVariants.{Str, Field}
 use Rattle.kv_types.specs.declared.change.Change.{Change}
@@ -64,7 +62,11 @@ ends_record change.Clear id = true
 abbrev pub ended_by : Change → Version → Version
 ended_by change version =
     record {
-      id = version.id; value = version.value; position = version.position; first_line = version.first_line; lines = version.lines;
+      id = version.id;
+      value = version.value;
+      position = version.position;
+      first_line = version.first_line;
+      lines = version.lines;
       is_ended = version.is_ended || ends_record change version.id;
     }
 
@@ -151,7 +153,7 @@ is_put_at i (put ∷ puts) = nat_eq i put.entry.0 || is_put_at i puts
 abbrev pub NamesEnded : Versions → Part → Type 0
 NamesEnded versions part =
     (i : ℕ) → Contains (map (λ entry. entry.0) part.ended.items) i
-      ↔ (IsTrue (is_live_version (versions i) || is_put_at i (puts_of_part part)) × IsTrue (is_ended_version (part_versions versions part i)))
+    ↔ (IsTrue (is_live_version (versions i) || is_put_at i (puts_of_part part)) × IsTrue (is_ended_version (part_versions versions part i)))
 
 -- the parts follow one another: positions rise, and each names what it ended
 abbrev pub AreParts : ℕ → Versions → List Part → Type 0
@@ -192,7 +194,9 @@ next_record r group =
       position = last_position r.position group.parts.items;
       cp = r.cp + length group.parts.items;
       cd = r.cp + length group.parts.items + 1 + STAMP_WINDOW;
-      epoch = r.epoch; role = r.role; gaps = r.gaps;
+      epoch = r.epoch;
+      role = r.role;
+      gaps = r.gaps;
     }
 
 -- the contents after a group

@@ -1,5 +1,6 @@
 //! A pipe within one thread.
 ghost use Rattle.std.specs.Prelude.{◌≡◌, ◌+◌, ◌-◌, ◌≤◌, ◌<◌, ◌==◌, ◌↔◌, length, [], ◌∷◌, ◌++◌, IsOk, IfOk, MatchOption, refl};
+ghost use Rattle.std.specs.VecDeque.{deque_capacity};
 ghost use Rattle.pipes.specs.declared.limits.TheConstants.{PIPE_ITEMS};
 
 use crate::ends::{Inlet, Outlet};
@@ -9,11 +10,12 @@ use std::collections::VecDeque;
 use std::marker::Model;
 
 /// A pipe that is one object with both ends. A clause sees the items that wait in it, oldest first.
-#[derive(Drop)]
+#[derive(Debug, Drop)]
 pub struct LocalPipe<T> {
     waiting: VecDeque<T>,
     ghost within: { length waiting.items ≤ PIPE_ITEMS },
-    ghost has_room: { PIPE_ITEMS ≤ waiting.cap },
+    // The room is made with the pipe, so that no later call takes memory.
+    ghost has_room: { PIPE_ITEMS ≤ deque_capacity waiting },
 }
 
 impl<T> Model for LocalPipe<T> {

@@ -1,9 +1,9 @@
 -- One run of calls after another.
-use Rattle.std.proofs.Common.{◌≡◌, ◌⊎◌, ℕ, suc, ◌+◌, ◌/◌, ◌≤◌, Bool, true, List, [], ◌∷◌, ◌++◌, length, refl, inl, inr, sym, ap, subst, ◌∙◌, arith, ◌<◌, take, get_or}
+use Rattle.std.proofs.Common.{◌≡◌, ℕ, suc, ◌+◌, ◌≤◌, List, [], ◌∷◌, length, refl, sym, ap, subst, ◌∙◌, ◌<◌, take, get_or}
 use Rattle.std.proofs.lemmas.List.{take_more, take_all}
-use Rattle.pmem.specs.Device.{Word, State, Fences, Steps, MayBe, Only, store_at, flush_at, fenced, moment}
-use Rattle.pmem.specs.Crash.{IsImage, MayLeave, image_of}
-use Rattle.pmem.specs.Runs.{LeavesOnly, Runs, Stays, Staged, StageFailed, stores, flushes, written, IsLine, IsOutside, IsPartlyStored}
+use Rattle.pmem.specs.Device.{Word, State, Fences, Steps, MayBe, Only, store_at, flush_at, fenced}
+use Rattle.pmem.specs.Crash.{IsImage, image_of}
+use Rattle.pmem.specs.Runs.{LeavesOnly, Runs, Stays, Staged, StageFailed, stores, flushes, written, IsPartlyStored}
 use Rattle.pmem.proofs.Leaving.{step_leaves, none_leaves, LeavesOnly-then, LeavesOnly-weaken}
 use Rattle.pmem.proofs.Staging.{IsImage-store_at, IsImage-stores, flush_at-IsImage, flushes-IsImage, IsImage-fenced, image_of-staged, Only-staged, IsPartlyStored-staged, MayBe-staged, stores-append, flushes-append}
 
@@ -24,7 +24,10 @@ Stays-step step = record { lines = step.lines; kept = step.kept; starved = step.
 pub Runs-none : (d : State) → Runs d d d.words
 Runs-none d =
     record {
-      words = refl; failures = refl; fences = refl; stays = Stays-none d;
+      words = refl;
+      failures = refl;
+      fences = refl;
+      stays = Stays-none d;
       moments = none_leaves d (IsImage d.words) (λ image is. is);
     }
 
@@ -44,18 +47,24 @@ Runs-then {a} {b} {c} {u} {v} first second grows =
 pub Runs-step_store : {a b : State} (at x : ℕ) → Steps a b (store_at at x a.words) a.failures a.fences → Runs a b (store_at at x a.words)
 Runs-step_store {a} {b} at x step =
     record {
-      words = step.words; failures = step.failures; fences = step.fences; stays = Stays-step step;
+      words = step.words;
+      failures = step.failures;
+      fences = step.fences;
+      stays = Stays-step step;
       moments = step_leaves a b (IsImage (store_at at x a.words)) step.past (IsImage-store_at at x a.words)
-        (λ image is. subst (λ (w : ℕ → Word). IsImage w image) step.words is);
+          (λ image is. subst (λ (w : ℕ → Word). IsImage w image) step.words is);
     }
 
 -- one flush
 pub Runs-step_flush : {a b : State} (line : ℕ) → Steps a b (flush_at line a.words) a.failures a.fences → Runs a b (flush_at line a.words)
 Runs-step_flush {a} {b} line step =
     record {
-      words = step.words; failures = step.failures; fences = step.fences; stays = Stays-step step;
+      words = step.words;
+      failures = step.failures;
+      fences = step.fences;
+      stays = Stays-step step;
       moments = step_leaves a b (IsImage (flush_at line a.words)) step.past (flush_at-IsImage line a.words)
-        (λ image is. subst (λ (w : ℕ → Word). IsImage w image) step.words is);
+          (λ image is. subst (λ (w : ℕ → Word). IsImage w image) step.words is);
     }
 
 -- a run goes on by stores
@@ -75,8 +84,8 @@ pub Runs-next_store : {a b c : State} (pairs : List (ℕ × ℕ)) (i : ℕ) → 
 Runs-next_store {a} {b} {c} pairs i below run step =
     let pair : ℕ × ℕ = get_or pairs i (0, 0) in
     subst (λ (w : ℕ → Word). Runs a c w)
-        (sym (stores-append (take i pairs) (pair ∷ []) a.words) ∙ ap (λ (p : List (ℕ × ℕ)). stores p a.words) (sym (take_more pairs i (0, 0) below)))
-        (Runs-stores (pair ∷ []) run (Runs-step_store pair.0 pair.1 step))
+    (sym (stores-append (take i pairs) (pair ∷ []) a.words) ∙ ap (λ (p : List (ℕ × ℕ)). stores p a.words) (sym (take_more pairs i (0, 0) below)))
+    (Runs-stores (pair ∷ []) run (Runs-step_store pair.0 pair.1 step))
 
 -- and the loop over the lines
 pub Runs-next_flush : {a b c : State} (lines : List ℕ) (i : ℕ) → i < length lines → Runs a b (flushes (take i lines) a.words)
@@ -84,8 +93,8 @@ pub Runs-next_flush : {a b c : State} (lines : List ℕ) (i : ℕ) → i < lengt
     → Runs a c (flushes (take (i + 1) lines) a.words)
 Runs-next_flush {a} {b} {c} lines i below run step =
     subst (λ (w : ℕ → Word). Runs a c w)
-        (sym (flushes-append (take i lines) (get_or lines i 0 ∷ []) a.words) ∙ ap (λ (l : List ℕ). flushes l a.words) (sym (take_more lines i 0 below)))
-        (Runs-flushes (get_or lines i 0 ∷ []) run (Runs-step_flush (get_or lines i 0) step))
+    (sym (flushes-append (take i lines) (get_or lines i 0 ∷ []) a.words) ∙ ap (λ (l : List ℕ). flushes l a.words) (sym (take_more lines i 0 below)))
+    (Runs-flushes (get_or lines i 0 ∷ []) run (Runs-step_flush (get_or lines i 0) step))
 
 -- the loops have come to the end
 pub Runs-all_stored : {a b : State} (pairs : List (ℕ × ℕ)) (i : ℕ) → length pairs ≤ i → Runs a b (stores (take i pairs) a.words)
@@ -102,19 +111,19 @@ Runs-all_flushed {a} {b} lines i all run =
 pub fence_leaves : {a b : State} {failures : ℕ} {fences : Fences} → Steps a b (fenced a.words) failures fences → LeavesOnly a b (IsImage a.words)
 fence_leaves {a} {b} step =
     step_leaves a b (IsImage a.words) step.past (λ image is. is)
-        (λ image is. IsImage-fenced a.words image (subst (λ (w : ℕ → Word). IsImage w image) step.words is))
+    (λ image is. IsImage-fenced a.words image (subst (λ (w : ℕ → Word). IsImage w image) step.words is))
 
 -- nor does one that fails
 pub fault_leaves : {a b : State} {failures : ℕ} {fences : Fences} → Steps a b a.words failures fences → LeavesOnly a b (IsImage a.words)
 fault_leaves {a} {b} step =
     step_leaves a b (IsImage a.words) step.past (λ image is. is)
-        (λ image is. subst (λ (w : ℕ → Word). IsImage w image) step.words is)
+    (λ image is. subst (λ (w : ℕ → Word). IsImage w image) step.words is)
 
 staged_moments : {a b c : State} (pairs : List (ℕ × ℕ)) (lines : List ℕ) → Runs a b (flushes lines (stores pairs a.words))
     → LeavesOnly b c (IsImage b.words) → LeavesOnly a c (IsPartlyStored pairs a.words)
 staged_moments {a} {b} {c} pairs lines run fence =
     LeavesOnly-weaken (IsPartlyStored pairs a.words) (λ image is. IsPartlyStored-staged pairs lines a.words image is)
-        (LeavesOnly-then run.moments (subst (λ (w : ℕ → Word). LeavesOnly b c (IsImage w)) run.words fence))
+    (LeavesOnly-then run.moments (subst (λ (w : ℕ → Word). LeavesOnly b c (IsImage w)) run.words fence))
 
 -- stores, flushes and a fence that succeeds
 pub stage_ok : {a b c : State} {fences : Fences} (pairs : List (ℕ × ℕ)) (lines : List ℕ) → Runs a b (flushes lines (stores pairs a.words))
@@ -124,10 +133,10 @@ stage_ok {a} {b} {c} pairs lines run step =
     record {
       newest = λ word. ap (λ (w : ℕ → Word). image_of w word) words ∙ image_of-staged pairs lines a.words word;
       certain = λ word line.
-        subst (λ (w : ℕ → Word). Only (w word) (written pairs (image_of a.words) word)) (sym words)
+          subst (λ (w : ℕ → Word). Only (w word) (written pairs (image_of a.words) word)) (sym words)
           (Only-staged pairs lines a.words word line);
       elsewhere = λ word y out may.
-        MayBe-staged pairs lines a.words word y out (subst (λ (w : ℕ → Word). MayBe (w word) y) words may);
+          MayBe-staged pairs lines a.words word y out (subst (λ (w : ℕ → Word). MayBe (w word) y) words may);
       failures = step.failures ∙ run.failures;
       stays = Stays-then run.stays (Stays-step step);
       moments = staged_moments pairs lines run (fence_leaves step);
@@ -139,7 +148,7 @@ pub stage_err : {a b c : State} {fences : Fences} (pairs : List (ℕ × ℕ)) (l
 stage_err {a} {b} {c} pairs lines run step =
     record {
       newest = λ word.
-        ap (λ (w : ℕ → Word). image_of w word) (step.words ∙ run.words) ∙ image_of-staged pairs lines a.words word;
+          ap (λ (w : ℕ → Word). image_of w word) (step.words ∙ run.words) ∙ image_of-staged pairs lines a.words word;
       failures = step.failures ∙ ap suc run.failures;
       stays = Stays-then run.stays (Stays-step step);
       moments = staged_moments pairs lines run (fault_leaves step);

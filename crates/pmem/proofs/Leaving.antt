@@ -1,5 +1,5 @@
 -- What a crash at any moment of a run leaves.
-use Rattle.std.proofs.Common.{◌≡◌, ◌⊎◌, ℕ, suc, ◌+◌, ◌≤◌, List, [], ◌∷◌, length, refl, inl, inr, sym, ap, subst, arith, add-one}
+use Rattle.std.proofs.Common.{◌≡◌, ◌⊎◌, ℕ, ◌≤◌, List, [], ◌∷◌, length, inl, inr, ap, subst, arith}
 use Rattle.pmem.specs.Device.{Word, State, moment}
 use Rattle.pmem.specs.Crash.{IsImage, HadImage, MayLeave}
 use Rattle.pmem.specs.Runs.{LeavesOnly}
@@ -21,8 +21,8 @@ MayLeave-step : (old : State) (now : ℕ → Word) (past : List (ℕ → Word)) 
 MayLeave-step old now past t image e (inl is) = inr is
 MayLeave-step old now past t image e (inr had) =
     elim (subst (λ (p : List (ℕ → Word)). HadImage p t image) e had) [
-      inl here ↦ inl (inl here.1)
-    | inr there ↦ inl (inr there)
+      | inl here ↦ inl (inl here.1)
+      | inr there ↦ inl (inr there)
     ]
 
 -- A call: a crash leaves an image of the words before it or after it.
@@ -33,15 +33,15 @@ step_leaves old new P e from_old from_new =
     record {
       later = omega (arith, ap length e);
       each = λ image may.
-        elim (MayLeave-step old new.words new.past (moment old) image e may) [
-          inl was ↦ from_old image (MayLeave-now old image was)
-        | inr is ↦ from_new image is
-        ];
+          elim (MayLeave-step old new.words new.past (moment old) image e may) [
+            | inl was ↦ from_old image (MayLeave-now old image was)
+            | inr is ↦ from_new image is
+          ];
       before = λ t image le may.
-        elim (MayLeave-step old new.words new.past t image e may) [
-          inl was ↦ inl was
-        | inr is ↦ inr (from_new image is)
-        ];
+          elim (MayLeave-step old new.words new.past t image e may) [
+            | inl was ↦ inl was
+            | inr is ↦ inr (from_new image is)
+          ];
     }
 
 -- no call at all
@@ -59,15 +59,15 @@ LeavesOnly-then {a} {b} {c} {P} first second =
     record {
       later = omega (arith, first.later, second.later);
       each = λ image may.
-        elim (second.before (moment a) image first.later may) [
-          inl was ↦ first.each image was
-        | inr is ↦ is
-        ];
+          elim (second.before (moment a) image first.later may) [
+            | inl was ↦ first.each image was
+            | inr is ↦ is
+          ];
       before = λ t image le may.
-        elim (second.before t image (omega (arith, first.later)) may) [
-          inl was ↦ first.before t image le was
-        | inr is ↦ inr is
-        ];
+          elim (second.before t image (omega (arith, first.later)) may) [
+            | inl was ↦ first.before t image le was
+            | inr is ↦ inr is
+          ];
     }
 
 -- What has P also has Q.

@@ -1,6 +1,6 @@
 -- What the calls of a device do to the candidates of a word.
-use Rattle.std.proofs.Common.{◌≡◌, ◌⊎◌, ℕ, ◌+◌, Bool, true, false, not, cond, List, [], ◌∷◌, ◌++◌, map, filter, refl, inl, inr, sym, subst, ap, ◌∙◌}
-use Rattle.pmem.specs.Device.{Older, Word, IsOlder, MayBe, Only, settled, store_word, flush_word, fence_word}
+use Rattle.std.proofs.Common.{◌≡◌, ◌⊎◌, ℕ, Bool, true, false, not, cond, List, [], ◌∷◌, ◌++◌, map, filter, refl, inl, inr, sym, subst, ap, ◌∙◌}
+use Rattle.pmem.specs.Device.{Older, Word, IsOlder, MayBe, Only, store_word, flush_word, fence_word}
 use Rattle.pmem.specs.Runs.{IsNoted, AllPassed}
 
 pub IsOlder-append_left : (a b : List Older) (x : ℕ) → IsOlder a x → IsOlder (a ++ b) x
@@ -30,16 +30,16 @@ pub MayBe-store_word-cases : (x : ℕ) (word : Word) (y : ℕ) → MayBe (store_
 MayBe-store_word-cases x word y (inl newest) = inr (sym newest)
 MayBe-store_word-cases x word y (inr older) =
     elim (IsOlder-append_cases word.older (record { value = word.newest; passed = false } ∷ []) y older) [
-      inl before ↦ inl (inr before)
-    | inr last ↦ elim last [ inl is ↦ inl (inl is) | inr none ↦ absurd none ]
+      | inl before ↦ inl (inr before)
+      | inr last ↦ elim last [ inl is ↦ inl (inl is) | inr none ↦ absurd none ]
     ]
 
-IsOlder-passed : (older : List Older) (x : ℕ) → IsOlder (map (λ o. record { value = o.value; passed = true }) older) x → IsOlder older x
+pub IsOlder-passed : (older : List Older) (x : ℕ) → IsOlder (map (λ o. record { value = o.value; passed = true }) older) x → IsOlder older x
 IsOlder-passed [] x h = h
 IsOlder-passed (o ∷ older) x (inl here) = inl here
 IsOlder-passed (o ∷ older) x (inr there) = inr (IsOlder-passed older x there)
 
-IsOlder-to_passed : (older : List Older) (x : ℕ) → IsOlder older x → IsOlder (map (λ o. record { value = o.value; passed = true }) older) x
+pub IsOlder-to_passed : (older : List Older) (x : ℕ) → IsOlder older x → IsOlder (map (λ o. record { value = o.value; passed = true }) older) x
 IsOlder-to_passed [] x h = h
 IsOlder-to_passed (o ∷ older) x (inl here) = inl here
 IsOlder-to_passed (o ∷ older) x (inr there) = inr (IsOlder-to_passed older x there)
@@ -61,8 +61,8 @@ IsOlder-fence : (older : List Older) (x : ℕ) → IsOlder (filter (λ o. not o.
 IsOlder-fence [] x h = h
 IsOlder-fence (o ∷ older) x h =
     elim (IsOlder-cond (not o.passed) o (filter (λ o. not o.passed) older) x h) [
-      inl here ↦ inl here
-    | inr there ↦ inr (IsOlder-fence older x there)
+      | inl here ↦ inl here
+      | inr there ↦ inr (IsOlder-fence older x there)
     ]
 
 -- a fence adds no candidate
@@ -82,7 +82,7 @@ none-passed : (older : List Older) → AllPassed older → filter (λ o. not o.p
 none-passed [] h = refl
 none-passed (o ∷ older) h =
     ap (λ (b : Bool). cond (not b) (o ∷ filter (λ o. not o.passed) older) (filter (λ o. not o.passed) older)) h.0
-        ∙ none-passed older h.1
+    ∙ none-passed older h.1
 
 -- a fence leaves only the newest candidate of a word that is noted
 pub older-fence_word : (word : Word) → IsNoted word → (fence_word word).older ≡ []

@@ -1,5 +1,3 @@
-pub mod Cells
 pub mod Crash
 pub mod Device
-pub mod History
 pub mod Runs

@@ -1,6 +1,6 @@
 -- What runs of calls do, for the layers above.
-use Rattle.std.specs.Prelude.{◌≡◌, ◌⊎◌, ℕ, zero, suc, ◌+◌, ◌/◌, ◌≤◌, Bool, true, ◌==◌, if◌then◌else◌, List, [], ◌∷◌}
-use Rattle.pmem.specs.Device.{Older, Word, State, Fences, MayBe, Only, store_at, flush_at, moment}
+use Rattle.std.specs.Prelude.{◌≡◌, ◌⊎◌, ℕ, zero, suc, ◌+◌, ◌/◌, ◌≤◌, true, ◌==◌, if◌then◌else◌, List, [], ◌∷◌}
+use Rattle.pmem.specs.Device.{Older, Word, State, MayBe, Only, store_at, flush_at, moment}
 use Rattle.pmem.specs.Crash.{IsImage, MayLeave, image_of}
 
 -- stores of these pairs of a word and a value, in this order

@@ -77,7 +77,7 @@ pub trait Crashing: Pmem {
         ensures restarts { Restarts (Self.state self.old) (Self.state self.new) }
         ensures picked { (Self.state self.old).starved ≡ false → (word : ℕ) →
             newest_at (Self.state self.new) word
-                ≡ picked (words_to_crash (Self.state self.old) (Self.state self.old).kept) picks.now word }
+            ≡ picked (words_to_crash (Self.state self.old) (Self.state self.old).kept) picks.now word }
         // starved or not
         ensures within { IsImage (words_to_crash (Self.state self.old) (Self.state self.old).kept) (image_of (Self.state self.new).words)
             ⊎ IsImage (Self.state self.old).words (image_of (Self.state self.new).words) };

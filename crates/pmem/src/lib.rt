@@ -1,9 +1,7 @@
 //! Persistent memory as lists of candidates, and a simulated device that can be crashed.
 #![tactic(auto)]
 
-mod cells;
 mod device;
-mod history;
 mod runs;
 
 pub use device::{Crashing, Fault, Pmem};

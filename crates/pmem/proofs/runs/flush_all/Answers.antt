@@ -8,7 +8,7 @@ loop-line-init g c = Runs-none (g.P.Pmem.state c.args.device.now)
 pub flush-requires : goal.flush-requires
 flush-requires g c =
     subst (λ (lines : ℕ). get_or c.args.lines.now c.loop-line.line-index 0 < lines) (sym c.loop-line.invariant.stays.lines)
-        (c.requires c.loop-line.line-index 0 c.loop-line-test.true)
+    (c.requires c.loop-line.line-index 0 c.loop-line-test.true)
 
 pub loop-line-preserved : goal.loop-line-preserved
 loop-line-preserved g c =

@@ -5,11 +5,11 @@ use Rattle.pmem.proofs.runs.persist.Goals as goal
 pub returns-clause-ok : goal.returns-clause-ok
 returns-clause-ok g c =
     on_ok_weaker c.fence.result
-        (λ step. stage_ok c.args.pairs.now c.args.lines.now (Runs-flushes c.args.lines.now c.store_all.ensures c.flush_all.ensures) step)
-        c.fence.ensures.ok
+    (λ step. stage_ok c.args.pairs.now c.args.lines.now (Runs-flushes c.args.lines.now c.store_all.ensures c.flush_all.ensures) step)
+    c.fence.ensures.ok
 
 pub returns-clause-err : goal.returns-clause-err
 returns-clause-err g c =
     on_err_weaker c.fence.result
-        (λ step. stage_err c.args.pairs.now c.args.lines.now (Runs-flushes c.args.lines.now c.store_all.ensures c.flush_all.ensures) step)
-        c.fence.ensures.err
+    (λ step. stage_err c.args.pairs.now c.args.lines.now (Runs-flushes c.args.lines.now c.store_all.ensures c.flush_all.ensures) step)
+    c.fence.ensures.err

@@ -8,7 +8,7 @@ loop-word-init g c = Runs-none (g.P.Pmem.state c.args.device.now)
 pub store-requires : goal.store-requires
 store-requires g c =
     subst (λ (lines : ℕ). (get_or c.args.pairs.now c.loop-word.word-index (0, 0)).0 < 8 * lines) (sym c.loop-word.invariant.stays.lines)
-        (c.requires c.loop-word.word-index (0, 0) c.loop-word-test.true)
+    (c.requires c.loop-word.word-index (0, 0) c.loop-word-test.true)
 
 pub loop-word-preserved : goal.loop-word-preserved
 loop-word-preserved g c =

@@ -1,0 +1,9 @@
+//! A connection's gate: replies are held until both nodes hold what they speak of.
+#![tactic(auto)]
+
+mod gate;
+mod held_text;
+mod stub;
+
+pub use gate::Gate;
+pub use held_text::{HeldText, Seen};

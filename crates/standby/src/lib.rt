@@ -1,0 +1,8 @@
+//! The standby: whole frames move its image, and what it acknowledges is durable.
+#![tactic(auto)]
+
+mod frame;
+mod standby;
+
+pub use frame::{Ack, Frame};
+pub use standby::Standby;
