@@ -1,12 +1,12 @@
 -- Numbers: what is read is spelled so, what is spelled so is read, and where the reading breaks.
-use Rattle.std.proofs.Common.{◌≡◌, ℕ, ◌+◌, ◌-◌, ◌*◌, ◌/◌, ◌%◌, ◌^◌, ◌<◌, ◌≤◌, Bool, true, false, cond, ◌&&◌, ◌==◌, nat_lt, nat_le, ◌⊎◌, inl, inr, ⊎_elim, List, [], ◌∷◌, ◌++◌, length, Result, Ok, Err, refl, ap, sym, ◌∙◌, arith}
+use Rattle.std.proofs.Common.{◌≡◌, ℕ, ◌+◌, ◌-◌, ◌*◌, ◌/◌, ◌%◌, ◌^◌, ◌<◌, ◌≤◌, true, false, ◌&&◌, ◌==◌, nat_lt, nat_le, ⊎_elim, List, [], ◌∷◌, ◌++◌, Ok, Err, refl, ap, sym, ◌∙◌, arith}
 use Rattle.std.proofs.lemmas.List.{append_assoc, append-nil}
 use Rattle.std.proofs.lemmas.Bool.{ltb-true, leb-true, eqb-true, lt-ltb, le-leb, ne_eqb, and_from, and_parts, cond-true, cond-false}
 use Rattle.std.proofs.lemmas.Fmt.{decimal_by_steps, decimal_digit, decimal_step}
 use Rattle.std.specs.Fmt.{decimal}
 use Rattle.kv_types.specs.declared.item.ProtocolFault.{ProtocolFault}
 use Rattle.kv_types.specs.Requests.{line_end, number_line, IsProperFront}
-use Rattle.kv_types.specs.Reading.{Stop, Short, Broken, Read, ◌>>=◌, is_digit, after_byte, with_line_feed, number_from, number_at}
+use Rattle.kv_types.specs.Reading.{Short, Broken, is_digit, after_byte, with_line_feed, number_from, number_at}
 use Rattle.kv_types.proofs.GrammarSteps.{chosen, bind_ok, bind_err, ok_parts, after_byte-takes, after_byte-short, after_byte-breaks, BreaksAt, BreaksAt-first, BreaksAt-behind, BreaksAt-here, Anywhere}
 
 pub number_line-append : (n : ℕ) (rest : List ℕ) → number_line n ++ rest ≡ decimal n ++ (13 ∷ 10 ∷ rest)
@@ -41,9 +41,9 @@ number_at-decimal most fault =
     decimal_by_steps (λ n ds. n ≤ most → (bytes : List ℕ) → number_at most fault (ds ++ bytes) ≡ number_from most fault n bytes)
     (λ n small fits bytes. number_at-digit most fault n bytes small fits)
     (λ n ds large each fits bytes.
-        ap (number_at most fault) (append_assoc ds ((48 + n % 10) ∷ []) bytes) ∙ each (omega arith) ((48 + n % 10) ∷ bytes)
-        ∙ number_from-digit most fault (n / 10) (n % 10) bytes (omega arith) (omega arith) (omega arith)
-        ∙ ap (λ k. number_from most fault k bytes) (omega arith))
+    ap (number_at most fault) (append_assoc ds ((48 + n % 10) ∷ []) bytes) ∙ each (omega arith) ((48 + n % 10) ∷ bytes)
+    ∙ number_from-digit most fault (n / 10) (n % 10) bytes (omega arith) (omega arith) (omega arith)
+    ∙ ap (λ k. number_from most fault k bytes) (omega arith))
 
 -- what is spelled so is read
 pub number_at-number_line : (most : ℕ) (fault : ProtocolFault) (n : ℕ) (rest : List ℕ) → most < 2 ^ 64 → n ≤ most → number_at most fault (number_line n ++ rest) ≡ Ok (n, rest)
@@ -101,16 +101,16 @@ number_from-takes most fault n [] m rest small fits e = absurd (cc)
 number_from-takes most fault n (byte ∷ bytes) m rest small fits e =
     ⊎_elim
     (λ end.
-        let line = with_line_feed-takes fault n bytes m rest end.1 in
-        let same : byte ≡ 13 = eqb-true byte 13 end.0 in
-        (omega (arith, line.1), ap (λ b. decimal n ++ (b ∷ bytes)) same ∙ ap (λ x. decimal n ++ (13 ∷ x)) line.0 ∙ ap (λ k. decimal k ++ (13 ∷ 10 ∷ rest)) line.1 ∙ sym (number_line-append m rest)))
+    let line = with_line_feed-takes fault n bytes m rest end.1 in
+    let same : byte ≡ 13 = eqb-true byte 13 end.0 in
+    (omega (arith, line.1), ap (λ b. decimal n ++ (b ∷ bytes)) same ∙ ap (λ x. decimal n ++ (13 ∷ x)) line.0 ∙ ap (λ k. decimal k ++ (13 ∷ 10 ∷ rest)) line.1 ∙ sym (number_line-append m rest)))
     (λ go. ⊎_elim
-        (λ h.
-            let d = IsFurtherDigit-from most n byte h.0 in
-            let found = number_from-takes most fault (10 * n + (byte - 48)) bytes m rest small d.fits h.1 in
-            (found.0, decimal-byte n byte bytes d.digit d.positive (omega (arith, d.fits)) ∙ found.1))
-        (λ h. absurd (cc))
-        (chosen (is_digit byte && nat_lt 0 n && nat_le (10 * n + (byte - 48)) most) (number_from most fault (10 * n + (byte - 48)) bytes) (Err (Broken fault)) (Ok (m, rest)) go.1))
+    (λ h.
+    let d = IsFurtherDigit-from most n byte h.0 in
+    let found = number_from-takes most fault (10 * n + (byte - 48)) bytes m rest small d.fits h.1 in
+    (found.0, decimal-byte n byte bytes d.digit d.positive (omega (arith, d.fits)) ∙ found.1))
+    (λ h. absurd (cc))
+    (chosen (is_digit byte && nat_lt 0 n && nat_le (10 * n + (byte - 48)) most) (number_from most fault (10 * n + (byte - 48)) bytes) (Err (Broken fault)) (Ok (m, rest)) go.1))
     (chosen (byte == 13) (with_line_feed fault n bytes) _ (Ok (m, rest)) e)
 
 pub number_at-takes : (most : ℕ) (fault : ProtocolFault) (bytes : List ℕ) (n : ℕ) (rest : List ℕ) → most < 2 ^ 64 → number_at most fault bytes ≡ Ok (n, rest) → (n ≤ most) × (bytes ≡ number_line n ++ rest)
@@ -118,9 +118,9 @@ number_at-takes most fault [] n rest small e = absurd (cc)
 number_at-takes most fault (byte ∷ bytes) n rest small e =
     ⊎_elim
     (λ h.
-        let d = IsFirstDigit-from most byte h.0 in
-        let found = number_from-takes most fault (byte - 48) bytes n rest small d.fits h.1 in
-        (found.0, sym (ap (λ x. x ++ bytes) d.spelled) ∙ found.1))
+    let d = IsFirstDigit-from most byte h.0 in
+    let found = number_from-takes most fault (byte - 48) bytes n rest small d.fits h.1 in
+    (found.0, sym (ap (λ x. x ++ bytes) d.spelled) ∙ found.1))
     (λ h. absurd (cc))
     (chosen (is_digit byte && nat_le (byte - 48) most) (number_from most fault (byte - 48) bytes) (Err (Broken fault)) (Ok (n, rest)) e)
 
@@ -131,16 +131,16 @@ number_from-short most fault n [] small fits e = (n, fits, record { byte = 13; r
 number_from-short most fault n (byte ∷ bytes) small fits e =
     ⊎_elim
     (λ end.
-        let same : byte ≡ 13 = eqb-true byte 13 end.0 in
-        let none : bytes ≡ [] = ⊎_elim (λ h. after_byte-short 10 fault bytes h) (λ h. absurd (cc)) (bind_err (λ rest. Ok (n, rest)) (after_byte 10 fault bytes) Short end.1) in
-        (n, fits, record { byte = 10; rest = []; joined = ap (λ x. (decimal n ++ x) ++ (10 ∷ [])) (ap (λ b. b ∷ bytes) same ∙ ap (λ x. 13 ∷ x) none) ∙ append_assoc (decimal n) (13 ∷ []) (10 ∷ []) }))
+    let same : byte ≡ 13 = eqb-true byte 13 end.0 in
+    let none : bytes ≡ [] = ⊎_elim (λ h. after_byte-short 10 fault bytes h) (λ h. absurd (cc)) (bind_err (λ rest. Ok (n, rest)) (after_byte 10 fault bytes) Short end.1) in
+    (n, fits, record { byte = 10; rest = []; joined = ap (λ x. (decimal n ++ x) ++ (10 ∷ [])) (ap (λ b. b ∷ bytes) same ∙ ap (λ x. 13 ∷ x) none) ∙ append_assoc (decimal n) (13 ∷ []) (10 ∷ []) }))
     (λ go. ⊎_elim
-        (λ h.
-            let d = IsFurtherDigit-from most n byte h.0 in
-            let found = number_from-short most fault (10 * n + (byte - 48)) bytes small d.fits h.1 in
-            (found.0, found.1, record { byte = found.2.byte; rest = found.2.rest; joined = ap (λ x. x ++ found.2.byte ∷ found.2.rest) (decimal-byte n byte bytes d.digit d.positive (omega (arith, d.fits))) ∙ found.2.joined }))
-        (λ h. absurd (cc))
-        (chosen (is_digit byte && nat_lt 0 n && nat_le (10 * n + (byte - 48)) most) (number_from most fault (10 * n + (byte - 48)) bytes) (Err (Broken fault)) (Err Short) go.1))
+    (λ h.
+    let d = IsFurtherDigit-from most n byte h.0 in
+    let found = number_from-short most fault (10 * n + (byte - 48)) bytes small d.fits h.1 in
+    (found.0, found.1, record { byte = found.2.byte; rest = found.2.rest; joined = ap (λ x. x ++ found.2.byte ∷ found.2.rest) (decimal-byte n byte bytes d.digit d.positive (omega (arith, d.fits))) ∙ found.2.joined }))
+    (λ h. absurd (cc))
+    (chosen (is_digit byte && nat_lt 0 n && nat_le (10 * n + (byte - 48)) most) (number_from most fault (10 * n + (byte - 48)) bytes) (Err (Broken fault)) (Err Short) go.1))
     (chosen (byte == 13) (with_line_feed fault n bytes) _ (Err Short) e)
 
 -- what stands before the byte at which a number breaks
@@ -152,9 +152,9 @@ number_at-short most fault [] small e = (0, omega arith, record { byte = 48; res
 number_at-short most fault (byte ∷ bytes) small e =
     ⊎_elim
     (λ h.
-        let d = IsFirstDigit-from most byte h.0 in
-        let found = number_from-short most fault (byte - 48) bytes small d.fits h.1 in
-        (found.0, found.1, record { byte = found.2.byte; rest = found.2.rest; joined = ap (λ x. (x ++ bytes) ++ found.2.byte ∷ found.2.rest) (sym d.spelled) ∙ found.2.joined }))
+    let d = IsFirstDigit-from most byte h.0 in
+    let found = number_from-short most fault (byte - 48) bytes small d.fits h.1 in
+    (found.0, found.1, record { byte = found.2.byte; rest = found.2.rest; joined = ap (λ x. (x ++ bytes) ++ found.2.byte ∷ found.2.rest) (sym d.spelled) ∙ found.2.joined }))
     (λ h. absurd (cc))
     (chosen (is_digit byte && nat_le (byte - 48) most) (number_from most fault (byte - 48) bytes) (Err (Broken fault)) (Err Short) e)
 
@@ -168,20 +168,22 @@ number_from-breaks most fault n [] said e = absurd (cc)
 number_from-breaks most fault n (byte ∷ bytes) said e =
     ⊎_elim
     (λ end. ⊎_elim
-        (λ h.
-            let feed = after_byte-breaks 10 fault said bytes h in
-            (feed.0, BreaksAt-behind (with_line_feed fault n) (number_from most fault n) Anywhere Anywhere (byte ∷ []) bytes said (λ after. cond-true (byte == 13) _ _ end.0) (λ front b p. tt)
-                (BreaksAt-first (after_byte 10 fault) (λ rest. Ok (n, rest)) (λ front b f. (front ≡ []) × (f ≡ fault)) Anywhere bytes said (λ front b p. tt) feed.1)))
-        (λ h. absurd (cc))
-        (bind_err (λ rest. Ok (n, rest)) (after_byte 10 fault bytes) (Broken said) end.1))
+    (λ h.
+    let feed = after_byte-breaks 10 fault said bytes h in (
+      feed.0,
+      BreaksAt-behind (with_line_feed fault n) (number_from most fault n) Anywhere Anywhere (byte ∷ []) bytes said (λ after. cond-true (byte == 13) _ _ end.0) (λ front b p. tt)
+          (BreaksAt-first (after_byte 10 fault) (λ rest. Ok (n, rest)) (λ front b f. (front ≡ []) × (f ≡ fault)) Anywhere bytes said (λ front b p. tt) feed.1),
+    ))
+    (λ h. absurd (cc))
+    (bind_err (λ rest. Ok (n, rest)) (after_byte 10 fault bytes) (Broken said) end.1))
     (λ go. ⊎_elim
-        (λ h.
-            let found = number_from-breaks most fault (10 * n + (byte - 48)) bytes said h.1 in
-            (found.0, BreaksAt-behind (number_from most fault (10 * n + (byte - 48))) (number_from most fault n) Anywhere Anywhere (byte ∷ []) bytes said (number_from-cons most fault n byte go.0 h.0) (λ front b p. tt) found.1))
-        (λ h.
-            let same : said ≡ fault = cc in
-            (same, BreaksAt-here (number_from most fault n) Anywhere byte bytes said refl (cond-false (byte == 13) _ _ go.0 ∙ cond-false _ _ _ h.0 ∙ h.1) tt))
-        (chosen (is_digit byte && nat_lt 0 n && nat_le (10 * n + (byte - 48)) most) (number_from most fault (10 * n + (byte - 48)) bytes) (Err (Broken fault)) (Err (Broken said)) go.1))
+    (λ h.
+    let found = number_from-breaks most fault (10 * n + (byte - 48)) bytes said h.1 in
+    (found.0, BreaksAt-behind (number_from most fault (10 * n + (byte - 48))) (number_from most fault n) Anywhere Anywhere (byte ∷ []) bytes said (number_from-cons most fault n byte go.0 h.0) (λ front b p. tt) found.1))
+    (λ h.
+    let same : said ≡ fault = cc in
+    (same, BreaksAt-here (number_from most fault n) Anywhere byte bytes said refl (cond-false (byte == 13) _ _ go.0 ∙ cond-false _ _ _ h.0 ∙ h.1) tt))
+    (chosen (is_digit byte && nat_lt 0 n && nat_le (10 * n + (byte - 48)) most) (number_from most fault (10 * n + (byte - 48)) bytes) (Err (Broken fault)) (Err (Broken said)) go.1))
     (chosen (byte == 13) (with_line_feed fault n bytes) _ (Err (Broken said)) e)
 
 -- as `BreaksAt`, with the place that being too short gives
@@ -194,9 +196,9 @@ number_at-breaks most fault [] said small e = absurd (cc)
 number_at-breaks most fault (byte ∷ bytes) said small e =
     ⊎_elim
     (λ h.
-        let found = number_from-breaks most fault (byte - 48) bytes said h.1 in
-        (found.0, placed most fault said (byte ∷ bytes) small (BreaksAt-behind (number_from most fault (byte - 48)) (number_at most fault) Anywhere Anywhere (byte ∷ []) bytes said (λ after. cond-true _ _ _ h.0) (λ front b p. tt) found.1)))
+    let found = number_from-breaks most fault (byte - 48) bytes said h.1 in
+    (found.0, placed most fault said (byte ∷ bytes) small (BreaksAt-behind (number_from most fault (byte - 48)) (number_at most fault) Anywhere Anywhere (byte ∷ []) bytes said (λ after. cond-true _ _ _ h.0) (λ front b p. tt) found.1)))
     (λ h.
-        let same : said ≡ fault = cc in
-        (same, placed most fault said (byte ∷ bytes) small (BreaksAt-here (number_at most fault) Anywhere byte bytes said refl (cond-false _ _ _ h.0 ∙ h.1) tt)))
+    let same : said ≡ fault = cc in
+    (same, placed most fault said (byte ∷ bytes) small (BreaksAt-here (number_at most fault) Anywhere byte bytes said refl (cond-false _ _ _ h.0 ∙ h.1) tt)))
     (chosen (is_digit byte && nat_le (byte - 48) most) (number_from most fault (byte - 48) bytes) (Err (Broken fault)) (Err (Broken said)) e)

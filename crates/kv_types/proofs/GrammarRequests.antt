@@ -1,12 +1,12 @@
 -- Requests: what is read is spelled so, what is spelled so is read, and where the reading breaks.
-use Rattle.std.proofs.Common.{◌≡◌, ℕ, zero, suc, ◌+◌, ◌^◌, ◌<◌, ◌≤◌, ◌⊎◌, inl, inr, List, [], ◌∷◌, ◌++◌, length, replicate, Result, Ok, Err, refl, ap, sym, ◌∙◌, arith}
+use Rattle.std.proofs.Common.{◌≡◌, ℕ, zero, suc, ◌^◌, ◌<◌, ◌≤◌, inl, inr, List, [], ◌∷◌, ◌++◌, length, replicate, Result, Ok, Err, refl, ap, sym, ◌∙◌, arith}
 use Rattle.std.proofs.lemmas.List.{append_assoc, append-nil, length-replicate}
 use Rattle.std.specs.List.{AllByRecursion, flat_map}
 use Rattle.kv_types.specs.declared.limits.Limits.{Limits}
 use Rattle.kv_types.specs.declared.item.ProtocolFault.{ProtocolFault}
 use Rattle.kv_types.specs.declared.item.ProtocolFault.TheVariants.{ExpectedArray, InvalidMultibulkLength, ExpectedBulk, InvalidBulkLength, ExpectedLineEnd}
 use Rattle.kv_types.specs.Words.{IsWithin}
-use Rattle.kv_types.specs.Requests.{line_end, number_line, bulk, spelling, Spells, Begins, IsProperFront, Says}
+use Rattle.kv_types.specs.Requests.{number_line, bulk, spelling, IsProperFront, Says}
 use Rattle.kv_types.specs.Reading.{Stop, Short, Broken, Read, ◌>>=◌, after_byte, number_at, word_at, with_first, words_at, request_at}
 use Rattle.kv_types.proofs.GrammarSteps.{bind_ok, bind_err, ok_parts, after_byte-takes, after_byte-short, after_byte-breaks, BreaksAt, BreaksAt-first, BreaksAt-behind}
 use Rattle.kv_types.proofs.GrammarNumbers.{number_at-number_line, number_at-takes, number_at-short, number_at-breaks, InNumber}
@@ -35,7 +35,7 @@ words_at-again limits (word ∷ words) rest numbers short =
     ∙ ap (λ r. r >>= λ others. Ok (with_first word others)) (words_at-again limits words rest numbers short.1)
 
 -- behind words that are read well the others are read
-words_at-behind : (limits : Limits) (count : ℕ) (word after : List ℕ) → HasNumbers limits → length word ≤ limits.word_bytes → words_at limits (suc count) (bulk word ++ after) ≡ words_after limits count (word, after)
+pub words_at-behind : (limits : Limits) (count : ℕ) (word after : List ℕ) → HasNumbers limits → length word ≤ limits.word_bytes → words_at limits (suc count) (bulk word ++ after) ≡ words_after limits count (word, after)
 words_at-behind limits count word after numbers short = ap (λ r. r >>= words_after limits count) (word_at-again limits word after numbers.word_bytes short)
 
 -- these words, so many of them and none too long, are spelled at the front of the bytes
@@ -75,23 +75,23 @@ pub words_at-short : (limits : Limits) (count : ℕ) (bytes : List ℕ) → HasN
 words_at-short limits zero bytes numbers e = absurd (cc)
 words_at-short limits (suc count) bytes numbers e =
     elim (bind_err (words_after limits count) (word_at limits bytes) Short e) [
-      inl h ↦
-        let word = word_at-short limits bytes numbers.word_bytes h in
-        record {
-          words = word.0 ∷ replicate count [];
-          count_is = ap suc (length-replicate count []);
-          short = (word.1, AreShort-empty limits count);
-          front = IsProperFront-append bytes (bulk word.0) (flat_map bulk (replicate count [])) word.2;
-        }
-    | inr h ↦
-      let word = word_at-takes limits bytes h.0.0 h.0.1 numbers.word_bytes h.1 in
-      let others = words_at-short limits count h.0.1 numbers (elim (bind_err (λ others. Ok (with_first h.0.0 others)) (words_at limits count h.0.1) Short h.2) [ inl k ↦ k | inr k ↦ absurd (cc) ]) in
-      record {
-        words = h.0.0 ∷ others.words;
-        count_is = ap suc others.count_is;
-        short = (word.0, others.short);
-        front = IsProperFront-same word.1 refl (IsProperFront-behind (bulk h.0.0) h.0.1 (flat_map bulk others.words) others.front);
-      }
+      | inl h ↦
+          let word = word_at-short limits bytes numbers.word_bytes h in
+          record {
+            words = word.0 ∷ replicate count [];
+            count_is = ap suc (length-replicate count []);
+            short = (word.1, AreShort-empty limits count);
+            front = IsProperFront-append bytes (bulk word.0) (flat_map bulk (replicate count [])) word.2;
+          }
+      | inr h ↦
+          let word = word_at-takes limits bytes h.0.0 h.0.1 numbers.word_bytes h.1 in
+          let others = words_at-short limits count h.0.1 numbers (elim (bind_err (λ others. Ok (with_first h.0.0 others)) (words_at limits count h.0.1) Short h.2) [ inl k ↦ k | inr k ↦ absurd (cc) ]) in
+          record {
+            words = h.0.0 ∷ others.words;
+            count_is = ap suc others.count_is;
+            short = (word.0, others.short);
+            front = IsProperFront-same word.1 refl (IsProperFront-behind (bulk h.0.0) h.0.1 (flat_map bulk others.words) others.front);
+          }
     ]
 
 -- what stands before the byte at which one of so many words breaks
@@ -106,22 +106,22 @@ pub words_at-breaks : (limits : Limits) (count : ℕ) (bytes : List ℕ) (said :
 words_at-breaks limits zero bytes said numbers e = absurd (cc)
 words_at-breaks limits (suc count) bytes said numbers e =
     elim (bind_err (words_after limits count) (word_at limits bytes) (Broken said) e) [
-      inl h ↦ BreaksAt-first (word_at limits) (words_after limits count) (InWord limits) (InWords limits (suc count)) bytes said
-        (λ front byte p. record { words = []; inner = front; fewer = omega arith; front_is = refl; within = p })
-        (word_at-breaks limits bytes said numbers.word_bytes h)
-    | inr h ↦
-      let word = word_at-takes limits bytes h.0.0 h.0.1 numbers.word_bytes h.1 in
-      let others = words_at-breaks limits count h.0.1 said numbers (elim (bind_err (λ others. Ok (with_first h.0.0 others)) (words_at limits count h.0.1) (Broken said) h.2) [ inl k ↦ k | inr k ↦ absurd (cc) ]) in
-      rw word.1 (BreaksAt-behind (λ after. words_after limits count (h.0.0, after)) (words_at limits (suc count)) (InWords limits count) (InWords limits (suc count)) (bulk h.0.0) h.0.1 said
-        (λ after. words_at-behind limits count h.0.0 after numbers word.0)
-        (λ front byte p. record {
-          words = h.0.0 ∷ p.words;
-          inner = p.inner;
-          fewer = omega (arith, p.fewer);
-          front_is = ap (λ x. bulk h.0.0 ++ x) p.front_is ∙ sym (append_assoc (bulk h.0.0) (flat_map bulk p.words) p.inner);
-          within = p.within;
-        })
-        (BreaksAt-first (words_at limits count) (λ others. Ok (with_first h.0.0 others)) (InWords limits count) (InWords limits count) h.0.1 said (λ front byte p. p) others))
+      | inl h ↦ BreaksAt-first (word_at limits) (words_after limits count) (InWord limits) (InWords limits (suc count)) bytes said
+          (λ front byte p. record { words = []; inner = front; fewer = omega arith; front_is = refl; within = p })
+          (word_at-breaks limits bytes said numbers.word_bytes h)
+      | inr h ↦
+          let word = word_at-takes limits bytes h.0.0 h.0.1 numbers.word_bytes h.1 in
+          let others = words_at-breaks limits count h.0.1 said numbers (elim (bind_err (λ others. Ok (with_first h.0.0 others)) (words_at limits count h.0.1) (Broken said) h.2) [ inl k ↦ k | inr k ↦ absurd (cc) ]) in
+          rw word.1 (BreaksAt-behind (λ after. words_after limits count (h.0.0, after)) (words_at limits (suc count)) (InWords limits count) (InWords limits (suc count)) (bulk h.0.0) h.0.1 said
+          (λ after. words_at-behind limits count h.0.0 after numbers word.0)
+          (λ front byte p. record {
+            words = h.0.0 ∷ p.words;
+            inner = p.inner;
+            fewer = omega (arith, p.fewer);
+            front_is = ap (λ x. bulk h.0.0 ++ x) p.front_is ∙ sym (append_assoc (bulk h.0.0) (flat_map bulk p.words) p.inner);
+            within = p.within;
+          })
+          (BreaksAt-first (words_at limits count) (λ others. Ok (with_first h.0.0 others)) (InWords limits count) (InWords limits count) h.0.1 said (λ front byte p. p) others))
     ]
 
 -- ---- requests
@@ -145,9 +145,10 @@ request_at-takes limits bytes words rest numbers e =
     let first = bind_ok (counted_words limits) (after_byte 42 ExpectedArray bytes) (words, rest) e in
     let second = bind_ok (λ count. words_at limits count.0 count.1) (number_at limits.words InvalidMultibulkLength first.0) (words, rest) first.2 in
     let number = number_at-takes limits.words InvalidMultibulkLength first.0 second.0.0 second.0.1 numbers.words second.1 in
-    let found = words_at-takes limits second.0.0 second.0.1 words rest numbers second.2 in
-    (record { count = omega (arith, number.0, found.count_is); lengths = found.short },
-     after_byte-takes 42 ExpectedArray bytes first.0 first.1 ∙ ap (λ x. 42 ∷ x) (number.1 ∙ ap (λ x. number_line second.0.0 ++ x) found.spelled ∙ ap (λ n. number_line n ++ (flat_map bulk words ++ rest)) (sym found.count_is)) ∙ sym (spelling-append words rest))
+    let found = words_at-takes limits second.0.0 second.0.1 words rest numbers second.2 in (
+      record { count = omega (arith, number.0, found.count_is); lengths = found.short },
+      after_byte-takes 42 ExpectedArray bytes first.0 first.1 ∙ ap (λ x. 42 ∷ x) (number.1 ∙ ap (λ x. number_line second.0.0 ++ x) found.spelled ∙ ap (λ n. number_line n ++ (flat_map bulk words ++ rest)) (sym found.count_is)) ∙ sym (spelling-append words rest),
+    )
 
 -- some request's spelling begins with the bytes
 pub record BeginsRequest (limits : Limits) (bytes : List ℕ) : Type 0 where
@@ -177,28 +178,28 @@ begun_behind_number limits n after inside bytes fits whole line b =
 pub request_at-short : (limits : Limits) (bytes : List ℕ) → HasNumbers limits → request_at limits bytes ≡ Err Short → BeginsRequest limits bytes
 request_at-short limits bytes numbers e =
     elim (bind_err (counted_words limits) (after_byte 42 ExpectedArray bytes) Short e) [
-      inl h ↦ record {
+      | inl h ↦ record {
         words = [];
         within = record { count = omega arith; lengths = tt };
         front = record { byte = 42; rest = number_line 0 ++ []; joined = ap (λ x. x ++ (42 ∷ (number_line 0 ++ []))) (after_byte-short 42 ExpectedArray bytes h) };
       }
-    | inr h ↦
-      let star = after_byte-takes 42 ExpectedArray bytes h.0 h.1 in
-      elim (bind_err (λ count. words_at limits count.0 count.1) (number_at limits.words InvalidMultibulkLength h.0) Short h.2) [
-        inl k ↦
-          let number = number_at-short limits.words InvalidMultibulkLength h.0 numbers.words k in
-          begun_in_number limits number.0 h.0 bytes number.1 star number.2
-      | inr k ↦
-        let number = number_at-takes limits.words InvalidMultibulkLength h.0 k.0.0 k.0.1 numbers.words k.1 in
-        begun_behind_number limits k.0.0 k.0.1 h.0 bytes number.0 star number.1 (words_at-short limits k.0.0 k.0.1 numbers k.2)
-      ]
+      | inr h ↦
+          let star = after_byte-takes 42 ExpectedArray bytes h.0 h.1 in
+          elim (bind_err (λ count. words_at limits count.0 count.1) (number_at limits.words InvalidMultibulkLength h.0) Short h.2) [
+            | inl k ↦
+                let number = number_at-short limits.words InvalidMultibulkLength h.0 numbers.words k in
+                begun_in_number limits number.0 h.0 bytes number.1 star number.2
+            | inr k ↦
+                let number = number_at-takes limits.words InvalidMultibulkLength h.0 k.0.0 k.0.1 numbers.words k.1 in
+                begun_behind_number limits k.0.0 k.0.1 h.0 bytes number.0 star number.1 (words_at-short limits k.0.0 k.0.1 numbers k.2)
+          ]
     ]
 
 -- the place of a byte in a request, from its place in the number or in the words
 placed_in_number : (limits : Limits) (said : ProtocolFault) (front : List ℕ) (byte : ℕ) → said ≡ InvalidMultibulkLength → InNumber limits.words front byte said → Says limits (42 ∷ front) byte said
 placed_in_number limits said front byte same p = rw same (front, p.0, p.1, p.2, refl)
 
-regrouped : (a b c d e : List ℕ) → a ++ (b ++ ((c ++ d) ++ e)) ≡ (((a ++ b) ++ c) ++ d) ++ e
+pub regrouped : (a b c d e : List ℕ) → a ++ (b ++ ((c ++ d) ++ e)) ≡ (((a ++ b) ++ c) ++ d) ++ e
 regrouped a b c d e = simp append_assoc
 
 placed_in_words : (limits : Limits) (n : ℕ) (said : ProtocolFault) (front : List ℕ) (byte : ℕ) → InWords limits n front byte said → Says limits ((42 ∷ number_line n) ++ front) byte said
@@ -206,29 +207,42 @@ placed_in_words limits n ExpectedArray front byte p = absurd p.within
 placed_in_words limits n InvalidMultibulkLength front byte p = absurd p.within
 placed_in_words limits n (ExpectedBulk got) front byte p =
     (n, p.words, p.fewer, ap (λ x. (42 ∷ number_line n) ++ x) (p.front_is ∙ ap (λ x. flat_map bulk p.words ++ x) p.within.0 ∙ append-nil (flat_map bulk p.words)), p.within.1)
-placed_in_words limits n InvalidBulkLength front byte p =
-    (n, p.words, p.within.0, p.within.1, p.fewer, p.within.2, p.within.3,
-     ap (λ x. (42 ∷ number_line n) ++ x) (p.front_is ∙ ap (λ x. flat_map bulk p.words ++ x) p.within.4) ∙ sym (append_assoc (42 ∷ number_line n) (flat_map bulk p.words) (36 ∷ p.within.0)))
-placed_in_words limits n ExpectedLineEnd front byte p =
-    (n, p.words, p.within.0, p.within.1, p.fewer, p.within.3,
-     ap (λ x. (42 ∷ number_line n) ++ x) (p.front_is ∙ ap (λ x. flat_map bulk p.words ++ x) p.within.4) ∙ regrouped (42 ∷ number_line n) (flat_map bulk p.words) (36 ∷ number_line (length p.within.0)) p.within.0 p.within.1)
+placed_in_words limits n InvalidBulkLength front byte p = (
+  n,
+  p.words,
+  p.within.0,
+  p.within.1,
+  p.fewer,
+  p.within.2,
+  p.within.3,
+  ap (λ x. (42 ∷ number_line n) ++ x) (p.front_is ∙ ap (λ x. flat_map bulk p.words ++ x) p.within.4) ∙ sym (append_assoc (42 ∷ number_line n) (flat_map bulk p.words) (36 ∷ p.within.0)),
+)
+placed_in_words limits n ExpectedLineEnd front byte p = (
+  n,
+  p.words,
+  p.within.0,
+  p.within.1,
+  p.fewer,
+  p.within.3,
+  ap (λ x. (42 ∷ number_line n) ++ x) (p.front_is ∙ ap (λ x. flat_map bulk p.words ++ x) p.within.4) ∙ regrouped (42 ∷ number_line n) (flat_map bulk p.words) (36 ∷ number_line (length p.within.0)) p.within.0 p.within.1,
+)
 
 pub request_at-breaks : (limits : Limits) (bytes : List ℕ) (said : ProtocolFault) → HasNumbers limits → request_at limits bytes ≡ Err (Broken said) → BreaksAt (request_at limits) (Says limits) bytes said
 request_at-breaks limits bytes said numbers e =
     elim (bind_err (counted_words limits) (after_byte 42 ExpectedArray bytes) (Broken said) e) [
-      inl h ↦ BreaksAt-first (after_byte 42 ExpectedArray) (counted_words limits) (λ front byte f. (front ≡ []) × (f ≡ ExpectedArray)) (Says limits) bytes said
-        (λ front byte p. rw p.1 p.0)
-        (after_byte-breaks 42 ExpectedArray said bytes h).1
-    | inr h ↦
-      let star = after_byte-takes 42 ExpectedArray bytes h.0 h.1 in
-      elim (bind_err (λ count. words_at limits count.0 count.1) (number_at limits.words InvalidMultibulkLength h.0) (Broken said) h.2) [
-        inl k ↦
-          let number = number_at-breaks limits.words InvalidMultibulkLength h.0 said numbers.words k in
-          rw star (BreaksAt-behind (counted_words limits) (request_at limits) (InNumber limits.words) (Says limits) (42 ∷ []) h.0 said (λ after. refl) (λ front byte p. placed_in_number limits said front byte number.0 p)
-            (BreaksAt-first (number_at limits.words InvalidMultibulkLength) (λ count. words_at limits count.0 count.1) (InNumber limits.words) (InNumber limits.words) h.0 said (λ front byte p. p) number.1))
-      | inr k ↦
-        let number = number_at-takes limits.words InvalidMultibulkLength h.0 k.0.0 k.0.1 numbers.words k.1 in
-        rw (star, number.1) (BreaksAt-behind (words_at limits k.0.0) (request_at limits) (InWords limits k.0.0) (Says limits) (42 ∷ number_line k.0.0) k.0.1 said (λ after. counted_words-behind limits k.0.0 after numbers number.0) (λ front byte p. placed_in_words limits k.0.0 said front byte p)
-          (words_at-breaks limits k.0.0 k.0.1 said numbers k.2))
-      ]
+      | inl h ↦ BreaksAt-first (after_byte 42 ExpectedArray) (counted_words limits) (λ front byte f. (front ≡ []) × (f ≡ ExpectedArray)) (Says limits) bytes said
+          (λ front byte p. rw p.1 p.0)
+          (after_byte-breaks 42 ExpectedArray said bytes h).1
+      | inr h ↦
+          let star = after_byte-takes 42 ExpectedArray bytes h.0 h.1 in
+          elim (bind_err (λ count. words_at limits count.0 count.1) (number_at limits.words InvalidMultibulkLength h.0) (Broken said) h.2) [
+            | inl k ↦
+                let number = number_at-breaks limits.words InvalidMultibulkLength h.0 said numbers.words k in
+                rw star (BreaksAt-behind (counted_words limits) (request_at limits) (InNumber limits.words) (Says limits) (42 ∷ []) h.0 said (λ after. refl) (λ front byte p. placed_in_number limits said front byte number.0 p)
+                (BreaksAt-first (number_at limits.words InvalidMultibulkLength) (λ count. words_at limits count.0 count.1) (InNumber limits.words) (InNumber limits.words) h.0 said (λ front byte p. p) number.1))
+            | inr k ↦
+                let number = number_at-takes limits.words InvalidMultibulkLength h.0 k.0.0 k.0.1 numbers.words k.1 in
+                rw (star, number.1) (BreaksAt-behind (words_at limits k.0.0) (request_at limits) (InWords limits k.0.0) (Says limits) (42 ∷ number_line k.0.0) k.0.1 said (λ after. counted_words-behind limits k.0.0 after numbers number.0) (λ front byte p. placed_in_words limits k.0.0 said front byte p)
+                (words_at-breaks limits k.0.0 k.0.1 said numbers k.2))
+          ]
     ]

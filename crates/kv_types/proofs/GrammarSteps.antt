@@ -85,6 +85,6 @@ after_byte-breaks expected fault other [] e = absurd (cc)
 after_byte-breaks expected fault other (byte ∷ bytes) e =
     ⊎_elim (λ h. absurd (cc))
     (λ h.
-        let same : other ≡ fault = cc in
-        (same, BreaksAt-here (after_byte expected fault) _ byte bytes other refl (cond-false (byte == expected) (Ok []) (Err (Broken fault)) h.0 ∙ h.1) (refl, same)))
+    let same : other ≡ fault = cc in
+    (same, BreaksAt-here (after_byte expected fault) _ byte bytes other refl (cond-false (byte == expected) (Ok []) (Err (Broken fault)) h.0 ∙ h.1) (refl, same)))
     (chosen (byte == expected) (Ok bytes) (Err (Broken fault)) (Err (Broken other)) e)

@@ -1,8 +1,12 @@
 pub mod GrammarAsks
+pub mod GrammarDecimals
 pub mod GrammarGrows
 pub mod GrammarItems
 pub mod GrammarNumbers
 pub mod GrammarRequests
 pub mod GrammarRests
+pub mod GrammarSpellings
 pub mod GrammarSteps
+pub mod GrammarTells
+pub mod GrammarUnique
 pub mod GrammarWords

@@ -14,7 +14,7 @@ mod request;
 
 pub use bounded::{BoundedBytes, Field, Key, Value};
 pub use change::Change;
-pub use grammar_laws::items_grow;
+pub use grammar_laws::{items_are_asked_for, items_grow, one_spelling};
 pub use item::{Item, ProtocolFault};
 pub use limits::{FULL_LIMITS, Limits, MAX_KEY_BYTES, MAX_VALUE_BYTES, SERVED_LIMITS};
 pub use place::{EntryNo, Extent};
