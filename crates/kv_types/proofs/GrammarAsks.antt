@@ -1,21 +1,20 @@
 -- The items that the reader computes are those that the grammar asks for.
-use Rattle.std.proofs.Common.{◌≡◌, ℕ, zero, suc, ◌<◌, ◌≤◌, ◌⊎◌, inl, inr, ◌≢◌, List, [], ◌∷◌, ◌++◌, length, Result, Ok, Err, refl, ap, sym, ◌∙◌, arith}
+use Rattle.std.proofs.Common.{◌≡◌, ℕ, zero, suc, ◌≤◌, inl, inr, ◌≢◌, List, [], ◌∷◌, ◌++◌, length, Result, Ok, Err, refl, ap, sym, ◌∙◌, arith}
 use Rattle.std.proofs.lemmas.List.{append_assoc, append-nil}
-use Rattle.std.specs.List.{AllByRecursion, flat_map}
+use Rattle.std.specs.List.{flat_map}
 use Rattle.kv_types.specs.declared.limits.Limits.{Limits}
 use Rattle.kv_types.specs.declared.item.ProtocolFault.{ProtocolFault}
 use Rattle.kv_types.specs.declared.item.Item.{Item}
 use Rattle.kv_types.specs.declared.item.Item.TheVariants.{Fault}
 use Rattle.kv_types.specs.Words.{IsWithin}
-use Rattle.kv_types.specs.Requests.{spelling, Spells, Begins, IsProperFront, Says, FaultsWith, item_of, EndsWith, AsksFor}
+use Rattle.kv_types.specs.Requests.{spelling, Begins, FaultsWith, item_of, EndsWith, AsksFor}
 use Rattle.kv_types.specs.Reading.{Stop, Short, Broken, Read, request_at, items_from, items_at}
 use Rattle.kv_types.proofs.GrammarGrows.{request_at-more}
-use Rattle.kv_types.proofs.GrammarRests.{IsEndOf, length-IsEndOf, Leaves, rest_of, request_at-leaves}
+use Rattle.kv_types.proofs.GrammarRests.{length-IsEndOf, Leaves, rest_of, request_at-leaves}
 use Rattle.kv_types.proofs.GrammarItems.{items_at-step}
-use Rattle.kv_types.proofs.GrammarSteps.{BreaksAt}
-use Rattle.kv_types.proofs.GrammarRequests.{HasNumbers, BeginsRequest, request_at-again, request_at-takes, request_at-short, request_at-breaks}
+use Rattle.kv_types.proofs.GrammarRequests.{HasNumbers, request_at-again, request_at-takes, request_at-short, request_at-breaks}
 
-Begins-short : (limits : Limits) (bytes : List ℕ) → HasNumbers limits → request_at limits bytes ≡ Err Short → Begins limits bytes
+pub Begins-short : (limits : Limits) (bytes : List ℕ) → HasNumbers limits → request_at limits bytes ≡ Err Short → Begins limits bytes
 Begins-short limits bytes numbers e =
     let b = request_at-short limits bytes numbers e in
     record { rest = b.front.byte ∷ b.front.rest; words = b.words; spells = record { within = b.within; whole = b.front.joined } }
@@ -24,7 +23,7 @@ request_at-spelling : (limits : Limits) (words : List (List ℕ)) → HasNumbers
 request_at-spelling limits words numbers within = ap (request_at limits) (sym (append-nil (spelling words))) ∙ request_at-again limits words [] numbers within
 
 -- what breaks the reader begins no spelling
-not_begun : (limits : Limits) (bytes : List ℕ) (fault : ProtocolFault) → HasNumbers limits → request_at limits bytes ≡ Err (Broken fault) → ¬ Begins limits bytes
+pub not_begun : (limits : Limits) (bytes : List ℕ) (fault : ProtocolFault) → HasNumbers limits → request_at limits bytes ≡ Err (Broken fault) → ¬ Begins limits bytes
 not_begun limits bytes fault numbers e b =
     let broken : request_at limits (bytes ++ b.rest) ≡ Err (Broken fault) = rw e at (request_at-more b.rest limits bytes) in
     let whole : request_at limits (bytes ++ b.rest) ≡ Ok (b.words, []) = ap (request_at limits) b.spells.whole ∙ request_at-spelling limits b.words numbers b.spells.within in

@@ -1,12 +1,12 @@
 -- Numbers: what is read is spelled so, what is spelled so is read, and where the reading breaks.
-use Rattle.std.proofs.Common.{◌≡◌, ℕ, ◌+◌, ◌-◌, ◌*◌, ◌/◌, ◌%◌, ◌^◌, ◌<◌, ◌≤◌, Bool, true, false, cond, ◌&&◌, ◌==◌, nat_lt, nat_le, ◌⊎◌, inl, inr, ⊎_elim, List, [], ◌∷◌, ◌++◌, length, Result, Ok, Err, refl, ap, sym, ◌∙◌, arith}
+use Rattle.std.proofs.Common.{◌≡◌, ℕ, ◌+◌, ◌-◌, ◌*◌, ◌/◌, ◌%◌, ◌^◌, ◌<◌, ◌≤◌, true, false, ◌&&◌, ◌==◌, nat_lt, nat_le, ⊎_elim, List, [], ◌∷◌, ◌++◌, Ok, Err, refl, ap, sym, ◌∙◌, arith}
 use Rattle.std.proofs.lemmas.List.{append_assoc, append-nil}
 use Rattle.std.proofs.lemmas.Bool.{ltb-true, leb-true, eqb-true, lt-ltb, le-leb, ne_eqb, and_from, and_parts, cond-true, cond-false}
 use Rattle.std.proofs.lemmas.Fmt.{decimal_by_steps, decimal_digit, decimal_step}
 use Rattle.std.specs.Fmt.{decimal}
 use Rattle.kv_types.specs.declared.item.ProtocolFault.{ProtocolFault}
 use Rattle.kv_types.specs.Requests.{line_end, number_line, IsProperFront}
-use Rattle.kv_types.specs.Reading.{Stop, Short, Broken, Read, ◌>>=◌, is_digit, after_byte, with_line_feed, number_from, number_at}
+use Rattle.kv_types.specs.Reading.{Short, Broken, is_digit, after_byte, with_line_feed, number_from, number_at}
 use Rattle.kv_types.proofs.GrammarSteps.{chosen, bind_ok, bind_err, ok_parts, after_byte-takes, after_byte-short, after_byte-breaks, BreaksAt, BreaksAt-first, BreaksAt-behind, BreaksAt-here, Anywhere}
 
 pub number_line-append : (n : ℕ) (rest : List ℕ) → number_line n ++ rest ≡ decimal n ++ (13 ∷ 10 ∷ rest)

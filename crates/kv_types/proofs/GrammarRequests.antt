@@ -1,12 +1,12 @@
 -- Requests: what is read is spelled so, what is spelled so is read, and where the reading breaks.
-use Rattle.std.proofs.Common.{◌≡◌, ℕ, zero, suc, ◌+◌, ◌^◌, ◌<◌, ◌≤◌, ◌⊎◌, inl, inr, List, [], ◌∷◌, ◌++◌, length, replicate, Result, Ok, Err, refl, ap, sym, ◌∙◌, arith}
+use Rattle.std.proofs.Common.{◌≡◌, ℕ, zero, suc, ◌^◌, ◌<◌, ◌≤◌, inl, inr, List, [], ◌∷◌, ◌++◌, length, replicate, Result, Ok, Err, refl, ap, sym, ◌∙◌, arith}
 use Rattle.std.proofs.lemmas.List.{append_assoc, append-nil, length-replicate}
 use Rattle.std.specs.List.{AllByRecursion, flat_map}
 use Rattle.kv_types.specs.declared.limits.Limits.{Limits}
 use Rattle.kv_types.specs.declared.item.ProtocolFault.{ProtocolFault}
 use Rattle.kv_types.specs.declared.item.ProtocolFault.TheVariants.{ExpectedArray, InvalidMultibulkLength, ExpectedBulk, InvalidBulkLength, ExpectedLineEnd}
 use Rattle.kv_types.specs.Words.{IsWithin}
-use Rattle.kv_types.specs.Requests.{line_end, number_line, bulk, spelling, Spells, Begins, IsProperFront, Says}
+use Rattle.kv_types.specs.Requests.{number_line, bulk, spelling, IsProperFront, Says}
 use Rattle.kv_types.specs.Reading.{Stop, Short, Broken, Read, ◌>>=◌, after_byte, number_at, word_at, with_first, words_at, request_at}
 use Rattle.kv_types.proofs.GrammarSteps.{bind_ok, bind_err, ok_parts, after_byte-takes, after_byte-short, after_byte-breaks, BreaksAt, BreaksAt-first, BreaksAt-behind}
 use Rattle.kv_types.proofs.GrammarNumbers.{number_at-number_line, number_at-takes, number_at-short, number_at-breaks, InNumber}
@@ -35,7 +35,7 @@ words_at-again limits (word ∷ words) rest numbers short =
     ∙ ap (λ r. r >>= λ others. Ok (with_first word others)) (words_at-again limits words rest numbers short.1)
 
 -- behind words that are read well the others are read
-words_at-behind : (limits : Limits) (count : ℕ) (word after : List ℕ) → HasNumbers limits → length word ≤ limits.word_bytes → words_at limits (suc count) (bulk word ++ after) ≡ words_after limits count (word, after)
+pub words_at-behind : (limits : Limits) (count : ℕ) (word after : List ℕ) → HasNumbers limits → length word ≤ limits.word_bytes → words_at limits (suc count) (bulk word ++ after) ≡ words_after limits count (word, after)
 words_at-behind limits count word after numbers short = ap (λ r. r >>= words_after limits count) (word_at-again limits word after numbers.word_bytes short)
 
 -- these words, so many of them and none too long, are spelled at the front of the bytes
@@ -199,7 +199,7 @@ request_at-short limits bytes numbers e =
 placed_in_number : (limits : Limits) (said : ProtocolFault) (front : List ℕ) (byte : ℕ) → said ≡ InvalidMultibulkLength → InNumber limits.words front byte said → Says limits (42 ∷ front) byte said
 placed_in_number limits said front byte same p = rw same (front, p.0, p.1, p.2, refl)
 
-regrouped : (a b c d e : List ℕ) → a ++ (b ++ ((c ++ d) ++ e)) ≡ (((a ++ b) ++ c) ++ d) ++ e
+pub regrouped : (a b c d e : List ℕ) → a ++ (b ++ ((c ++ d) ++ e)) ≡ (((a ++ b) ++ c) ++ d) ++ e
 regrouped a b c d e = simp append_assoc
 
 placed_in_words : (limits : Limits) (n : ℕ) (said : ProtocolFault) (front : List ℕ) (byte : ℕ) → InWords limits n front byte said → Says limits ((42 ∷ number_line n) ++ front) byte said

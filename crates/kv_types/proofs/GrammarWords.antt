@@ -1,15 +1,14 @@
 -- Words: what is read is spelled so, what is spelled so is read, and where the reading breaks.
-use Rattle.std.proofs.Common.{◌≡◌, ℕ, zero, suc, ◌+◌, ◌-◌, ◌*◌, ◌^◌, ◌<◌, ◌≤◌, Bool, true, false, cond, ◌==◌, nat_lt, ◌⊎◌, inl, inr, ⊎_elim, List, [], ◌∷◌, ◌++◌, length, take, drop, replicate, Result, Ok, Err, refl, ap, sym, ◌∙◌, arith}
-use Rattle.std.proofs.lemmas.List.{append_assoc, append-nil, length-append, length-replicate, length-take-le, take-append-drop, take_at, drop_at}
-use Rattle.std.proofs.lemmas.Bool.{eqb-true, ltb-true, ltb-false, le-ltb, cond-true, cond-false}
-use Rattle.std.specs.List.{AllByRecursion, flat_map}
+use Rattle.std.proofs.Common.{◌≡◌, ℕ, ◌-◌, ◌^◌, ◌<◌, ◌≤◌, ◌==◌, nat_lt, inl, inr, List, [], ◌∷◌, ◌++◌, length, take, drop, replicate, Result, Ok, Err, refl, ap, sym, ◌∙◌, arith}
+use Rattle.std.proofs.lemmas.List.{append_assoc, length-append, length-replicate, length-take-le, take-append-drop, take_at, drop_at}
+use Rattle.std.proofs.lemmas.Bool.{eqb-true, ltb-true, ltb-false, le-ltb, cond-false}
 use Rattle.kv_types.specs.declared.limits.Limits.{Limits}
 use Rattle.kv_types.specs.declared.item.ProtocolFault.{ProtocolFault}
 use Rattle.kv_types.specs.declared.item.ProtocolFault.TheVariants.{ExpectedArray, InvalidMultibulkLength, ExpectedBulk, InvalidBulkLength, ExpectedLineEnd}
 use Rattle.kv_types.specs.Requests.{line_end, number_line, bulk, IsProperFront}
-use Rattle.kv_types.specs.Reading.{Stop, Short, Broken, Read, ◌>>=◌, after_byte, number_at, after_dollar, payload_at, word_at, with_first, words_at}
-use Rattle.kv_types.proofs.GrammarSteps.{chosen, bind_ok, bind_err, ok_parts, after_byte-takes, after_byte-short, after_byte-breaks, BreaksAt, BreaksAt-first, BreaksAt-behind, BreaksAt-here, Anywhere}
-use Rattle.kv_types.proofs.GrammarNumbers.{number_line-append, number_at-number_line, number_at-takes, number_at-short, number_at-breaks, InNumber}
+use Rattle.kv_types.specs.Reading.{Stop, Short, Broken, Read, ◌>>=◌, after_byte, number_at, after_dollar, payload_at, word_at}
+use Rattle.kv_types.proofs.GrammarSteps.{chosen, bind_ok, bind_err, ok_parts, after_byte-takes, after_byte-short, after_byte-breaks, BreaksAt, BreaksAt-first, BreaksAt-behind, BreaksAt-here}
+use Rattle.kv_types.proofs.GrammarNumbers.{number_at-number_line, number_at-takes, number_at-short, number_at-breaks, InNumber}
 
 -- ---- proper fronts
 
@@ -109,7 +108,7 @@ payload_at-short len bytes e =
 abbrev pub AfterWord : ℕ → List ℕ → ℕ → ProtocolFault → Type 0
 AfterWord len front byte fault = (fault ≡ ExpectedLineEnd) × ((word end : List ℕ) × (length word ≡ len) × IsProperFront end line_end × (front ≡ word ++ end))
 
-payload_at-behind : (len : ℕ) (word after : List ℕ) → length word ≡ len → payload_at len (word ++ after) ≡ line_end_after word after
+pub payload_at-behind : (len : ℕ) (word after : List ℕ) → length word ≡ len → payload_at len (word ++ after) ≡ line_end_after word after
 payload_at-behind len word after same =
     cond-false (nat_lt (length (word ++ after)) len) (Err Short) _ (le-ltb _ _ (omega (arith, length-append word after)))
     ∙ ap (λ w. line_end_after w (drop len (word ++ after))) (take_at word after len same)
@@ -165,10 +164,10 @@ pub bulk-append : (word rest : List ℕ) → bulk word ++ rest ≡ 36 ∷ (numbe
 bulk-append word rest = ap (λ x. 36 ∷ x) (simp append_assoc)
 
 -- the length of a word and the word
-abbrev rest_of_word : Limits → List ℕ → Result (Read (List ℕ)) Stop
+abbrev pub rest_of_word : Limits → List ℕ → Result (Read (List ℕ)) Stop
 rest_of_word limits bytes = number_at limits.word_bytes InvalidBulkLength bytes >>= λ len. payload_at len.0 len.1
 
-rest_of_word-again : (limits : Limits) (len : ℕ) (after : List ℕ) → limits.word_bytes < 2 ^ 64 → len ≤ limits.word_bytes → rest_of_word limits (number_line len ++ after) ≡ payload_at len after
+pub rest_of_word-again : (limits : Limits) (len : ℕ) (after : List ℕ) → limits.word_bytes < 2 ^ 64 → len ≤ limits.word_bytes → rest_of_word limits (number_line len ++ after) ≡ payload_at len after
 rest_of_word-again limits len after small fits = ap (λ r. r >>= λ len. payload_at len.0 len.1) (number_at-number_line limits.word_bytes InvalidBulkLength len after small fits)
 
 pub word_at-again : (limits : Limits) (word rest : List ℕ) → limits.word_bytes < 2 ^ 64 → length word ≤ limits.word_bytes → word_at limits (bulk word ++ rest) ≡ Ok (word, rest)

@@ -1,2 +1,3 @@
 pub mod FirstItem
+pub mod ReplyTexts
 pub mod WordsRead
