@@ -19,10 +19,8 @@ mod tests;
 
 pub use bounded::{BoundedBytes, Field, Key, Value};
 pub use change::{Change, changes_fit};
-pub use grammar_laws::items_grow;
-pub use integer::{read_int, write_int};
-pub use change::Change;
 pub use grammar_laws::{items_are_asked_for, items_grow, one_spelling};
+pub use integer::{read_int, write_int};
 pub use item::{Item, ProtocolFault};
 pub use laws::{
     array_text, keyspace_stays, look_up_after_change, look_ups_tell_apart, play_in_two_parts,

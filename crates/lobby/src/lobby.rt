@@ -9,7 +9,7 @@ use std::alloc::{AllocError, Global};
 use std::marker::Model;
 
 /// The 1,024 seats of a server, of which the free ones lie here. A clause sees whether each number is free or taken.
-#[derive(Drop)]
+#[derive(Debug, Drop)]
 pub struct Lobby {
     // At its number's place each seat that is free.
     slots: Vec<Option<Seat>>,

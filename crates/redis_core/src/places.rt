@@ -87,10 +87,18 @@ pub(crate) fn give_back(heap: &mut ExtentHeap, mut placed: Vec<PlacedChange>)
     ensures { (before : Room) → TakesPlaces before (puts_of placed.items) heap.old → heap.new ≡ before }
 {
     while let Some(change) = placed.pop() {
-        if let PlacedChange::Put(put) = change {
-            heap.give(put.extent);
-            heap.give_entry(put.entry);
-        }
+        give_place_back(heap, change);
+    }
+}
+
+/// Gives back the place of a change, which was the last to be taken.
+fn give_place_back(heap: &mut ExtentHeap, change: PlacedChange)
+    requires { (before : Room) × TakesPlaces before (put_of change) heap.old }
+    ensures { (before : Room) → TakesPlaces before (put_of change) heap.old → heap.new ≡ before }
+{
+    if let PlacedChange::Put(put) = change {
+        heap.give(put.extent);
+        heap.give_entry(put.entry);
     }
 }
 
