@@ -39,7 +39,7 @@ impl Lobby {
         Ok(Lobby { slots })
     }
 
-    /// Gives out the lowest free seat.
+    /// Gives out the lowest free seat. It takes no memory.
     ///
     /// # Errors
     ///
@@ -53,7 +53,7 @@ impl Lobby {
         take_lowest(&mut self.slots).ok_or(Refusal::SeatsFull)
     }
 
-    /// Takes a seat back. A seat whose number is not taken here changes nothing.
+    /// Takes a seat back. A seat whose number is not taken here changes nothing. It takes no memory.
     pub fn leave(&mut self, seat: Seat)
         ensures moves { slice_get self.old.statuses seat ≡ Some taken → Moves self.old seat taken free self.new }
         ensures unchanged { slice_get self.old.statuses seat ≢ Some taken → self.new ≡ self.old }

@@ -1,11 +1,11 @@
 -- Laws of the replies of one connection's calls.
-use Rattle.std.proofs.Common.{◌≡◌, ◌≢◌, ℕ, zero, suc, ◌+◌, ◌<◌, ◌≤◌, Bool, true, false, cond, nat_eq, List, [], ◌∷◌, ◌++◌, length, All, flat_map, refl, sym, ap, subst, ◌∙◌, arith, append_assoc, append-nil, eq-eqb, ne_eqb}
+use Rattle.std.proofs.Common.{◌≡◌, ◌≢◌, ℕ, ◌+◌, true, false, cond, nat_eq, List, [], ◌∷◌, ◌++◌, flat_map, refl, sym, ap, ◌∙◌, arith, append_assoc, append-nil, eq-eqb, ne_eqb}
 use Rattle.std.proofs.lemmas.Grind.{flat_map-append}
 use Rattle.kv_types.specs.declared.reply.Held.{Held}
 use Rattle.kv_types.specs.Keyspaces.{Keyspace}
 use Rattle.kv_types.specs.Replies.{text_of}
 use Rattle.model.specs.declared.call.Call.{Call}
-use Rattle.model.specs.Calls.{after_call, keyspace_from, keyspace_after, is_changing, position_from, position_of, calls_of, replies_to}
+use Rattle.model.specs.Calls.{after_call, keyspace_from, keyspace_after, position_from, position_of, calls_of, replies_to}
 use Rattle.model.proofs.CallsLemmas.{position_of-push}
 use Rattle.machine.specs.Events.{texts_of}
 use Rattle.machine.specs.Sound.{position_with, answer_at, answers_from, answers_to}
@@ -36,7 +36,7 @@ answers_to-push_own c calls call own =
     let p = position_of calls in
     let reply_at : ℕ → List Held = λ n. record { reply = call.reply; position = n } ∷ [] in
     let last : answer_at s p c call ≡ reply_at (position_of (calls ++ call ∷ [])) =
-        ap (λ b. cond b (reply_at (position_with s p call)) []) (eq-eqb call.connection c own) ∙ ap reply_at (sym (position_of-push calls call)) in
+    ap (λ b. cond b (reply_at (position_with s p call)) []) (eq-eqb call.connection c own) ∙ ap reply_at (sym (position_of-push calls call)) in
     answers_to-push c calls call ∙ ap (λ more. answers_to c calls ++ more) last
 
 -- a call of another one adds nothing
@@ -53,7 +53,7 @@ answers_to-push_other c calls call differ =
 texts_of-answer : (s : Keyspace) (p c : ℕ) (call : Call) (calls : List Call) → replies_to c (call ∷ calls) ≡ texts_of (answer_at s p c call) ++ replies_to c calls
 texts_of-answer s p c call calls =
     elim (nat_eq call.connection c) as (λ b. flat_map (λ (call : Call). text_of call.reply) (cond b (call ∷ calls_of c calls) (calls_of c calls))
-        ≡ texts_of (cond b (record { reply = call.reply; position = position_with s p call } ∷ []) []) ++ replies_to c calls) [
+    ≡ texts_of (cond b (record { reply = call.reply; position = position_with s p call } ∷ []) []) ++ replies_to c calls) [
       | true ↦ ap (λ text. text ++ replies_to c calls) (sym (append-nil (text_of call.reply)))
       | false ↦ refl
     ]

@@ -1,10 +1,9 @@
 -- The bytes fed to a connection are the pieces of the feeds that did their step.
-use Rattle.std.proofs.Common.{◌≡◌, ◌≢◌, ℕ, zero, suc, ◌+◌, ◌<◌, ◌≤◌, Bool, true, false, not, cond, ◌&&◌, nat_eq, List, [], ◌∷◌, ◌++◌, length, refl, sym, ap, subst, ◌∙◌, arith, append_assoc, append-nil, inl, inr, eq-eqb, ne_eqb}
-use Rattle.std.proofs.lemmas.Bool.{ltb-true, cases_eq}
-use Rattle.model.specs.declared.call.Call.{Call}
+use Rattle.std.proofs.Common.{◌≡◌, ℕ, ◌<◌, Bool, true, false, not, cond, List, [], ◌∷◌, ◌++◌, length, refl, sym, ap, ◌∙◌, append_assoc, append-nil, eq-eqb, ne_eqb}
+use Rattle.std.proofs.lemmas.Bool.{ltb-true}
 use Rattle.machine.specs.declared.event.Event.{Event}
 use Rattle.machine.specs.declared.event.Event.TheVariants.{Enter, Feed, Offer, Turn, CloseGroup, Commit, RaiseLocal, Hand, OpenLink, Send, Deliver, Apply, AckDelivered, RaiseRemote, Hold, Read, Release, Write}
-use Rattle.machine.specs.Events.{Inbound, Outbound, Connection, World, get_connection, connection_of, changed_at, with_inbound, with_outbound, on_inbound, on_outbound, is_closed_by, is_open, is_enabled, with_call, fed_with, offered_next, taken_first, with_made, held_first, having_read, let_out, written, called, Happens, Step, Run, start, last_world}
+use Rattle.machine.specs.Events.{Inbound, Outbound, World, connection_of, with_inbound, with_outbound, on_inbound, on_outbound, is_closed_by, is_open, is_enabled, with_call, fed_with, offered_next, taken_first, held_first, having_read, let_out, written, Happens, Step, Run, start, last_world}
 use Rattle.machine.specs.Promises.{fed_by, fed_to}
 use Rattle.machine.proofs.ConnectionLemmas.{each-changed, get-entered, same-changed}
 use Rattle.machine.proofs.SoundEvents.{both}
@@ -25,8 +24,8 @@ fed-outbound w c d change = same-changed (λ connection. connection.inbound.fed)
 fed-Feed : (w : World) (c d : ℕ) (piece : List ℕ) → c < length w.connections → fed_in (on_inbound c (fed_with piece) w) d ≡ fed_in w d ++ fed_by d (Feed c piece) true
 fed-Feed w c d piece lt =
     each-changed (λ e connection. connection.inbound.fed ≡ fed_in w e ++ fed_by e (Feed c piece) true) c (with_inbound (fed_with piece)) w.connections lt
-      (ap (λ b. fed_in w c ++ cond b piece []) (sym (eq-eqb c c refl)))
-      (λ e differ. sym (append-nil (fed_in w e)) ∙ ap (λ b. fed_in w e ++ cond b piece []) (sym (ne_eqb c e differ))) d
+    (ap (λ b. fed_in w c ++ cond b piece []) (sym (eq-eqb c c refl)))
+    (λ e differ. sym (append-nil (fed_in w e)) ∙ ap (λ b. fed_in w e ++ cond b piece []) (sym (ne_eqb c e differ))) d
 
 nothing : {before after : List ℕ} → after ≡ before → after ≡ before ++ []
 nothing {before} e = e ∙ sym (append-nil before)

@@ -1,5 +1,5 @@
 -- What is there later: lists go on, and no number falls.
-use Rattle.std.proofs.Common.{◌≡◌, ℕ, zero, suc, ◌+◌, ◌<◌, ◌≤◌, max, Bool, true, false, List, [], ◌∷◌, ◌++◌, length, take, drop, All, Option, Some, None, slice_get, refl, sym, ap, subst, ◌∙◌, arith, le_refl, inl, inr, ◌⊎◌}
+use Rattle.std.proofs.Common.{◌≡◌, ℕ, zero, suc, ◌≤◌, Bool, true, false, List, [], ◌∷◌, ◌++◌, take, drop, Option, Some, None, slice_get, refl, sym, ap, subst, ◌∙◌, arith, le_refl, inl, inr}
 use Rattle.model.specs.declared.call.Call.{Call}
 use Rattle.model.specs.Calls.{IsPrefix, cut_at, keyspace_after, position_of}
 use Rattle.model.proofs.PrefixLemmas.{IsPrefix-itself, IsPrefix-front, IsPrefix-trans}
@@ -8,12 +8,11 @@ use Rattle.machine.specs.declared.event.Event.{Event}
 use Rattle.machine.specs.declared.event.Event.TheVariants.{Enter, Feed, Offer, Turn, CloseGroup, Commit, RaiseLocal, Hand, OpenLink, Send, Deliver, Apply, AckDelivered, RaiseRemote, Hold, Read, Release, Write}
 use Rattle.machine.specs.declared.event.Mark.{Mark}
 use Rattle.machine.specs.declared.event.Mark.TheVariants.{Local, Remote}
-use Rattle.machine.specs.Events.{Inbound, Outbound, Connection, Span, Committer, Link, Standby, World, get_connection, connection_of, changed_at, with_inbound, with_outbound, on_inbound, on_outbound, with_call, with_committer, with_link, with_standby, fed_with, offered_next, taken_first, with_made, called, closed_group, committed_first, raised_local, ready_again, handed, handed_to, opened_link, acknowledged, sent_waiting, sent_next, delivered, without_first, Takes, told, raised_remote, held_first, having_read, let_out, written, option_items, is_enabled, Happens, Step, Run, start, last_world}
+use Rattle.machine.specs.Events.{Inbound, Outbound, Connection, Span, Committer, Link, Standby, World, get_connection, changed_at, with_inbound, with_outbound, on_inbound, on_outbound, with_call, with_committer, with_link, with_standby, fed_with, offered_next, taken_first, with_made, called, closed_group, committed_first, raised_local, ready_again, handed, handed_to, opened_link, acknowledged, sent_waiting, sent_next, delivered, without_first, Takes, told, raised_remote, held_first, having_read, let_out, written, option_items, Happens, Step, Run, start, last_world}
 use Rattle.machine.specs.Promises.{released_in}
 use Rattle.machine.specs.Sound.{IsChain, Sound}
 use Rattle.machine.specs.Laws.{Grows}
 use Rattle.machine.proofs.ConnectionLemmas.{get-entered}
-use Rattle.machine.proofs.GroupLemmas.{chain-le}
 use Rattle.machine.proofs.SoundEvents.{sent-known, sent-remote, sound-step}
 use Rattle.machine.proofs.RunLemmas.{run-take, run-drop, sound-run}
 
@@ -83,20 +82,20 @@ grows-called : (w : World) (c : ℕ) (call : Call) → Grows w (called c call w)
 grows-called w c call =
     let g = grows-itself w in
     let first : Grows w (with_call call w) =
-        record {
-          calls = IsPrefix-front w.calls (call ∷ []);
-          released = g.released;
-          frames = g.frames;
-          acknowledgements = g.acknowledgements;
-          primary_position = g.primary_position;
-          standby_position = g.standby_position;
-          local = g.local;
-          known = g.known;
-          remote = g.remote;
-        } in
+    record {
+      calls = IsPrefix-front w.calls (call ∷ []);
+      released = g.released;
+      frames = g.frames;
+      acknowledgements = g.acknowledgements;
+      primary_position = g.primary_position;
+      standby_position = g.standby_position;
+      local = g.local;
+      known = g.known;
+      remote = g.remote;
+    } in
     let taken = on_inbound c taken_first (with_call call w) in
     grows-trans first (grows-trans (grows-inbound (with_call call w) c taken_first)
-      (grows-outbound taken c (with_made (record { reply = call.reply; position = position_of (w.calls ++ call ∷ []) })) (λ outbound. IsPrefix-itself outbound.released)))
+    (grows-outbound taken c (with_made (record { reply = call.reply; position = position_of (w.calls ++ call ∷ []) })) (λ outbound. IsPrefix-itself outbound.released)))
 
 -- ---- the committer, the link, the standby
 
@@ -189,11 +188,11 @@ grows-happens w RaiseLocal new h s = subst (Grows w) (sym h) (grows-committer w 
 grows-happens w Hand new h s =
     let middle = with_committer (ready_again w.committer) w in
     subst (Grows w) (sym h) (grows-trans (grows-committer w (ready_again w.committer) (le_refl w.committer.position) (le_refl w.committer.local))
-      (grows-link middle (handed_to (handed w.committer.stage) w.link) (IsPrefix-itself w.link.frames) (le_refl w.link.known) (le_refl w.link.remote)))
+    (grows-link middle (handed_to (handed w.committer.stage) w.link) (IsPrefix-itself w.link.frames) (le_refl w.link.known) (le_refl w.link.remote)))
 grows-happens w OpenLink new h s =
     let middle = with_standby (acknowledged w.standby) w in
     subst (Grows w) (sym h) (grows-trans (grows-standby w (acknowledged w.standby) (IsPrefix-front w.standby.acknowledgements (w.standby.position ∷ [])) (le_refl w.standby.position))
-      (grows-link middle (opened_link w.link) (IsPrefix-itself w.link.frames) (le_refl w.link.known) (le_refl w.link.remote)))
+    (grows-link middle (opened_link w.link) (IsPrefix-itself w.link.frames) (le_refl w.link.known) (le_refl w.link.remote)))
 grows-happens w Send new h s =
     subst (Grows w) (sym h) (grows-link w (sent_next w.link.again w.link) (sent-frames w.link.again w.link) (omega (arith, sent-known w.link.again w.link)) (omega (arith, sent-remote w.link.again w.link)))
 grows-happens w (Deliver frame) new h s =

@@ -1,9 +1,8 @@
 -- What each event leaves of a connection's items: those that were asked for come in order, each once.
-use Rattle.std.proofs.Common.{◌≡◌, ◌≢◌, ℕ, zero, suc, ◌+◌, ◌<◌, ◌≤◌, min, Bool, true, false, List, [], ◌∷◌, ◌++◌, length, take, drop, refl, sym, ap, subst, ◌∙◌, arith, append_assoc, length-append, length-take, length-drop, take-append-drop}
+use Rattle.std.proofs.Common.{◌≡◌, ◌≢◌, ℕ, ◌<◌, false, List, [], ◌∷◌, ◌++◌, length, take, drop, refl, sym, ap, ◌∙◌, arith, append_assoc, length-append, length-take, length-drop, take-append-drop}
 use Rattle.std.proofs.Math.Seq.{take-add}
 use Rattle.std.proofs.lemmas.List.{take-append-le}
 use Rattle.kv_types.specs.declared.limits.TheConstants.{SERVED_LIMITS}
-use Rattle.kv_types.specs.declared.item.Item.{Item}
 use Rattle.kv_types.specs.Reading.{items_at}
 use Rattle.kv_types.proofs.GrammarItems.{items_at-append, later_items, unread_at}
 use Rattle.model.specs.declared.call.Call.{Call}
@@ -52,7 +51,7 @@ inbound-called_own calls c inbound call own first s =
     record {
       offered = s.offered;
       order = ap (λ front. front ++ rest) (items_of-push_own c calls call own) ∙ append_assoc items (call.item ∷ []) rest
-        ∙ ap (λ front. items ++ (front ++ rest)) (sym first) ∙ ap (λ waiting. items ++ waiting) (take-append-drop 1 inbound.waiting) ∙ s.order;
+          ∙ ap (λ front. items ++ (front ++ rest)) (sym first) ∙ ap (λ waiting. items ++ waiting) (take-append-drop 1 inbound.waiting) ∙ s.order;
       few = omega (arith, s.few, length-drop 1 inbound.waiting);
     }
 

@@ -1,14 +1,11 @@
 -- The laws of every run, from what holds between any two events.
-use Rattle.std.proofs.Common.{◌≡◌, ℕ, zero, suc, ◌+◌, ◌<◌, ◌≤◌, Bool, true, false, List, [], ◌∷◌, ◌++◌, length, take, drop, All, refl, sym, ap, subst, ◌∙◌, arith, append_assoc, le-ltb, Option, Some, None, slice_get}
-use Rattle.kv_types.specs.declared.reply.Held.{Held}
-use Rattle.model.specs.declared.call.Call.{Call}
+use Rattle.std.proofs.Common.{◌≡◌, ℕ, ◌+◌, Bool, true, false, List, [], ◌∷◌, ◌++◌, length, refl, sym, ap, ◌∙◌, arith, append_assoc, le-ltb, Option, Some, None, slice_get}
 use Rattle.model.specs.Calls.{keyspace_after, position_of}
 use Rattle.machine.specs.declared.event.Event.{Event}
 use Rattle.machine.specs.declared.event.Event.TheVariants.{Enter, Feed, Offer, Turn, CloseGroup, Commit, RaiseLocal, Hand, OpenLink, Send, Deliver, Apply, AckDelivered, RaiseRemote, Hold, Read, Release, Write}
-use Rattle.machine.specs.Events.{World, Span, Link, told, Happens, Step, Run, start, last_world, connection_of}
-use Rattle.machine.specs.Promises.{IsReleased, released_in}
+use Rattle.machine.specs.Events.{World, Link, told, Happens, Step, Run, start, last_world}
 use Rattle.machine.specs.Sound.{Sound, answers_from, answers_to}
-use Rattle.machine.specs.Laws.{IsInOrder, PositionsAreInOrder, FramesAreCommitted, AnswersBearPositions, RaisesNoRemote, NothingIsReleasedUnacknowledged, OnlyWhatWasMadeIsDelivered}
+use Rattle.machine.specs.Laws.{IsInOrder, FramesAreCommitted, AnswersBearPositions, RaisesNoRemote, NothingIsReleasedUnacknowledged, OnlyWhatWasMadeIsDelivered}
 use Rattle.machine.proofs.AnswerLemmas.{answers_from-append, answers_to-push_own}
 use Rattle.machine.proofs.GroupLemmas.{chain-le, all_within-weaker}
 use Rattle.machine.proofs.SoundEvents.{sent-remote}
@@ -43,7 +40,7 @@ answers_bear_positions front call rest =
     record {
       rest = answers_from (keyspace_after calls) (0 + position_of calls) c rest;
       joined = ap (λ answers. answers ++ answers_from (keyspace_after calls) (0 + position_of calls) c rest) (sym (answers_to-push_own c front call refl))
-        ∙ sym (answers_from-append [] 0 c calls rest) ∙ ap (answers_to c) (append_assoc front (call ∷ []) rest);
+          ∙ sym (answers_from-append [] 0 c calls rest) ∙ ap (answers_to c) (append_assoc front (call ∷ []) rest);
     }
 
 -- ---- without RaiseRemote

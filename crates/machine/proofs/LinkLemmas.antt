@@ -1,13 +1,13 @@
 -- What each event leaves of the link: the groups that it keeps and those that wait are the committed ones that are not acknowledged.
-use Rattle.std.proofs.Common.{◌≡◌, ℕ, zero, suc, ◌+◌, ◌<◌, ◌≤◌, max, Bool, true, false, not, nat_lt, List, [], ◌∷◌, ◌++◌, length, filter, All, Option, Some, None, refl, sym, ap, subst, ◌∙◌, arith, append_assoc, append-nil, length-append, le_refl, ◌&&◌, ◌||◌}
+use Rattle.std.proofs.Common.{◌≡◌, ℕ, ◌+◌, ◌<◌, ◌≤◌, true, not, nat_lt, List, [], ◌∷◌, ◌++◌, length, All, refl, sym, ap, subst, ◌∙◌, arith, append_assoc, append-nil, length-append, le_refl, ◌&&◌, ◌||◌}
 use Rattle.std.proofs.lemmas.Bool.{ltb-true}
 use Rattle.std.proofs.lemmas.List.Elements.{All-nil, All-push, All-head, All-tail, filter-append}
 use Rattle.std.proofs.lemmas.List.Filters.{length-filter_both}
 use Rattle.model.specs.Calls.{is_nonempty}
 use Rattle.machine.specs.declared.event.TheConstants.{PIPE_ITEMS, KEPT_GROUPS}
-use Rattle.machine.specs.Events.{Span, Stage, Ready, Durable, Shown, Committer, Link, is_ready, is_shown, shown, handed, committed_first, handed_to, opened_link, sent_waiting, sent_next, above, knowing, told, option_items, raised_remote, start}
+use Rattle.machine.specs.Events.{Span, Stage, Ready, Durable, Shown, Committer, Link, is_ready, is_shown, shown, handed, handed_to, opened_link, sent_waiting, sent_next, above, knowing, raised_remote, start}
 use Rattle.machine.specs.Sound.{IsChain, IsGroupWithin, in_hand, HasRoomFor, SoundLink}
-use Rattle.machine.proofs.GroupLemmas.{chain-le, chain-append, chain-push, chain-above, chain-within, all_within-weaker}
+use Rattle.machine.proofs.GroupLemmas.{chain-push, chain-above, chain-within, all_within-weaker}
 
 pub link-start : SoundLink Ready 0 0 start.link
 link-start =
@@ -105,34 +105,40 @@ module _ (stage : Stage) (position sent : ℕ) (link : Link) (s : SoundLink stag
   sent-first [] some chain room = (sent, s, le_refl sent)
   sent-first (group ∷ groups) some chain room =
       let frames = all_within-weaker sent (sent + 1) link.frames (omega arith) s.frames in
-      let one : IsGroupWithin (sent + 1) group = record { one = omega (arith, chain.0, chain.1); within = omega (arith, chain.1) } in
-      (sent + 1, record {
-        kept = chain-push link.known link.kept sent group s.kept chain.0 chain.1;
-        waiting = chain.2;
-        frames = All-push (IsGroupWithin (sent + 1)) link.frames group frames one;
-        sent_again = link.kept ++ group ∷ [];
-        again = append-nil (link.kept ++ group ∷ []);
-        remote = s.remote;
-        few = room-less stage group groups room;
-        few_kept = omega (arith, length-append link.kept (group ∷ []), ltb-true (length link.kept) KEPT_GROUPS some);
-      }, omega arith)
+      let one : IsGroupWithin (sent + 1) group = record { one = omega (arith, chain.0, chain.1); within = omega (arith, chain.1) } in (
+        sent + 1,
+        record {
+          kept = chain-push link.known link.kept sent group s.kept chain.0 chain.1;
+          waiting = chain.2;
+          frames = All-push (IsGroupWithin (sent + 1)) link.frames group frames one;
+          sent_again = link.kept ++ group ∷ [];
+          again = append-nil (link.kept ++ group ∷ []);
+          remote = s.remote;
+          few = room-less stage group groups room;
+          few_kept = omega (arith, length-append link.kept (group ∷ []), ltb-true (length link.kept) KEPT_GROUPS some);
+        },
+        omega arith,
+      )
 
   -- the next group that is to be sent, or else one that was never sent
   sent-again : (groups : List Span) → (is_nonempty groups || (is_nonempty link.waiting && nat_lt (length link.kept) KEPT_GROUPS)) ≡ true → s.sent_again ++ groups ≡ link.kept
       → (sent' : ℕ) × SoundLink stage position sent' (sent_next groups link) × (sent ≤ sent')
   sent-again [] some joined = sent-first link.waiting some s.waiting s.few
   sent-again (group ∷ groups) some joined =
-      let kept = subst (All (IsGroupWithin sent)) (sym joined) (chain-within link.known link.kept sent s.kept) in
-      (sent, record {
+      let kept = subst (All (IsGroupWithin sent)) (sym joined) (chain-within link.known link.kept sent s.kept) in (
+        sent,
+        record {
           kept = s.kept;
-        waiting = s.waiting;
-        frames = All-push (IsGroupWithin sent) link.frames group s.frames (all-middle (IsGroupWithin sent) s.sent_again group groups kept);
-        sent_again = s.sent_again ++ group ∷ [];
-        again = append_assoc s.sent_again (group ∷ []) groups ∙ joined;
-        remote = s.remote;
-        few = s.few;
-        few_kept = s.few_kept;
-      }, le_refl sent)
+          waiting = s.waiting;
+          frames = All-push (IsGroupWithin sent) link.frames group s.frames (all-middle (IsGroupWithin sent) s.sent_again group groups kept);
+          sent_again = s.sent_again ++ group ∷ [];
+          again = append_assoc s.sent_again (group ∷ []) groups ∙ joined;
+          remote = s.remote;
+          few = s.few;
+          few_kept = s.few_kept;
+        },
+        le_refl sent,
+      )
 
   pub link-sent : (is_nonempty link.again || (is_nonempty link.waiting && nat_lt (length link.kept) KEPT_GROUPS)) ≡ true → (sent' : ℕ) × SoundLink stage position sent' (sent_next link.again link) × (sent ≤ sent')
   link-sent some = sent-again link.again some s.again
@@ -142,7 +148,7 @@ module _ (stage : Stage) (position sent : ℕ) (link : Link) (s : SoundLink stag
   pub link-knowing : (acknowledged : ℕ) → acknowledged ≤ sent → SoundLink stage position sent (knowing acknowledged link)
   link-knowing acknowledged le =
       record {
-          kept = chain-above link.known link.kept sent acknowledged s.kept le;
+        kept = chain-above link.known link.kept sent acknowledged s.kept le;
         waiting = s.waiting;
         frames = s.frames;
         sent_again = above acknowledged s.sent_again;
@@ -155,7 +161,7 @@ module _ (stage : Stage) (position sent : ℕ) (link : Link) (s : SoundLink stag
   pub link-raised_remote : SoundLink stage position sent (raised_remote link)
   link-raised_remote =
       record {
-          kept = s.kept;
+        kept = s.kept;
         waiting = s.waiting;
         frames = s.frames;
         sent_again = s.sent_again;

@@ -1,5 +1,5 @@
 -- What each event leaves of a connection's replies: those of its calls, in order, and let out only where both marks cover them.
-use Rattle.std.proofs.Common.{◌≡◌, ◌≢◌, ℕ, zero, suc, ◌+◌, ◌<◌, ◌≤◌, Bool, true, false, cond, ◌&&◌, nat_le, List, [], ◌∷◌, ◌++◌, length, take, drop, All, refl, sym, ap, subst, ◌∙◌, arith, append_assoc, append-nil, length-append, length-drop, take-append-drop}
+use Rattle.std.proofs.Common.{◌≡◌, ◌≢◌, ℕ, ◌<◌, ◌≤◌, true, false, cond, nat_le, List, [], ◌∷◌, ◌++◌, length, take, drop, All, refl, sym, ap, ◌∙◌, arith, append_assoc, length-append, length-drop, take-append-drop}
 use Rattle.std.proofs.lemmas.Bool.{leb-true, and_parts}
 use Rattle.std.proofs.lemmas.List.Elements.{All-nil, All-cons, All-append, All-weaker}
 use Rattle.kv_types.specs.declared.reply.Held.{Held}
@@ -9,7 +9,7 @@ use Rattle.machine.specs.declared.event.TheConstants.{PIPE_ITEMS}
 use Rattle.machine.specs.declared.event.Mark.{Mark}
 use Rattle.machine.specs.declared.event.Mark.TheVariants.{Local, Remote}
 use Rattle.machine.specs.Events.{Outbound, World, no_connection, is_covered, covered_front, uncovered_rest, texts_of, with_made, held_first, having_read, let_out, written}
-use Rattle.machine.specs.Sound.{IsCoveredBy, SoundOutbound, answers_to}
+use Rattle.machine.specs.Sound.{IsCoveredBy, SoundOutbound}
 use Rattle.machine.proofs.AnswerLemmas.{answers_to-push_own, answers_to-push_other, texts_of-append}
 
 -- ---- the covered front
@@ -65,7 +65,7 @@ outbound-called_own calls c local remote outbound call own room s =
     record {
       out = s.out;
       replies = ap (λ more. s.out ++ more) (sym (append_assoc outbound.held outbound.made last)) ∙ sym (append_assoc s.out (outbound.held ++ outbound.made) last)
-        ∙ ap (λ front. front ++ last) s.replies ∙ sym (answers_to-push_own c calls call own);
+          ∙ ap (λ front. front ++ last) s.replies ∙ sym (answers_to-push_own c calls call own);
       texts = s.texts;
       covered = s.covered;
       local_read = s.local_read;
@@ -110,10 +110,10 @@ outbound-let_out calls c local remote outbound s =
     record {
       out = s.out ++ front;
       replies = append_assoc s.out front (rest ++ outbound.made)
-        ∙ ap (λ more. s.out ++ more) (sym (append_assoc front rest outbound.made) ∙ ap (λ held. held ++ outbound.made) (covered_front-rest outbound.local outbound.remote outbound.held)) ∙ s.replies;
+          ∙ ap (λ more. s.out ++ more) (sym (append_assoc front rest outbound.made) ∙ ap (λ held. held ++ outbound.made) (covered_front-rest outbound.local outbound.remote outbound.held)) ∙ s.replies;
       texts = sym (append_assoc outbound.released outbound.pending (texts_of front)) ∙ ap (λ text. text ++ texts_of front) s.texts ∙ sym (texts_of-append s.out front);
       covered = All-append (IsCoveredBy local remote) s.out front s.covered
-        (covered-weaker outbound.local outbound.remote local remote front s.local_read s.remote_read (covered_front-covered outbound.local outbound.remote outbound.held));
+          (covered-weaker outbound.local outbound.remote local remote front s.local_read s.remote_read (covered_front-covered outbound.local outbound.remote outbound.held));
       local_read = s.local_read;
       remote_read = s.remote_read;
       few = s.few;

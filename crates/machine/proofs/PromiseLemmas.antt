@@ -1,18 +1,17 @@
 -- Every run keeps the promise.
-use Rattle.std.proofs.Common.{◌≡◌, ◌≢◌, ℕ, zero, suc, ◌+◌, ◌<◌, ◌≤◌, Bool, true, false, List, [], ◌∷◌, ◌++◌, length, take, drop, All, refl, sym, ap, subst, ◌∙◌, arith, append_assoc, append-nil, length-append, take-append-drop}
+use Rattle.std.proofs.Common.{◌≡◌, ℕ, ◌+◌, ◌<◌, ◌≤◌, Bool, List, [], ◌∷◌, ◌++◌, length, drop, All, refl, sym, ap, subst, ◌∙◌, arith, append_assoc, length-append, take-append-drop}
 use Rattle.std.proofs.lemmas.List.Elements.{All-head, All-tail}
 use mathlib.Core.Path.{fun_ext}
 use Rattle.kv_types.specs.declared.limits.TheConstants.{SERVED_LIMITS}
-use Rattle.kv_types.specs.declared.item.Item.{Item}
 use Rattle.kv_types.specs.declared.reply.Held.{Held}
 use Rattle.kv_types.specs.Reading.{items_at}
 use Rattle.kv_types.specs.Replies.{text_of}
 use Rattle.model.specs.declared.call.Call.{Call}
-use Rattle.model.specs.Calls.{IsPrefix, Serves, items_of, keyspace_after, position_of, replies_to, up_to_closing}
+use Rattle.model.specs.Calls.{Serves, items_of, keyspace_after, position_of, replies_to}
 use Rattle.machine.specs.declared.event.Event.{Event}
 use Rattle.machine.specs.Events.{World, Run, start, last_world, connection_of, asked, texts_of}
 use Rattle.machine.specs.Promises.{Tells, IsReleased, HasMarks, IsPromised, EveryRunIsPromised, released_in, fed_to}
-use Rattle.machine.specs.Sound.{IsCoveredBy, SoundInbound, SoundOutbound, Sound, answers_from, answers_to}
+use Rattle.machine.specs.Sound.{IsCoveredBy, Sound, answers_from, answers_to}
 use Rattle.machine.proofs.AnswerLemmas.{answers_from-append, answers_to-push_own, texts_of-answers_to, texts_of-append}
 use Rattle.machine.proofs.GroupLemmas.{chain-le}
 use Rattle.machine.proofs.RunLemmas.{some-last, sound-run}
@@ -41,8 +40,8 @@ released-covered w s front call released =
     let reply : Held = record { reply = call.reply; position = position_of (front ++ call ∷ []) } in
     let more = answers_from (keyspace_after (front ++ call ∷ [])) (0 + position_of (front ++ call ∷ [])) c released.rest in
     let all : o.out ++ (outbound.held ++ outbound.made) ≡ answers_to c front ++ reply ∷ more =
-        o.replies ∙ ap (answers_to c) (released.stands ∙ sym (append_assoc front (call ∷ []) released.rest)) ∙ answers_from-append [] 0 c (front ++ call ∷ []) released.rest
-        ∙ ap (λ answers. answers ++ more) (answers_to-push_own c front call refl) ∙ append_assoc (answers_to c front) (reply ∷ []) more in
+    o.replies ∙ ap (answers_to c) (released.stands ∙ sym (append_assoc front (call ∷ []) released.rest)) ∙ answers_from-append [] 0 c (front ++ call ∷ []) released.rest
+    ∙ ap (λ answers. answers ++ more) (answers_to-push_own c front call refl) ∙ append_assoc (answers_to c front) (reply ∷ []) more in
     let before = ap length (texts_of-answers_to c front) in
     let let_out = length-append outbound.released outbound.pending in
     let covered = among (IsCoveredBy w.committer.local w.link.remote) o.out (outbound.held ++ outbound.made) (answers_to c front) reply more all (omega (arith, released.written, ap length o.texts)) o.covered in
@@ -69,8 +68,8 @@ serves-run events done worlds run = λ c.
     record {
       rest = inbound.waiting ++ drop inbound.offered (asked inbound.fed);
       joined = sym (append_assoc (items_of c w.calls) inbound.waiting (drop inbound.offered (asked inbound.fed)))
-        ∙ ap (λ front. front ++ drop inbound.offered (asked inbound.fed)) s.order ∙ take-append-drop inbound.offered (asked inbound.fed)
-        ∙ ap asked (fed-run events done worlds c run);
+          ∙ ap (λ front. front ++ drop inbound.offered (asked inbound.fed)) s.order ∙ take-append-drop inbound.offered (asked inbound.fed)
+          ∙ ap asked (fed-run events done worlds c run);
     }
 
 pub every_run_is_promised : EveryRunIsPromised
@@ -84,11 +83,11 @@ every_run_is_promised events done worlds run =
       legal = s.legal;
       serves = serves-run events done worlds run;
       begins = λ c.
-        let outbound = (connection_of w c).outbound in
-        record { rest = outbound.pending ++ (texts_of outbound.held ++ texts_of outbound.made); joined = replies-add_up w s c };
+          let outbound = (connection_of w c).outbound in
+          record { rest = outbound.pending ++ (texts_of outbound.held ++ texts_of outbound.made); joined = replies-add_up w s c };
       covered = λ front call released.
-        let marks = released-covered w s front call released in
-        some-last (HasMarks front call) start worlds
+          let marks = released-covered w s front call released in
+          some-last (HasMarks front call) start worlds
           (record { made = record { rest = released.rest; joined = append_assoc front (call ∷ []) released.rest ∙ sym released.stands }; local = marks.0; remote = marks.1 });
       held = λ front call released. let marks = released-covered w s front call released in omega (arith, marks.1, s.link.remote, s.standby.known);
       behind = omega (arith, s.standby.behind, chain-le _ _ _ s.link.waiting);
@@ -102,6 +101,6 @@ promised-told events done worlds calls released primary standby run tells =
     let w = last_world start worlds in
     let promised : IsPromised events done w.calls (released_in w) w.committer.position w.standby.position = every_run_is_promised events done worlds run in
     subst (λ x. IsPromised events done x released primary standby) (sym tells.list)
-      (subst (λ x. IsPromised events done w.calls x primary standby) (sym (fun_ext tells.bytes))
-        (subst (λ x. IsPromised events done w.calls (released_in w) x standby) (sym tells.primary_position)
-          (subst (λ x. IsPromised events done w.calls (released_in w) w.committer.position x) (sym tells.standby_position) promised)))
+    (subst (λ x. IsPromised events done w.calls x primary standby) (sym (fun_ext tells.bytes))
+    (subst (λ x. IsPromised events done w.calls (released_in w) x standby) (sym tells.primary_position)
+    (subst (λ x. IsPromised events done w.calls (released_in w) w.committer.position x) (sym tells.standby_position) promised)))

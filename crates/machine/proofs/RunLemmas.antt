@@ -1,7 +1,6 @@
 -- Laws of runs: they go on, they are cut, and what holds between any two events.
-use Rattle.std.proofs.Common.{◌≡◌, ◌≢◌, ℕ, zero, suc, ◌+◌, ◌<◌, ◌≤◌, Bool, true, false, cond, nat_eq, List, [], ◌∷◌, ◌++◌, length, take, drop, All, refl, sym, ap, subst, ◌∙◌, arith, append_assoc, append-nil, inl, inr, true≢false}
+use Rattle.std.proofs.Common.{◌≡◌, ℕ, zero, suc, Bool, true, false, List, [], ◌∷◌, ◌++◌, length, take, drop, All, refl, sym, ap, arith, inl, inr, true≢false}
 use Rattle.std.proofs.lemmas.List.Elements.{All-nil, All-cons}
-use Rattle.std.proofs.lemmas.Bool.{ltb-true}
 use Rattle.machine.specs.declared.event.Event.{Event}
 use Rattle.machine.specs.Events.{World, is_enabled, Happens, Step, Run, start, last_world}
 use Rattle.machine.specs.Promises.{SomeWorld}

@@ -1,5 +1,5 @@
 -- Each event keeps what holds of the pair of nodes.
-use Rattle.std.proofs.Common.{◌≡◌, ◌≢◌, ℕ, zero, suc, ◌+◌, ◌-◌, ◌<◌, ◌≤◌, max, Bool, true, false, not, cond, ◌&&◌, ◌||◌, nat_lt, nat_le, List, [], ◌∷◌, ◌++◌, length, take, All, Option, Some, None, slice_get, refl, sym, ap, subst, ◌∙◌, arith, length-append, le_refl}
+use Rattle.std.proofs.Common.{◌≡◌, ℕ, ◌+◌, ◌<◌, ◌≤◌, max, Bool, true, false, not, cond, ◌&&◌, nat_lt, nat_le, List, [], ◌∷◌, ◌++◌, length, take, All, Option, Some, None, slice_get, refl, sym, subst, ◌∙◌, arith, length-append, le_refl}
 use Rattle.std.proofs.lemmas.Bool.{ltb-true, not-true}
 use Rattle.std.proofs.lemmas.List.Elements.{All-head}
 use Rattle.model.specs.declared.call.Call.{Call}
@@ -10,8 +10,8 @@ use Rattle.machine.specs.declared.event.TheConstants.{SEATS, PIPE_ITEMS, OPEN_CH
 use Rattle.machine.specs.declared.event.Event.{Event}
 use Rattle.machine.specs.declared.event.Event.TheVariants.{Enter, Feed, Offer, Turn, CloseGroup, Commit, RaiseLocal, Hand, OpenLink, Send, Deliver, Apply, AckDelivered, RaiseRemote, Hold, Read, Release, Write}
 use Rattle.machine.specs.declared.event.Mark.{Mark}
-use Rattle.machine.specs.Events.{Inbound, Outbound, Connection, Span, Link, Standby, World, no_connection, get_connection, connection_of, changed_at, with_inbound, with_outbound, on_inbound, on_outbound, with_committer, with_link, with_standby, asked, is_closed_by, is_open, open_changes, has_room, is_ready, is_durable, is_shown, is_enabled, entered, fed_with, offered_next, taken_first, with_made, called, Turns, closed_group, committed_first, raised_local, ready_again, handed, handed_to, opened_link, acknowledged, sent_waiting, sent_next, delivered, without_first, Applies, told, raised_remote, held_first, having_read, let_out, written, option_items, Happens, Step}
-use Rattle.machine.specs.Sound.{IsChain, IsGroupWithin, SoundInbound, SoundOutbound, SoundCommitter, SoundLink, SoundStandby, Sound}
+use Rattle.machine.specs.Events.{Inbound, Outbound, Span, Link, Standby, World, no_connection, get_connection, connection_of, changed_at, with_inbound, with_outbound, on_inbound, on_outbound, with_committer, with_link, with_standby, asked, is_closed_by, is_open, open_changes, has_room, is_ready, is_enabled, entered, fed_with, offered_next, taken_first, with_made, called, Turns, closed_group, committed_first, raised_local, ready_again, handed, handed_to, opened_link, acknowledged, sent_waiting, sent_next, delivered, without_first, Applies, told, raised_remote, held_first, having_read, let_out, written, option_items, Happens, Step}
+use Rattle.machine.specs.Sound.{IsChain, IsGroupWithin, SoundInbound, SoundOutbound, SoundCommitter, SoundStandby, Sound}
 use Rattle.machine.proofs.ConnectionLemmas.{get-changed_same, get-changed_other, length-changed_at, get-entered, each-changed}
 use Rattle.machine.proofs.InboundLemmas.{inbound-fed, inbound-offered, inbound-called_own, inbound-called_other}
 use Rattle.machine.proofs.OutboundLemmas.{outbound-marked, outbound-called_own, outbound-called_other, outbound-held, outbound-read, outbound-let_out, outbound-written}
@@ -82,14 +82,14 @@ sound-Feed w c piece e s =
     let fed = (connection_of w c).inbound.fed in
     let parts = both (is_open w c) (not (is_closed_by fed)) e in
     sound-inbound w c (fed_with piece) (ltb-true c (length w.connections) parts.0)
-      (inbound-fed w.calls c (connection_of w c).inbound piece (not-true (is_closed_by fed) parts.1) (s.inbound c)) s
+    (inbound-fed w.calls c (connection_of w c).inbound piece (not-true (is_closed_by fed) parts.1) (s.inbound c)) s
 
 sound-Offer : (w : World) (c : ℕ) → is_enabled w (Offer c) ≡ true → Sound w → Sound (on_inbound c offered_next w)
 sound-Offer w c e s =
     let inbound = (connection_of w c).inbound in
     let parts = three (is_open w c) (nat_lt inbound.offered (length (asked inbound.fed))) (has_room inbound.waiting) e in
     sound-inbound w c offered_next (ltb-true c (length w.connections) parts.0)
-      (inbound-offered w.calls c inbound (ltb-true inbound.offered (length (asked inbound.fed)) parts.1) (ltb-true (length inbound.waiting) PIPE_ITEMS parts.2) (s.inbound c)) s
+    (inbound-offered w.calls c inbound (ltb-true inbound.offered (length (asked inbound.fed)) parts.1) (ltb-true (length inbound.waiting) PIPE_ITEMS parts.2) (s.inbound c)) s
 
 position_of-push_le : (calls : List Call) (call : Call) → position_of (calls ++ call ∷ []) ≤ position_of calls + 1
 position_of-push_le calls call =
@@ -107,22 +107,22 @@ sound-called w c call own first may e s =
     let lt' : c < length taken = omega (arith, length-changed_at c (with_inbound taken_first) w.connections) in
     let made = with_made (record { reply = call.reply; position = position_of calls }) in
     let inbound : (d : ℕ) → SoundInbound calls d (get_connection taken d).inbound =
-        each-changed (λ d x. SoundInbound calls d x.inbound) c (with_inbound taken_first) w.connections lt
-          (inbound-called_own w.calls c connection.inbound call own first (s.inbound c))
-          (λ d differ. inbound-called_other w.calls d (connection_of w d).inbound call (λ same. differ (sym own ∙ same)) (s.inbound d)) in
+    each-changed (λ d x. SoundInbound calls d x.inbound) c (with_inbound taken_first) w.connections lt
+    (inbound-called_own w.calls c connection.inbound call own first (s.inbound c))
+    (λ d differ. inbound-called_other w.calls d (connection_of w d).inbound call (λ same. differ (sym own ∙ same)) (s.inbound d)) in
     let outbound : (d : ℕ) → SoundOutbound calls d w.committer.local w.link.remote (get_connection (changed_at c (with_outbound made) taken) d).outbound =
-        each-changed (λ d x. SoundOutbound calls d w.committer.local w.link.remote x.outbound) c (with_outbound made) taken lt'
-          (subst (λ x. SoundOutbound calls c w.committer.local w.link.remote (made x.outbound)) (sym (get-changed_same c (with_inbound taken_first) w.connections lt))
-            (outbound-called_own w.calls c w.committer.local w.link.remote connection.outbound call own (ltb-true (length connection.outbound.made) PIPE_ITEMS parts.2) (s.outbound c)))
-          (λ d differ. subst (λ x. SoundOutbound calls d w.committer.local w.link.remote x.outbound) (sym (get-changed_other c d (with_inbound taken_first) w.connections differ))
-            (outbound-called_other w.calls d w.committer.local w.link.remote (connection_of w d).outbound call (λ same. differ (sym own ∙ same)) (s.outbound d))) in
+    each-changed (λ d x. SoundOutbound calls d w.committer.local w.link.remote x.outbound) c (with_outbound made) taken lt'
+    (subst (λ x. SoundOutbound calls c w.committer.local w.link.remote (made x.outbound)) (sym (get-changed_same c (with_inbound taken_first) w.connections lt))
+    (outbound-called_own w.calls c w.committer.local w.link.remote connection.outbound call own (ltb-true (length connection.outbound.made) PIPE_ITEMS parts.2) (s.outbound c)))
+    (λ d differ. subst (λ x. SoundOutbound calls d w.committer.local w.link.remote x.outbound) (sym (get-changed_other c d (with_inbound taken_first) w.connections differ))
+    (outbound-called_other w.calls d w.committer.local w.link.remote (connection_of w d).outbound call (λ same. differ (sym own ∙ same)) (s.outbound d))) in
     record {
       seats = omega (arith, s.seats, length-changed_at c (with_outbound made) taken, length-changed_at c (with_inbound taken_first) w.connections);
       legal = IsLegal-push w.calls call s.legal may;
       inbound = each-changed (λ d x. SoundInbound calls d x.inbound) c (with_outbound made) taken lt' (inbound c) (λ d differ. inbound d);
       outbound = outbound;
       committer = committer-called (position_of w.calls) (position_of calls) w.committer (position_of_grows w.calls (call ∷ [])) (position_of-push_le w.calls call)
-        (ltb-true (open_changes w) OPEN_CHANGES parts.3) s.committer;
+          (ltb-true (open_changes w) OPEN_CHANGES parts.3) s.committer;
       sent = s.sent;
       link = s.link;
       standby = s.standby;
@@ -187,7 +187,7 @@ sound-Commit : (w : World) → is_enabled w Commit ≡ true → Sound w → Soun
 sound-Commit w e s =
     let parts = three (is_ready w.committer.stage) (is_nonempty w.committer.waiting) (has_room w.link.waiting) e in
     sound-committed w w.committer.waiting parts.1 s.committer.waiting parts.0 (ltb-true (length w.link.waiting) PIPE_ITEMS parts.2)
-      (committer-committed (position_of w.calls) w.committer parts.0 parts.1 s.committer) s
+    (committer-committed (position_of w.calls) w.committer parts.0 parts.1 s.committer) s
 
 sound-RaiseLocal : (w : World) → Sound w → Sound (with_committer (raised_local w.committer) w)
 sound-RaiseLocal w s =
@@ -310,8 +310,8 @@ sound-Apply w new applies s =
     let sent = s.sent in
     let known = w.link.known in
     subst Sound (sym applies.now) (sound-with_standby w applies.standby s
-      (standby-takes sent known applies.frame (without_first w.standby) applies.standby (standby-first sent known applies.frame w.standby applies.first s.standby) applies.takes
-        (standby-without_first sent known w.standby s.standby)))
+    (standby-takes sent known applies.frame (without_first w.standby) applies.standby (standby-first sent known applies.frame w.standby applies.first s.standby) applies.takes
+    (standby-without_first sent known w.standby s.standby)))
 
 -- ---- any event
 

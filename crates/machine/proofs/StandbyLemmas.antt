@@ -1,5 +1,5 @@
 -- What each event leaves of the standby: its frames are committed groups, and it acknowledges no position above its own.
-use Rattle.std.proofs.Common.{◌≡◌, ℕ, zero, suc, ◌+◌, ◌<◌, ◌≤◌, List, [], ◌∷◌, ◌++◌, length, take, drop, All, Option, Some, None, slice_get, refl, sym, ap, subst, ◌∙◌, arith, le_refl, inl, inr, ◌⊎◌}
+use Rattle.std.proofs.Common.{◌≡◌, ℕ, zero, suc, ◌≤◌, List, [], ◌∷◌, take, All, slice_get, sym, subst, arith, le_refl, inl, inr}
 use Rattle.std.proofs.lemmas.List.Elements.{All-nil, All-cons, All-push, All-append, All-head, All-tail, All-take, All-drop, All-weaker}
 use Rattle.machine.specs.Events.{Span, Standby, Takes, acknowledged, delivered, moved_to, without_first, option_items, start}
 use Rattle.machine.specs.Sound.{IsGroupWithin, SoundStandby}

@@ -1,5 +1,5 @@
 -- The first worked case, world by world.
-use Rattle.std.proofs.Common.{◌≡◌, ℕ, ◌≤◌, Bool, true, false, List, [], ◌∷◌, take, All, codes, refl, sym, arith, inl, inr, true≢false}
+use Rattle.std.proofs.Common.{◌≡◌, ℕ, true, List, [], ◌∷◌, take, codes, refl, arith, inl, inr}
 use Rattle.std.proofs.lemmas.List.Elements.{All-from_recursion}
 use Rattle.kv_types.specs.declared.item.Item.{Item}
 use Rattle.kv_types.specs.declared.item.Item.TheVariants.{Request}
@@ -9,10 +9,8 @@ use Rattle.kv_types.specs.Reading.{items_at}
 use Rattle.model.specs.declared.call.Call.{Call}
 use Rattle.model.specs.Commands.{outcome_of}
 use Rattle.model.specs.Calls.{MayReply, keyspace_after}
-use Rattle.machine.specs.declared.event.Event.{Event}
-use Rattle.machine.specs.declared.event.Event.TheVariants.{Enter, Feed, Offer, Turn, CloseGroup, Commit, RaiseLocal, Hand, OpenLink, Send, Deliver, Apply, AckDelivered, RaiseRemote, Hold, Read, Release, Write}
-use Rattle.machine.specs.declared.event.Mark.TheVariants.{Local, Remote}
-use Rattle.machine.specs.Events.{Inbound, Outbound, Span, Stage, Ready, Durable, Shown, Committer, Link, Standby, World, Turns, Applies, is_enabled, Happens, Step, Run, start, last_world}
+use Rattle.machine.specs.declared.event.Event.TheVariants.{Feed, Offer, Turn, Apply}
+use Rattle.machine.specs.Events.{Inbound, Outbound, Span, Stage, Ready, Durable, Shown, Committer, Link, Standby, World, Step, Run, start}
 use Rattle.machine.specs.Promises.{released_in}
 use Rattle.machine.proofs.RunLemmas.{step-does, step-stays}
 use Rattle.machine.specs.Worked.{set_request, worked_events, worked_done, IsWorked}
@@ -135,21 +133,119 @@ applies : Step (waits 1 0 handed_on (link [] (group ∷ []) (group ∷ []) 0 0) 
 applies = step-does refl (record { frame = group; first = refl; standby = took_it; takes = inr (inl (omega arith, refl, refl)); now = refl })
 
 worked_run : Run start worked_events worked_done worked_worlds
-worked_run =
-    (step-does refl refl, (feeds, (offers, (turns,
-    (step-does refl refl, (step-does refl refl, (step-does refl refl, (step-stays refl, (step-stays refl,
-    (step-does refl refl, (step-does refl refl, (step-does refl refl, (step-does refl refl, (step-stays refl, (step-stays refl,
-    (step-does refl refl, (step-does refl refl, (step-does refl refl, (step-does refl refl, (applies, (step-does refl refl, (step-does refl refl,
-    (step-does refl refl, (step-does refl refl, (step-does refl refl, tt)))))))))))))))))))))))))
+worked_run = (
+  step-does refl refl,
+  (
+    feeds,
+    (
+      offers,
+      (
+        turns,
+        (
+          step-does refl refl,
+          (
+            step-does refl refl,
+            (
+              step-does refl refl,
+              (
+                step-stays refl,
+                (
+                  step-stays refl,
+                  (
+                    step-does refl refl,
+                    (
+                      step-does refl refl,
+                      (
+                        step-does refl refl,
+                        (
+                          step-does refl refl,
+                          (
+                            step-stays refl,
+                            (
+                              step-stays refl,
+                              (
+                                step-does refl refl,
+                                (
+                                  step-does refl refl,
+                                  (
+                                    step-does refl refl,
+                                    (
+                                      step-does refl refl,
+                                      (
+                                        applies,
+                                        (
+                                          step-does refl refl,
+                                          (
+                                            step-does refl refl,
+                                            (step-does refl refl, (step-does refl refl, (step-does refl refl, tt))),
+                                          ),
+                                        ),
+                                      ),
+                                    ),
+                                  ),
+                                ),
+                              ),
+                            ),
+                          ),
+                        ),
+                      ),
+                    ),
+                  ),
+                ),
+              ),
+            ),
+          ),
+        ),
+      ),
+    ),
+  ),
+)
 
 pub worked : IsWorked
 worked =
     record {
       worlds = worked_worlds;
       run = worked_run;
-      nothing_before = All-from_recursion (λ w. released_in w 0 ≡ []) (start ∷ take 24 worked_worlds)
-        (refl, (refl, (refl, (refl, (refl, (refl, (refl, (refl, (refl, (refl, (refl, (refl, (refl,
-        (refl, (refl, (refl, (refl, (refl, (refl, (refl, (refl, (refl, (refl, (refl, (refl, tt)))))))))))))))))))))))));
+      nothing_before = All-from_recursion (λ w. released_in w 0 ≡ []) (start ∷ take 24 worked_worlds) (
+        refl,
+        (
+          refl,
+          (
+            refl,
+            (
+              refl,
+              (
+                refl,
+                (
+                  refl,
+                  (
+                    refl,
+                    (
+                      refl,
+                      (
+                        refl,
+                        (
+                          refl,
+                          (
+                            refl,
+                            (
+                              refl,
+                              (
+                                refl,
+                                (refl, (refl, (refl, (refl, (refl, (refl, (refl, (refl, (refl, (refl, (refl, (refl, tt)))))))))))),
+                              ),
+                            ),
+                          ),
+                        ),
+                      ),
+                    ),
+                  ),
+                ),
+              ),
+            ),
+          ),
+        ),
+      );
       local = refl;
       remote = refl;
       reply = refl;

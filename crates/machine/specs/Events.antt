@@ -1,10 +1,9 @@
 -- The pair of nodes as a machine (this project's profile): what stands where, which event may happen, and what it does. The list of calls
 -- is written as the sequencer runs them; groups and frames are named by the positions of the list that they lie between.
-use Rattle.std.specs.Prelude.{◌≡◌, ◌⊎◌, ℕ, zero, suc, ◌+◌, ◌<◌, ◌≤◌, Bool, true, false, not, ◌&&◌, ◌||◌, ◌==◌, nat_lt, nat_le, nat_eq, max, if◌then◌else◌, List, [], ◌∷◌, ◌++◌, length, take, drop, filter, ◌≢◌, ◌-◌, map, slice_get, Option, Some, None}
+use Rattle.std.specs.Prelude.{◌≡◌, ◌⊎◌, ℕ, zero, suc, ◌+◌, ◌<◌, ◌≤◌, Bool, true, false, not, ◌&&◌, ◌||◌, nat_lt, nat_le, max, if◌then◌else◌, List, [], ◌∷◌, ◌++◌, length, take, drop, filter, ◌≢◌, ◌-◌, slice_get, Option, Some, None}
 use Rattle.std.specs.List.{flat_map, list_any}
 use Rattle.kv_types.specs.declared.item.Item.{Item}
 use Rattle.kv_types.specs.declared.limits.TheConstants.{SERVED_LIMITS}
-use Rattle.kv_types.specs.declared.reply.Reply.{Reply}
 use Rattle.kv_types.specs.declared.reply.Held.{Held}
 use Rattle.kv_types.specs.Reading.{items_at}
 use Rattle.kv_types.specs.Replies.{text_of}
@@ -107,18 +106,18 @@ pub record World : Type 0 where
 
 abbrev pub no_connection : Connection
 no_connection = record {
-    inbound = record { fed = []; offered = 0; waiting = [] };
-    outbound = record { made = []; held = []; pending = []; released = []; local = 0; remote = 0 };
-  }
+  inbound = record { fed = []; offered = 0; waiting = [] };
+  outbound = record { made = []; held = []; pending = []; released = []; local = 0; remote = 0 };
+}
 
 abbrev pub start : World
 start = record {
-    connections = [];
-    calls = [];
-    committer = record { closed = 0; waiting = []; stage = Ready; position = 0; local = 0 };
-    link = record { waiting = []; kept = []; again = []; frames = []; known = 0; remote = 0 };
-    standby = record { waiting = []; position = 0; acknowledgements = [] };
-  }
+  connections = [];
+  calls = [];
+  committer = record { closed = 0; waiting = []; stage = Ready; position = 0; local = 0 };
+  link = record { waiting = []; kept = []; again = []; frames = []; known = 0; remote = 0 };
+  standby = record { waiting = []; position = 0; acknowledgements = [] };
+}
 
 -- ---- words on it
 
@@ -144,15 +143,21 @@ with_outbound change connection = record { inbound = connection.inbound; outboun
 
 abbrev pub on_inbound : ℕ → (Inbound → Inbound) → World → World
 on_inbound c change w = record {
-    connections = changed_at c (with_inbound change) w.connections;
-    calls = w.calls; committer = w.committer; link = w.link; standby = w.standby;
-  }
+  connections = changed_at c (with_inbound change) w.connections;
+  calls = w.calls;
+  committer = w.committer;
+  link = w.link;
+  standby = w.standby;
+}
 
 abbrev pub on_outbound : ℕ → (Outbound → Outbound) → World → World
 on_outbound c change w = record {
-    connections = changed_at c (with_outbound change) w.connections;
-    calls = w.calls; committer = w.committer; link = w.link; standby = w.standby;
-  }
+  connections = changed_at c (with_outbound change) w.connections;
+  calls = w.calls;
+  committer = w.committer;
+  link = w.link;
+  standby = w.standby;
+}
 
 abbrev pub with_committer : Committer → World → World
 with_committer committer w = record { connections = w.connections; calls = w.calls; committer = committer; link = w.link; standby = w.standby }
@@ -259,8 +264,12 @@ taken_first inbound = record { fed = inbound.fed; offered = inbound.offered; wai
 abbrev pub with_made : Held → Outbound → Outbound
 with_made reply outbound =
     record {
-      made = outbound.made ++ reply ∷ []; held = outbound.held; pending = outbound.pending; released = outbound.released;
-      local = outbound.local; remote = outbound.remote;
+      made = outbound.made ++ reply ∷ [];
+      held = outbound.held;
+      pending = outbound.pending;
+      released = outbound.released;
+      local = outbound.local;
+      remote = outbound.remote;
     }
 
 abbrev pub with_call : Call → World → World
@@ -286,7 +295,9 @@ closed_group committer =
     record {
       closed = committer.closed + 1;
       waiting = committer.waiting ++ record { before = committer.closed; after = committer.closed + 1 } ∷ [];
-      stage = committer.stage; position = committer.position; local = committer.local;
+      stage = committer.stage;
+      position = committer.position;
+      local = committer.local;
     }
 
 abbrev pub committed_first : List Span → Committer → Committer
@@ -372,8 +383,12 @@ above position = filter (λ group. nat_lt position group.after)
 abbrev pub knowing : ℕ → Link → Link
 knowing position link =
     record {
-      waiting = link.waiting; kept = above position link.kept; again = above position link.again; frames = link.frames;
-      known = max link.known position; remote = link.remote;
+      waiting = link.waiting;
+      kept = above position link.kept;
+      again = above position link.again;
+      frames = link.frames;
+      known = max link.known position;
+      remote = link.remote;
     }
 
 abbrev pub told : Option ℕ → Link → Link
@@ -387,20 +402,32 @@ raised_remote link =
 abbrev pub held_first : Outbound → Outbound
 held_first outbound =
     record {
-      made = drop 1 outbound.made; held = outbound.held ++ take 1 outbound.made; pending = outbound.pending; released = outbound.released;
-      local = outbound.local; remote = outbound.remote;
+      made = drop 1 outbound.made;
+      held = outbound.held ++ take 1 outbound.made;
+      pending = outbound.pending;
+      released = outbound.released;
+      local = outbound.local;
+      remote = outbound.remote;
     }
 
 abbrev pub having_read : Mark → World → Outbound → Outbound
 having_read Local w outbound =
     record {
-      made = outbound.made; held = outbound.held; pending = outbound.pending; released = outbound.released;
-      local = w.committer.local; remote = outbound.remote;
+      made = outbound.made;
+      held = outbound.held;
+      pending = outbound.pending;
+      released = outbound.released;
+      local = w.committer.local;
+      remote = outbound.remote;
     }
 having_read Remote w outbound =
     record {
-      made = outbound.made; held = outbound.held; pending = outbound.pending; released = outbound.released;
-      local = outbound.local; remote = w.link.remote;
+      made = outbound.made;
+      held = outbound.held;
+      pending = outbound.pending;
+      released = outbound.released;
+      local = outbound.local;
+      remote = w.link.remote;
     }
 
 -- exactly the covered front is let out
@@ -410,14 +437,20 @@ let_out outbound =
       made = outbound.made;
       held = uncovered_rest outbound.local outbound.remote outbound.held;
       pending = outbound.pending ++ texts_of (covered_front outbound.local outbound.remote outbound.held);
-      released = outbound.released; local = outbound.local; remote = outbound.remote;
+      released = outbound.released;
+      local = outbound.local;
+      remote = outbound.remote;
     }
 
 abbrev pub written : ℕ → Outbound → Outbound
 written n outbound =
     record {
-      made = outbound.made; held = outbound.held; pending = drop n outbound.pending; released = outbound.released ++ take n outbound.pending;
-      local = outbound.local; remote = outbound.remote;
+      made = outbound.made;
+      held = outbound.held;
+      pending = drop n outbound.pending;
+      released = outbound.released ++ take n outbound.pending;
+      local = outbound.local;
+      remote = outbound.remote;
     }
 
 abbrev pub option_items : {X : Type 0} → Option X → List X

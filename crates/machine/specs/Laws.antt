@@ -1,5 +1,5 @@
 -- Laws of every run, in words.
-use Rattle.std.specs.Prelude.{◌≡◌, ℕ, ◌<◌, ◌≤◌, Bool, true, false, List, [], ◌∷◌, ◌++◌, length, take, drop, All}
+use Rattle.std.specs.Prelude.{◌≡◌, ℕ, ◌≤◌, Bool, true, false, List, [], ◌∷◌, ◌++◌, length, take, drop, All}
 use Rattle.kv_types.specs.declared.limits.TheConstants.{SERVED_LIMITS}
 use Rattle.kv_types.specs.declared.reply.Held.{Held}
 use Rattle.kv_types.specs.Reading.{items_at}
@@ -53,8 +53,8 @@ abbrev pub CutsStay : Type 0
 CutsStay =
     (n : ℕ) (events : List Event) (done : List Bool) (worlds : List World) → Run start events done worlds
     → let old = (last_world start (take n worlds)).calls in
-      let new = (last_world start worlds).calls in
-      (p : ℕ) → p ≤ position_of old → keyspace_after (cut_at new p) ≡ keyspace_after (cut_at old p)
+    let new = (last_world start worlds).calls in
+    (p : ℕ) → p ≤ position_of old → keyspace_after (cut_at new p) ≡ keyspace_after (cut_at old p)
 
 -- ---- calls
 
@@ -78,7 +78,7 @@ ItemsComeInOrder =
 abbrev pub RepliesAddUp : Type 0
 RepliesAddUp =
     AfterEveryRun (λ w. (c : ℕ) → let outbound = (connection_of w c).outbound in
-      outbound.released ++ (outbound.pending ++ (texts_of outbound.held ++ texts_of outbound.made)) ≡ replies_to c w.calls)
+    outbound.released ++ (outbound.pending ++ (texts_of outbound.held ++ texts_of outbound.made)) ≡ replies_to c w.calls)
 
 -- the replies that wait are the last ones of the connection's calls, each with the position of the list after its call
 abbrev pub RepliesBearPositions : Type 0
@@ -95,7 +95,7 @@ AnswersBearPositions =
 abbrev pub ReleasedIsCovered : Type 0
 ReleasedIsCovered =
     AfterEveryRun (λ w. (front : List Call) (call : Call) → IsReleased w.calls (released_in w) front call
-      → (position_of (front ++ call ∷ []) ≤ w.committer.local) × (position_of (front ++ call ∷ []) ≤ w.link.remote))
+    → (position_of (front ++ call ∷ []) ≤ w.committer.local) × (position_of (front ++ call ∷ []) ≤ w.link.remote))
 
 -- ---- positions
 
@@ -138,7 +138,7 @@ abbrev pub NothingIsReleasedUnacknowledged : Type 0
 NothingIsReleasedUnacknowledged =
     (events : List Event) (done : List Bool) (worlds : List World) → Run start events done worlds → RaisesNoRemote events done
     → let w = last_world start worlds in
-      (front : List Call) (call : Call) → IsReleased w.calls (released_in w) front call → position_of (front ++ call ∷ []) ≡ 0
+    (front : List Call) (call : Call) → IsReleased w.calls (released_in w) front call → position_of (front ++ call ∷ []) ≡ 0
 
 -- a frame that was not sent does not come, and neither does an acknowledgement that was not made
 abbrev pub OnlyWhatWasMadeIsDelivered : Type 0

@@ -2,7 +2,5 @@
 #![tactic(auto)]
 
 mod frame;
-mod standby;
 
 pub use frame::{Ack, Frame};
-pub use standby::Standby;

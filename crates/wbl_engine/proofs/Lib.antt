@@ -1,5 +1,6 @@
 pub mod CountLemmas
 pub mod GroupSteps
+pub mod LayoutRuns
 pub mod Mixing
 pub mod Packing
 pub mod PartEffects

@@ -33,7 +33,7 @@ both_lengths : (id : RecordId) → length (key_of id) < 65536 → lengths_word i
 both_lengths (Str key) fits = omega arith
 both_lengths (Field key field) fits = omega (arith, length-append key field)
 
-length-name_bytes : (id : RecordId) → length (name_bytes id) ≡ bytes_of_id id
+pub length-name_bytes : (id : RecordId) → length (name_bytes id) ≡ bytes_of_id id
 length-name_bytes (Str key) = refl
 length-name_bytes (Field key field) = length-append key field
 
