@@ -13,7 +13,7 @@ use Rattle.machine.specs.declared.event.Event.TheVariants.{Feed, Offer, Turn, Ap
 use Rattle.machine.specs.Events.{Inbound, Outbound, Span, Stage, Ready, Durable, Shown, Committer, Link, Standby, World, Step, Run, start}
 use Rattle.machine.specs.Promises.{released_in}
 use Rattle.machine.proofs.RunLemmas.{step-does, step-stays}
-use Rattle.machine.specs.Worked.{set_request, worked_events, worked_done, IsWorked}
+use Rattle.machine.specs.Worked.{set_request, worked_events, worked_done, FirstCaseIsARun}
 
 -- ---- the parts
 
@@ -201,7 +201,7 @@ worked_run = (
   ),
 )
 
-pub worked : IsWorked
+pub worked : FirstCaseIsARun
 worked =
     record {
       worlds = worked_worlds;

@@ -32,7 +32,7 @@ worked_done =
     ∷ true ∷ true ∷ true ∷ []
 
 -- Its reply is released once both marks are 1, and nothing before.
-pub record IsWorked : Type 0 where
+pub record FirstCaseIsARun : Type 0 where
   pub worlds : List World
   pub run : Run start worked_events worked_done worlds
   pub nothing_before : All (λ w. released_in w 0 ≡ []) (start ∷ take 24 worlds)

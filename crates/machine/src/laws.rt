@@ -19,7 +19,7 @@ ghost use Rattle.machine.specs.Laws.{
   NothingIsReleasedUnacknowledged,
   OnlyWhatWasMadeIsDelivered,
 };
-ghost use Rattle.machine.specs.Worked.{IsWorked};
+ghost use Rattle.machine.specs.Worked.{FirstCaseIsARun};
 
 /// Whatever happens, and in whatever order: the bytes released to each connection begin the replies of one sequential Redis, which takes each
 /// connection's requests in order; each released call is covered, and both nodes hold it.
@@ -80,5 +80,5 @@ pub fn nothing_comes_of_nothing()
 
 /// The run of one `SET a 1`, with each event in it: `+OK` goes out once both marks are 1, and nothing before.
 pub fn first_case_is_a_run()
-    ensures { IsWorked }
+    ensures { FirstCaseIsARun }
 {}

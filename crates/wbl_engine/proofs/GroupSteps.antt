@@ -11,16 +11,12 @@ use Rattle.model.specs.declared.group.Put.{Put}
 use Rattle.model.specs.Images.{Image, Version, entry_word, entries_of_lines}
 use Rattle.model.specs.Groups.{Versions, IsPlaced, HasItsLines, AreApart, IsApartFrom, AreAllApart, AreParts, NamesEnded, is_put_at, puts_of_part, part_versions, parts_versions, version_of_put}
 use Rattle.wbl_engine.specs.Entries.{IsStorable}
-use Rattle.wbl_engine.specs.Stages.{part_pairs, parts_pairs}
+use Rattle.wbl_engine.specs.Stages.{part_pairs, parts_pairs, puts_of_parts}
 use Rattle.wbl_engine.proofs.CountLemmas.{with_cp}
 use Rattle.wbl_engine.proofs.PartEffects.{IsAmong, end_if, end_if_begun, changes_kept, changes_made, is_put_at-among}
 use Rattle.wbl_engine.proofs.PartWords.{part_word-kept}
 use Rattle.wbl_engine.proofs.PartSteps.{Fits, IsReady, AreStored, part_fits}
 use Rattle.wbl_engine.proofs.PutPairs.{among-all}
-
--- all puts of parts, in order
-abbrev pub puts_of_parts : List Part → List Put
-puts_of_parts = flat_map puts_of_part
 
 -- lists one after another
 

@@ -12,5 +12,6 @@ pub mod RecordLemmas
 pub mod RecordWords
 pub mod Results
 pub mod Staged
+pub mod StagingLemmas
 pub mod StoredBy
 pub mod VersionLemmas

@@ -9,11 +9,11 @@ use Rattle.model.specs.declared.group.Put.{Put}
 use Rattle.model.specs.Images.{Version, entry_word}
 use Rattle.model.specs.Groups.{Versions, AreAllApart, AreParts, NamesEnded, is_put_at, is_live_version, puts_of_part, part_versions}
 use Rattle.wbl_engine.specs.Entries.{entry_words, put_pairs}
-use Rattle.wbl_engine.specs.Stages.{puts_pairs, end_pairs, part_pairs, parts_pairs}
+use Rattle.wbl_engine.specs.Stages.{puts_pairs, end_pairs, part_pairs, parts_pairs, puts_of_parts}
 use Rattle.wbl_engine.proofs.PartEffects.{IsAmong, end_if, end_if_begun, IsKeptOrEnded, changes_kept, is_put_at-among, among-is_put_at}
 use Rattle.wbl_engine.proofs.PartWords.{named-contains}
 use Rattle.wbl_engine.proofs.PutPairs.{IsOfEntry, IsOfExtent, IsNamed, put_pairs-where, end_pairs-where}
-use Rattle.wbl_engine.proofs.GroupSteps.{puts_of_parts, among-front, among-back}
+use Rattle.wbl_engine.proofs.GroupSteps.{among-front, among-back}
 
 pub record ByExtent (puts : List Put) (word : ℕ) : Type 0 where
   pub put : Put

@@ -1,20 +1,29 @@
 -- What a commit stores before it writes the record, and which lines it flushes.
-use Rattle.std.specs.Prelude.{ℕ, ◌+◌, List, [], ◌∷◌, ◌++◌, map}
-use Rattle.std.specs.List.{flat_map}
+use Rattle.std.specs.Prelude.{ℕ, ◌+◌, ◌<◌, List, [], ◌∷◌, ◌++◌, map}
+use Rattle.std.specs.List.{flat_map, AllByRecursion}
 use Rattle.kv_types.specs.declared.place.EntryNo.{EntryNo}
 use Rattle.model.specs.declared.record.Record.{Record}
 use Rattle.model.specs.declared.group.Group.{Group}
 use Rattle.model.specs.declared.group.Part.{Part}
+use Rattle.model.specs.declared.group.PlacedChange.{PlacedChange}
 use Rattle.model.specs.declared.group.Put.{Put}
 use Rattle.model.specs.Images.{entry_word}
-use Rattle.model.specs.Groups.{puts_of_part}
+use Rattle.model.specs.Groups.{put_of, puts_of_part}
 use Rattle.wbl_engine.specs.Entries.{put_pairs, put_lines}
 
--- the puts of a part
+-- all puts of changes, in order
+abbrev pub puts_of_changes : List PlacedChange → List Put
+puts_of_changes = flat_map put_of
+
+-- all puts of parts, in order
+abbrev pub puts_of_parts : List Part → List Put
+puts_of_parts = flat_map puts_of_part
+
+-- what puts store
 abbrev pub puts_pairs : ℕ → ℕ → List Put → List (ℕ × ℕ)
 puts_pairs stamp position = flat_map (put_pairs stamp position)
 
--- the end words of the entries that it ended
+-- the end words of these entries
 abbrev pub end_pairs : ℕ → List EntryNo → List (ℕ × ℕ)
 end_pairs stamp ended = map (λ entry. (entry_word entry.0 1, stamp)) ended
 
@@ -27,16 +36,24 @@ abbrev pub parts_pairs : ℕ → List Part → List (ℕ × ℕ)
 parts_pairs stamp [] = []
 parts_pairs stamp (part ∷ parts) = part_pairs stamp part ++ parts_pairs (stamp + 1) parts
 
--- all that a commit stores before the record
-abbrev pub group_pairs : Record → Group → List (ℕ × ℕ)
-group_pairs r group = parts_pairs (r.cp + 1) group.parts.items
+-- the lines of puts
+abbrev pub puts_lines : List Put → List ℕ
+puts_lines = flat_map put_lines
 
--- the line of an entry
-abbrev pub entry_line : EntryNo → ℕ
-entry_line entry = 8 + entry.0
+-- the lines of these entries
+abbrev pub end_lines : List EntryNo → List ℕ
+end_lines ended = map (λ entry. 8 + entry.0) ended
 
 abbrev pub part_lines : Part → List ℕ
-part_lines part = flat_map put_lines (puts_of_part part) ++ map entry_line part.ended.items
+part_lines part = puts_lines (puts_of_part part) ++ end_lines part.ended.items
 
-abbrev pub group_lines : Group → List ℕ
-group_lines group = flat_map part_lines group.parts.items
+abbrev pub parts_lines : List Part → List ℕ
+parts_lines = flat_map part_lines
+
+-- the device has the lines of these entries
+abbrev pub AreWithin : ℕ → List EntryNo → Type 0
+AreWithin lines = AllByRecursion (λ entry. 8 + entry.0 < lines)
+
+-- and those of what parts ended
+abbrev pub AreEndsWithin : ℕ → List Part → Type 0
+AreEndsWithin lines = AllByRecursion (λ part. AreWithin lines part.ended.items)

@@ -5,6 +5,7 @@ mod committed;
 mod durable;
 mod layout;
 mod record;
+mod staging;
 
 pub use committed::Committed;
 pub use durable::Durable;

@@ -1,4 +1,10 @@
 //! What comes in from a connection, up to the sequencer.
+ghost use Rattle.std.specs.Prelude.{◌≡◌, ℕ, [], ◌++◌, List, IfOk, OnOk};
+ghost use Rattle.std.specs.List.{list_any};
+ghost use Rattle.machine.specs.Events.{Inbound as Machine};
+ghost use Rattle.model.specs.Commands.{closes};
+ghost use Rattle.resp_codec.specs.Parsing.{fed, ahead};
+
 use bytes::Bytes;
 use kv_types::{Item, Refusal};
 use pipes::{LocalPipe, Outlet, PIPE_ITEMS};
@@ -9,17 +15,22 @@ use std::collections::VecDeque;
 /// The bytes of a connection, and the items that they ask for.
 #[derive(Drop)]
 pub(crate) struct Inbound {
-    parser: Parser,
+    pub(crate) parser: Parser,
     /// One of the items closes the connection: nothing more is read.
-    is_closed: bool,
+    pub(crate) is_closed: bool,
     /// The items that were asked for and not run. The first of them wait in the pipe.
-    asked: VecDeque<Item>,
+    pub(crate) asked: VecDeque<Item>,
     /// Clones of those that wait for the sequencer.
     pub(crate) waiting: LocalPipe<Item>,
 }
 
 impl Inbound {
-    pub(crate) fn new(alloc: Global) -> Result<Inbound, AllocError> {
+    ghost use Rattle.world.specs.Inbounds.{InboundStands, Feeds, Offers};
+    ghost use Rattle.machine.specs.Events.{no_connection};
+
+    pub(crate) fn new(alloc: Global) -> Result<Inbound, AllocError>
+        ensures { IfOk result (λ inbound. InboundStands inbound no_connection.inbound) }
+    {
         Ok(Inbound {
             parser: Parser::new(alloc),
             is_closed: false,
@@ -29,20 +40,22 @@ impl Inbound {
     }
 
     /// Takes a piece of the connection's bytes, unless an item closed it. Answers whether it did.
-    pub(crate) fn feed(&mut self, piece: &Bytes) -> Result<bool, Refusal> {
+    pub(crate) fn feed(&mut self, piece: &Bytes) -> Result<bool, Refusal>
+        ensures { IfOk result (λ did. (machine : Machine) → InboundStands self.old machine → Feeds piece.now self.old self.new did machine) }
+    {
         if self.is_closed {
             return Ok(false);
         }
         self.parser.feed(piece.clone()?)?;
-        while let Some(item) = self.parser.next()? {
-            self.is_closed |= closes(&item);
-            self.asked.push_back(item)?;
-        }
+        let is_closed = drain(&mut self.parser, &mut self.asked)?;
+        self.is_closed = is_closed;
         Ok(true)
     }
 
     /// Hands the next item to the sequencer, if there is one and room for it. Answers whether it did.
-    pub(crate) fn offer(&mut self) -> Result<bool, Refusal> {
+    pub(crate) fn offer(&mut self) -> Result<bool, Refusal>
+        ensures { IfOk result (λ did. (machine : Machine) → InboundStands self.old machine → Offers self.old self.new did machine) }
+    {
         let count = self.waiting.len();
         if count == PIPE_ITEMS {
             return Ok(false);
@@ -56,15 +69,27 @@ impl Inbound {
             None => Ok(false),
         }
     }
-
-    /// The item that the sequencer has just run.
-    pub(crate) fn run_item(&mut self) -> Option<Item> {
-        self.asked.pop_front()
-    }
 }
 
-/// After this item nothing more is taken from its connection.
-fn closes(item: &Item) -> bool {
+/// Takes all items that the parser has to give, and answers whether one of them closes the connection.
+fn drain(parser: &mut Parser, asked: &mut VecDeque<Item>) -> Result<bool, Refusal>
+    ensures asked { OnOk result (asked.new.items ≡ asked.old.items ++ ahead parser.old) }
+    ensures drained { OnOk result (ahead parser.new ≡ []) }
+    ensures later { OnOk result ((more : List ℕ) → ahead (fed parser.old more) ≡ ahead parser.old ++ ahead (fed parser.new more)) }
+    ensures closes { IfOk result (λ closed. closed ≡ list_any closes (ahead parser.old)) }
+{
+    let mut is_closed = false;
+    while let Some(item) = parser.next()? {
+        is_closed |= closes_connection(&item);
+        asked.push_back(item)?;
+    }
+    Ok(is_closed)
+}
+
+/// Whether nothing more is taken from the connection after this item.
+fn closes_connection(item: &Item) -> bool
+    ensures { result ≡ closes item.now }
+{
     match item {
         Item::Request(_) => false,
         Item::Fault(_) => true,

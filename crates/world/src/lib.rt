@@ -2,8 +2,6 @@
 #![tactic(auto)]
 
 mod inbound;
-mod link;
-mod outbound;
 mod trace;
 
 pub use machine::{Event, Mark};
