@@ -1,5 +1,5 @@
 -- What one turn of the sequencer does.
-use Rattle.std.specs.Prelude.{◌≡◌, ℕ, ◌+◌, Bool, true, false, List, [], ◌∷◌, ◌++◌, if◌then◌else◌, slice_set}
+use Rattle.std.specs.Prelude.{◌≡◌, ℕ, ◌+◌, List, [], ◌∷◌, ◌++◌, if◌then◌else◌, slice_set}
 use Rattle.kv_types.specs.declared.change.Change.{Change}
 use Rattle.kv_types.specs.declared.item.Item.{Item}
 use Rattle.kv_types.specs.declared.reply.Reply.{Reply}
@@ -8,7 +8,8 @@ use Rattle.model.specs.declared.group.Part.{Part}
 use Rattle.model.specs.Calls.{MayReply, after_call, changes_of, full_reply, is_changing}
 use Rattle.model.specs.Commands.{outcome_of, closes}
 use Rattle.model.specs.Groups.{changes_of_part, puts_of_part}
-use Rattle.mv_keyspace.specs.Tables.{records, place_all, AreEnded}
+use Rattle.extent_heap.specs.Room.{Room}
+use Rattle.mv_keyspace.specs.Tables.{Table, records, place_all, AreEnded}
 use Rattle.redis_core.specs.Places.{HasRoomFor, TakesPlaces}
 use Rattle.redis_core.specs.Sequencing.{Sequencing}
 use Rattle.redis_core.specs.declared.turn.Turn.{Turn}
@@ -18,13 +19,17 @@ use Rattle.redis_core.specs.declared.turn.Turn.TheVariants.{Served, Idle, Blocke
 abbrev pub call_of : ℕ → Item → Reply → Call
 call_of seat item reply = record { connection = seat; item = item; reply = reply }
 
--- One more part waits, with these changes. Each put has its place from the heap in turn, and nothing else was taken.
-pub record AddsPart (old : Sequencing) (part : Part) (changes : List Change) (new : Sequencing) : Type 0 where
+-- The part is these changes, made at this position on a table: each put has its place from the heap in turn, and nothing else was taken.
+pub record Performs (old : Table) (room : Room) (position : ℕ) (changes : List Change) (part : Part) (new : Table) (left : Room) : Type 0 where
   pub changes_are : changes_of_part part ≡ changes
-  pub next : part.position ≡ old.position + 1
-  pub places : TakesPlaces old.room (puts_of_part part) new.room
-  pub table : new.table ≡ place_all old.table part.changes.items
-  pub ended : AreEnded old.table part.changes.items part.ended.items
+  pub position_is : part.position ≡ position
+  pub places : TakesPlaces room (puts_of_part part) left
+  pub table_is : new ≡ place_all old part.changes.items
+  pub ended : AreEnded old part.changes.items part.ended.items
+
+-- One more part waits, which is these changes, made at the next position.
+pub record AddsPart (old : Sequencing) (part : Part) (changes : List Change) (new : Sequencing) : Type 0 where
+  pub performs : Performs old.table old.room (old.position + 1) changes part new.table new.room
   pub position : new.position ≡ part.position
   pub waiting : new.waiting ≡ old.waiting ++ part ∷ []
 
@@ -48,7 +53,8 @@ pub record Answers (old : Sequencing) (seat : ℕ) (item : Item) (reply : Reply)
   pub position : new.position ≡ old.position + (if is_changing (records old.table) (call_of seat item reply) then 1 else 0)
   pub moves : Moves (changes_of (records old.table) (call_of seat item reply)) old new
   pub before : new.before ≡ old.before
-  pub closed : new.closed ≡ (if closes item then slice_set old.closed seat true else old.closed)
+  -- the seat is closed from now on if the item closes its connection
+  pub closed : new.closed ≡ slice_set old.closed seat (closes item)
 
 -- a fact for one answer of a turn
 abbrev pub OnServed : Turn → Type 0 → Type 0

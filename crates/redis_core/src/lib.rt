@@ -3,6 +3,7 @@
 
 mod command;
 mod outcome;
+mod perform;
 mod places;
 mod sequencer;
 mod turn;

@@ -3,14 +3,16 @@ ghost use Rattle.std.specs.Prelude.{◌≡◌, ◌≢◌, ◌+◌, ◌<◌, ◌�
 ghost use Rattle.kv_types.specs.declared.item.Item.{Item};
 ghost use Rattle.kv_types.specs.declared.reply.Reply.{Reply};
 ghost use Rattle.model.specs.declared.group.Group.{Group};
+ghost use Rattle.model.specs.Commands.{closes};
 ghost use Rattle.model.specs.Groups.{Contents, IsGroup, after_group};
-ghost use Rattle.mv_keyspace.specs.Tables.{IsLawful};
-ghost use Rattle.redis_core.specs.Keeping.{IsBeside};
 ghost use Rattle.redis_core.specs.Sequencing.{StandsFor, HandsOut, Underlies, is_closed, starts};
-ghost use Rattle.redis_core.specs.Turns.{Answers, OnServed, OnIdle, OnBlocked, OnGroupFull, OnEnded, OnUnserved};
+ghost use Rattle.redis_core.specs.Places.{HasRoomFor};
+ghost use Rattle.redis_core.specs.Serving.{Serves, IsTooFull};
+ghost use Rattle.redis_core.specs.Serving as replies;
+ghost use Rattle.redis_core.specs.Turns.{Answers, Moves, OnServed, OnIdle, OnBlocked, OnGroupFull, OnEnded, OnUnserved};
 
 use crate::outcome::{Outcome, outcome_of};
-use crate::places::{give_back, place_all};
+use crate::perform::perform;
 use crate::turn::Turn;
 use bytes::Bytes;
 use extent_heap::ExtentHeap;
@@ -51,7 +53,8 @@ impl<K: Keyspace> Model for Sequencer<K> {
 }
 
 impl<K: Keyspace + Drop> Sequencer<K> {
-    /// A sequencer over a keyspace at this position of the list, with a heap of what is free beside it. No seat is closed and nothing waits.
+    /// A sequencer over a keyspace at this position of the list, with a heap of what is free beside it, both as the contents of an engine have
+    /// them. No seat is closed and nothing waits.
     ///
     /// # Errors
     ///
@@ -62,8 +65,7 @@ impl<K: Keyspace + Drop> Sequencer<K> {
         heap: ExtentHeap,
         position: u64,
     ) -> Result<Sequencer<K>, Refusal>
-        requires lawful { IsLawful (K.table keyspace) }
-        requires beside { IsBeside (K.table keyspace) heap }
+        requires { (contents : Contents) × Underlies contents (K.table keyspace) heap position }
         ensures ok { IfOk result (λ s. s ≡ starts (K.table keyspace) heap position (replicate MAX_SEATS false)) }
         ensures stands { IfOk result (λ s. (contents : Contents) → Underlies contents (K.table keyspace) heap position → StandsFor s contents) }
         ensures err { IfErr result (λ refusal. refusal ≡ Refusal.Memory) }
@@ -187,50 +189,64 @@ impl<K: Keyspace> Sequencer<K> {
         ensures answers { Answers self.old seat.now item.now result self.new }
         ensures stands { (contents : Contents) → StandsFor self.old contents → StandsFor self.new contents }
     {
-        if let Item::Fault(_) = item {
-            self.closed[seat.number()] = true;
-        }
-        match self.serve(alloc, item) {
-            Ok(reply) => reply,
-            Err(Refusal::Full) => error(b"ERR store is full"),
-            Err(_) => error(b"ERR out of memory"),
-        }
+        let served = self.serve(alloc, item);
+        self.closed[seat.number()] = is_fault(item);
+        reply_of(served)
     }
 
-    fn serve(&mut self, alloc: Global, item: &Item) -> Result<Reply, Refusal> {
+    /// Does what the item asks for. An `Err` changes nothing: `Full` where there is no room for it, and else memory was refused.
+    fn serve(&mut self, alloc: Global, item: &Item) -> Result<Reply, Refusal>
+        requires { length (self.old).waiting < MAX_PARTS }
+        ensures ok { IfOk result (λ reply. Serves self.old item.now reply self.new) }
+        ensures err { OnErr result (self.new ≡ self.old) }
+        ensures full_only { IsErrOf result Refusal.Full → IsTooFull self.old item.now }
+    {
         let Outcome { reply, changes } = outcome_of(alloc, &self.keyspace, item)?;
         if !changes_fit(&changes, MAX_CHANGE_BYTES) {
             return Ok(error(b"ERR change is too large"));
         }
-        if !changes.is_empty() {
-            self.make(alloc, changes)?;
-        }
+        self.make(alloc, changes)?;
         Ok(reply)
     }
 
-    /// Makes the changes of one command.
-    fn make(&mut self, alloc: Global, changes: Vec<Change>) -> Result<(), Refusal> {
+    /// Makes the changes of one command. Where there are any, they wait for a group from then on.
+    fn make(&mut self, alloc: Global, changes: Vec<Change>) -> Result<(), Refusal>
+        requires { length (self.old).waiting < MAX_PARTS }
+        ensures ok { OnOk result (Moves changes.items self.old self.new) }
+        ensures before { (self.new).before ≡ (self.old).before }
+        ensures closed { (self.new).closed ≡ (self.old).closed }
+        ensures err { OnErr result (self.new ≡ self.old) }
+        ensures full_only { IsErrOf result Refusal.Full → ¬ HasRoomFor (self.old).room changes.items }
+    {
+        if changes.is_empty() {
+            return Ok(());
+        }
         // No list of calls gets so long. One that did would refuse its changes.
         if self.position >= COUNTER_LIMIT - 1 {
             return Err(Refusal::Exhausted);
         }
         let position = self.position + 1;
-        let changes = place_all(alloc, &mut self.heap, changes)?;
-        match self.keyspace.apply(alloc, &changes, position) {
-            Ok(ended) => {
-                self.position = position;
-                self.waiting.push_back_reserved(Part {
-                    position,
-                    changes,
-                    ended,
-                });
-                Ok(())
-            }
-            Err(refusal) => {
-                give_back(&mut self.heap, changes);
-                Err(refusal)
-            }
-        }
+        let part = perform(alloc, &mut self.keyspace, &mut self.heap, changes, position)?;
+        self.position = position;
+        self.waiting.push_back_reserved(part);
+        Ok(())
+    }
+}
+
+fn is_fault(item: &Item) -> bool
+    ensures { result ≡ closes item.now }
+{
+    matches!(item, Item::Fault(_))
+}
+
+/// The reply of its own that an item got, or the one that says why it was refused.
+fn reply_of(served: Result<Reply, Refusal>) -> Reply
+    ensures { result ≡ replies.reply_of served }
+{
+    match served {
+        Ok(reply) => reply,
+        Err(Refusal::Full) => error(b"ERR store is full"),
+        Err(_) => error(b"ERR out of memory"),
     }
 }
 

@@ -2,6 +2,7 @@
 #![tactic(auto)]
 
 mod inbound;
+mod outbound;
 mod trace;
 
 pub use machine::{Event, Mark};
