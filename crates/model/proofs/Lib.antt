@@ -7,3 +7,5 @@ pub mod VersionsLemmas
 pub mod GroupsLemmas
 pub mod RecordLemmas
 pub mod StandingLemmas
+pub mod RightCallsLemmas
+pub mod ReadRecordLemmas

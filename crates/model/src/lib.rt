@@ -4,8 +4,11 @@
 mod call;
 mod group;
 mod image;
+mod image_words;
 mod laws;
+mod outcome;
 mod record;
+mod redis;
 
 pub use call::{Call, MAX_CHANGE_BYTES};
 pub use group::{Group, MAX_PARTS, Part, PlacedChange, Put};
@@ -16,3 +19,4 @@ pub use laws::{
     lists_leave_keyspaces, map_is_computed, map_moves_by_the_group, refused_calls_change_nothing,
 };
 pub use record::{Gap, MAX_GAPS, Record, Role};
+pub use redis::Redis;

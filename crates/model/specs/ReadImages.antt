@@ -1,0 +1,59 @@
+-- What the plain reader of an image asks of its words.
+use Rattle.std.specs.Prelude.{◌≡◌, ℕ, zero, suc, ◌+◌, ◌-◌, ◌*◌, ◌/◌, ◌%◌, ◌<◌, ◌≤◌, Bool, true, ◌&&◌, ◌||◌, List, [], ◌∷◌, length, replicate, IsTrue, nat_eq, is_none, slice_index}
+use Rattle.std.specs.Ordering.{eq_by_cmp}
+use Rattle.std.specs.Cmp.Lexicographic.{pointwise}
+use Rattle.kv_types.specs.declared.limits.TheConstants.{MAX_KEY_BYTES, MAX_VALUE_BYTES}
+use Rattle.kv_types.specs.declared.record_id.RecordId.{RecordId}
+use Rattle.kv_types.specs.Keyspaces.{Keyspace, IsKeyspace, key_of, field_of, record_cmp}
+use Rattle.model.specs.declared.record.Gap.{Gap}
+use Rattle.model.specs.declared.record.Record.{Record}
+use Rattle.model.specs.declared.record.TheConstants.{MAX_GAPS}
+use Rattle.model.specs.Images.{Image, HasWords, HasRecord, counts, entry_word, entry_bytes, entries_of_lines, lines_of_bytes, Holds}
+
+-- the image that the words are, with zeros behind them
+abbrev pub image_of : List ℕ → Image
+image_of words = λ w. slice_index words w
+
+-- how many whole lines the words have
+abbrev pub line_count : List ℕ → ℕ
+line_count words = length words / 8
+
+-- so many pairs, one after another from this word on
+abbrev pub gaps_from : Image → ℕ → ℕ → List Gap
+gaps_from image first zero = []
+gaps_from image first (suc count) = record { first = image first; last = image (first + 1) } ∷ gaps_from image (first + 2) count
+
+-- so many words from this one on are zero
+abbrev pub AreZero : Image → ℕ → ℕ → Type 0
+AreZero image first count = HasWords image first (replicate count 0)
+
+-- a slot with this first word has this record number, and zeros where so many gaps leave room and in its last word
+pub record IsFilled (image : Image) (first number gaps : ℕ) : Type 0 where
+  pub number_is : image first ≡ number
+  pub last : image (first + 23) ≡ 0
+  pub unused : AreZero image (first + 6 + 2 * gaps) (16 - 2 * gaps)
+
+-- the record has no more gaps than there is room for
+pub record IsRecordOf (image : Image) (r : Record) : Type 0 where
+  pub has_record : HasRecord r image
+  pub few : length r.gaps.items ≤ MAX_GAPS
+
+-- the lengths of entry i are within the limits, and its extent is within the image
+pub record IsInFormat (lines : ℕ) (image : Image) (i : ℕ) : Type 0 where
+  pub key : image (entry_word i 6) % 65536 ≤ MAX_KEY_BYTES
+  pub field : image (entry_word i 6) / 65536 ≤ MAX_KEY_BYTES
+  pub value : image (entry_word i 7) ≤ MAX_VALUE_BYTES
+  pub extent : image (entry_word i 3) + lines_of_bytes (entry_bytes image i) ≤ lines
+
+-- each entry whose begin counts is in the format
+abbrev pub AreInFormat : ℕ → Record → Image → Type 0
+AreInFormat lines r image = (i : ℕ) → i < entries_of_lines lines → IsTrue (counts r (image (entry_word i 0))) → IsInFormat lines image i
+
+-- the words are those of an image that holds a record and a keyspace, with its entries in the format
+pub record IsWhole (words : List ℕ) : Type 0 where
+  pub current : Record
+  pub keyspace : Keyspace
+  pub lawful : IsKeyspace keyspace
+  pub few : length current.gaps.items ≤ MAX_GAPS
+  pub holds : Holds (line_count words) current keyspace (image_of words)
+  pub in_format : AreInFormat (line_count words) current (image_of words)
