@@ -9,3 +9,5 @@ pub mod RecordLemmas
 pub mod StandingLemmas
 pub mod RightCallsLemmas
 pub mod ReadRecordLemmas
+pub mod ReadEntryLemmas
+pub mod ReadMapLemmas

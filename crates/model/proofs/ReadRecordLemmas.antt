@@ -1,5 +1,5 @@
 -- A record read word by word.
-use Rattle.std.proofs.Common.{◌≡◌, ◌≢◌, ℕ, zero, suc, ◌+◌, ◌-◌, ◌*◌, ◌%◌, ◌<◌, ◌≤◌, List, [], ◌∷◌, ◌++◌, length, take, replicate, refl, sym, ap, subst, ◌∙◌, arith, add-one, add-zero, append_assoc, length-append}
+use Rattle.std.proofs.Common.{◌≡◌, ◌≢◌, ℕ, zero, suc, ◌+◌, ◌-◌, ◌*◌, ◌%◌, ◌<◌, ◌≤◌, List, [], ◌∷◌, ◌++◌, length, take, replicate, refl, sym, ap, subst, ◌∙◌, arith, add-zero}
 use Rattle.std.specs.List.{flat_map}
 use Rattle.std.proofs.Math.Seq.{take-append-add}
 use Rattle.std.proofs.lemmas.List.{take-replicate, length-replicate, replicate_more}
@@ -7,7 +7,7 @@ use Rattle.model.specs.declared.record.Gap.{Gap}
 use Rattle.model.specs.declared.record.Record.{Record}
 use Rattle.model.specs.declared.record.Role.{Role}
 use Rattle.model.specs.declared.record.TheConstants.{MAX_GAPS}
-use Rattle.model.specs.Images.{Image, HasWords, record_word, role_number, gap_words, gaps_words, record_words, HasRecord}
+use Rattle.model.specs.Images.{Image, HasWords, record_word, role_number, gap_words, gaps_words, record_words}
 use Rattle.model.proofs.RecordLemmas.{length-gaps_words}
 use Rattle.model.specs.ReadImages.{gaps_from, AreZero, IsFilled, IsRecordOf}
 
@@ -56,7 +56,7 @@ gaps_from-suc image first (suc count) =
 
 -- one pair more
 pub gaps_from-more : (image : Image) (first count : ℕ) → gaps_from image first (count + 1) ≡ gaps_from image first count ++ pair_at image (first + 2 * count) ∷ []
-gaps_from-more image first count = rw add-one (gaps_from-suc image first count)
+gaps_from-more image first count = let same : count + 1 ≡ suc count = omega arith in ap (gaps_from image first) same ∙ gaps_from-suc image first count
 
 -- the pairs that are there are those that are read
 HasWords-gaps_from : (image : Image) (first count : ℕ) → HasWords image first (flat_map gap_words (gaps_from image first count))

@@ -6,4 +6,5 @@ pub mod Kept
 pub mod Images
 pub mod Standing
 pub mod ReadImages
+pub mod Shapes
 pub mod Groups

@@ -1,8 +1,8 @@
 //! The words of an image: its superblock and its record.
-ghost use Rattle.std.specs.Prelude.{◌≡◌, ◌≢◌, ◌↔◌, ℕ, ◌+◌, ◌<◌, ◌≤◌, ◌^◌, IsTrue, MatchOption, length, slice_index};
+ghost use Rattle.std.specs.Prelude.{◌≡◌, ◌≢◌, ◌↔◌, ◌+◌, ◌*◌, ◌<◌, ◌≤◌, ◌^◌, IsTrue, MatchOption, length, slice_index};
 ghost use Rattle.model.specs.declared.record.Record.{Record as CommitRecord};
 ghost use Rattle.model.specs.declared.record.Role.{Role as NodeRole};
-ghost use Rattle.model.specs.Images.{HasSuperblock, role_number};
+ghost use Rattle.model.specs.Images.{HasSuperblock, role_number, entry_word as the_entry_word};
 ghost use Rattle.model.specs.ReadImages.{image_of, line_count, gaps_from, AreZero, IsFilled, IsRecordOf};
 
 use crate::image::{MAGIC, VERSION};
@@ -14,6 +14,15 @@ pub fn word_at(words: &[u64], at: u64) -> u64
     ensures { result ≡ slice_index words.now at }
 {
     words.get(at as usize).copied().unwrap_or(0)
+}
+
+/// The number of word `k` of entry `i`.
+pub fn entry_word(i: u64, k: u64) -> u64
+    requires entry { 64 * i < 2 ^ 64 }
+    requires word { k < 8 }
+    ensures { result ≡ the_entry_word i k }
+{
+    8 * (8 + i) + k
 }
 
 /// Whether the words begin with the superblock of an image of just their number of whole lines.

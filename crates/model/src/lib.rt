@@ -4,6 +4,8 @@
 mod call;
 mod group;
 mod image;
+mod image_contents;
+mod image_entries;
 mod image_words;
 mod laws;
 mod outcome;
@@ -13,6 +15,7 @@ mod redis;
 pub use call::{Call, MAX_CHANGE_BYTES};
 pub use group::{Group, MAX_PARTS, Part, PlacedChange, Put};
 pub use image::{COUNTER_LIMIT, MAGIC, MAX_LINES, MIN_LINES, STAMP_WINDOW, VERSION};
+pub use image_contents::{ImageContents, read_image};
 pub use laws::{
     changes_lead_from_position_to_position, cut_is_the_longest_beginning, images_hold_one_keyspace,
     images_stand_while_the_list_grows, keyspace_of_a_cut_is_stable, list_grows,

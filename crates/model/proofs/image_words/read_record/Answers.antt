@@ -1,4 +1,4 @@
-use Rattle.std.proofs.Common.{◌≡◌, sym, ◌∙◌, refl}
+use Rattle.std.proofs.Common.{sym, ◌∙◌, refl}
 use Rattle.model.specs.ReadImages.{image_of}
 use Rattle.model.proofs.ReadRecordLemmas.{no_record-role, no_record-filled, IsRecordOf-read}
 use Rattle.model.proofs.image_words.read_record.Goals as goal

@@ -1,4 +1,4 @@
-use Rattle.std.proofs.Common.{◌≡◌, ◌+◌, ◌++◌, ◌∷◌, [], ap, ◌∙◌, arith}
+use Rattle.std.proofs.Common.{◌≡◌, ◌++◌, ◌∷◌, [], ap, ◌∙◌, arith}
 use Rattle.kv_types.specs.declared.reply.Reply.{Reply}
 use Rattle.model.specs.declared.call.Call.{Call}
 use Rattle.model.proofs.CallsLemmas.{position_of_le}
