@@ -11,3 +11,5 @@ pub mod RightCallsLemmas
 pub mod ReadRecordLemmas
 pub mod ReadEntryLemmas
 pub mod ReadMapLemmas
+mod WorkedCases
+mod WorkedImages
