@@ -1,9 +1,10 @@
 -- What the definitions of a room say together.
-use Rattle.std.proofs.Common.{◌≡◌, ℕ, zero, suc, ◌+◌, ◌-◌, ◌<◌, ◌≤◌, ◌⊎◌, inl, inr, Bool, true, false, cond, ◌&&◌, ltb, leb, nat_lt, nat_le, IsTrue, refl, sym, ◌∙◌, ap, subst, min, add-one, if◌then◌else◌, arith, rules}
+use Rattle.std.proofs.Common.{◌≡◌, ℕ, zero, suc, ◌+◌, ◌-◌, ◌<◌, ◌≤◌, Bool, true, false, not, ◌&&◌, nat_eq, nat_lt, nat_le, IsTrue, refl, sym, ◌∙◌, ap, subst, min, add-one, if◌then◌else◌, arith}
+use Rattle.std.proofs.lemmas.Bool.{and_parts}
 use Rattle.std.proofs.lemmas.Bool.Decides.{nat_tests}
 use Rattle.kv_types.specs.declared.place.EntryNo.{EntryNo}
 use Rattle.kv_types.specs.declared.place.Extent.{Extent}
-use Rattle.extent_heap.specs.Room.{Room, is_free_line, is_free_entry, IsFreeRun, free_lines_below, without_extent, without_entry, TakesExtent, TakesEntry}
+use Rattle.extent_heap.specs.Room.{Room, is_free_line, is_line_of, is_free_entry, IsFreeRun, free_lines_below, TakesExtent, TakesEntry}
 
 -- a line is free where it is from the next one up to the end
 pub free_line : (room : Room) (line : ℕ) → room.next_line ≤ line → line < room.end_line → IsTrue (is_free_line room line)
@@ -49,3 +50,39 @@ free_lines_below-is room zero = omega arith
 free_lines_below-is room (suc line) =
     let before = free_lines_below-is room line in
     rw before (below_more room.next_line room.end_line line (is_free_line room line) refl ∙ ap (λ n. min n room.end_line - room.next_line) (add-one line))
+
+-- ---- a room hands out one place alone
+
+-- what was taken is free no longer
+pub TakesEntry-gone : (old : Room) (entry : EntryNo) (new : Room) → TakesEntry old entry new → is_free_entry new entry.0 ≡ false
+TakesEntry-gone old entry new takes = grind (arith, nat_tests, takes.taken entry.0)
+
+-- what is free afterwards was free before
+pub TakesEntry-free : (old : Room) (entry : EntryNo) (new : Room) (i : ℕ) → TakesEntry old entry new → IsTrue (is_free_entry new i) → IsTrue (is_free_entry old i)
+TakesEntry-free old entry new i takes free = (and_parts (is_free_entry old i) (not (nat_eq i entry.0)) (sym (takes.taken i) ∙ free)).0
+
+pub TakesEntry-line : (old : Room) (entry : EntryNo) (new : Room) (line : ℕ) → TakesEntry old entry new → is_free_line new line ≡ is_free_line old line
+TakesEntry-line old entry new line takes = ap (λ room. is_free_line room line) takes.after
+
+pub TakesEntry-same : (old : Room) (entry entry' : EntryNo) (new new' : Room) → TakesEntry old entry new → TakesEntry old entry' new' → new ≡ new'
+TakesEntry-same old entry entry' new new' takes takes' =
+    let low = takes.lowest entry'.0 takes'.free in
+    let high = takes'.lowest entry.0 takes.free in
+    let same : entry.0 ≡ entry'.0 = omega arith in
+    takes.after ∙ ap (λ i. record old { next_entry = i + 1 }) same ∙ sym takes'.after
+
+pub TakesExtent-gone : (old : Room) (extent : Extent) (new : Room) (line : ℕ) → TakesExtent old extent new → extent.first_line ≤ line → line < extent.first_line + extent.lines → is_free_line new line ≡ false
+TakesExtent-gone old extent new line takes low high = grind (arith, nat_tests, takes.taken line)
+
+pub TakesExtent-free : (old : Room) (extent : Extent) (new : Room) (line : ℕ) → TakesExtent old extent new → IsTrue (is_free_line new line) → IsTrue (is_free_line old line)
+TakesExtent-free old extent new line takes free = (and_parts (is_free_line old line) (not (is_line_of extent line)) (sym (takes.taken line) ∙ free)).0
+
+pub TakesExtent-entry : (old : Room) (extent : Extent) (new : Room) (i : ℕ) → TakesExtent old extent new → is_free_entry new i ≡ is_free_entry old i
+TakesExtent-entry old extent new i takes = ap (λ room. is_free_entry room i) takes.after
+
+pub TakesExtent-same : (old : Room) (extent extent' : Extent) (new new' : Room) → extent.lines ≡ extent'.lines → TakesExtent old extent new → TakesExtent old extent' new' → new ≡ new'
+TakesExtent-same old extent extent' new new' count takes takes' =
+    let low = takes.lowest extent'.first_line (subst (IsFreeRun old extent'.first_line) (sym count) takes'.free) in
+    let high = takes'.lowest extent.first_line (subst (IsFreeRun old extent.first_line) count takes.free) in
+    let same : extent.first_line + extent.lines ≡ extent'.first_line + extent'.lines = omega arith in
+    takes.after ∙ ap (λ end. record old { next_line = end }) same ∙ sym takes'.after

@@ -43,7 +43,7 @@ number_from-more more most fault n (byte ∷ bytes) =
     Keeps-if (with_more more) (byte == 13) _ _ _ _ (with_line_feed-more more fault n bytes)
     (Keeps-if (with_more more) (is_digit byte && nat_lt 0 n && nat_le (10 * n + (byte - 48)) most) _ _ _ _ (number_from-more more most fault (10 * n + (byte - 48)) bytes) refl)
 
-number_at-more : (more : List ℕ) (most : ℕ) (fault : ProtocolFault) (bytes : List ℕ) → Keeps (with_more more) (number_at most fault bytes) (number_at most fault (bytes ++ more))
+pub number_at-more : (more : List ℕ) (most : ℕ) (fault : ProtocolFault) (bytes : List ℕ) → Keeps (with_more more) (number_at most fault bytes) (number_at most fault (bytes ++ more))
 number_at-more more most fault [] = tt
 number_at-more more most fault (byte ∷ bytes) =
     Keeps-if (with_more more) (is_digit byte && nat_le (byte - 48) most) _ _ _ _ (number_from-more more most fault (byte - 48) bytes) refl

@@ -6,7 +6,16 @@ pub mod PutLemmas
 pub mod ChangeTextLemmas
 pub mod IntegerLemmas
 pub mod ReplyLemmas
+pub mod GrammarAsks
+pub mod GrammarDecimals
 pub mod GrammarGrows
 pub mod GrammarItems
+pub mod GrammarNumbers
+pub mod GrammarRequests
 pub mod GrammarRests
 mod WorkedCases
+pub mod GrammarSpellings
+pub mod GrammarSteps
+pub mod GrammarTells
+pub mod GrammarUnique
+pub mod GrammarWords

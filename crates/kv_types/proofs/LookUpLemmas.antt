@@ -62,26 +62,26 @@ puts_string : (s : Keyspace) (key value : List ℕ) → PutsString key value s (
 puts_string s key value = record {
   there = value_at-put_string s key value (Str key) ∙ ap (λ b. cond b (Some value) (cond (is_same_key key key) None (value_at s (Str key)))) (record_itself (Str key));
   no_fields = λ field. value_at-put_string s key value (Field key field) ∙ ap₂ (λ b c. cond b (Some value) (cond c None (value_at s (Field key field)))) (field_is_no_string key field key) (key_itself key);
-  others = λ id differ. value_at-put_string s key value id ∙ ap₂ (λ b c. cond b (Some value) (cond c None (value_at s id))) (is_other id (Str key) (λ e. differ (ap key_of e))) (is_other_key (key_of id) key differ)
+  others = λ id differ. value_at-put_string s key value id ∙ ap₂ (λ b c. cond b (Some value) (cond c None (value_at s id))) (is_other id (Str key) (λ e. differ (ap key_of e))) (is_other_key (key_of id) key differ);
 }
 
 puts_field : (s : Keyspace) (key field value : List ℕ) → PutsField key field value s (play s (Put (Field key field) value))
 puts_field s key field value = record {
   there = value_at-put_field s key field value (Field key field) ∙ ap (λ b. cond b (Some value) (cond (is_same (Field key field) (Str key)) None (value_at s (Field key field)))) (record_itself (Field key field));
   no_string = value_at-put_field s key field value (Str key) ∙ ap₂ (λ b c. cond b (Some value) (cond c None (value_at s (Str key)))) (string_is_no_field key key field) (record_itself (Str key));
-  others = λ id differ. value_at-put_field s key field value id ∙ ap₂ (λ b c. cond b (Some value) (cond c None (value_at s id))) (is_other id (Field key field) differ.0) (is_other id (Str key) differ.1)
+  others = λ id differ. value_at-put_field s key field value id ∙ ap₂ (λ b c. cond b (Some value) (cond c None (value_at s id))) (is_other id (Field key field) differ.0) (is_other id (Str key) differ.1);
 }
 
 drops_record : (s : Keyspace) (id : RecordId) → DropsRecord id s (play s (Drop id))
 drops_record s id = record {
   gone = value_at-without_record s id id ∙ ap (λ b. cond b None (value_at s id)) (record_itself id);
-  others = λ other differ. value_at-without_record s id other ∙ ap (λ b. cond b None (value_at s other)) (is_other other id differ)
+  others = λ other differ. value_at-without_record s id other ∙ ap (λ b. cond b None (value_at s other)) (is_other other id differ);
 }
 
 drops_key : (s : Keyspace) (key : List ℕ) → DropsKey key s (play s (DropKey key))
 drops_key s key = record {
   gone = λ id e. value_at-without_key s key id ∙ ap (λ b. cond b None (value_at s id)) (is_same_key_at (key_of id) key e);
-  others = λ id differ. value_at-without_key s key id ∙ ap (λ b. cond b None (value_at s id)) (is_other_key (key_of id) key differ)
+  others = λ id differ. value_at-without_key s key id ∙ ap (λ b. cond b None (value_at s id)) (is_other_key (key_of id) key differ);
 }
 
 pub looked_up-play : (s : Keyspace) (change : Change) → IsLookedUpAfter change s (play s change)

@@ -7,3 +7,4 @@ pub mod Faults
 pub mod Requests
 pub mod Reading
 pub mod Replies
+pub mod Refusals

@@ -30,7 +30,10 @@ impl Change {
     {
         match self {
             Change::Put(RecordId::Str(key), value) => 1 + short_size(key) + long_size(value),
-            Change::Put(RecordId::Field(key, field), value) => 1 + short_size(key) + short_size(field) + long_size(value),
+            Change::Put(RecordId::Field(key, field), value) => 1
+                + short_size(key)
+                + short_size(field)
+                + long_size(value),
             Change::Drop(RecordId::Str(key)) => 1 + short_size(key),
             Change::Drop(RecordId::Field(key, field)) => 1 + short_size(key) + short_size(field),
             Change::DropKey(key) => 1 + short_size(key),

@@ -1,10 +1,25 @@
 //! What holds of the grammar of requests, whoever reads it.
-ghost use Rattle.std.specs.Prelude.{◌≡◌, ℕ, List, [], ◌++◌, Contains};
+ghost use Rattle.std.specs.Prelude.{◌≡◌, ◌↔◌, ℕ, ◌^◌, ◌<◌, List, [], ◌++◌, Contains};
 ghost use Rattle.kv_types.specs.declared.limits.Limits.{Limits};
 ghost use Rattle.kv_types.specs.declared.item.ProtocolFault.{ProtocolFault};
 ghost use Rattle.kv_types.specs.declared.item.Item.{Item};
 ghost use Rattle.kv_types.specs.declared.item.Item.TheVariants.{Fault};
+ghost use Rattle.kv_types.specs.Words.{IsWithin};
+ghost use Rattle.kv_types.specs.Requests.{spelling, AsksFor};
 ghost use Rattle.kv_types.specs.Reading.{items_at};
+
+/// No spelling begins another: what is spelled can be read back in one way, whatever follows it.
+pub fn one_spelling()
+    ensures { (limits : Limits) → limits.words < 2 ^ 64 → limits.word_bytes < 2 ^ 64 →
+        (a b : List (List ℕ)) (x y : List ℕ) → IsWithin limits a → IsWithin limits b →
+        spelling a ++ x ≡ spelling b ++ y → (a ≡ b) × (x ≡ y) }
+{}
+
+/// The items computed from a text are those that the grammar asks for, its fault included, and it asks for no others.
+pub fn items_are_asked_for()
+    ensures { (limits : Limits) → limits.words < 2 ^ 64 → limits.word_bytes < 2 ^ 64 →
+        (text : List ℕ) (items : List Item) → AsksFor limits text items ↔ (items ≡ items_at limits text) }
+{}
 
 /// What bytes ask for stays when more bytes come. After a fault nothing more is asked for; without one, it goes on with the bytes that are
 /// no whole request yet.

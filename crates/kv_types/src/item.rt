@@ -51,21 +51,15 @@ impl ProtocolFault {
         ensures text { IfOk result (λ text. text ≡ fault_message self) }
         ensures memory { IsErr result → (byte : ℕ) × (self ≡ Self.ExpectedBulk byte) }
     {
-        match self {
-            ProtocolFault::ExpectedArray => Ok(Bytes::from_static(
-                b"ERR Protocol error: expected '*'",
-            )),
-            ProtocolFault::InvalidMultibulkLength => Ok(Bytes::from_static(
+        let text: &'static [u8] = match self {
+            ProtocolFault::ExpectedArray => b"ERR Protocol error: expected '*'",
+            ProtocolFault::InvalidMultibulkLength =>
                 b"ERR Protocol error: invalid multibulk length",
-            )),
-            ProtocolFault::ExpectedBulk(byte) => expected_bulk_message(alloc, byte),
-            ProtocolFault::InvalidBulkLength => Ok(Bytes::from_static(
-                b"ERR Protocol error: invalid bulk length",
-            )),
-            ProtocolFault::ExpectedLineEnd => Ok(Bytes::from_static(
-                b"ERR Protocol error: expected CRLF",
-            )),
-        }
+            ProtocolFault::ExpectedBulk(byte) => return expected_bulk_message(alloc, byte),
+            ProtocolFault::InvalidBulkLength => b"ERR Protocol error: invalid bulk length",
+            ProtocolFault::ExpectedLineEnd => b"ERR Protocol error: expected CRLF",
+        };
+        Ok(Bytes::from_static(text))
     }
 }
 

@@ -14,14 +14,21 @@ mod record_id;
 mod refusal;
 mod reply;
 mod request;
+#[cfg(test)]
+mod tests;
 
 pub use bounded::{BoundedBytes, Field, Key, Value};
 pub use change::{Change, changes_fit};
-pub use grammar_laws::items_grow;
+pub use grammar_laws::{items_are_asked_for, items_grow, one_spelling};
 pub use integer::{read_int, write_int};
 pub use item::{Item, ProtocolFault};
-pub use laws::{array_text, keyspace_stays, look_up_after_change, look_ups_tell_apart, play_in_two_parts, records_are_found};
-pub use limits::{FULL_LIMITS, Limits, MAX_CHANGE_BYTES, MAX_KEY_BYTES, MAX_VALUE_BYTES, SERVED_LIMITS};
+pub use laws::{
+    array_text, keyspace_stays, look_up_after_change, look_ups_tell_apart, play_in_two_parts,
+    records_are_found,
+};
+pub use limits::{
+    FULL_LIMITS, Limits, MAX_CHANGE_BYTES, MAX_KEY_BYTES, MAX_VALUE_BYTES, SERVED_LIMITS,
+};
 pub use place::{EntryNo, Extent};
 pub use plain_keyspace::PlainKeyspace;
 pub use record_id::RecordId;

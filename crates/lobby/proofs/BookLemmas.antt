@@ -35,44 +35,47 @@ module _ (slots left : List (Option ℕ)) (sound : IsSound slots) (before : Book
       → IfOk (ok_or seat SeatsFull) (λ seat. (lower : ℕ) → lower < seat → slice_get before.statuses lower ≡ Some taken)
   enter-lowest None takes = tt
   enter-lowest (Some seat) takes = λ lower low.
-    let here = own-at slots takes.0 seat sound takes.1.0 takes.1.1 in
-    let within = takes.1.0 in
-    ap (λ statuses. slice_get statuses lower) is ∙ status-at slots lower None (omega arith) (takes.1.2 lower (omega arith))
+      let here = own-at slots takes.0 seat sound takes.1.0 takes.1.1 in
+      let within = takes.1.0 in
+      ap (λ statuses. slice_get statuses lower) is ∙ status-at slots lower None (omega arith) (takes.1.2 lower (omega arith))
 
   pub enter-full : (seat : Option ℕ) → TakesLowest slots seat left
       → IsErrOf (ok_or seat SeatsFull) SeatsFull ↔ All (λ status. status ≡ taken) before.statuses
   enter-full None takes = (λ _. subst (All (λ status. status ≡ taken)) (sym is) (All-taken slots takes.0), λ _. refl)
-  enter-full (Some seat) takes = (λ e. cc, λ all.
-    let within = takes.1.0 in
-    let same : length before.statuses ≡ length slots = ap length is ∙ length-map slots status_of in
-    let was = all takes.0 free (omega arith) in
-    let now = ap (λ statuses. get_or statuses takes.0 free) is
-      ∙ get_or_from_slice_get (map status_of slots) takes.0 free free (status-at slots takes.0 (Some seat) takes.1.0 takes.1.1) in
-    let both : free ≡ taken = sym now ∙ was in
-    cc)
+  enter-full (Some seat) takes = (
+    λ e. cc,
+    λ all.
+        let within = takes.1.0 in
+        let same : length before.statuses ≡ length slots = ap length is ∙ length-map slots status_of in
+        let was = all takes.0 free (omega arith) in
+        let now = ap (λ statuses. get_or statuses takes.0 free) is
+        ∙ get_or_from_slice_get (map status_of slots) takes.0 free free (status-at slots takes.0 (Some seat) takes.1.0 takes.1.1) in
+        let both : free ≡ taken = sym now ∙ was in
+        cc,
+  )
 
   module _ (after : Book) (becomes : after.statuses ≡ map status_of left) where
     pub enter-moves : (seat : Option ℕ) → TakesLowest slots seat left → IfOk (ok_or seat SeatsFull) (λ seat. Moves before seat free taken after)
     enter-moves None takes = tt
     enter-moves (Some seat) takes =
-      let here = own-at slots takes.0 seat sound takes.1.0 takes.1.1 in
-      subst (λ n. Moves before n free taken after) (sym here)
-      record {
-        was = ap (λ statuses. slice_get statuses takes.0) is ∙ status-at slots takes.0 (Some seat) takes.1.0 takes.1.1;
-        becomes = becomes ∙ (ap (map status_of) takes.1.3 ∙ (map-set status_of slots takes.0 None ∙ ap (λ statuses. set statuses takes.0 taken) (sym is)));
-      }
+        let here = own-at slots takes.0 seat sound takes.1.0 takes.1.1 in
+        subst (λ n. Moves before n free taken after) (sym here)
+        record {
+          was = ap (λ statuses. slice_get statuses takes.0) is ∙ status-at slots takes.0 (Some seat) takes.1.0 takes.1.1;
+          becomes = becomes ∙ (ap (map status_of) takes.1.3 ∙ (map-set status_of slots takes.0 None ∙ ap (λ statuses. set statuses takes.0 taken) (sym is)));
+        }
 
     pub enter-err : (seat : Option ℕ) → TakesLowest slots seat left → IfErr (ok_or seat SeatsFull) (λ refusal. (refusal ≡ SeatsFull) × (after ≡ before))
     enter-err None takes = (refl, Book-same after before (becomes ∙ (ap (map status_of) takes.1 ∙ sym is)))
     enter-err (Some seat) takes = tt
 
-module _ (slots : List (Option ℕ)) (before after : Book) (place seat : ℕ) (here : place ≡ seat) (is : before.statuses ≡ map status_of slots)
-    (becomes : after.statuses ≡ map status_of (set slots place (Some seat))) where
+module _ (slots left : List (Option ℕ)) (seat : ℕ) (puts : left ≡ set slots seat (Some seat)) (before after : Book)
+    (is : before.statuses ≡ map status_of slots) (becomes : after.statuses ≡ map status_of left) where
   -- the status of the number is free afterwards
   freed : after.statuses ≡ slice_set before.statuses seat free
   freed =
-    becomes ∙ (map-set status_of slots place (Some seat)
-      ∙ (ap (λ n. set (map status_of slots) n free) here ∙ ap (λ statuses. set statuses seat free) (sym is)))
+      becomes
+      ∙ (ap (map status_of) puts ∙ (map-set status_of slots seat (Some seat) ∙ ap (λ statuses. set statuses seat free) (sym is)))
 
   pub leave-moves : slice_get before.statuses seat ≡ Some taken → Moves before seat taken free after
   leave-moves was = record { was = was; becomes = freed }

@@ -22,11 +22,12 @@ IsSound-set slots place slot own sound = record {
   complete = length-set slots place slot ∙ sound.complete;
   own = λ k seat e. elim (slice_get-set_cases slots place k slot (Some seat) e) [ inl h ↦ own seat h.0 ∙ sym h.1 | inr h ↦ sound.own k seat h ];
   each_once =
-    each_once_from_complete (map status_of (set slots place slot)) (length-map (set slots place slot) status_of ∙ (length-set slots place slot ∙ sound.complete));
+      each_once_from_complete (map status_of (set slots place slot)) (length-map (set slots place slot) status_of ∙ (length-set slots place slot ∙ sound.complete));
 }
 
-pub IsSound-put : (slots : List (Option ℕ)) (place seat : ℕ) → place ≡ seat → IsSound slots → IsSound (set slots place (Some seat))
-IsSound-put slots place seat here sound = IsSound-set slots place (Some seat) (λ other e. let same : seat ≡ other = cc in sym same ∙ sym here) sound
+pub IsSound-put : (slots : List (Option ℕ)) (seat : ℕ) (after : List (Option ℕ)) → after ≡ set slots seat (Some seat) → IsSound slots → IsSound after
+IsSound-put slots seat after puts sound =
+    subst IsSound (sym puts) (IsSound-set slots seat (Some seat) (λ other e. let same : seat ≡ other = cc in sym same) sound)
 
 pub IsSound-taken : (slots : List (Option ℕ)) (seat : Option ℕ) (after : List (Option ℕ)) → TakesLowest slots seat after → IsSound slots → IsSound after
 IsSound-taken slots None after takes sound = subst IsSound (sym takes.1) sound
@@ -45,10 +46,10 @@ pub IsSound-all : (slots : List (Option ℕ)) (seats : List ℕ) → slots ≡ m
 IsSound-all slots seats are count each = record {
   complete = complete;
   own = λ place seat e.
-    let here = slot-is slots seats are place (slice_get_within slots place (Some seat) e) in
-    let found = get_or_from_slice_get slots place (Some seat) None e in
-    let number = each place here.0 in
-    let same : Some seat ≡ Some (get_or seats place 0) = sym found ∙ here.1 in cc;
+      let here = slot-is slots seats are place (slice_get_within slots place (Some seat) e) in
+      let found = get_or_from_slice_get slots place (Some seat) None e in
+      let number = each place here.0 in
+      let same : Some seat ≡ Some (get_or seats place 0) = sym found ∙ here.1 in cc;
   each_once = each_once_from_complete (map status_of slots) (length-map slots status_of ∙ complete);
 }
   where

@@ -27,12 +27,7 @@ book_of slots sound = record {
 abbrev pub IsEmptyBelow : List (Option ℕ) → ℕ → Type 0
 IsEmptyBelow slots place = (lower : ℕ) → lower < place → slice_index_or slots lower None ≡ None
 
--- the lowest place at which a seat lies
-abbrev pub IsLowestFree : List (Option ℕ) → Option ℕ → Type 0
-IsLowestFree slots None = IsEmptyBelow slots (length slots)
-IsLowestFree slots (Some found) = (found < length slots) × ((seat : ℕ) × (slice_index_or slots found None ≡ Some seat)) × IsEmptyBelow slots found
-
--- the seat at the lowest of these places is taken out
+-- the seat at the lowest place at which one lies is taken out
 abbrev pub TakesLowest : List (Option ℕ) → Option ℕ → List (Option ℕ) → Type 0
 TakesLowest before None after = IsEmptyBelow before (length before) × (after ≡ before)
 TakesLowest before (Some seat) after =

@@ -2,6 +2,8 @@
 #![tactic(auto)]
 
 mod lobby;
+#[cfg(test)]
+mod tests;
 
 pub use lobby::Lobby;
 pub use pipes::{MAX_SEATS, Seat};

@@ -1,15 +1,15 @@
 //! The lobby and its book of seats.
-ghost use Rattle.std.specs.Prelude.{◌≡◌, ◌≢◌, ℕ, ◌<◌, ◌↔◌, All, IfOk, IfErr, IsErrOf, Some, map, slice_get};
+ghost use Rattle.std.specs.Prelude.{◌≡◌, ◌≢◌, ℕ, ◌<◌, ◌↔◌, All, IfOk, IfErr, IsErrOf, Some, map, slice_get, slice_set, vec_len};
 ghost use Rattle.lobby.specs.Book.{Moves, free, taken};
 ghost use Rattle.lobby.specs.Slots.{IsSound, TakesLowest};
 
 use kv_types::Refusal;
-use pipes::Seat;
+use pipes::{MAX_SEATS, Seat};
 use std::alloc::{AllocError, Global};
 use std::marker::Model;
 
 /// The 1,024 seats of a server, of which the free ones lie here. A clause sees whether each number is free or taken.
-#[derive(Drop)]
+#[derive(Debug, Drop)]
 pub struct Lobby {
     // At its number's place each seat that is free.
     slots: Vec<Option<Seat>>,
@@ -39,7 +39,7 @@ impl Lobby {
         Ok(Lobby { slots })
     }
 
-    /// Gives out the lowest free seat.
+    /// Gives out the lowest free seat. It takes no memory.
     ///
     /// # Errors
     ///
@@ -53,13 +53,12 @@ impl Lobby {
         take_lowest(&mut self.slots).ok_or(Refusal::SeatsFull)
     }
 
-    /// Takes a seat back. A seat whose number is not taken here changes nothing.
+    /// Takes a seat back. A seat whose number is not taken here changes nothing. It takes no memory.
     pub fn leave(&mut self, seat: Seat)
         ensures moves { slice_get self.old.statuses seat ≡ Some taken → Moves self.old seat taken free self.new }
         ensures unchanged { slice_get self.old.statuses seat ≢ Some taken → self.new ≡ self.old }
     {
-        let place = seat.number();
-        self.slots[place] = Some(seat);
+        put_back(&mut self.slots, seat);
     }
 }
 
@@ -76,4 +75,13 @@ fn take_lowest(slots: &mut Vec<Option<Seat>>) -> Option<Seat>
 {
     let place = slots.iter().position(|slot| slot.is_some())?;
     slots[place].take()
+}
+
+// Puts a seat into the slot of its number.
+fn put_back(slots: &mut Vec<Option<Seat>>, seat: Seat)
+    requires { vec_len slots.old ≡ MAX_SEATS }
+    ensures { slots.new.items ≡ slice_set slots.old.items seat (Some seat) }
+{
+    let place = seat.number();
+    slots[place] = Some(seat);
 }

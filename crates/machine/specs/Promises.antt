@@ -1,5 +1,5 @@
 -- What is promised of every run, in words that name no actor: one sequential Redis, its replies, and what is durable on both nodes.
-use Rattle.std.specs.Prelude.{◌≡◌, ◌⊎◌, ℕ, ◌+◌, ◌<◌, ◌≤◌, Bool, true, false, nat_eq, if◌then◌else◌, List, [], ◌∷◌, ◌++◌, length}
+use Rattle.std.specs.Prelude.{◌≡◌, ◌⊎◌, ℕ, ◌<◌, ◌≤◌, Bool, true, nat_eq, if◌then◌else◌, List, [], ◌∷◌, ◌++◌, length}
 use Rattle.kv_types.specs.declared.limits.TheConstants.{SERVED_LIMITS}
 use Rattle.kv_types.specs.Reading.{items_at}
 use Rattle.model.specs.declared.call.Call.{Call}
@@ -70,4 +70,4 @@ abbrev pub EveryRunIsPromised : Type 0
 EveryRunIsPromised =
     (events : List Event) (done : List Bool) (worlds : List World) → Run start events done worlds
     → let w = last_world start worlds in
-      IsPromised events done w.calls (released_in w) w.committer.position w.standby.position
+    IsPromised events done w.calls (released_in w) w.committer.position w.standby.position

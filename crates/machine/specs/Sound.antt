@@ -85,12 +85,11 @@ pub record SoundCommitter (position : ℕ) (committer : Committer) : Type 0 wher
   pub closed : committer.closed ≤ position
   pub few_open : position ≤ committer.closed + OPEN_CHANGES
   pub few : length committer.waiting ≤ PIPE_ITEMS
+  pub mark : committer.local ≤ committer.position
   pub shown : IsShownUpTo committer.stage committer.position committer.local
 
--- beside the committer's stage and the position of the primary's record
-pub record SoundLink (stage : Stage) (position : ℕ) (link : Link) : Type 0 where
-  -- groups were sent up to this position
-  pub sent : ℕ
+-- beside the committer's stage, the position of the primary's record, and the one up to which groups were sent
+pub record SoundLink (stage : Stage) (position sent : ℕ) (link : Link) : Type 0 where
   pub kept : IsChain link.known link.kept sent
   -- those that wait and the one in the committer's hand are the other groups that were committed
   pub waiting : IsChain sent (link.waiting ++ in_hand stage) position
@@ -115,5 +114,7 @@ pub record Sound (w : World) : Type 0 where
   pub inbound : (c : ℕ) → SoundInbound w.calls c (connection_of w c).inbound
   pub outbound : (c : ℕ) → SoundOutbound w.calls c w.committer.local w.link.remote (connection_of w c).outbound
   pub committer : SoundCommitter (position_of w.calls) w.committer
-  pub link : SoundLink w.committer.stage w.committer.position w.link
-  pub standby : SoundStandby link.sent w.link.known w.standby
+  -- groups were sent up to this position
+  pub sent : ℕ
+  pub link : SoundLink w.committer.stage w.committer.position sent w.link
+  pub standby : SoundStandby sent w.link.known w.standby

@@ -57,12 +57,12 @@ begun_before : (entry : Option Version) (c : Change) (ended : Version) → ended
 begun_before None c ended e = cc
 begun_before (Some version) c ended e = (version, refl, cc)
 
-neither : (a b : Bool) → (a || b) ≡ false → (a ≡ false) × (b ≡ false)
+pub neither : (a b : Bool) → (a || b) ≡ false → (a ≡ false) × (b ≡ false)
 neither true b e = cc
 neither false b e = (refl, e)
 
 -- a live version of a record that the change does not end stays live
-live_after : (versions : Versions) (c : Change) (i : ℕ) (id : RecordId) (value : List ℕ) → ends_record c id ≡ false → IsLive versions i id value → IsLive (λ j. ended_where_begun c (versions j)) i id value
+pub live_after : (versions : Versions) (c : Change) (i : ℕ) (id : RecordId) (value : List ℕ) → ends_record c id ≡ false → IsLive versions i id value → IsLive (λ j. ended_where_begun c (versions j)) i id value
 live_after versions c i id value spared live = record {
   version = ended_by c live.version;
   begun = ap (ended_where_begun c) live.begun;
@@ -72,7 +72,7 @@ live_after versions c i id value spared live = record {
 }
 
 -- a version that is live after the change was so before it, and the change does not end its record
-live_before : (versions : Versions) (c : Change) (i : ℕ) (id : RecordId) (value : List ℕ) → IsLive (λ j. ended_where_begun c (versions j)) i id value → IsLive versions i id value × (ends_record c id ≡ false)
+pub live_before : (versions : Versions) (c : Change) (i : ℕ) (id : RecordId) (value : List ℕ) → IsLive (λ j. ended_where_begun c (versions j)) i id value → IsLive versions i id value × (ends_record c id ≡ false)
 live_before versions c i id value live =
     let before = begun_before (versions i) c live.version live.begun in
     let version = before.0 in
@@ -100,7 +100,7 @@ pub record HasRoom (versions : Versions) (entries : ℕ) (put : Put) : Type 0 wh
   pub within : put.entry.0 < entries
   pub empty : versions put.entry.0 ≡ None
 
-abbrev with_put : ℕ → Put → Versions → Versions
+abbrev pub with_put : ℕ → Put → Versions → Versions
 with_put position put versions = with_puts position (put ∷ []) versions
 
 with_put-own : (position : ℕ) (put : Put) (versions : Versions) → with_put position put versions put.entry.0 ≡ Some (version_of_put position put)
@@ -110,11 +110,11 @@ with_put-other : (position : ℕ) (put : Put) (versions : Versions) (i : ℕ) �
 with_put-other position put versions i other = ap (λ b. cond b (Some (version_of_put position put)) (versions i)) other
 
 -- a live version is that of the put, or it was live before
-data LiveWithPut (versions : Versions) (put : Put) (i : ℕ) (id : RecordId) (value : List ℕ) : Type 0 where
+pub data LiveWithPut (versions : Versions) (put : Put) (i : ℕ) (id : RecordId) (value : List ℕ) : Type 0 where
   own : (at : i ≡ put.entry.0) (same_id : put.id ≡ id) (same_value : put.value ≡ value) → LiveWithPut versions put i id value
   other : (apart : nat_eq i put.entry.0 ≡ false) (live : IsLive versions i id value) → LiveWithPut versions put i id value
 
-live_with_put : (position : ℕ) (versions : Versions) (put : Put) (i : ℕ) (id : RecordId) (value : List ℕ) (b : Bool) → nat_eq i put.entry.0 ≡ b → IsLive (with_put position put versions) i id value → LiveWithPut versions put i id value
+pub live_with_put : (position : ℕ) (versions : Versions) (put : Put) (i : ℕ) (id : RecordId) (value : List ℕ) (b : Bool) → nat_eq i put.entry.0 ≡ b → IsLive (with_put position put versions) i id value → LiveWithPut versions put i id value
 live_with_put position versions put i id value true e live =
     let at : i ≡ put.entry.0 = eqb-true i put.entry.0 e in
     let known = live_version (version_of_put position put) (ap (with_put position put versions) at ∙ with_put-own position put versions) live in
@@ -122,11 +122,11 @@ live_with_put position versions put i id value true e live =
 live_with_put position versions put i id value false e live =
     other e (record { version = live.version; begun = sym (with_put-other position put versions i e) ∙ live.begun; not_ended = live.not_ended; id_is = live.id_is; value_is = live.value_is })
 
-live_put : (position : ℕ) (versions : Versions) (put : Put) → IsLive (with_put position put versions) put.entry.0 put.id put.value
+pub live_put : (position : ℕ) (versions : Versions) (put : Put) → IsLive (with_put position put versions) put.entry.0 put.id put.value
 live_put position versions put = record { version = version_of_put position put; begun = with_put-own position put versions; not_ended = refl; id_is = refl; value_is = refl }
 
 -- a version that was live stays so where the put's entry held none
-live_beside : (position : ℕ) (versions : Versions) (put : Put) (i : ℕ) (id : RecordId) (value : List ℕ) → versions put.entry.0 ≡ None → IsLive versions i id value → IsLive (with_put position put versions) i id value
+pub live_beside : (position : ℕ) (versions : Versions) (put : Put) (i : ℕ) (id : RecordId) (value : List ℕ) → versions put.entry.0 ≡ None → IsLive versions i id value → IsLive (with_put position put versions) i id value
 live_beside position versions put i id value empty live =
     let apart : nat_eq i put.entry.0 ≡ false = ne_eqb i put.entry.0 (λ at. not_live empty (subst (λ k. IsLive versions k id value) at live)) in
     record { version = live.version; begun = with_put-other position put versions i apart ∙ live.begun; not_ended = live.not_ended; id_is = live.id_is; value_is = live.value_is }
@@ -162,7 +162,7 @@ module _ (position : ℕ) (versions : Versions) (entries : ℕ) (put : Put) (fou
 
 -- ---- one change
 
-still_empty : (versions : Versions) (c : Change) (i : ℕ) → versions i ≡ None → ended_where_begun c (versions i) ≡ None
+pub still_empty : (versions : Versions) (c : Change) (i : ℕ) → versions i ≡ None → ended_where_begun c (versions i) ≡ None
 still_empty versions c i e = ap (ended_where_begun c) e
 
 -- the map moves by the change

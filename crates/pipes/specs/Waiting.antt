@@ -17,6 +17,6 @@ module _ {T : Type 0} where
   LocalTakes before (Some item) after = before.items ≡ item ∷ after.items
 
   pub LocalTakes-known : (before after : Waiting T) (taken : Option T) → LocalTakes before taken after
-    → MatchOption taken (before.items ≡ []) (λ item. IsPrefix before.items (item ∷ after.items))
+      → MatchOption taken (before.items ≡ []) (λ item. IsPrefix before.items (item ∷ after.items))
   LocalTakes-known before after None gives = gives.0
   LocalTakes-known before after (Some item) gives = ([], append-nil before.items ∙ gives)

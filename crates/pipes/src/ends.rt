@@ -1,5 +1,5 @@
 //! The two ends of a pipe, as an actor sees them that waits for nobody.
-ghost use Rattle.std.specs.Prelude.{◌≡◌, ℕ, ◌+◌, ◌≤◌, List, [], ◌∷◌, ◌++◌, Option, None, IfSome, MatchOption, IfErr, OnOk, OnErr};
+ghost use Rattle.std.specs.Prelude.{◌≡◌, ℕ, ◌+◌, ◌≤◌, List, [], ◌∷◌, ◌++◌, Option, MatchOption, IfErr, OnOk, OnErr};
 ghost use mathlib.Core.List.{IsPrefix};
 
 /// The end of a pipe at which items go in. An offered item goes last.

@@ -1,5 +1,6 @@
 //! A pipe within one thread.
-ghost use Rattle.std.specs.Prelude.{◌≡◌, ◌+◌, ◌-◌, ◌≤◌, ◌<◌, ◌==◌, ◌↔◌, length, [], ◌∷◌, ◌++◌, IsOk, IfOk, MatchOption, refl};
+ghost use Rattle.std.specs.Prelude.{◌≡◌, ◌-◌, ◌≤◌, ◌==◌, [], length, IfOk};
+ghost use Rattle.std.specs.VecDeque.{deque_capacity};
 ghost use Rattle.pipes.specs.declared.limits.TheConstants.{PIPE_ITEMS};
 
 use crate::ends::{Inlet, Outlet};
@@ -13,7 +14,8 @@ use std::marker::Model;
 pub struct LocalPipe<T> {
     waiting: VecDeque<T>,
     ghost within: { length waiting.items ≤ PIPE_ITEMS },
-    ghost has_room: { PIPE_ITEMS ≤ waiting.cap },
+    // The room is made with the pipe, so that no later call takes memory.
+    ghost has_room: { PIPE_ITEMS ≤ deque_capacity waiting },
 }
 
 impl<T> Model for LocalPipe<T> {
@@ -26,6 +28,10 @@ impl<T> Model for LocalPipe<T> {
 
 impl<T> LocalPipe<T> {
     /// An empty pipe, with room for all the items that it may ever hold.
+    ///
+    /// # Errors
+    ///
+    /// `AllocError` alone, where that room was refused.
     pub fn new(alloc: Global) -> Result<LocalPipe<T>, AllocError>
         ensures { IfOk result (λ pipe. pipe.items ≡ []) }
     {
@@ -40,6 +46,7 @@ impl<T> LocalPipe<T> {
         self.waiting.len()
     }
 
+    /// Whether no item waits.
     pub fn is_empty(&self) -> bool
         ensures { result ≡ (length self.now.items == 0) }
     {
@@ -75,6 +82,7 @@ impl<T> Outlet for LocalPipe<T> {
 
 impl<T> Inlet for LocalPipe<T> {
     ghost use Rattle.pipes.specs.Waiting.{LocalTakes};
+
     type Item = T;
 
     ghost known_items = { λ pipe. pipe.items };

@@ -25,6 +25,10 @@ impl Model for Seat {
 
 impl Seat {
     /// All seats of one lobby, in the order of their numbers. Nothing else makes a seat.
+    ///
+    /// # Errors
+    ///
+    /// `AllocError` alone, where room for them was refused.
     pub fn all(alloc: Global) -> Result<Vec<Seat>, AllocError>
         ensures count { IfOk result (λ seats. vec_len seats ≡ MAX_SEATS) }
         ensures each_once { IfOk result (λ seats. EachIndex seats.items (λ n. slice_index seats.items n ≡ n)) }

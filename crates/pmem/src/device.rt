@@ -1,12 +1,23 @@
 // A device of persistent memory, as the layers above see it.
 ghost use Rattle.std.specs.Prelude.{◌≡◌, ◌⊎◌, ℕ, suc, ◌+◌, ◌-◌, ◌*◌, ◌^◌, ◌<◌, ◌==◌, if◌then◌else◌, Some, None, false, true, min, length, IsTrue, IsErr, OnOk, OnErr};
-ghost use Rattle.pmem.specs.Device.{State, Fences, Steps, store_at, flush_at, fenced, fences_after, must_fail, may_fail, newest_at, moment};
+ghost use Rattle.pmem.specs.Device.{State, Fences, Steps, store_at, flush_at, fenced, fences_after, must_fail, may_fail, is_unsure, newest_at, moment};
 ghost use Rattle.pmem.specs.Device.Fences.{Sure};
 ghost use Rattle.pmem.specs.Crash.{IsImage, Keeps, Restarts, image_of, words_to_crash, picked};
+
+use std::error::Error;
+use std::fmt;
 
 /// A fence failed. What it should have made durable may still be lost: the node stops, crashes and reopens.
 #[derive(Clone, Copy, Debug, PartialEq, Eq)]
 pub struct Fault;
+
+impl fmt::Display for Fault {
+    fn fmt<W: fmt::Write>(&self, f: &mut fmt::Formatter<W>) -> fmt::Result {
+        f.write_str("device fault")
+    }
+}
+
+impl Error for Fault {}
 
 /// Lines of eight words of 64 bits behind a cache that writes lines back in any order.
 ///
@@ -81,4 +92,7 @@ pub trait Crashing: Pmem {
         // starved or not
         ensures within { IsImage (words_to_crash (Self.state self.old) (Self.state self.old).kept) (image_of (Self.state self.new).words)
             ⊎ IsImage (Self.state self.old).words (image_of (Self.state self.new).words) };
+
+    /// No fence fails but one that was asked to, and each where the device is starved.
+    ghost sure: { (device : Self) → is_unsure (Self.state device).fences ≡ false };
 }

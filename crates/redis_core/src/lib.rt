@@ -1,13 +1,12 @@
-// A library with one function.
+//! The sequencer: it turns what the connections ask into one list of calls, and hands out what changed as groups to commit.
 #![tactic(auto)]
 
-ghost use Rattle.std.specs.Prelude.{◌≡◌};
-ghost use Rattle.redis_core.specs.Echo.{echo_of};
+mod command;
+mod outcome;
+mod perform;
+mod places;
+mod sequencer;
+mod turn;
 
-// The `ensures` clause is the contract: what `echo` returns is `echo_of` of its argument, a definition
-// in `specs/Echo.antt`, which a caller's clause can cite too.
-pub fn echo(x: usize) -> usize
-    ensures { result ≡ echo_of x }
-{
-    x
-}
+pub use sequencer::Sequencer;
+pub use turn::Turn;

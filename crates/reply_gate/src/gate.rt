@@ -6,7 +6,7 @@ ghost use Rattle.reply_gate.specs.Gates.{covered_bytes, uncovered_rest, held_byt
 use crate::held_text::{HeldText, Seen};
 use bytes::{Buf, BytesMut};
 use kv_types::Reply;
-use crate::stub::write_reply;
+use resp_codec::write_reply;
 use std::alloc::{AllocError, Global};
 use std::collections::VecDeque;
 use std::marker::Model;

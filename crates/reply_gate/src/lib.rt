@@ -3,7 +3,6 @@
 
 mod gate;
 mod held_text;
-mod stub;
 
 pub use gate::Gate;
 pub use held_text::{HeldText, Seen};

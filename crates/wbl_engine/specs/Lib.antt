@@ -1,1 +1,4 @@
 pub mod Contents
+pub mod Entries
+pub mod Records
+pub mod Stages

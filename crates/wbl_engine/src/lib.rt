@@ -3,7 +3,12 @@
 
 mod committed;
 mod durable;
+mod layout;
+mod record;
+mod staging;
 
 pub use committed::Committed;
 pub use durable::Durable;
+pub use layout::{flush_entry, lines_for, write_entry};
 pub use model::{Gap, Record, Role};
+pub use record::write_next;

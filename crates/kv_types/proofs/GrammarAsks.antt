@@ -1,0 +1,89 @@
+-- The items that the reader computes are those that the grammar asks for.
+use Rattle.std.proofs.Common.{◌≡◌, ℕ, zero, suc, ◌≤◌, inl, inr, ◌≢◌, List, [], ◌∷◌, ◌++◌, length, Result, Ok, Err, refl, ap, sym, ◌∙◌, arith}
+use Rattle.std.proofs.lemmas.List.{append_assoc, append-nil}
+use Rattle.std.specs.List.{flat_map}
+use Rattle.kv_types.specs.declared.limits.Limits.{Limits}
+use Rattle.kv_types.specs.declared.item.ProtocolFault.{ProtocolFault}
+use Rattle.kv_types.specs.declared.item.Item.{Item}
+use Rattle.kv_types.specs.declared.item.Item.TheVariants.{Fault}
+use Rattle.kv_types.specs.Words.{IsWithin}
+use Rattle.kv_types.specs.Requests.{spelling, Begins, FaultsWith, item_of, EndsWith, AsksFor}
+use Rattle.kv_types.specs.Reading.{Stop, Short, Broken, Read, request_at, items_from, items_at}
+use Rattle.kv_types.proofs.GrammarGrows.{request_at-more}
+use Rattle.kv_types.proofs.GrammarRests.{length-IsEndOf, Leaves, rest_of, request_at-leaves}
+use Rattle.kv_types.proofs.GrammarItems.{items_at-step}
+use Rattle.kv_types.proofs.GrammarRequests.{HasNumbers, request_at-again, request_at-takes, request_at-short, request_at-breaks}
+
+pub Begins-short : (limits : Limits) (bytes : List ℕ) → HasNumbers limits → request_at limits bytes ≡ Err Short → Begins limits bytes
+Begins-short limits bytes numbers e =
+    let b = request_at-short limits bytes numbers e in
+    record { rest = b.front.byte ∷ b.front.rest; words = b.words; spells = record { within = b.within; whole = b.front.joined } }
+
+request_at-spelling : (limits : Limits) (words : List (List ℕ)) → HasNumbers limits → IsWithin limits words → request_at limits (spelling words) ≡ Ok (words, [])
+request_at-spelling limits words numbers within = ap (request_at limits) (sym (append-nil (spelling words))) ∙ request_at-again limits words [] numbers within
+
+-- what breaks the reader begins no spelling
+pub not_begun : (limits : Limits) (bytes : List ℕ) (fault : ProtocolFault) → HasNumbers limits → request_at limits bytes ≡ Err (Broken fault) → ¬ Begins limits bytes
+not_begun limits bytes fault numbers e b =
+    let broken : request_at limits (bytes ++ b.rest) ≡ Err (Broken fault) = rw e at (request_at-more b.rest limits bytes) in
+    let whole : request_at limits (bytes ++ b.rest) ≡ Ok (b.words, []) = ap (request_at limits) b.spells.whole ∙ request_at-spelling limits b.words numbers b.spells.within in
+    cc
+
+FaultsWith-broken : (limits : Limits) (bytes : List ℕ) (fault : ProtocolFault) → HasNumbers limits → request_at limits bytes ≡ Err (Broken fault) → FaultsWith limits bytes fault
+FaultsWith-broken limits bytes fault numbers e =
+    let b = request_at-breaks limits bytes fault numbers e in
+    record {
+      front = b.front;
+      byte = b.byte;
+      rest = b.rest;
+      split = b.split;
+      begins = Begins-short limits b.front numbers b.short;
+      breaks = not_begun limits (b.front ++ b.byte ∷ []) fault numbers b.broken;
+      says = b.place;
+    }
+
+-- where no request is read, none is spelled
+none_spelled : (limits : Limits) (bytes : List ℕ) (stop : Stop) → HasNumbers limits → request_at limits bytes ≡ Err stop → (words : List (List ℕ)) (more : List ℕ) → IsWithin limits words → bytes ≢ spelling words ++ more
+none_spelled limits bytes stop numbers e words more within same =
+    let whole : request_at limits bytes ≡ Ok (words, more) = ap (request_at limits) same ∙ request_at-again limits words more numbers within in
+    cc
+
+asks_none : (limits : Limits) (text : List ℕ) (stop : Stop) (ending : List Item) → HasNumbers limits → request_at limits text ≡ Err stop → EndsWith limits text ending → AsksFor limits text ending
+asks_none limits text stop ending numbers e ends =
+    record { requests = []; rest = text; ending = ending; within = tt; split = refl; longest = none_spelled limits text stop numbers e; ends = ends; all = refl }
+
+asks_first : (limits : Limits) (words : List (List ℕ)) (text rest : List ℕ) (items : List Item) → IsWithin limits words → text ≡ spelling words ++ rest → AsksFor limits rest items → AsksFor limits text (item_of words ++ items)
+asks_first limits words text rest items within whole a =
+    record {
+      requests = words ∷ a.requests;
+      rest = a.rest;
+      ending = a.ending;
+      within = (within, a.within);
+      split = whole ∙ ap (λ x. spelling words ++ x) a.split ∙ sym (append_assoc (spelling words) (flat_map spelling a.requests) a.rest);
+      longest = a.longest;
+      ends = a.ends;
+      all = ap (λ x. item_of words ++ x) a.all ∙ sym (append_assoc (item_of words) (flat_map item_of a.requests) a.ending);
+    }
+
+asks_from : (limits : Limits) (byte : ℕ) (bytes : List ℕ) (most : ℕ) → HasNumbers limits → length bytes ≤ most → ((rest : List ℕ) → length rest ≤ most → AsksFor limits rest (items_at limits rest)) → (r : Result (Read (List (List ℕ))) Stop) → request_at limits (byte ∷ bytes) ≡ r → Leaves rest_of bytes r → AsksFor limits (byte ∷ bytes) (items_from (items_at limits) r)
+asks_from limits byte bytes most numbers fits each (Ok request) e end =
+    let found = request_at-takes limits (byte ∷ bytes) request.0 request.1 numbers e in
+    asks_first limits request.0 (byte ∷ bytes) request.1 (items_at limits request.1) found.0 found.1 (each request.1 (omega (arith, length-IsEndOf end)))
+asks_from limits byte bytes most numbers fits each (Err Short) e end =
+    asks_none limits (byte ∷ bytes) Short [] numbers e (inl (Begins-short limits (byte ∷ bytes) numbers e, refl))
+asks_from limits byte bytes most numbers fits each (Err (Broken fault)) e end =
+    asks_none limits (byte ∷ bytes) (Broken fault) (Fault fault ∷ []) numbers e (inr (fault, FaultsWith-broken limits (byte ∷ bytes) fault numbers e, refl))
+
+asks_nothing : (limits : Limits) → HasNumbers limits → AsksFor limits [] (items_at limits [])
+asks_nothing limits numbers = rw (items_at-step limits []) (asks_none limits [] Short [] numbers refl (inl (Begins-short limits [] numbers refl, refl)))
+
+asks_within : (limits : Limits) (most : ℕ) → HasNumbers limits → (text : List ℕ) → length text ≤ most → AsksFor limits text (items_at limits text)
+asks_within limits zero numbers [] h = asks_nothing limits numbers
+asks_within limits zero numbers (byte ∷ bytes) h = absurd (omega arith)
+asks_within limits (suc most) numbers [] h = asks_nothing limits numbers
+asks_within limits (suc most) numbers (byte ∷ bytes) h =
+    rw (items_at-step limits (byte ∷ bytes)) (asks_from limits byte bytes most numbers (omega arith) (asks_within limits most numbers) (request_at limits (byte ∷ bytes)) refl (request_at-leaves limits byte bytes))
+
+-- What is computed is asked for.
+pub AsksFor-items_at : (limits : Limits) (text : List ℕ) → HasNumbers limits → AsksFor limits text (items_at limits text)
+AsksFor-items_at limits text numbers = asks_within limits (length text) numbers text (omega arith)

@@ -1,0 +1,90 @@
+-- Tools on readers: what a step gave, and the first byte at which a reading breaks.
+use Rattle.std.proofs.Common.{◌≡◌, ℕ, Bool, true, false, cond, ◌==◌, ◌⊎◌, inl, inr, ⊎_elim, List, [], ◌∷◌, ◌++◌, Result, Ok, Err, refl, ap, sym, ◌∙◌}
+use Rattle.std.proofs.lemmas.List.{append_assoc}
+use Rattle.std.proofs.lemmas.Bool.{eqb-true, cond-false}
+use Rattle.kv_types.specs.declared.item.ProtocolFault.{ProtocolFault}
+use Rattle.kv_types.specs.Reading.{Stop, Short, Broken, ◌>>=◌, after_byte}
+
+-- which way a test went
+pub chosen : {A : Type 0} (test : Bool) (x y z : A) → cond test x y ≡ z → ((test ≡ true) × (x ≡ z)) ⊎ ((test ≡ false) × (y ≡ z))
+chosen true x y z e = inl (refl, e)
+chosen false x y z e = inr (refl, e)
+
+-- both steps gave a value
+pub bind_ok : {A B : Type 0} (f : A → Result B Stop) (r : Result A Stop) (y : B) → (r >>= f) ≡ Ok y → (x : A) × (r ≡ Ok x) × (f x ≡ Ok y)
+bind_ok f (Ok x) y e = (x, refl, e)
+bind_ok f (Err stop) y e = absurd (cc)
+
+-- the first step stopped, or the second
+pub bind_err : {A B : Type 0} (f : A → Result B Stop) (r : Result A Stop) (stop : Stop) → (r >>= f) ≡ Err stop → (r ≡ Err stop) ⊎ ((x : A) × (r ≡ Ok x) × (f x ≡ Err stop))
+bind_err f (Ok x) stop e = inr (x, refl, e)
+bind_err f (Err other) stop e = inl (let same : other ≡ stop = cc in ap Err same)
+
+-- the parts of what was read
+pub ok_parts : {A B : Type 0} (x y : A) (s t : B) → ◌≡◌ {A = Result (A × B) Stop} (Ok (x, s)) (Ok (y, t)) → (x ≡ y) × (s ≡ t)
+ok_parts {A} {B} x y s t e =
+    let pairs : ◌≡◌ {A = A × B} (x, s) (y, t) = cc in
+    (ap (λ p. p.0) pairs, ap (λ p. p.1) pairs)
+
+pub after_byte-takes : (expected : ℕ) (fault : ProtocolFault) (bytes rest : List ℕ) → after_byte expected fault bytes ≡ Ok rest → bytes ≡ expected ∷ rest
+after_byte-takes expected fault [] rest e = absurd (cc)
+after_byte-takes expected fault (byte ∷ bytes) rest e =
+    ⊎_elim (λ h. let same = eqb-true byte expected h.0 in cc) (λ h. absurd (cc)) (chosen (byte == expected) (Ok bytes) (Err (Broken fault)) (Ok rest) e)
+
+pub after_byte-short : (expected : ℕ) (fault : ProtocolFault) (bytes : List ℕ) → after_byte expected fault bytes ≡ Err Short → bytes ≡ []
+after_byte-short expected fault [] e = refl
+after_byte-short expected fault (byte ∷ bytes) e =
+    absurd (⊎_elim (λ h. cc) (λ h. cc) (chosen (byte == expected) (Ok bytes) (Err (Broken fault)) (Err Short) e))
+
+-- The reading breaks with this fault at a byte: what stands before it is too short, and with it nothing helps. Place says where it stands.
+pub record BreaksAt {A : Type 0} (read : List ℕ → Result A Stop) (Place : List ℕ → ℕ → ProtocolFault → Type 0) (bytes : List ℕ) (fault : ProtocolFault) : Type 0 where
+  pub front : List ℕ
+  pub byte : ℕ
+  pub rest : List ℕ
+  pub split : bytes ≡ front ++ byte ∷ rest
+  pub short : read front ≡ Err Short
+  pub broken : read (front ++ byte ∷ []) ≡ Err (Broken fault)
+  pub place : Place front byte fault
+
+abbrev pub Anywhere : List ℕ → ℕ → ProtocolFault → Type 0
+Anywhere front byte fault = Unit {0}
+
+-- it breaks in the first of two steps
+pub BreaksAt-first : {A B : Type 0} (read : List ℕ → Result A Stop) (f : A → Result B Stop) (Place Place' : List ℕ → ℕ → ProtocolFault → Type 0) (bytes : List ℕ) (fault : ProtocolFault) → ((front : List ℕ) (byte : ℕ) → Place front byte fault → Place' front byte fault) → BreaksAt read Place bytes fault → BreaksAt (λ b. read b >>= f) Place' bytes fault
+BreaksAt-first read f Place Place' bytes fault moves b =
+    record {
+      front = b.front;
+      byte = b.byte;
+      rest = b.rest;
+      split = b.split;
+      short = ap (λ r. r >>= f) b.short;
+      broken = ap (λ r. r >>= f) b.broken;
+      place = moves b.front b.byte b.place;
+    }
+
+-- it breaks behind bytes that are read well
+pub BreaksAt-behind : {A : Type 0} (read read' : List ℕ → Result A Stop) (Place Place' : List ℕ → ℕ → ProtocolFault → Type 0) (before bytes : List ℕ) (fault : ProtocolFault) → ((after : List ℕ) → read' (before ++ after) ≡ read after) → ((front : List ℕ) (byte : ℕ) → Place front byte fault → Place' (before ++ front) byte fault) → BreaksAt read Place bytes fault → BreaksAt read' Place' (before ++ bytes) fault
+BreaksAt-behind read read' Place Place' before bytes fault same moves b =
+    record {
+      front = before ++ b.front;
+      byte = b.byte;
+      rest = b.rest;
+      split = ap (λ x. before ++ x) b.split ∙ sym (append_assoc before b.front (b.byte ∷ b.rest));
+      short = same b.front ∙ b.short;
+      broken = ap read' (append_assoc before b.front (b.byte ∷ [])) ∙ same (b.front ++ b.byte ∷ []) ∙ b.broken;
+      place = moves b.front b.byte b.place;
+    }
+
+-- it breaks at the first byte
+pub BreaksAt-here : {A : Type 0} (read : List ℕ → Result A Stop) (Place : List ℕ → ℕ → ProtocolFault → Type 0) (byte : ℕ) (bytes : List ℕ) (fault : ProtocolFault) → read [] ≡ Err Short → read (byte ∷ []) ≡ Err (Broken fault) → Place [] byte fault → BreaksAt read Place (byte ∷ bytes) fault
+BreaksAt-here read Place byte bytes fault short broken place =
+    record { front = []; byte = byte; rest = bytes; split = refl; short = short; broken = broken; place = place }
+
+pub after_byte-breaks : (expected : ℕ) (fault other : ProtocolFault) (bytes : List ℕ) → after_byte expected fault bytes ≡ Err (Broken other) → (other ≡ fault) × BreaksAt (after_byte expected fault) (λ front byte said. (front ≡ []) × (said ≡ fault)) bytes other
+after_byte-breaks expected fault other [] e = absurd (cc)
+after_byte-breaks expected fault other (byte ∷ bytes) e =
+    ⊎_elim (λ h. absurd (cc))
+    (λ h.
+    let same : other ≡ fault = cc in
+    (same, BreaksAt-here (after_byte expected fault) _ byte bytes other refl (cond-false (byte == expected) (Ok []) (Err (Broken fault)) h.0 ∙ h.1) (refl, same)))
+    (chosen (byte == expected) (Ok bytes) (Err (Broken fault)) (Err (Broken other)) e)

@@ -1,0 +1,161 @@
+-- A byte that breaks the reading tells the fault of its place, and no other.
+use Rattle.std.proofs.Common.{◌≡◌, ℕ, zero, suc, ◌^◌, ◌<◌, ◌≤◌, Bool, true, false, cond, ◌==◌, nat_lt, List, [], ◌∷◌, ◌++◌, length, Result, Ok, Err, refl, ap, sym, ◌∙◌, arith}
+use Rattle.std.proofs.lemmas.List.{append_assoc, append-nil, length-append}
+use Rattle.std.specs.List.{flat_map}
+use Rattle.kv_types.specs.declared.limits.Limits.{Limits}
+use Rattle.kv_types.specs.declared.item.ProtocolFault.{ProtocolFault}
+use Rattle.kv_types.specs.declared.item.ProtocolFault.TheVariants.{ExpectedArray, InvalidMultibulkLength, ExpectedBulk, InvalidBulkLength, ExpectedLineEnd}
+use Rattle.kv_types.specs.Requests.{line_end, number_line, bulk, IsProperFront, Begins, Says}
+use Rattle.kv_types.specs.Reading.{Stop, Short, Broken, Read, ◌>>=◌, after_byte, number_at, payload_at, word_at, with_first, words_at, request_at}
+use Rattle.kv_types.proofs.GrammarSteps.{ok_parts}
+use Rattle.kv_types.proofs.GrammarGrows.{Keeps, with_more, number_at-more}
+use Rattle.kv_types.proofs.GrammarNumbers.{number_at-number_line, number_at-takes, number_at-breaks}
+use Rattle.kv_types.proofs.GrammarWords.{line_end_after, payload_at-behind, rest_of_word, rest_of_word-again, InWord}
+use Rattle.kv_types.proofs.GrammarRequests.{HasNumbers, AreShort, words_after, words_at-behind, counted_words, counted_words-behind, regrouped}
+use Rattle.kv_types.proofs.GrammarSpellings.{IsInside, IsInside-begins, length-inside}
+
+-- what a reader answers at the end of its bytes: if it broke, by this fault, and if it read something, nothing is left
+abbrev pub Tells : {A : Type 0} → ProtocolFault → Result (Read A) Stop → Type 0
+Tells fault (Ok x) = x.1 ≡ []
+Tells fault (Err Short) = Unit {0}
+Tells fault (Err (Broken other)) = other ≡ fault
+
+Tells-bind : {A B : Type 0} (fault : ProtocolFault) (f : Read A → Result (Read B) Stop) → ((x : A) → Tells fault (f (x, []))) → (r : Result (Read A) Stop) → Tells fault r → Tells fault (r >>= f)
+Tells-bind fault f each (Ok x) h = rw h (each x.0)
+Tells-bind fault f each (Err Short) h = tt
+Tells-bind fault f each (Err (Broken other)) h = h
+
+Tells-if : {A : Type 0} (fault : ProtocolFault) (test : Bool) (x y : Result (Read A) Stop) → Tells fault x → Tells fault y → Tells fault (cond test x y)
+Tells-if fault true x y h k = h
+Tells-if fault false x y h k = k
+
+-- ---- numbers
+
+front_from : (most : ℕ) (fault : ProtocolFault) (line : List ℕ) (byte : ℕ) (rest : List ℕ) (n : ℕ) → number_at most fault (line ++ byte ∷ rest) ≡ Ok (n, []) → (r : Result (Read ℕ) Stop) → Keeps (with_more (byte ∷ rest)) r (number_at most fault (line ++ byte ∷ rest)) → r ≡ Err Short
+front_from most fault line byte rest n whole (Ok x) keeps =
+    let parts = ok_parts x.0 n (x.1 ++ byte ∷ rest) [] (sym keeps ∙ whole) in
+    absurd (omega (arith, ap length parts.1, length-append x.1 (byte ∷ rest)))
+front_from most fault line byte rest n whole (Err Short) keeps = refl
+front_from most fault line byte rest n whole (Err (Broken other)) keeps = absurd (cc)
+
+-- the front of a number is too short for one
+number_at-front : (most : ℕ) (fault : ProtocolFault) (line : List ℕ) (n : ℕ) → most < 2 ^ 64 → n ≤ most → IsProperFront line (number_line n) → number_at most fault line ≡ Err Short
+number_at-front most fault line n small fits p =
+    let whole : number_at most fault (line ++ p.byte ∷ p.rest) ≡ Ok (n, []) = ap (number_at most fault) (p.joined ∙ sym (append-nil (number_line n))) ∙ number_at-number_line most fault n [] small fits in
+    front_from most fault line p.byte p.rest n whole (number_at most fault line) (number_at-more (p.byte ∷ p.rest) most fault line)
+
+-- what begins the bytes with more than their last byte behind it begins them without that
+front_without_last : (p a : List ℕ) (byte d : ℕ) (rest : List ℕ) → p ++ byte ∷ [] ≡ a ++ d ∷ rest → (q : List ℕ) × (p ≡ a ++ q)
+front_without_last p [] byte d rest e = (p, refl)
+front_without_last [] (c ∷ a) byte d rest e = absurd (omega (arith, ap length e, length-append a (d ∷ rest)))
+front_without_last (b ∷ p) (c ∷ a) byte d rest e =
+    let head : b ≡ c = cc in
+    let tail = front_without_last p a byte d rest cc in
+    let same = tail.1 in
+    (tail.0, cc)
+
+nothing_left : (most : ℕ) (fault : ProtocolFault) (line : List ℕ) (byte m : ℕ) (rest : List ℕ) → most < 2 ^ 64 → number_at most fault line ≡ Err Short → m ≤ most → line ++ byte ∷ [] ≡ number_line m ++ rest → rest ≡ []
+nothing_left most fault line byte m [] small short fits e = refl
+nothing_left most fault line byte m (d ∷ rest) small short fits e =
+    let front = front_without_last line (number_line m) byte d rest e in
+    let read : number_at most fault line ≡ Ok (m, front.0) = ap (number_at most fault) front.1 ∙ number_at-number_line most fault m front.0 small fits in
+    absurd (cc)
+
+tells_number : (most : ℕ) (fault : ProtocolFault) (line : List ℕ) (byte : ℕ) → most < 2 ^ 64 → number_at most fault line ≡ Err Short → (r : Result (Read ℕ) Stop) → number_at most fault (line ++ byte ∷ []) ≡ r → Tells fault r
+tells_number most fault line byte small short (Ok x) e =
+    let found = number_at-takes most fault (line ++ byte ∷ []) x.0 x.1 small e in
+    nothing_left most fault line byte x.0 x.1 small short found.0 found.1
+tells_number most fault line byte small short (Err Short) e = tt
+tells_number most fault line byte small short (Err (Broken other)) e = (number_at-breaks most fault (line ++ byte ∷ []) other small e).0
+
+number_at-tells : (most : ℕ) (fault : ProtocolFault) (line : List ℕ) (byte n : ℕ) → most < 2 ^ 64 → n ≤ most → IsProperFront line (number_line n) → Tells fault (number_at most fault (line ++ byte ∷ []))
+number_at-tells most fault line byte n small fits p = tells_number most fault line byte small (number_at-front most fault line n small fits p) (number_at most fault (line ++ byte ∷ [])) refl
+
+-- ---- words
+
+regrouped_word : (a b c d : List ℕ) → ((a ++ b) ++ c) ++ d ≡ a ++ (b ++ (c ++ d))
+regrouped_word a b c d = simp append_assoc
+
+regrouped_words : (a b c d : List ℕ) → (a ++ (b ++ c)) ++ d ≡ a ++ (b ++ (c ++ d))
+regrouped_words a b c d = simp append_assoc
+
+line_end-tells : (word end : List ℕ) (byte : ℕ) → IsProperFront end line_end → Tells ExpectedLineEnd (line_end_after word (end ++ byte ∷ []))
+line_end-tells word [] byte p =
+    elim (byte == 13) as (λ b. Tells ExpectedLineEnd (cond b (Ok []) (Err (Broken ExpectedLineEnd)) >>= λ rest. after_byte 10 ExpectedLineEnd rest >>= λ after. Ok (word, after))) [ true ↦ tt | false ↦ refl ]
+line_end-tells word (a ∷ []) byte p =
+    let joined = p.joined in
+    let same : a ≡ 13 = cc in
+    rw same (elim (byte == 10) as (λ b. Tells ExpectedLineEnd (cond b (Ok []) (Err (Broken ExpectedLineEnd)) >>= λ after. Ok (word, after))) [ true ↦ refl | false ↦ refl ])
+line_end-tells word (a ∷ b ∷ more) byte p = absurd (omega (arith, ap length p.joined, length-append more (p.byte ∷ p.rest)))
+
+payload-nothing : (fault : ProtocolFault) (len : ℕ) → Tells fault (payload_at len [])
+payload-nothing fault zero = tt
+payload-nothing fault (suc len) = Tells-if fault (nat_lt 0 (suc len)) (Err Short) (line_end_after [] []) tt tt
+
+word_at-tells : (limits : Limits) (inner : List ℕ) (byte : ℕ) (fault : ProtocolFault) → HasNumbers limits → InWord limits inner byte fault → Tells fault (word_at limits (inner ++ byte ∷ []))
+word_at-tells limits inner byte ExpectedArray numbers p = absurd p
+word_at-tells limits inner byte InvalidMultibulkLength numbers p = absurd p
+word_at-tells limits inner byte (ExpectedBulk got) numbers p =
+    rw p.0 (elim (byte == 36) as (λ b. Tells (ExpectedBulk got) (cond b (Ok []) (Err (Broken (ExpectedBulk byte))) >>= rest_of_word limits)) [ true ↦ tt | false ↦ ap ExpectedBulk (sym p.1) ])
+word_at-tells limits inner byte InvalidBulkLength numbers p =
+    rw p.4 (Tells-bind InvalidBulkLength (λ len. payload_at len.0 len.1) (λ len. payload-nothing InvalidBulkLength len) (number_at limits.word_bytes InvalidBulkLength (p.0 ++ byte ∷ [])) (number_at-tells limits.word_bytes InvalidBulkLength p.0 byte p.1 numbers.word_bytes p.2 p.3))
+word_at-tells limits inner byte ExpectedLineEnd numbers p =
+    let word = p.0 in
+    let whole : inner ++ byte ∷ [] ≡ (36 ∷ number_line (length word)) ++ (word ++ (p.1 ++ byte ∷ [])) = ap (λ x. x ++ byte ∷ []) p.4 ∙ regrouped_word (36 ∷ number_line (length word)) word p.1 (byte ∷ []) in
+    let read : word_at limits (inner ++ byte ∷ []) ≡ line_end_after word (p.1 ++ byte ∷ []) = ap (word_at limits) whole ∙ rest_of_word-again limits (length word) (word ++ (p.1 ++ byte ∷ [])) numbers.word_bytes p.2 ∙ payload_at-behind (length word) word (p.1 ++ byte ∷ []) refl in
+    rw read (line_end-tells word p.1 byte p.3)
+
+words-nothing : (limits : Limits) (fault : ProtocolFault) (count : ℕ) → Tells fault (words_at limits count [])
+words-nothing limits fault zero = refl
+words-nothing limits fault (suc count) = tt
+
+after-nothing : (limits : Limits) (fault : ProtocolFault) (count : ℕ) (word : List ℕ) → Tells fault (words_after limits count (word, []))
+after-nothing limits fault count word = Tells-bind fault (λ others. Ok (with_first word others)) (λ others. refl) (words_at limits count []) (words-nothing limits fault count)
+
+words_at-tells : (limits : Limits) (count : ℕ) (words : List (List ℕ)) (inner : List ℕ) (byte : ℕ) (fault : ProtocolFault) → HasNumbers limits → length words < count → AreShort limits words → InWord limits inner byte fault → Tells fault (words_at limits count (flat_map bulk words ++ (inner ++ byte ∷ [])))
+words_at-tells limits zero words inner byte fault numbers fewer short p = absurd (omega arith)
+words_at-tells limits (suc count) [] inner byte fault numbers fewer short p =
+    Tells-bind fault (words_after limits count) (after-nothing limits fault count) (word_at limits (inner ++ byte ∷ [])) (word_at-tells limits inner byte fault numbers p)
+words_at-tells limits (suc count) (word ∷ words) inner byte fault numbers fewer short p =
+    let after = flat_map bulk words ++ (inner ++ byte ∷ []) in
+    let read : words_at limits (suc count) ((bulk word ++ flat_map bulk words) ++ (inner ++ byte ∷ [])) ≡ words_after limits count (word, after) = ap (words_at limits (suc count)) (append_assoc (bulk word) (flat_map bulk words) (inner ++ byte ∷ [])) ∙ words_at-behind limits count word after numbers short.0 in
+    rw read (Tells-bind fault (λ others. Ok (with_first word others)) (λ others. refl) (words_at limits count after) (words_at-tells limits count words inner byte fault numbers (omega arith) short.1 p))
+
+-- ---- requests
+
+-- behind the number of words
+tells_in_words : (limits : Limits) (n : ℕ) (words : List (List ℕ)) (inner : List ℕ) (byte : ℕ) (fault : ProtocolFault) → HasNumbers limits → length words < n → IsInside limits n words inner → InWord limits inner byte fault → Tells fault (request_at limits (((42 ∷ number_line n) ++ (flat_map bulk words ++ inner)) ++ byte ∷ []))
+tells_in_words limits n words inner byte fault numbers fewer inside p =
+    let whole : ((42 ∷ number_line n) ++ (flat_map bulk words ++ inner)) ++ byte ∷ [] ≡ (42 ∷ number_line n) ++ (flat_map bulk words ++ (inner ++ byte ∷ [])) = regrouped_words (42 ∷ number_line n) (flat_map bulk words) inner (byte ∷ []) in
+    let read : request_at limits (((42 ∷ number_line n) ++ (flat_map bulk words ++ inner)) ++ byte ∷ []) ≡ words_at limits n (flat_map bulk words ++ (inner ++ byte ∷ [])) = ap (request_at limits) whole ∙ counted_words-behind limits n (flat_map bulk words ++ (inner ++ byte ∷ [])) numbers inside.count in
+    rw read (words_at-tells limits n words inner byte fault numbers fewer inside.next.short p)
+
+-- A byte tells the fault of its place.
+pub Says-tells : (limits : Limits) (front : List ℕ) (byte : ℕ) (fault : ProtocolFault) → HasNumbers limits → Begins limits front → Says limits front byte fault → Tells fault (request_at limits (front ++ byte ∷ []))
+Says-tells limits front byte ExpectedArray numbers b p =
+    rw p (elim (byte == 42) as (λ t. Tells ExpectedArray (cond t (Ok []) (Err (Broken ExpectedArray)) >>= counted_words limits)) [ true ↦ tt | false ↦ refl ])
+Says-tells limits front byte InvalidMultibulkLength numbers b p =
+    rw p.4 (Tells-bind InvalidMultibulkLength (λ count. words_at limits count.0 count.1) (λ count. words-nothing limits InvalidMultibulkLength count) (number_at limits.words InvalidMultibulkLength (p.0 ++ byte ∷ [])) (number_at-tells limits.words InvalidMultibulkLength p.0 byte p.1 numbers.words p.2 p.3))
+Says-tells limits front byte (ExpectedBulk got) numbers b p =
+    let n = p.0 in
+    let words = p.1 in
+    let whole : front ≡ (42 ∷ number_line n) ++ (flat_map bulk words ++ []) = p.3 ∙ ap (λ x. (42 ∷ number_line n) ++ x) (sym (append-nil (flat_map bulk words))) in
+    let begins = rw whole at b in
+    rw whole (tells_in_words limits n words [] byte (ExpectedBulk got) numbers p.2 (IsInside-begins limits n words [] numbers p.2 begins) (refl, p.4))
+Says-tells limits front byte InvalidBulkLength numbers b p =
+    let n = p.0 in
+    let words = p.1 in
+    let inner = 36 ∷ p.2 in
+    let whole : front ≡ (42 ∷ number_line n) ++ (flat_map bulk words ++ inner) = p.7 ∙ append_assoc (42 ∷ number_line n) (flat_map bulk words) inner in
+    let begins = rw whole at b in
+    rw whole (tells_in_words limits n words inner byte InvalidBulkLength numbers p.4 (IsInside-begins limits n words inner numbers p.4 begins) (p.2, p.3, p.5, p.6, refl))
+Says-tells limits front byte ExpectedLineEnd numbers b p =
+    let n = p.0 in
+    let words = p.1 in
+    let word = p.2 in
+    let inner = ((36 ∷ number_line (length word)) ++ word) ++ p.3 in
+    let whole : front ≡ (42 ∷ number_line n) ++ (flat_map bulk words ++ inner) = p.6 ∙ sym (regrouped (42 ∷ number_line n) (flat_map bulk words) (36 ∷ number_line (length word)) word p.3) in
+    let begins = rw whole at b in
+    let inside = IsInside-begins limits n words inner numbers p.4 begins in
+    let short : length word ≤ limits.word_bytes = length-inside limits n words (length word) (word ++ p.3) numbers (rw (append_assoc (36 ∷ number_line (length word)) word p.3) at inside) in
+    rw whole (tells_in_words limits n words inner byte ExpectedLineEnd numbers p.4 inside (word, p.3, short, p.5, refl))

@@ -1,0 +1,5 @@
+pub mod PlacesLemmas
+pub mod TakenLemmas
+pub mod KeepingLemmas
+pub mod StandingLemmas
+pub mod AnswersLemmas

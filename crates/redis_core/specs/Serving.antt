@@ -1,0 +1,40 @@
+-- What the answer to an item is made of, before it is a reply.
+use Rattle.std.specs.Prelude.{◌≡◌, ◌≢◌, ℕ, ◌≤◌, Result, Ok, Err}
+use Rattle.kv_types.specs.declared.item.Item.{Item}
+use Rattle.kv_types.specs.declared.refusal.Refusal.{Refusal}
+use Rattle.kv_types.specs.declared.refusal.Refusal.TheVariants as refusal
+use Rattle.kv_types.specs.declared.reply.Reply.{Reply}
+use Rattle.kv_types.specs.Changes.{changes_size}
+use Rattle.model.specs.declared.call.TheConstants.{MAX_CHANGE_BYTES}
+use Rattle.model.specs.Calls.{MayReply, changes_of, full_reply, memory_reply}
+use Rattle.model.specs.Commands.{Outcome, outcome_of}
+use Rattle.mv_keyspace.specs.Tables.{records}
+use Rattle.redis_core.specs.Places.{HasRoomFor}
+use Rattle.redis_core.specs.Sequencing.{Sequencing}
+use Rattle.redis_core.specs.Turns.{Moves, call_of}
+
+-- what the item asks for
+abbrev pub outcome_at : Sequencing → Item → Outcome
+outcome_at s item = outcome_of (records s.table) item
+
+-- The item got a reply of its own, and its changes were made. The seat does not matter.
+pub record Serves (old : Sequencing) (item : Item) (reply : Reply) (new : Sequencing) : Type 0 where
+  pub legal : MayReply (outcome_at old item) reply
+  pub not_full : reply ≢ full_reply
+  pub moves : Moves (changes_of (records old.table) (call_of 0 item reply)) old new
+  pub before : new.before ≡ old.before
+  pub closed : new.closed ≡ old.closed
+
+-- the changes of the item are not too large, but there was no room for them
+pub record IsTooFull (s : Sequencing) (item : Item) : Type 0 where
+  pub fits : changes_size (outcome_at s item).changes ≤ MAX_CHANGE_BYTES
+  pub full : ¬ HasRoomFor s.room (outcome_at s item).changes
+
+-- the reply where an item was refused
+abbrev pub refusal_reply : Refusal → Reply
+refusal_reply refusal.Full = full_reply
+refusal_reply _ = memory_reply
+
+abbrev pub reply_of : Result Reply Refusal → Reply
+reply_of (Ok reply) = reply
+reply_of (Err refusal) = refusal_reply refusal

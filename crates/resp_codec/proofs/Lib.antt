@@ -1,0 +1,3 @@
+pub mod FirstItem
+pub mod ReplyTexts
+pub mod WordsRead

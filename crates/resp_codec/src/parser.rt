@@ -1,0 +1,77 @@
+//! Requests out of a connection's bytes, in whatever pieces they come.
+ghost use Rattle.std.specs.Prelude.{◌≡◌, ℕ, List, [], ◌++◌, IfOk, IfErr, OnOk, OnErr, option_to_list};
+ghost use Rattle.kv_types.specs.declared.item.ProtocolFault.{ProtocolFault};
+ghost use Rattle.kv_types.specs.declared.item.Item.TheVariants.{Fault};
+ghost use Rattle.kv_types.specs.declared.refusal.Refusal.TheVariants.{Memory};
+ghost use Rattle.resp_codec.specs.Parsing.{fed, ahead};
+
+use crate::reading::first_item;
+use bytes::{Bytes, BytesMut};
+use kv_types::{Item, Refusal};
+use std::alloc::Global;
+use std::marker::Model;
+
+/// Reads the items out of bytes that come in pieces. A clause sees the bytes that were fed and not yet given as items, or `None` once a
+/// fault was given.
+#[derive(Drop)]
+pub struct Parser {
+    /// `None` once a fault was given: bytes are no longer read, so they are not kept either.
+    unread: Option<BytesMut>,
+}
+
+impl Model for Parser {
+    ghost use Rattle.std.specs.Prelude.{ℕ, List, Option, option_map};
+
+    ghost Value = { Option (List ℕ) };
+
+    ghost view = { λ p. option_map (λ b. b.items) p.unread };
+}
+
+impl Parser {
+    /// A parser to which nothing was fed.
+    pub fn new(alloc: Global) -> Parser
+        ensures { result ≡ Some [] }
+    {
+        Parser {
+            unread: Some(BytesMut::new(alloc)),
+        }
+    }
+
+    /// Takes the next piece, of any bytes. After a fault it is passed over. Refused with 14 for want of memory, and then nothing of it is taken.
+    pub fn feed(&mut self, piece: Bytes) -> Result<(), Refusal>
+        ensures ok { OnOk result (self.new ≡ fed self.old piece) }
+        ensures err { OnErr result (self.new ≡ self.old) }
+        ensures cause { IfErr result (λ refusal. refusal ≡ Memory) }
+    {
+        if let Some(unread) = &mut self.unread {
+            unread.extend_from_slice(piece.as_slice())?;
+        }
+        Ok(())
+    }
+
+    /// The next item, or `None` where what was fed holds no more whole request. `*0` asks for nothing and is passed over. After a fault
+    /// there are no more items. Refused with 14 for want of memory, and then nothing changed and the call may be made again.
+    pub fn next(&mut self) -> Result<Option<Item>, Refusal>
+        // Whatever comes later, the item given is the first of those ahead, and what is left is ahead still.
+        ensures given { IfOk result (λ item. (more : List ℕ) →
+            ahead (fed self.old more) ≡ option_to_list item ++ ahead (fed self.new more)) }
+
+        // `None` only where nothing is ahead.
+        ensures none { result ≡ Ok None → ahead self.new ≡ [] }
+        ensures fault { (fault : ProtocolFault) → result ≡ Ok (Some (Fault fault)) → self.new ≡ None }
+        ensures err { OnErr result (self.new ≡ self.old) }
+        ensures cause { IfErr result (λ refusal. refusal ≡ Memory) }
+    {
+        let Some(unread) = &mut self.unread else {
+            return Ok(None);
+        };
+        let alloc = *unread.allocator();
+        let (item, rest) = first_item(alloc, unread.as_slice())?;
+        let taken = unread.len() - rest.len();
+        unread.advance(taken);
+        if let Some(Item::Fault(_)) = &item {
+            self.unread = None;
+        }
+        Ok(item)
+    }
+}

@@ -1,0 +1,3 @@
+pub mod ParserLemmas
+pub mod InboundLemmas
+pub mod OutboundLemmas

@@ -1,0 +1,9 @@
+//! Any list of events over two devices, through the crates that serve them, and what is promised of it.
+#![tactic(auto)]
+
+mod inbound;
+mod outbound;
+mod trace;
+
+pub use machine::{Event, Mark};
+pub use trace::{Ended, Trace};

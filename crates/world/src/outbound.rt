@@ -1,0 +1,85 @@
+//! What goes out to a connection, from the sequencer on.
+ghost use Rattle.std.specs.Prelude.{◌≡◌, List, IfOk};
+ghost use Rattle.model.specs.declared.call.Call.{Call};
+ghost use Rattle.machine.specs.Events.{Outbound as Machine};
+
+use kv_types::Refusal;
+use model::Call;
+use pipes::{Inlet, LocalPipe};
+use reply_gate::{Gate, Seen};
+use std::alloc::{AllocError, Global};
+
+/// A reply that was made: the place of its call in the list, and the position of the list after it.
+#[derive(Clone, Copy, Debug, PartialEq, Eq)]
+pub(crate) struct Made {
+    pub(crate) call: usize,
+    pub(crate) position: u64,
+}
+
+/// A connection's gate, and what lies on either side of it.
+#[derive(Drop)]
+pub(crate) struct Outbound {
+    /// Replies that the gate has not taken.
+    pub(crate) made: LocalPipe<Made>,
+    pub(crate) gate: Gate,
+    pub(crate) seen: Seen,
+    /// All bytes that were written to the connection.
+    pub(crate) released: Vec<u8>,
+}
+
+impl Outbound {
+    ghost use Rattle.machine.specs.Events.{no_connection};
+    ghost use Rattle.world.specs.Outbounds.{OutboundStands, HoldsFirst, LetsOut, Writes};
+
+    pub(crate) fn new(alloc: Global) -> Result<Outbound, AllocError>
+        ensures { IfOk result (λ outbound. (calls : List Call) → OutboundStands calls outbound no_connection.outbound) }
+    {
+        Ok(Outbound {
+            made: LocalPipe::new(alloc)?,
+            gate: Gate::new(alloc),
+            seen: Seen {
+                local: 0,
+                remote: 0,
+            },
+            released: Vec::new(alloc),
+        })
+    }
+
+    /// The gate takes the first reply that waits. Answers whether there was one.
+    pub(crate) fn hold(&mut self, calls: &[Call]) -> Result<bool, Refusal>
+        ensures { IfOk result (λ did. (machine : Machine) → OutboundStands calls.now self.old machine → HoldsFirst calls.now self.new did machine) }
+    {
+        let Some(made) = self.made.take() else {
+            return Ok(false);
+        };
+        if let Some(call) = calls.get(made.call) {
+            self.gate.hold(&call.reply, made.position)?;
+        }
+        Ok(true)
+    }
+
+    /// Lets out the replies that are covered. Answers whether there were any.
+    pub(crate) fn release(&mut self) -> bool
+        ensures { (calls : List Call) (machine : Machine) → OutboundStands calls self.old machine → LetsOut calls self.new result machine }
+    {
+        if !self.gate.can_release(&self.seen) {
+            return false;
+        }
+        self.gate.release(&self.seen);
+        true
+    }
+
+    /// Writes so many of the bytes that are out, if there are so many. Answers whether it did.
+    pub(crate) fn write(&mut self, n: u64) -> Result<bool, Refusal>
+        ensures { IfOk result (λ did. (calls : List Call) (machine : Machine) → OutboundStands calls self.old machine → Writes n calls self.new did machine) }
+    {
+        let pending = self.gate.pending();
+        let count = n as usize;
+        if count > pending.len() {
+            return Ok(false);
+        }
+        self.released.extend_from_slice(&pending[..count])?;
+        self.gate.sent(count);
+        Ok(true)
+    }
+}
