@@ -1,5 +1,5 @@
 -- Laws of the list of calls: how legality, keyspace, position, cut and the lists of one connection grow with it.
-use Rattle.std.proofs.Common.{◌≡◌, ℕ, zero, suc, ◌+◌, ◌-◌, ◌≤◌, min, true, false, cond, List, [], ◌∷◌, ◌++◌, refl, sym, ap, subst, ◌∙◌, arith, add-zero}
+use Rattle.std.proofs.Common.{◌≡◌, ℕ, zero, suc, ◌+◌, ◌-◌, ◌≤◌, min, true, false, cond, List, [], ◌∷◌, ◌++◌, length, refl, sym, ap, subst, ◌∙◌, arith, add-zero}
 use Rattle.kv_types.specs.declared.reply.Reply.{Error}
 use Rattle.kv_types.specs.Keyspaces.{Keyspace, IsKeyspace, play_all}
 use Rattle.kv_types.proofs.PlayLemmas.{is_keyspace-empty, is_keyspace-play_all}
@@ -215,3 +215,15 @@ IsPrefix-into-cut_at {front} p a le = let P : List Call → Type 0 = λ whole. I
 -- cuts of one list go one into the other
 pub IsPrefix-cuts : (calls : List Call) (p q : ℕ) → p ≤ q → IsPrefix (cut_at calls p) (cut_at calls q)
 IsPrefix-cuts calls p q le = IsPrefix-into-cut_at q (IsPrefix-cut_at calls p) (omega (arith, position_of-cut_at calls p))
+
+-- ---- how many calls
+
+-- no more calls are changing than there are
+pub position_from_le : (s : Keyspace) (calls : List Call) → position_from s calls ≤ length calls
+position_from_le s [] = omega arith
+position_from_le s (call ∷ calls) =
+    let rest = position_from_le (after_call s call) calls in
+    elim (is_changing s call) as (λ b. cond b 1 0 + position_from (after_call s call) calls ≤ suc (length calls)) [ true ↦ omega arith | false ↦ omega arith ]
+
+pub position_of_le : (calls : List Call) → position_of calls ≤ length calls
+position_of_le calls = position_from_le [] calls

@@ -7,3 +7,9 @@ pub mod VersionsLemmas
 pub mod GroupsLemmas
 pub mod RecordLemmas
 pub mod StandingLemmas
+pub mod RightCallsLemmas
+pub mod ReadRecordLemmas
+pub mod ReadEntryLemmas
+pub mod ReadMapLemmas
+mod WorkedCases
+mod WorkedImages

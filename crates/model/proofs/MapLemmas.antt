@@ -66,7 +66,7 @@ live_version version e live =
 -- ---- computed
 
 -- the entries below n hold no record twice
-abbrev OnceBelow : (ℕ → Option Version) → ℕ → Type 0
+abbrev pub OnceBelow : (ℕ → Option Version) → ℕ → Type 0
 OnceBelow versions n = (i j : ℕ) (id : RecordId) (v w : List ℕ) → i < n → j < n → IsLive versions i id v → IsLive versions j id w → i ≡ j
 
 -- an entry that is not live adds nothing
@@ -104,7 +104,8 @@ more_live versions n s version begun going once map = record {
   once = once;
 }
 
-more_version : (versions : ℕ → Option Version) (n : ℕ) (s : Keyspace) (entry : Option Version) → versions n ≡ entry → OnceBelow versions (suc n) → IsMapOf versions n s → IsMapOf versions (suc n) (with_version entry s)
+-- the version of one entry more is added
+pub more_version : (versions : ℕ → Option Version) (n : ℕ) (s : Keyspace) (entry : Option Version) → versions n ≡ entry → OnceBelow versions (suc n) → IsMapOf versions n s → IsMapOf versions (suc n) (with_version entry s)
 more_version versions n s None e once map = more_idle versions n s (λ id value live. not_live e live) once map
 more_version versions n s (Some version) e once map =
     elim (version.is_ended) as (λ b. version.is_ended ≡ b → IsMapOf versions (suc n) (cond b s (with_record version.id version.value s))) [

@@ -1,6 +1,10 @@
 pub mod Commands
 pub mod Calls
 pub mod Positions
+pub mod RightCalls
+pub mod Kept
 pub mod Images
 pub mod Standing
+pub mod ReadImages
+pub mod Shapes
 pub mod Groups

@@ -12,7 +12,7 @@ pub enum Role {
 }
 
 /// Stamps that were never committed: all from `first` to `last`.
-#[derive(Clone, Copy, Debug, PartialEq, Eq)]
+#[derive(Clone, Copy, Debug, Default, PartialEq, Eq)]
 pub struct Gap {
     pub first: u64,
     pub last: u64,
@@ -34,4 +34,36 @@ pub struct Record {
     pub role: Role,
     /// At most eight, by rising stamps.
     pub gaps: ArrayVec<Gap, 8>,
+}
+
+impl Record {
+    ghost use Rattle.std.specs.Prelude.{◌≡◌};
+    ghost use Rattle.std.specs.List.{list_any};
+    ghost use Rattle.model.specs.Images.{counts, is_in_gap};
+
+    /// Whether a stamp was committed: it is 1 to `cp`, and in no gap.
+    pub fn counts(&self, stamp: u64) -> bool
+        ensures { result ≡ counts self.now stamp }
+    {
+        0 < stamp && stamp <= self.cp && !self.has_in_gap(stamp)
+    }
+
+    /// Whether one of the gaps holds the stamp.
+    pub fn has_in_gap(&self, stamp: u64) -> bool
+        ensures { result ≡ list_any (is_in_gap stamp) self.now.gaps.items }
+    {
+        self.gaps.iter().any(|gap| gap.holds(stamp))
+    }
+}
+
+impl Gap {
+    ghost use Rattle.std.specs.Prelude.{◌≡◌};
+    ghost use Rattle.model.specs.Images.{is_in_gap};
+
+    /// Whether the stamp is one of the gap's.
+    pub fn holds(&self, stamp: u64) -> bool
+        ensures { result ≡ is_in_gap stamp self.now }
+    {
+        self.first <= stamp && stamp <= self.last
+    }
 }

@@ -1,0 +1,218 @@
+-- A record read word by word.
+use Rattle.std.proofs.Common.{◌≡◌, ◌≢◌, ℕ, zero, suc, ◌+◌, ◌-◌, ◌*◌, ◌%◌, ◌<◌, ◌≤◌, List, [], ◌∷◌, ◌++◌, length, take, replicate, refl, sym, ap, subst, ◌∙◌, arith, add-zero}
+use Rattle.std.specs.List.{flat_map}
+use Rattle.std.proofs.Math.Seq.{take-append-add}
+use Rattle.std.proofs.lemmas.List.{take-replicate, length-replicate, replicate_more}
+use Rattle.model.specs.declared.record.Gap.{Gap}
+use Rattle.model.specs.declared.record.Record.{Record}
+use Rattle.model.specs.declared.record.Role.{Role}
+use Rattle.model.specs.declared.record.TheConstants.{MAX_GAPS}
+use Rattle.model.specs.Images.{Image, HasWords, record_word, role_number, gap_words, gaps_words, record_words}
+use Rattle.model.proofs.RecordLemmas.{length-gaps_words}
+use Rattle.model.specs.ReadImages.{gaps_from, AreZero, IsFilled, IsRecordOf}
+
+-- ---- words one after another
+
+pub HasWords-at : (image : Image) (first other : ℕ) (xs : List ℕ) → first ≡ other → HasWords image first xs → HasWords image other xs
+HasWords-at image first other xs e h = subst (λ n. HasWords image n xs) e h
+
+pub HasWords-append : (image : Image) (first : ℕ) (xs ys : List ℕ) → HasWords image first xs → HasWords image (first + length xs) ys → HasWords image first (xs ++ ys)
+HasWords-append image first [] ys a b = HasWords-at image (first + 0) first ys (omega arith) b
+HasWords-append image first (x ∷ xs) ys a b = (a.0, HasWords-append image (first + 1) xs ys a.1 (HasWords-at image (first + suc (length xs)) (first + 1 + length xs) ys (omega arith) b))
+
+pub HasWords-front : (image : Image) (first : ℕ) (xs ys : List ℕ) → HasWords image first (xs ++ ys) → HasWords image first xs
+HasWords-front image first [] ys h = tt
+HasWords-front image first (x ∷ xs) ys h = (h.0, HasWords-front image (first + 1) xs ys h.1)
+
+pub HasWords-rest : (image : Image) (first : ℕ) (xs ys : List ℕ) → HasWords image first (xs ++ ys) → HasWords image (first + length xs) ys
+HasWords-rest image first [] ys h = HasWords-at image first (first + 0) ys (omega arith) h
+HasWords-rest image first (x ∷ xs) ys h = HasWords-at image (first + 1 + length xs) (first + suc (length xs)) ys (omega arith) (HasWords-rest image (first + 1) xs ys h.1)
+
+-- ---- zeros
+
+pub AreZero-more : (image : Image) (first k : ℕ) → AreZero image first k → image (first + k) ≡ 0 → AreZero image first (k + 1)
+AreZero-more image first k zeros e =
+    subst (HasWords image first) (replicate_more k 0) (HasWords-append image first (replicate k 0) (0 ∷ []) zeros (ap (λ n. image (first + n)) (length-replicate k 0) ∙ e, tt))
+
+pub AreZero-at : (image : Image) (first k count : ℕ) → k < count → AreZero image first count → image (first + k) ≡ 0
+AreZero-at image first k zero lt zeros = absurd (omega arith)
+AreZero-at image first zero (suc count) lt zeros = let same : first + 0 ≡ first = omega arith in ap image same ∙ zeros.0
+AreZero-at image first (suc k) (suc count) lt zeros = let same : first + suc k ≡ first + 1 + k = omega arith in ap image same ∙ AreZero-at image (first + 1) k count (omega arith) zeros.1
+
+-- ---- gaps
+
+pub length-gaps_from : (image : Image) (first count : ℕ) → length (gaps_from image first count) ≡ count
+length-gaps_from image first zero = refl
+length-gaps_from image first (suc count) = ap suc (length-gaps_from image (first + 2) count)
+
+abbrev pub pair_at : Image → ℕ → Gap
+pair_at image first = record { first = image first; last = image (first + 1) }
+
+gaps_from-suc : (image : Image) (first count : ℕ) → gaps_from image first (suc count) ≡ gaps_from image first count ++ pair_at image (first + 2 * count) ∷ []
+gaps_from-suc image first zero = let same : first ≡ first + 2 * 0 = omega arith in ap (λ n. pair_at image n ∷ []) same
+gaps_from-suc image first (suc count) =
+    let same : first + 2 + 2 * count ≡ first + 2 * suc count = omega arith in
+    ap (λ gaps. pair_at image first ∷ gaps) (gaps_from-suc image (first + 2) count ∙ ap (λ n. gaps_from image (first + 2) count ++ pair_at image n ∷ []) same)
+
+-- one pair more
+pub gaps_from-more : (image : Image) (first count : ℕ) → gaps_from image first (count + 1) ≡ gaps_from image first count ++ pair_at image (first + 2 * count) ∷ []
+gaps_from-more image first count = let same : count + 1 ≡ suc count = omega arith in ap (gaps_from image first) same ∙ gaps_from-suc image first count
+
+-- the pairs that are there are those that are read
+HasWords-gaps_from : (image : Image) (first count : ℕ) → HasWords image first (flat_map gap_words (gaps_from image first count))
+HasWords-gaps_from image first zero = tt
+HasWords-gaps_from image first (suc count) =
+    let same : first + 2 ≡ first + 1 + 1 = omega arith in
+    let rest = flat_map gap_words (gaps_from image (first + 2) count) in
+    (refl, (refl, HasWords-at image (first + 2) (first + 1 + 1) rest same (HasWords-gaps_from image (first + 2) count)))
+
+gaps_from-HasWords : (image : Image) (first : ℕ) (gaps : List Gap) → HasWords image first (flat_map gap_words gaps) → gaps_from image first (length gaps) ≡ gaps
+gaps_from-HasWords image first [] h = refl
+gaps_from-HasWords image first (gap ∷ gaps) h =
+    let same : first + 1 + 1 ≡ first + 2 = omega arith in
+    let rest = gaps_from-HasWords image (first + 2) gaps (HasWords-at image (first + 1 + 1) (first + 2) (flat_map gap_words gaps) same h.1.1) in
+    let a : image first ≡ gap.first = h.0 in
+    let b : image (first + 1) ≡ gap.last = h.1.0 in
+    λ i. record { first = a i; last = b i } ∷ rest i
+
+length-pairs : (gaps : List Gap) → length (flat_map gap_words gaps) ≡ 2 * length gaps
+length-pairs [] = refl
+length-pairs (gap ∷ gaps) = let rest = length-pairs gaps in omega arith
+
+-- the words of the gaps are their pairs, and zeros
+gaps_words-pairs : (gaps : List Gap) → length gaps ≤ MAX_GAPS → gaps_words gaps ≡ flat_map gap_words gaps ++ replicate (16 - 2 * length gaps) 0
+gaps_words-pairs gaps few =
+    let pairs = flat_map gap_words gaps in
+    let room : 16 ≡ length pairs + (16 - 2 * length gaps) = omega (arith, length-pairs gaps) in
+    ap (λ n. take n (pairs ++ replicate 16 0)) room ∙ take-append-add pairs (replicate 16 0) (16 - 2 * length gaps) ∙ ap (λ zeros. pairs ++ zeros) (take-replicate (16 - 2 * length gaps) 16 0 (omega arith))
+
+-- ---- a record
+
+-- the first word of the slot that the root names
+abbrev pub slot_word : ℕ → ℕ
+slot_word root = 8 * (1 + 3 * (root % 2))
+
+-- the record stands in its slot, word by word
+pub record StandsInSlot (image : Image) (first : ℕ) (r : Record) : Type 0 where
+  pub root : image 4 ≡ r.number
+  pub slot : first ≡ slot_word r.number
+  pub number : image first ≡ r.number
+  pub position : image (first + 1) ≡ r.position
+  pub cp : image (first + 2) ≡ r.cp
+  pub cd : image (first + 3) ≡ r.cd
+  pub epoch : image (first + 4) ≡ r.epoch
+  pub count : image (first + 5) ≡ length r.gaps.items
+  pub few : length r.gaps.items ≤ MAX_GAPS
+  pub gaps : r.gaps.items ≡ gaps_from image (first + 6) (length r.gaps.items)
+  pub unused : AreZero image (first + 6 + 2 * length r.gaps.items) (16 - 2 * length r.gaps.items)
+  pub role : image (first + 22) ≡ role_number r.role
+  pub last : image (first + 23) ≡ 0
+
+word_is : (image : Image) (a b : ℕ) (x : ℕ) → a ≡ b → image b ≡ x → image a ≡ x
+word_is image a b x same e = ap image same ∙ e
+
+pub IsRecordOf-slot : (image : Image) (first : ℕ) (r : Record) → StandsInSlot image first r → IsRecordOf image r
+IsRecordOf-slot image first r stands =
+    let pairs = flat_map gap_words r.gaps.items in
+    let unused = 16 - 2 * length r.gaps.items in
+    let ending = role_number r.role ∷ 0 ∷ [] in
+    let in_gaps : HasWords image (first + 6) pairs = subst (λ gaps. HasWords image (first + 6) (flat_map gap_words gaps)) (sym stands.gaps) (HasWords-gaps_from image (first + 6) (length r.gaps.items)) in
+    let zeros : HasWords image (first + 6 + length pairs) (replicate unused 0) = HasWords-at image (first + 6 + 2 * length r.gaps.items) (first + 6 + length pairs) (replicate unused 0) (ap (λ n. first + 6 + n) (sym (length-pairs r.gaps.items))) stands.unused in
+    let middle : HasWords image (first + 6) (gaps_words r.gaps.items) = subst (HasWords image (first + 6)) (sym (gaps_words-pairs r.gaps.items stands.few)) (HasWords-append image (first + 6) pairs (replicate unused 0) in_gaps zeros) in
+    let after : HasWords image (first + 6 + length (gaps_words r.gaps.items)) ending = (
+      word_is image (first + 6 + length (gaps_words r.gaps.items)) (first + 22) (role_number r.role) (omega (arith, length-gaps_words r.gaps.items)) stands.role,
+      (word_is image (first + 6 + length (gaps_words r.gaps.items) + 1) (first + 23) 0 (omega (arith, length-gaps_words r.gaps.items)) stands.last, tt),
+    ) in
+    let tail : HasWords image (first + 1 + 1 + 1 + 1 + 1 + 1) (gaps_words r.gaps.items ++ ending) =
+    HasWords-at image (first + 6) (first + 1 + 1 + 1 + 1 + 1 + 1) (gaps_words r.gaps.items ++ ending) (omega arith) (HasWords-append image (first + 6) (gaps_words r.gaps.items) ending middle after) in
+    let words : HasWords image first (record_words r) = (
+      stands.number,
+      (
+        stands.position,
+        (
+          word_is image (first + 1 + 1) (first + 2) r.cp (omega arith) stands.cp,
+          (
+            word_is image (first + 1 + 1 + 1) (first + 3) r.cd (omega arith) stands.cd,
+            (word_is image (first + 1 + 1 + 1 + 1) (first + 4) r.epoch (omega arith) stands.epoch, (word_is image (first + 1 + 1 + 1 + 1 + 1) (first + 5) (length r.gaps.items) (omega arith) stands.count, tail)),
+          ),
+        ),
+      ),
+    ) in
+    record {
+      has_record = record { root = stands.root; words = HasWords-at image first (record_word r.number 0) (record_words r) (stands.slot ∙ sym (add-zero (slot_word r.number))) words };
+      few = stands.few;
+    }
+
+-- the words of a record are those that its slot has
+pub slot-IsRecordOf : (image : Image) (r : Record) → IsRecordOf image r → StandsInSlot image (slot_word r.number) r
+slot-IsRecordOf image r is =
+    let first = slot_word r.number in
+    let words : HasWords image first (record_words r) = HasWords-at image (record_word r.number 0) first (record_words r) (add-zero first) is.has_record.words in
+    let pairs = flat_map gap_words r.gaps.items in
+    let unused = 16 - 2 * length r.gaps.items in
+    let ending = role_number r.role ∷ 0 ∷ [] in
+    let count = words.1.1.1.1.1.0 in
+    let tail : HasWords image (first + 6) (gaps_words r.gaps.items ++ ending) = HasWords-at image (first + 1 + 1 + 1 + 1 + 1 + 1) (first + 6) (gaps_words r.gaps.items ++ ending) (omega arith) words.1.1.1.1.1.1 in
+    let middle : HasWords image (first + 6) (pairs ++ replicate unused 0) = subst (HasWords image (first + 6)) (gaps_words-pairs r.gaps.items is.few) (HasWords-front image (first + 6) (gaps_words r.gaps.items) ending tail) in
+    let after : HasWords image (first + 6 + length (gaps_words r.gaps.items)) ending = HasWords-rest image (first + 6) (gaps_words r.gaps.items) ending tail in
+    record {
+      root = is.has_record.root;
+      slot = refl;
+      number = words.0;
+      position = words.1.0;
+      cp = word_is image (first + 2) (first + 1 + 1) r.cp (omega arith) words.1.1.0;
+      cd = word_is image (first + 3) (first + 1 + 1 + 1) r.cd (omega arith) words.1.1.1.0;
+      epoch = word_is image (first + 4) (first + 1 + 1 + 1 + 1) r.epoch (omega arith) words.1.1.1.1.0;
+      count = word_is image (first + 5) (first + 1 + 1 + 1 + 1 + 1) (length r.gaps.items) (omega arith) count;
+      few = is.few;
+      gaps = sym (gaps_from-HasWords image (first + 6) r.gaps.items (HasWords-front image (first + 6) pairs (replicate unused 0) middle));
+      unused = HasWords-at image (first + 6 + length pairs) (first + 6 + 2 * length r.gaps.items) (replicate unused 0) (ap (λ n. first + 6 + n) (length-pairs r.gaps.items)) (HasWords-rest image (first + 6) pairs (replicate unused 0) middle);
+      role = word_is image (first + 22) (first + 6 + length (gaps_words r.gaps.items)) (role_number r.role) (omega (arith, length-gaps_words r.gaps.items)) after.0;
+      last = word_is image (first + 23) (first + 6 + length (gaps_words r.gaps.items) + 1) 0 (omega (arith, length-gaps_words r.gaps.items)) after.1.0;
+    }
+
+-- ---- no record
+
+-- what is known of a record's slot where the root is this number
+at_root : (image : Image) (number : ℕ) (r : Record) → image 4 ≡ number → IsRecordOf image r → StandsInSlot image (slot_word number) r
+at_root image number r root is =
+    let stands = slot-IsRecordOf image r is in
+    subst (λ n. StandsInSlot image (slot_word n) r) (sym stands.root ∙ root) stands
+
+pub no_record-role : (image : Image) (number code : ℕ) → image 4 ≡ number → image (slot_word number + 22) ≡ code → ((role : Role) → role_number role ≢ code) → (r : Record) → IsRecordOf image r → ⊥
+no_record-role image number code root at none r is = let stands = at_root image number r root is in none r.role (sym stands.role ∙ at)
+
+pub no_record-count : (image : Image) (number count : ℕ) → image 4 ≡ number → image (slot_word number + 5) ≡ count → MAX_GAPS < count → (r : Record) → IsRecordOf image r → ⊥
+no_record-count image number count root at many r is = let stands = at_root image number r root is in let same = sym stands.count ∙ at in let few = stands.few in omega arith
+
+pub no_record-filled : (image : Image) (number count : ℕ) → image 4 ≡ number → image (slot_word number + 5) ≡ count → (IsFilled image (slot_word number) number count → ⊥) → (r : Record) → IsRecordOf image r → ⊥
+no_record-filled image number count root at none r is =
+    let stands = at_root image number r root is in
+    let count_is = sym stands.count ∙ at in
+    none (record {
+      number_is = stands.number ∙ sym stands.root ∙ root;
+      last = stands.last;
+      unused = subst (λ n. AreZero image (slot_word number + 6 + 2 * n) (16 - 2 * n)) count_is stands.unused;
+    })
+
+-- a record that was read
+pub IsRecordOf-read : (image : Image) (number count : ℕ) (r : Record) → image 4 ≡ number → r.number ≡ number → image (slot_word number + 1) ≡ r.position → image (slot_word number + 2) ≡ r.cp
+    → image (slot_word number + 3) ≡ r.cd → image (slot_word number + 4) ≡ r.epoch → image (slot_word number + 5) ≡ count → count ≤ MAX_GAPS → r.gaps.items ≡ gaps_from image (slot_word number + 6) count
+    → image (slot_word number + 22) ≡ role_number r.role → IsFilled image (slot_word number) number count → IsRecordOf image r
+IsRecordOf-read image number count r root number_is position cp cd epoch at few gaps role filled =
+    let len : length r.gaps.items ≡ count = ap length gaps ∙ length-gaps_from image (slot_word number + 6) count in
+    IsRecordOf-slot image (slot_word number) r (record {
+      root = root ∙ sym number_is;
+      slot = ap slot_word (sym number_is);
+      number = filled.number_is ∙ sym number_is;
+      position = position;
+      cp = cp;
+      cd = cd;
+      epoch = epoch;
+      count = at ∙ sym len;
+      few = omega arith;
+      gaps = gaps ∙ ap (gaps_from image (slot_word number + 6)) (sym len);
+      unused = subst (λ n. AreZero image (slot_word number + 6 + 2 * n) (16 - 2 * n)) (sym len) filled.unused;
+      role = role;
+      last = filled.last;
+    })

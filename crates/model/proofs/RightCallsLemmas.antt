@@ -1,0 +1,84 @@
+-- The right call may be made, and what it changes.
+use Rattle.std.proofs.Common.{◌≡◌, ℕ, ◌+◌, ◌≤◌, inl, inr, Bool, true, false, cond, nat_le, List, [], ◌∷◌, ◌++◌, codes, Option, None, Some, Result, Ok, Err, refl, sym, ap, subst, ◌∙◌, arith, leb-true, leb-false}
+use mir.Val.{bool_byte}
+use Rattle.kv_types.specs.declared.record_id.RecordId.TheVariants.{Str}
+use Rattle.kv_types.specs.declared.item.Item.{Item}
+use Rattle.kv_types.specs.declared.item.Item.TheVariants.{Request, Fault}
+use Rattle.kv_types.specs.declared.reply.Reply.{Reply}
+use Rattle.kv_types.specs.Keyspaces.{Keyspace, value_at, play_all}
+use Rattle.kv_types.specs.Changes.{changes_size}
+use Rattle.model.specs.declared.call.Call.{Call}
+use Rattle.model.specs.declared.call.TheConstants.{MAX_CHANGE_BYTES}
+use Rattle.model.specs.declared.outcome.Outcome.{Outcome as Computed}
+use Rattle.model.specs.Commands.{Command, Get, Set, Misuse, Outcome, does, bulk_or_null, refusing, outcome_of_reading, outcome_of, read_command}
+use Rattle.model.specs.Calls.{MayReply, unless_error, changes_of, IsLegal, keyspace_after, position_of, is_nonempty}
+use Rattle.model.specs.RightCalls.{right_outcome, right_call, Gives}
+use Rattle.model.specs.Kept.{IsKept}
+use Rattle.model.proofs.CallsLemmas.{IsLegal-push, keyspace_after-push, position_of-push}
+
+right_or_too_large : (outcome : Outcome) (b : Bool) → nat_le (changes_size outcome.changes) MAX_CHANGE_BYTES ≡ b → MayReply outcome (cond b outcome (refusing (codes "ERR change is too large"))).reply
+right_or_too_large outcome true e = inr (inr (inl (leb-true (changes_size outcome.changes) MAX_CHANGE_BYTES e, refl)))
+right_or_too_large outcome false e = inr (inl (leb-false (changes_size outcome.changes) MAX_CHANGE_BYTES e, refl))
+
+-- the right reply may stand
+pub MayReply-right : (s : Keyspace) (item : Item) → MayReply (outcome_of s item) (right_outcome s item).reply
+MayReply-right s item = let outcome = outcome_of s item in right_or_too_large outcome (nat_le (changes_size outcome.changes) MAX_CHANGE_BYTES) refl
+
+-- ---- an error changes nothing
+
+bulk_or_null-error : (value : Option (List ℕ)) → unless_error (bulk_or_null value) [] ≡ []
+bulk_or_null-error None = refl
+bulk_or_null-error (Some value) = refl
+
+does-error : (s : Keyspace) (command : Command) → unless_error (does s command).reply (does s command).changes ≡ (does s command).changes
+does-error s (Get key) = bulk_or_null-error (value_at s (Str key))
+does-error s (Set key value []) = refl
+does-error s (Set key value (option ∷ options)) = refl
+
+outcome_of_reading-error : (s : Keyspace) (reading : Result Command Misuse) → unless_error (outcome_of_reading s reading).reply (outcome_of_reading s reading).changes ≡ (outcome_of_reading s reading).changes
+outcome_of_reading-error s (Ok command) = does-error s command
+outcome_of_reading-error s (Err misuse) = refl
+
+-- the outcome of an item that is answered an error has no changes
+pub outcome_of-error : (s : Keyspace) (item : Item) → unless_error (outcome_of s item).reply (outcome_of s item).changes ≡ (outcome_of s item).changes
+outcome_of-error s (Request words) = outcome_of_reading-error s (read_command words)
+outcome_of-error s (Fault fault) = refl
+
+-- what the right call changes
+pub changes_of-right_call : (s : Keyspace) (connection : ℕ) (item : Item) → changes_of s (right_call s connection item) ≡ (right_outcome s item).changes
+changes_of-right_call s connection item =
+    let outcome = outcome_of s item in
+    let too_large = refusing (codes "ERR change is too large") in
+    elim (nat_le (changes_size outcome.changes) MAX_CHANGE_BYTES) as (λ b. unless_error (cond b outcome too_large).reply outcome.changes ≡ (cond b outcome too_large).changes) [
+      | true ↦ outcome_of-error s item
+      | false ↦ refl
+    ]
+
+pub IsLegal-right_call : (calls : List Call) (connection : ℕ) (item : Item) → IsLegal calls → IsLegal (calls ++ right_call (keyspace_after calls) connection item ∷ [])
+IsLegal-right_call calls connection item legal = IsLegal-push calls (right_call (keyspace_after calls) connection item) legal (MayReply-right (keyspace_after calls) item)
+
+-- ---- what a Redis keeps
+
+bool_byte_is : (b : Bool) → bool_byte b ≡ cond b 1 0
+bool_byte_is true = refl
+bool_byte_is false = refl
+
+pub bool_byte_le : (b : Bool) → bool_byte b ≤ 1
+bool_byte_le true = omega arith
+bool_byte_le false = omega arith
+
+-- a Redis that made the right call keeps what it should
+pub IsKept-call : (calls more : List Call) (s new : Keyspace) (p : ℕ) (connection : ℕ) (item : Item) (computed : Computed) (changing : Bool) → IsKept calls s p → Gives computed (right_outcome s item)
+    → more ≡ calls ++ record { connection = connection; item = item; reply = computed.reply } ∷ [] → new ≡ play_all s computed.changes.items → changing ≡ is_nonempty computed.changes.items → IsKept more new (p + bool_byte changing)
+IsKept-call calls more s new p connection item computed changing kept gives pushed played changing_is =
+    let before = kept.keyspace_is in
+    let call = right_call s connection item in
+    let same : more ≡ calls ++ call ∷ [] = pushed ∙ ap (λ (reply : Reply). calls ++ record { connection = connection; item = item; reply = reply } ∷ []) gives.reply in
+    let here : more ≡ calls ++ right_call (keyspace_after calls) connection item ∷ [] = same ∙ ap (λ t. calls ++ right_call t connection item ∷ []) before in
+    let changes : computed.changes.items ≡ changes_of s call = gives.changes ∙ sym (changes_of-right_call s connection item) in
+    let here_changes : computed.changes.items ≡ changes_of (keyspace_after calls) call = changes ∙ ap (λ t. changes_of t call) before in
+    record {
+      legal = subst IsLegal (sym here) (IsLegal-right_call calls connection item kept.legal);
+      keyspace_is = played ∙ ap (play_all s) here_changes ∙ ap (λ t. play_all t (changes_of (keyspace_after calls) call)) before ∙ sym (keyspace_after-push calls call) ∙ ap keyspace_after (sym same);
+      position_is = ap (λ n. n + bool_byte changing) kept.position_is ∙ ap (λ n. position_of calls + n) (bool_byte_is changing ∙ ap (λ b. cond b 1 0) (changing_is ∙ ap is_nonempty here_changes)) ∙ sym (position_of-push calls call) ∙ ap position_of (sym same);
+    }

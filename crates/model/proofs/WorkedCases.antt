@@ -1,0 +1,105 @@
+-- The worked cases of SET and GET and of lists of calls, computed from the definitions.
+use Rattle.std.proofs.Common.{◌≡◌, ℕ, List, [], ◌∷◌, ◌++◌, codes, replicate, inl, inr, refl, lit≤}
+use Rattle.std.specs.Fmt.{digits}
+use Rattle.kv_types.specs.declared.change.Change.TheVariants.{Put}
+use Rattle.kv_types.specs.declared.item.Item.{Item}
+use Rattle.kv_types.specs.declared.item.Item.TheVariants.{Request, Fault}
+use Rattle.kv_types.specs.declared.item.ProtocolFault.TheVariants.{ExpectedBulk}
+use Rattle.kv_types.specs.declared.record_id.RecordId.TheVariants.{Str}
+use Rattle.kv_types.specs.declared.reply.Reply.{Reply, Simple, Error, Bulk, NullBulk}
+use Rattle.kv_types.specs.Keyspaces.{Keyspace}
+use Rattle.model.specs.declared.call.Call.{Call}
+use Rattle.model.specs.Commands.{outcome_of, refusing}
+use Rattle.model.specs.Calls.{memory_reply, full_reply, IsLegal, keyspace_after, position_of, cut_at, items_of, replies_to, up_to_closing}
+use Rattle.model.specs.Positions.{changes_at}
+
+-- ---- what a command answers and changes
+
+abbrev holds_a : Keyspace
+holds_a = (Str (codes "a"), codes "1") ∷ []
+
+get_absent : outcome_of [] (Request (codes "GET" ∷ codes "z" ∷ [])) ≡ record { reply = NullBulk; changes = [] }
+get_absent = refl
+
+get_present : outcome_of holds_a (Request (codes "get" ∷ codes "a" ∷ [])) ≡ record { reply = Bulk (codes "1"); changes = [] }
+get_present = refl
+
+set_writes : outcome_of [] (Request (codes "sEt" ∷ codes "a" ∷ codes "1" ∷ [])) ≡ record { reply = Simple (codes "OK"); changes = Put (Str (codes "a")) (codes "1") ∷ [] }
+set_writes = refl
+
+-- the empty value
+set_empty : outcome_of [] (Request (codes "SET" ∷ codes "e" ∷ [] ∷ [])) ≡ record { reply = Simple (codes "OK"); changes = Put (Str (codes "e")) [] ∷ [] }
+set_empty = refl
+
+get_alone : outcome_of [] (Request (codes "gEt" ∷ [])) ≡ refusing (codes "ERR wrong number of arguments for 'get' command")
+get_alone = refl
+
+get_of_two : outcome_of holds_a (Request (codes "GET" ∷ codes "a" ∷ codes "b" ∷ [])) ≡ refusing (codes "ERR wrong number of arguments for 'get' command")
+get_of_two = refl
+
+set_of_key : outcome_of [] (Request (codes "SET" ∷ codes "a" ∷ [])) ≡ refusing (codes "ERR wrong number of arguments for 'set' command")
+set_of_key = refl
+
+set_with_option : outcome_of [] (Request (codes "SET" ∷ codes "a" ∷ codes "1" ∷ codes "NX" ∷ [])) ≡ refusing (codes "ERR syntax error")
+set_with_option = refl
+
+unknown_name : outcome_of [] (Request (codes "NOSUCH" ∷ codes "a" ∷ [])) ≡ refusing (codes "ERR unknown command")
+unknown_name = refl
+
+-- a key of 512 bytes is a key, one of 513 is too long; its length is looked at after the number of words
+long_key : outcome_of [] (Request (codes "GET" ∷ replicate 513 107 ∷ [])) ≡ refusing (codes "ERR key or field is longer than 512 bytes")
+long_key = refl
+
+longest_key : outcome_of [] (Request (codes "GET" ∷ replicate 512 107 ∷ [])) ≡ record { reply = NullBulk; changes = [] }
+longest_key = refl
+
+long_key_and_words : outcome_of [] (Request (codes "GET" ∷ replicate 513 107 ∷ codes "x" ∷ [])) ≡ refusing (codes "ERR wrong number of arguments for 'get' command")
+long_key_and_words = refl
+
+long_key_and_option : outcome_of [] (Request (codes "SET" ∷ replicate 513 107 ∷ codes "1" ∷ codes "NX" ∷ [])) ≡ refusing (codes "ERR key or field is longer than 512 bytes")
+long_key_and_option = refl
+
+fault_answered : outcome_of holds_a (Fault (ExpectedBulk 7)) ≡ refusing (codes "ERR Protocol error: expected '$', got '?'")
+fault_answered = refl
+
+-- ---- lists of calls
+
+abbrev set_a : List ℕ → Reply → Call
+set_a value reply = record { connection = 0; item = Request (codes "SET" ∷ codes "a" ∷ value ∷ []); reply = reply }
+
+abbrev get_a : ℕ → Reply → Call
+get_a connection reply = record { connection = connection; item = Request (codes "GET" ∷ codes "a" ∷ []); reply = reply }
+
+-- a write, a read by another connection, a write for which there was no memory, one for which there was no room, and a read
+abbrev worked_list : List Call
+worked_list =
+    set_a (codes "1") (Simple (codes "OK")) ∷ get_a 1 (Bulk (codes "1")) ∷ set_a (codes "2") memory_reply ∷ set_a (codes "3") full_reply ∷ get_a 0 (Bulk (codes "1")) ∷ set_a (codes "4") (Simple (codes "OK")) ∷ []
+
+worked_list_legal : IsLegal worked_list
+worked_list_legal =
+    (inr (inr (inl (lit≤ tt, refl))), (inr (inr (inl (lit≤ tt, refl))), (inl refl, (inr (inr (inr (lit≤ tt, refl, refl))), (inr (inr (inl (lit≤ tt, refl))), (inr (inr (inl (lit≤ tt, refl))), tt))))))
+
+worked_list_keyspace : keyspace_after worked_list ≡ (Str (codes "a"), codes "4") ∷ []
+worked_list_keyspace = refl
+
+-- reads and refused writes do not count
+worked_list_position : position_of worked_list ≡ 2
+worked_list_position = refl
+
+-- the cut keeps what follows its last change and changes nothing
+worked_list_cut : cut_at worked_list 1 ≡ set_a (codes "1") (Simple (codes "OK")) ∷ get_a 1 (Bulk (codes "1")) ∷ set_a (codes "2") memory_reply ∷ set_a (codes "3") full_reply ∷ get_a 0 (Bulk (codes "1")) ∷ []
+worked_list_cut = refl
+
+worked_list_cut_keyspace : keyspace_after (cut_at worked_list 1) ≡ holds_a
+worked_list_cut_keyspace = refl
+
+worked_list_change : changes_at worked_list 1 ≡ Put (Str (codes "a")) (codes "4") ∷ []
+worked_list_change = refl
+
+replies_of_one : replies_to 1 worked_list ≡ codes "$1\r\n1\r\n"
+unfolding digits
+replies_of_one = refl
+
+-- nothing is asked after a fault
+nothing_after_fault : up_to_closing (Request (codes "GET" ∷ codes "a" ∷ []) ∷ Fault (ExpectedBulk 7) ∷ Request (codes "GET" ∷ codes "a" ∷ []) ∷ []) ≡ Request (codes "GET" ∷ codes "a" ∷ []) ∷ Fault (ExpectedBulk 7) ∷ []
+nothing_after_fault = refl

@@ -1,0 +1,5 @@
+use Rattle.model.specs.ReadImages.{image_of, AreZero}
+use Rattle.model.proofs.image_words.are_zero.Given as goal
+
+abbrev pub invariant-loop-k : goal.invariant-loop-k
+invariant-loop-k l = AreZero (image_of l.words) l.first l.k

@@ -1,0 +1,19 @@
+use Rattle.std.proofs.Common.{◌≡◌, ◌+◌, ◌*◌, length, ap, sym, ◌∙◌, arith, lit<, ◌++◌, ◌∷◌, []}
+use Rattle.model.specs.declared.record.Gap.{Gap}
+use Rattle.model.specs.ReadImages.{image_of, gaps_from}
+use Rattle.model.proofs.ReadRecordLemmas.{pair_at, length-gaps_from, gaps_from-more}
+use Rattle.model.proofs.image_words.read_gaps.Goals as goal
+
+pub push-requires : goal.push-requires
+push-requires c =
+    let count = ap length c.loop-k.invariant ∙ length-gaps_from (image_of c.args.words.now) c.args.first c.loop-k.k in
+    (lit< tt, omega arith)
+
+pub loop-k-preserved : goal.loop-k-preserved
+loop-k-preserved c =
+    let image = image_of c.args.words.now in
+    let gap : Gap = record { first = c.word_at.result; last = c.word_at-in-loop-k.result } in
+    let first : c.word_at.result ≡ image (c.args.first + 2 * c.loop-k.k) = c.word_at.ensures in
+    let last : c.word_at-in-loop-k.result ≡ image (c.args.first + 2 * c.loop-k.k + 1) = c.word_at-in-loop-k.ensures in
+    let same : gap ≡ pair_at image (c.args.first + 2 * c.loop-k.k) = λ i. record { first = first i; last = last i } in
+    c.push.ensures.items ∙ ap (λ gaps. gaps ++ gap ∷ []) c.loop-k.invariant ∙ ap (λ g. gaps_from image c.args.first c.loop-k.k ++ g ∷ []) same ∙ sym (gaps_from-more image c.args.first c.loop-k.k)

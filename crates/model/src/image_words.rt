@@ -1,0 +1,113 @@
+//! The words of an image: its superblock and its record.
+ghost use Rattle.std.specs.Prelude.{◌≡◌, ◌≢◌, ◌↔◌, ◌+◌, ◌*◌, ◌<◌, ◌≤◌, ◌^◌, IsTrue, MatchOption, length, slice_index};
+ghost use Rattle.model.specs.declared.record.Record.{Record as CommitRecord};
+ghost use Rattle.model.specs.declared.record.Role.{Role as NodeRole};
+ghost use Rattle.model.specs.Images.{HasSuperblock, role_number, entry_word as the_entry_word};
+ghost use Rattle.model.specs.ReadImages.{image_of, line_count, gaps_from, AreZero, IsFilled, IsRecordOf};
+
+use crate::image::{MAGIC, VERSION};
+use crate::record::{Gap, MAX_GAPS, Record, Role};
+use arrayvec::ArrayVec;
+
+/// The word of this number, and 0 behind the last one.
+pub fn word_at(words: &[u64], at: u64) -> u64
+    ensures { result ≡ slice_index words.now at }
+{
+    words.get(at as usize).copied().unwrap_or(0)
+}
+
+/// The number of word `k` of entry `i`.
+pub fn entry_word(i: u64, k: u64) -> u64
+    requires entry { 64 * i < 2 ^ 64 }
+    requires word { k < 8 }
+    ensures { result ≡ the_entry_word i k }
+{
+    8 * (8 + i) + k
+}
+
+/// Whether the words begin with the superblock of an image of just their number of whole lines.
+pub fn has_superblock(words: &[u64]) -> bool
+    ensures { IsTrue result ↔ HasSuperblock (line_count words.now) (image_of words.now) }
+{
+    let lines = words.len() as u64 / 8;
+    word_at(words, 0) == MAGIC
+        && word_at(words, 1) == VERSION
+        && word_at(words, 2) == lines
+        && word_at(words, 3) == lines / 8
+}
+
+/// The current record, or `None` where the slot that the root names holds none.
+pub fn read_record(words: &[u64]) -> Option<Record>
+    ensures { MatchOption result ((r : CommitRecord) → ¬ IsRecordOf (image_of words.now) r) (λ r. IsRecordOf (image_of words.now) r) }
+{
+    let number = word_at(words, 4);
+    let first = 8 * (1 + 3 * (number % 2));
+    let gap_count = word_at(words, first + 5);
+    let gaps = read_gaps(words, first + 6, gap_count)?;
+    let role = read_role(word_at(words, first + 22))?;
+    if !is_filled(words, first, number, gap_count) {
+        return None;
+    }
+    Some(Record {
+        number,
+        position: word_at(words, first + 1),
+        cp: word_at(words, first + 2),
+        cd: word_at(words, first + 3),
+        epoch: word_at(words, first + 4),
+        role,
+        gaps,
+    })
+}
+
+/// The gaps of so many pairs of words, or `None` where there are more than a record holds.
+fn read_gaps(words: &[u64], first: u64, count: u64) -> Option<ArrayVec<Gap, 8>>
+    requires { first < 1000 }
+    ensures { MatchOption result (MAX_GAPS < count) (λ gaps. (count ≤ MAX_GAPS) × (gaps.items ≡ gaps_from (image_of words.now) first count)) }
+{
+    let mut gaps = ArrayVec::new();
+    if count > MAX_GAPS as u64 {
+        return None;
+    }
+    for k in 0..count {
+        gaps.push(Gap {
+            first: word_at(words, first + 2 * k),
+            last: word_at(words, first + 2 * k + 1),
+        });
+    }
+    Some(gaps)
+}
+
+/// Whether the slot has this number, and zeros behind so many gaps and in its last word.
+fn is_filled(words: &[u64], first: u64, number: u64, gaps: u64) -> bool
+    requires slot { first < 100 }
+    requires few { gaps ≤ MAX_GAPS }
+    ensures { IsTrue result ↔ IsFilled (image_of words.now) first number gaps }
+{
+    word_at(words, first) == number
+        && word_at(words, first + 23) == 0
+        && are_zero(words, first + 6 + 2 * gaps, 16 - 2 * gaps)
+}
+
+/// Whether so many words are zero.
+fn are_zero(words: &[u64], first: u64, count: u64) -> bool
+    requires { first + count < 1000 }
+    ensures { IsTrue result ↔ AreZero (image_of words.now) first count }
+{
+    for k in 0..count {
+        if word_at(words, first + k) != 0 {
+            return false;
+        }
+    }
+    true
+}
+
+/// The role of a number, or `None` where it is no role's.
+fn read_role(number: u64) -> Option<Role>
+    ensures { MatchOption result ((role : NodeRole) → role_number role ≢ number) (λ role. role_number role ≡ number) }
+{
+    match number {
+        1 => Some(Role::Primary),
+        2 => Some(Role::Standby),
+        _ => None,
+    }
+}
