@@ -149,6 +149,7 @@ fn finds_each_fault_at_its_byte(rt: HostRuntime) -> Result<(), Fail> {
         b"*4",
         b"*10",
         b"*+",
+        b"*x",
         b"* ",
     ];
     for text in in_count {
