@@ -1,3 +1,11 @@
+pub mod OrderLemmas
+pub mod LookUpLemmas
+pub mod PlayLemmas
+pub mod MemberLemmas
+pub mod PutLemmas
+pub mod ChangeTextLemmas
+pub mod IntegerLemmas
+pub mod ReplyLemmas
 pub mod GrammarAsks
 pub mod GrammarDecimals
 pub mod GrammarGrows
@@ -5,6 +13,7 @@ pub mod GrammarItems
 pub mod GrammarNumbers
 pub mod GrammarRequests
 pub mod GrammarRests
+mod WorkedCases
 pub mod GrammarSpellings
 pub mod GrammarSteps
 pub mod GrammarTells

@@ -1,8 +1,10 @@
 pub mod Words
 pub mod Keyspaces
+pub mod LookUps
 pub mod Orders
 pub mod Changes
 pub mod Faults
 pub mod Requests
 pub mod Reading
 pub mod Replies
+pub mod Refusals

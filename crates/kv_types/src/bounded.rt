@@ -70,7 +70,8 @@ impl<const MAX: usize> BoundedBytes<MAX> {
     pub fn into_bytes(self) -> Bytes
         ensures { result ≡ self.entry }
     {
-        self.bytes
+        let BoundedBytes { bytes } = self;
+        bytes
     }
 
     /// The shared bytes, as another owner of them.

@@ -4,20 +4,33 @@
 mod bounded;
 mod change;
 mod grammar_laws;
+mod integer;
 mod item;
+mod laws;
 mod limits;
 mod place;
+mod plain_keyspace;
 mod record_id;
 mod refusal;
 mod reply;
 mod request;
+#[cfg(test)]
+mod tests;
 
 pub use bounded::{BoundedBytes, Field, Key, Value};
-pub use change::Change;
+pub use change::{Change, changes_fit};
 pub use grammar_laws::{items_are_asked_for, items_grow, one_spelling};
+pub use integer::{read_int, write_int};
 pub use item::{Item, ProtocolFault};
-pub use limits::{FULL_LIMITS, Limits, MAX_KEY_BYTES, MAX_VALUE_BYTES, SERVED_LIMITS};
+pub use laws::{
+    array_text, keyspace_stays, look_up_after_change, look_ups_tell_apart, play_in_two_parts,
+    records_are_found,
+};
+pub use limits::{
+    FULL_LIMITS, Limits, MAX_CHANGE_BYTES, MAX_KEY_BYTES, MAX_VALUE_BYTES, SERVED_LIMITS,
+};
 pub use place::{EntryNo, Extent};
+pub use plain_keyspace::PlainKeyspace;
 pub use record_id::RecordId;
 pub use refusal::Refusal;
 pub use reply::{Held, Reply};

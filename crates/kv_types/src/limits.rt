@@ -6,6 +6,12 @@ pub const MAX_KEY_BYTES: usize = 512;
 /// The longest value, in bytes.
 pub const MAX_VALUE_BYTES: usize = 65_536;
 
+/// The longest change, in bytes of a frame: the longest value put into the longest field of the longest key.
+pub const MAX_CHANGE_BYTES: usize = 1
+    + (2 + MAX_KEY_BYTES)
+    + (2 + MAX_KEY_BYTES)
+    + (4 + MAX_VALUE_BYTES);
+
 /// How long a request may be.
 #[derive(Clone, Copy, Debug, PartialEq, Eq)]
 pub struct Limits {

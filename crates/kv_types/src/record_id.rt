@@ -1,5 +1,6 @@
 //! The name of a record: a string's key, or a key and a field of a hash.
 use crate::bounded::{Field, Key};
+use std::alloc::AllocError;
 use std::cmp::Ordering;
 
 /// The name of one record of the keyspace: a string, or one field of a hash.
@@ -14,7 +15,8 @@ pub enum RecordId {
 impl RecordId {
     ghost use Rattle.std.specs.Prelude.{◌≡◌};
     ghost use Rattle.std.specs.Option.{option_copied};
-    ghost use Rattle.kv_types.specs.Keyspaces.{key_of, field_of};
+    ghost use Rattle.std.specs.Ordering.{eq_by_cmp};
+    ghost use Rattle.kv_types.specs.Keyspaces.{key_of, field_of, record_cmp};
 
     /// The key of the record.
     pub fn key(&self) -> &Key
@@ -26,6 +28,16 @@ impl RecordId {
         }
     }
 
+    /// Whether the record is the string of this key.
+    pub(crate) fn is_string_at(&self, key: &Key) -> bool
+        ensures { result ≡ eq_by_cmp record_cmp self.now (Self.Str key.now) }
+    {
+        match self {
+            RecordId::Str(own) => *own == *key,
+            RecordId::Field(..) => false,
+        }
+    }
+
     /// The field of the record, and `None` for a string.
     pub fn field(&self) -> Option<&Field>
         ensures { option_copied result ≡ field_of self.now }
@@ -34,6 +46,19 @@ impl RecordId {
             RecordId::Str(_) => None,
             RecordId::Field(_, field) => Some(field),
         }
+    }
+}
+
+impl Clone for RecordId {
+    ghost use Rattle.std.specs.Prelude.{◌≡◌};
+
+    ghost is_clone = { λ id copy. copy ≡ id };
+
+    fn clone(&self) -> Result<RecordId, AllocError> {
+        Ok(match self {
+            RecordId::Str(key) => RecordId::Str(key.clone()?),
+            RecordId::Field(key, field) => RecordId::Field(key.clone()?, field.clone()?),
+        })
     }
 }
 

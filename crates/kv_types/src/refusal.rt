@@ -61,8 +61,12 @@ impl<T: Drop> From<AllocFailed<T>> for Refusal {
 }
 
 impl Refusal {
+    ghost use Rattle.kv_types.specs.Refusals.{refusal_number};
+
     /// The number that programs print, 1 to 16.
-    pub fn number(self) -> u8 {
+    pub fn number(self) -> u8
+        ensures { result ≡ refusal_number self }
+    {
         self as u8
     }
 }

@@ -1,5 +1,6 @@
 //! Replies, and a reply with the position at which it was made.
 use bytes::Bytes;
+use std::alloc::AllocError;
 
 /// A reply to one request.
 #[derive(Debug, Drop)]
@@ -18,6 +19,31 @@ pub enum Reply {
     Array(Vec<Reply>),
     /// No array.
     NullArray,
+}
+
+impl Clone for Reply {
+    ghost use Rattle.std.specs.Prelude.{◌≡◌};
+    ghost use Rattle.kv_types.specs.Replies.{text_of};
+
+    ghost is_clone = { λ reply copy. text_of copy ≡ text_of reply };
+
+    fn clone(&self) -> Result<Reply, AllocError> {
+        Ok(match self {
+            Reply::Simple(text) => Reply::Simple(text.clone()?),
+            Reply::Error(text) => Reply::Error(text.clone()?),
+            Reply::Int(number) => Reply::Int(*number),
+            Reply::Bulk(bytes) => Reply::Bulk(bytes.clone()?),
+            Reply::NullBulk => Reply::NullBulk,
+            Reply::Array(replies) => {
+                let mut copies = Vec::with_capacity(*replies.allocator(), replies.len())?;
+                for reply in replies {
+                    copies.push(reply.clone()?)?;
+                }
+                Reply::Array(copies)
+            }
+            Reply::NullArray => Reply::NullArray,
+        })
+    }
 }
 
 /// A reply that waits until it is covered, with the position of the list of calls at which it was made.

@@ -2,6 +2,7 @@
 ghost use Rattle.std.specs.Prelude.{◌≡◌};
 
 use bytes::Bytes;
+use std::alloc::AllocError;
 use std::marker::Model;
 
 /// The words of one command, 1 to 1,024 of them and each of at most 65,536 bytes. A clause sees the list of the words.
@@ -39,5 +40,17 @@ impl Request {
         ensures lawful { AreWords result.now }
     {
         self.words.as_slice()
+    }
+}
+
+impl Clone for Request {
+    ghost use Rattle.std.specs.Prelude.{◌≡◌};
+
+    ghost is_clone = { λ request copy. copy ≡ request };
+
+    fn clone(&self) -> Result<Request, AllocError> {
+        Ok(Request {
+            words: self.words.clone()?,
+        })
     }
 }

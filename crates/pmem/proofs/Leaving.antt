@@ -1,7 +1,9 @@
 -- What a crash at any moment of a run leaves.
-use Rattle.std.proofs.Common.{◌≡◌, ◌⊎◌, ℕ, suc, ◌+◌, ◌≤◌, List, [], ◌∷◌, length, refl, inl, inr, sym, ap, subst, arith, add-one}
+use Rattle.std.proofs.Common.{◌≡◌, ◌⊎◌, ℕ, ◌≤◌, Bool, true, false, cond, nat_le, List, [], ◌∷◌, length, Option, Some, None, refl, inl, inr, ap, subst, arith}
+use Rattle.std.proofs.lemmas.Bool.{leb-true}
+use Rattle.std.specs.Option.{ForSome}
 use Rattle.pmem.specs.Device.{Word, State, moment}
-use Rattle.pmem.specs.Crash.{IsImage, HadImage, MayLeave}
+use Rattle.pmem.specs.Crash.{IsImage, HadImage, MayLeave, words_at, words_to_crash}
 use Rattle.pmem.specs.Runs.{LeavesOnly}
 
 -- nothing of the past is of this moment or later
@@ -21,8 +23,8 @@ MayLeave-step : (old : State) (now : ℕ → Word) (past : List (ℕ → Word)) 
 MayLeave-step old now past t image e (inl is) = inr is
 MayLeave-step old now past t image e (inr had) =
     elim (subst (λ (p : List (ℕ → Word)). HadImage p t image) e had) [
-      inl here ↦ inl (inl here.1)
-    | inr there ↦ inl (inr there)
+      | inl here ↦ inl (inl here.1)
+      | inr there ↦ inl (inr there)
     ]
 
 -- A call: a crash leaves an image of the words before it or after it.
@@ -33,15 +35,15 @@ step_leaves old new P e from_old from_new =
     record {
       later = omega (arith, ap length e);
       each = λ image may.
-        elim (MayLeave-step old new.words new.past (moment old) image e may) [
-          inl was ↦ from_old image (MayLeave-now old image was)
-        | inr is ↦ from_new image is
-        ];
+          elim (MayLeave-step old new.words new.past (moment old) image e may) [
+            | inl was ↦ from_old image (MayLeave-now old image was)
+            | inr is ↦ from_new image is
+          ];
       before = λ t image le may.
-        elim (MayLeave-step old new.words new.past t image e may) [
-          inl was ↦ inl was
-        | inr is ↦ inr (from_new image is)
-        ];
+          elim (MayLeave-step old new.words new.past t image e may) [
+            | inl was ↦ inl was
+            | inr is ↦ inr (from_new image is)
+          ];
     }
 
 -- no call at all
@@ -59,15 +61,15 @@ LeavesOnly-then {a} {b} {c} {P} first second =
     record {
       later = omega (arith, first.later, second.later);
       each = λ image may.
-        elim (second.before (moment a) image first.later may) [
-          inl was ↦ first.each image was
-        | inr is ↦ is
-        ];
+          elim (second.before (moment a) image first.later may) [
+            | inl was ↦ first.each image was
+            | inr is ↦ is
+          ];
       before = λ t image le may.
-        elim (second.before t image (omega (arith, first.later)) may) [
-          inl was ↦ first.before t image le was
-        | inr is ↦ inr is
-        ];
+          elim (second.before t image (omega (arith, first.later)) may) [
+            | inl was ↦ first.before t image le was
+            | inr is ↦ inr is
+          ];
     }
 
 -- What has P also has Q.
@@ -79,3 +81,33 @@ LeavesOnly-weaken {a} {b} {P} Q so run =
       each = λ image may. so image (run.each image may);
       before = λ t image le may. elim (run.before t image le may) [ inl was ↦ inl was | inr is ↦ inr (so image is) ];
     }
+
+-- What a crash picks from is of a moment since t, if the moment that was asked for is.
+words_at-MayLeave : (now : ℕ → Word) (past : List (ℕ → Word)) (moment' t : ℕ) (image : ℕ → ℕ) → t ≤ moment' → IsImage (words_at now past moment') image
+    → IsImage now image ⊎ HadImage past t image
+words_at-MayLeave now [] moment' t image since is = inl is
+words_at-MayLeave now (words ∷ past) moment' t image since is =
+    let go : (come : Bool) → nat_le moment' (length past) ≡ come → IsImage (cond come (words_at words past moment') now) image
+    → IsImage now image ⊎ HadImage (words ∷ past) t image =
+    elim [
+      | true ↦ λ e before.
+          let low : moment' ≤ length past = leb-true moment' (length past) e in
+          elim (words_at-MayLeave words past moment' t image since before) [
+            | inl here ↦ inr (inl (omega arith, here))
+            | inr there ↦ inr (inr there)
+          ]
+      | false ↦ λ e here. inl here
+    ] in
+    go (nat_le moment' (length past)) refl is
+
+-- A crash leaves an image of a moment since t, if no moment was asked for or one since t.
+pub crash_leaves : (d : State) (t : ℕ) (image : ℕ → ℕ) → ForSome d.kept (λ moment'. t ≤ moment')
+    → IsImage (words_to_crash d d.kept) image ⊎ IsImage d.words image → MayLeave d t image
+crash_leaves d t image since (inr now) = inl now
+crash_leaves d t image since (inl kept) =
+    let go : (k : Option ℕ) → ForSome k (λ moment'. t ≤ moment') → IsImage (words_to_crash d k) image → MayLeave d t image =
+    elim [
+      | None ↦ λ s is. inl is
+      | Some moment' ↦ λ s is. words_at-MayLeave d.words d.past moment' t image (s moment' refl) is
+    ] in
+    go d.kept since kept

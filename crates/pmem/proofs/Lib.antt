@@ -1,2 +1,11 @@
+pub mod Chaining
+pub mod Chains
+pub mod Compacting
+pub mod Keeping
 pub mod Leaving
+pub mod Picking
+pub mod Restarting
+pub mod Simulating
+pub mod Staging
+pub mod Walks
 pub mod Words

@@ -1,7 +1,6 @@
--- What the calls of a device do to the candidates of a word, and to the images.
-use Rattle.std.proofs.Common.{◌≡◌, ◌⊎◌, ℕ, ◌+◌, ◌/◌, Bool, true, false, not, ◌==◌, if◌then◌else◌, List, [], ◌∷◌, ◌++◌, map, filter, refl, inl, inr, sym}
-use Rattle.pmem.specs.Device.{Older, Word, IsOlder, MayBe, Only, settled, store_word, flush_word, fence_word, store_at, flush_at, fenced}
-use Rattle.pmem.specs.Crash.{IsImage}
+-- What the calls of a device do to the candidates of a word.
+use Rattle.std.proofs.Common.{◌≡◌, ◌⊎◌, ℕ, Bool, true, false, not, cond, List, [], ◌∷◌, ◌++◌, map, filter, refl, inl, inr, sym, subst, ap, ◌∙◌}
+use Rattle.pmem.specs.Device.{Older, Word, IsOlder, MayBe, Only, store_word, flush_word, fence_word}
 use Rattle.pmem.specs.Runs.{IsNoted, AllPassed}
 
 pub IsOlder-append_left : (a b : List Older) (x : ℕ) → IsOlder a x → IsOlder (a ++ b) x
@@ -31,16 +30,16 @@ pub MayBe-store_word-cases : (x : ℕ) (word : Word) (y : ℕ) → MayBe (store_
 MayBe-store_word-cases x word y (inl newest) = inr (sym newest)
 MayBe-store_word-cases x word y (inr older) =
     elim (IsOlder-append_cases word.older (record { value = word.newest; passed = false } ∷ []) y older) [
-      inl before ↦ inl (inr before)
-    | inr last ↦ elim last [ inl is ↦ inl (inl is) | inr none ↦ absurd none ]
+      | inl before ↦ inl (inr before)
+      | inr last ↦ elim last [ inl is ↦ inl (inl is) | inr none ↦ absurd none ]
     ]
 
-IsOlder-passed : (older : List Older) (x : ℕ) → IsOlder (map (λ o. record { value = o.value; passed = true }) older) x → IsOlder older x
+pub IsOlder-passed : (older : List Older) (x : ℕ) → IsOlder (map (λ o. record { value = o.value; passed = true }) older) x → IsOlder older x
 IsOlder-passed [] x h = h
 IsOlder-passed (o ∷ older) x (inl here) = inl here
 IsOlder-passed (o ∷ older) x (inr there) = inr (IsOlder-passed older x there)
 
-IsOlder-to_passed : (older : List Older) (x : ℕ) → IsOlder older x → IsOlder (map (λ o. record { value = o.value; passed = true }) older) x
+pub IsOlder-to_passed : (older : List Older) (x : ℕ) → IsOlder older x → IsOlder (map (λ o. record { value = o.value; passed = true }) older) x
 IsOlder-to_passed [] x h = h
 IsOlder-to_passed (o ∷ older) x (inl here) = inl here
 IsOlder-to_passed (o ∷ older) x (inr there) = inr (IsOlder-to_passed older x there)
@@ -54,11 +53,53 @@ pub flush_word-MayBe : (word : Word) (x : ℕ) → MayBe word x → MayBe (flush
 flush_word-MayBe word x (inl newest) = inl newest
 flush_word-MayBe word x (inr older) = inr (IsOlder-to_passed word.older x older)
 
+IsOlder-cond : (b : Bool) (o : Older) (older : List Older) (x : ℕ) → IsOlder (cond b (o ∷ older) older) x → (x ≡ o.value) ⊎ IsOlder older x
+IsOlder-cond true o older x h = h
+IsOlder-cond false o older x h = inr h
+
 IsOlder-fence : (older : List Older) (x : ℕ) → IsOlder (filter (λ o. not o.passed) older) x → IsOlder older x
 IsOlder-fence [] x h = h
-IsOlder-fence (o ∷ older) x h = ?
+IsOlder-fence (o ∷ older) x h =
+    elim (IsOlder-cond (not o.passed) o (filter (λ o. not o.passed) older) x h) [
+      | inl here ↦ inl here
+      | inr there ↦ inr (IsOlder-fence older x there)
+    ]
 
 -- a fence adds no candidate
 pub MayBe-fence_word : (word : Word) (x : ℕ) → MayBe (fence_word word) x → MayBe word x
 MayBe-fence_word word x (inl newest) = inl newest
 MayBe-fence_word word x (inr older) = inr (IsOlder-fence word.older x older)
+
+AllPassed-passed : (older : List Older) → AllPassed (map (λ o. record { value = o.value; passed = true }) older)
+AllPassed-passed [] = tt
+AllPassed-passed (o ∷ older) = (refl, AllPassed-passed older)
+
+-- after a flush the newest candidate is noted
+pub IsNoted-flush_word : (word : Word) → IsNoted (flush_word word)
+IsNoted-flush_word word = record { all = AllPassed-passed word.older }
+
+none-passed : (older : List Older) → AllPassed older → filter (λ o. not o.passed) older ≡ []
+none-passed [] h = refl
+none-passed (o ∷ older) h =
+    ap (λ (b : Bool). cond (not b) (o ∷ filter (λ o. not o.passed) older) (filter (λ o. not o.passed) older)) h.0
+    ∙ none-passed older h.1
+
+-- a fence leaves only the newest candidate of a word that is noted
+pub older-fence_word : (word : Word) → IsNoted word → (fence_word word).older ≡ []
+older-fence_word word h = none-passed word.older h.all
+
+-- a word of one candidate is noted
+pub IsNoted-alone : (word : Word) → word.older ≡ [] → IsNoted word
+IsNoted-alone word e = record { all = subst AllPassed (sym e) tt }
+
+-- and has no other value
+pub MayBe-alone : (word : Word) (x : ℕ) → word.older ≡ [] → MayBe word x → x ≡ word.newest
+MayBe-alone word x e (inl newest) = newest
+MayBe-alone word x e (inr older) = absurd (subst (λ (older : List Older). IsOlder older x) e older)
+
+pub Only-alone : (word : Word) → word.older ≡ [] → Only word word.newest
+Only-alone word e = record { only = λ y may. MayBe-alone word y e may }
+
+-- a load gives the value that a crash leaves
+pub newest-only : (word : Word) (x : ℕ) → Only word x → word.newest ≡ x
+newest-only word x only = only.only word.newest (inl refl)

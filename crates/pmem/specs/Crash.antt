@@ -1,6 +1,6 @@
 -- What a crash leaves: for each word by itself, any of its candidates.
-use Rattle.std.specs.Prelude.{◌≡◌, ◌⊎◌, ℕ, zero, suc, ◌+◌, ◌%◌, ◌≤◌, Bool, true, nat_le, ◌==◌, if◌then◌else◌, List, [], ◌∷◌, length, slice_index, Option, Some, None}
-use Rattle.pmem.specs.Device.{Older, Word, State, Fences, MayBe, candidates, settled, moment}
+use Rattle.std.specs.Prelude.{◌≡◌, ◌⊎◌, ℕ, zero, suc, ◌+◌, ◌%◌, ◌≤◌, true, nat_le, if◌then◌else◌, List, [], ◌∷◌, length, slice_index, Option, Some, None}
+use Rattle.pmem.specs.Device.{Older, Word, State, MayBe, candidates}
 
 -- what a crash may leave in these words, one candidate for each word by itself
 abbrev pub IsImage : (ℕ → Word) → (ℕ → ℕ) → Type 0

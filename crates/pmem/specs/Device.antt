@@ -1,7 +1,7 @@
 -- Persistent memory as lists of candidates. This project's profile of memory behind caches that write back lines in any order (Intel
 -- 64 and IA-32 Architectures Software Developer's Manual, CLWB and SFENCE; write-behind logging, PVLDB 10(4), 2016, section 2):
 -- a word is written whole, a crash leaves any candidate of each word, and only a flush of its line and then a fence make one certain.
-use Rattle.std.specs.Prelude.{◌≡◌, ◌⊎◌, ℕ, suc, ◌+◌, ◌-◌, ◌/◌, Bool, true, false, not, ◌||◌, ◌==◌, if◌then◌else◌, List, [], ◌∷◌, ◌++◌, map, filter, length, Option, Some, None}
+use Rattle.std.specs.Prelude.{◌≡◌, ◌⊎◌, ℕ, ◌-◌, ◌/◌, Bool, true, false, not, ◌||◌, ◌==◌, if◌then◌else◌, List, [], ◌∷◌, ◌++◌, map, filter, length, Option, Some, None}
 
 -- a value of a word that a newer one stands over, but that a crash may still leave
 pub record Older : Type 0 where
@@ -26,10 +26,9 @@ IsOlder (o ∷ older) x = (x ≡ o.value) ⊎ IsOlder older x
 abbrev pub MayBe : Word → ℕ → Type 0
 MayBe word x = (x ≡ word.newest) ⊎ IsOlder word.older x
 
--- the word has one candidate, this one
+-- a crash leaves this value in the word
 pub record Only (word : Word) (x : ℕ) : Type 0 where
-  pub newest : word.newest ≡ x
-  pub alone : word.older ≡ []
+  pub only : (y : ℕ) → MayBe word y → y ≡ x
 
 -- a word of one candidate
 abbrev pub settled : ℕ → Word
@@ -81,12 +80,12 @@ fences_after (Sure (Some n)) = if n == 1 then Sure None else Sure (Some (n - 1))
 -- a device. A word outside of its lines is never stored to
 pub record State : Type 0 where
   pub words : ℕ → Word
-  pub past : List (ℕ → Word)   -- the words before each call that might change them, the newest first
+  pub past : List (ℕ → Word)  -- the words before each call that might change them, the newest first
   pub lines : ℕ
-  pub failures : ℕ             -- how many fences have failed
-  pub starved : Bool           -- growth of the device's own lists was refused
+  pub failures : ℕ  -- how many fences have failed
+  pub starved : Bool  -- growth of the device's own lists was refused
   pub fences : Fences
-  pub kept : Option ℕ          -- the moment whose candidates the next crash picks from, if it was asked to be kept
+  pub kept : Option ℕ  -- the moment whose candidates the next crash picks from, if it was asked to be kept
 
 -- the moment that it is, counted in calls
 abbrev pub moment : State → ℕ

@@ -1,3 +1,8 @@
+pub mod Cells
 pub mod Crash
 pub mod Device
+pub mod History
+pub mod Keep
+pub mod Known
 pub mod Runs
+pub mod Sim

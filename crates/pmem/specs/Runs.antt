@@ -1,7 +1,7 @@
 -- What runs of calls do, for the layers above.
-use Rattle.std.specs.Prelude.{◌≡◌, ◌⊎◌, ℕ, zero, suc, ◌+◌, ◌/◌, ◌≤◌, Bool, true, ◌==◌, if◌then◌else◌, List, [], ◌∷◌, Option, Some, None}
-use Rattle.pmem.specs.Device.{Older, Word, State, Fences, MayBe, store_at, flush_at, moment}
-use Rattle.pmem.specs.Crash.{IsImage, MayLeave}
+use Rattle.std.specs.Prelude.{◌≡◌, ◌⊎◌, ℕ, zero, suc, ◌+◌, ◌/◌, ◌≤◌, true, ◌==◌, if◌then◌else◌, List, [], ◌∷◌}
+use Rattle.pmem.specs.Device.{Older, Word, State, MayBe, Only, store_at, flush_at, moment}
+use Rattle.pmem.specs.Crash.{IsImage, MayLeave, image_of}
 
 -- stores of these pairs of a word and a value, in this order
 abbrev pub stores : List (ℕ × ℕ) → (ℕ → Word) → ℕ → Word
@@ -32,10 +32,14 @@ IsStored (pair ∷ pairs) word x = ((pair.0 ≡ word) × (pair.1 ≡ x)) ⊎ IsS
 abbrev pub IsOutside : List (ℕ × ℕ) → ℕ → Type 0
 IsOutside pairs word = (x : ℕ) → IsStored pairs word x → ⊥
 
--- what the last of the pairs at this word stores there
-abbrev pub last_stored : List (ℕ × ℕ) → ℕ → Option ℕ → Option ℕ
-last_stored [] word before = before
-last_stored (pair ∷ pairs) word before = last_stored pairs word (if word == pair.0 then Some pair.1 else before)
+-- the image with these pairs stored, in this order
+abbrev pub written : List (ℕ × ℕ) → (ℕ → ℕ) → ℕ → ℕ
+written [] image = image
+written (pair ∷ pairs) image = written pairs (λ word. if word == pair.0 then pair.1 else image word)
+
+-- each word is one of its candidates, or one of the pairs stores its value there
+abbrev pub IsPartlyStored : List (ℕ × ℕ) → (ℕ → Word) → (ℕ → ℕ) → Type 0
+IsPartlyStored pairs words image = (word : ℕ) → MayBe (words word) (image word) ⊎ IsStored pairs word (image word)
 
 -- a line is one of these
 abbrev pub IsLine : List ℕ → ℕ → Type 0
@@ -50,10 +54,9 @@ AllPassed (o ∷ older) = (o.passed ≡ true) × AllPassed older
 pub record IsNoted (word : Word) : Type 0 where
   pub all : AllPassed word.older
 
--- The candidates of each word since old are those that it had and those that the pairs stored there, and no word but theirs has changed.
-pub record Gains (pairs : List (ℕ × ℕ)) (old new : ℕ → Word) : Type 0 where
-  pub within : (word x : ℕ) → MayBe (new word) x → MayBe (old word) x ⊎ IsStored pairs word x
-  pub elsewhere : (word : ℕ) → IsOutside pairs word → new word ≡ old word
+-- each word that a pair stores to is of one of these lines
+abbrev pub IsCovered : List (ℕ × ℕ) → List ℕ → Type 0
+IsCovered pairs lines = (word x : ℕ) → IsStored pairs word x → IsLine lines (word / 8)
 
 -- what no store, flush or fence of a run changes
 pub record Stays (old new : State) : Type 0 where
@@ -75,3 +78,22 @@ pub record Runs (old new : State) (words' : ℕ → Word) : Type 0 where
   pub fences : new.fences ≡ old.fences
   pub stays : Stays old new
   pub moments : LeavesOnly old new (IsImage words')
+
+-- Stores of these pairs, flushes of these lines and a fence that succeeded led from old to new.
+pub record Staged (old new : State) (pairs : List (ℕ × ℕ)) (lines' : List ℕ) : Type 0 where
+  -- what loads give
+  pub newest : (word : ℕ) → image_of new.words word ≡ written pairs (image_of old.words) word
+  -- of the lines that were flushed a crash leaves just that
+  pub certain : (word : ℕ) → IsLine lines' (word / 8) → Only (new.words word) (written pairs (image_of old.words) word)
+  -- elsewhere it leaves nothing that it did not leave before
+  pub elsewhere : (word y : ℕ) → IsOutside pairs word → MayBe (new.words word) y → MayBe (old.words word) y
+  pub failures : new.failures ≡ old.failures
+  pub stays : Stays old new
+  pub moments : LeavesOnly old new (IsPartlyStored pairs old.words)
+
+-- The same, but the fence failed: nothing is certain.
+pub record StageFailed (old new : State) (pairs : List (ℕ × ℕ)) : Type 0 where
+  pub newest : (word : ℕ) → image_of new.words word ≡ written pairs (image_of old.words) word
+  pub failures : new.failures ≡ suc old.failures
+  pub stays : Stays old new
+  pub moments : LeavesOnly old new (IsPartlyStored pairs old.words)

@@ -1,12 +1,23 @@
 // A device of persistent memory, as the layers above see it.
 ghost use Rattle.std.specs.Prelude.{◌≡◌, ◌⊎◌, ℕ, suc, ◌+◌, ◌-◌, ◌*◌, ◌^◌, ◌<◌, ◌==◌, if◌then◌else◌, Some, None, false, true, min, length, IsTrue, IsErr, OnOk, OnErr};
-ghost use Rattle.pmem.specs.Device.{State, Fences, Steps, store_at, flush_at, fenced, fences_after, must_fail, may_fail, newest_at, moment};
+ghost use Rattle.pmem.specs.Device.{State, Fences, Steps, store_at, flush_at, fenced, fences_after, must_fail, may_fail, is_unsure, newest_at, moment};
 ghost use Rattle.pmem.specs.Device.Fences.{Sure};
 ghost use Rattle.pmem.specs.Crash.{IsImage, Keeps, Restarts, image_of, words_to_crash, picked};
+
+use std::error::Error;
+use std::fmt;
 
 /// A fence failed. What it should have made durable may still be lost: the node stops, crashes and reopens.
 #[derive(Clone, Copy, Debug, PartialEq, Eq)]
 pub struct Fault;
+
+impl fmt::Display for Fault {
+    fn fmt<W: fmt::Write>(&self, f: &mut fmt::Formatter<W>) -> fmt::Result {
+        f.write_str("device fault")
+    }
+}
+
+impl Error for Fault {}
 
 /// Lines of eight words of 64 bits behind a cache that writes lines back in any order.
 ///
@@ -42,7 +53,7 @@ pub trait Pmem {
         ensures asked { IsTrue (must_fail (state self.old)) → IsErr result }
         ensures unasked { IsErr result → IsTrue (may_fail (state self.old)) };
 
-    /// How many lines the device has. Their words can be counted in 64 bits.
+    /// How many lines the device has.
     fn lines(&self) -> u64
         ensures count { result ≡ (state self.now).lines }
         ensures bound { 8 * result < 2 ^ 64 };
@@ -50,6 +61,9 @@ pub trait Pmem {
     /// How many fences have failed, or 2^64 - 1 where more have.
     fn failures(&self) -> u64
         ensures { result ≡ min (state self.now).failures (2 ^ 64 - 1) };
+
+    /// The words of a device can be counted in 64 bits.
+    ghost countable: { (device : Self) → 8 * (state device).lines < 2 ^ 64 };
 }
 
 /// A device that fails and crashes as it is told to.
@@ -74,15 +88,11 @@ pub trait Crashing: Pmem {
         ensures restarts { Restarts (Self.state self.old) (Self.state self.new) }
         ensures picked { (Self.state self.old).starved ≡ false → (word : ℕ) →
             newest_at (Self.state self.new) word
-                ≡ picked (words_to_crash (Self.state self.old) (Self.state self.old).kept) picks.now word }
+            ≡ picked (words_to_crash (Self.state self.old) (Self.state self.old).kept) picks.now word }
         // starved or not
         ensures within { IsImage (words_to_crash (Self.state self.old) (Self.state self.old).kept) (image_of (Self.state self.new).words)
             ⊎ IsImage (Self.state self.old).words (image_of (Self.state self.new).words) };
-}
 
-fn probe<P: Crashing>(p: &mut P) -> bool
-    ensures { result ≡ true }
-{
-    p.fail_at(1);
-    p.fence().is_err()
+    /// No fence fails but one that was asked to, and each where the device is starved.
+    ghost sure: { (device : Self) → is_unsure (Self.state device).fences ≡ false };
 }

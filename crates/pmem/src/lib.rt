@@ -1,8 +1,16 @@
 //! Persistent memory as lists of candidates, and a simulated device that can be crashed.
 #![tactic(auto)]
 
+mod cells;
 mod device;
+mod history;
+mod keep;
 mod runs;
+mod sim;
+#[cfg(test)]
+mod tests;
 
 pub use device::{Crashing, Fault, Pmem};
-pub use runs::{flush_all, flush_lines, store_all, store_words};
+pub use history::History;
+pub use runs::{flush_all, flush_lines, persist, store_all, store_words};
+pub use sim::SimPmem;

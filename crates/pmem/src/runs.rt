@@ -1,8 +1,7 @@
 // Runs of stores and flushes: the only loops over words and lines.
-ghost use Rattle.std.specs.Prelude.{◌≡◌, ℕ, suc, ◌+◌, ◌*◌, ◌≤◌, ◌<◌, All, length, IsErr, OnOk, OnErr, ◌↔◌};
-ghost use Rattle.pmem.specs.Device.{State, fenced, fences_after};
-ghost use Rattle.pmem.specs.Runs.{Runs, Stays, LeavesOnly, stores, flushes, pairs_from, lines_from};
-ghost use Rattle.pmem.specs.Crash.{IsImage};
+ghost use Rattle.std.specs.Prelude.{◌≡◌, ℕ, suc, ◌+◌, ◌*◌, ◌≤◌, ◌<◌, All, length, OnOk, OnErr};
+ghost use Rattle.pmem.specs.Device.{State};
+ghost use Rattle.pmem.specs.Runs.{Runs, Staged, StageFailed, stores, flushes, pairs_from, lines_from};
 
 use crate::device::{Fault, Pmem};
 
@@ -19,10 +18,11 @@ pub fn store_all<P: Pmem>(device: &mut P, pairs: &[(u64, u64)])
 /// Stores these values one after another, from the word `first` on.
 pub fn store_words<P: Pmem>(device: &mut P, first: u64, values: &[u64])
     requires { first + length values.now ≤ 8 * (P.state device.old).lines }
-    ensures { Runs (P.state device.old) (P.state device.new) (stores (pairs_from first values.now) (P.state device.old).words) }
+    ensures { Runs (P.state device.old) (P.state device.new)
+        (stores (pairs_from first values.now) (P.state device.old).words) }
 {
-    for (word, value) in (first..).zip(values) {
-        device.store(word, *value);
+    for (i, value) in values.iter().enumerate() {
+        device.store(first + i as u64, *value);
     }
 }
 
@@ -41,7 +41,19 @@ pub fn flush_lines<P: Pmem>(device: &mut P, first: u64, count: u64)
     requires { first + count ≤ (P.state device.old).lines }
     ensures { Runs (P.state device.old) (P.state device.new) (flushes (lines_from first count) (P.state device.old).words) }
 {
-    for line in first..first + count {
-        device.flush(line);
+    for i in 0..count {
+        device.flush(first + i);
     }
+}
+
+/// Stores each pair of a word and a value, flushes these lines, and fences. After an `Err` the values may be lost, each by itself.
+pub fn persist<P: Pmem>(device: &mut P, pairs: &[(u64, u64)], lines: &[u64]) -> Result<(), Fault>
+    requires words_in_range { All (λ pair. pair.0 < 8 * (P.state device.old).lines) pairs.now }
+    requires lines_in_range { All (λ line. line < (P.state device.old).lines) lines.now }
+    ensures ok { OnOk result (Staged (P.state device.old) (P.state device.new) pairs.now lines.now) }
+    ensures err { OnErr result (StageFailed (P.state device.old) (P.state device.new) pairs.now) }
+{
+    store_all(device, pairs);
+    flush_all(device, lines);
+    device.fence()
 }

@@ -1,0 +1,42 @@
+//! Laws of the definitions, each the contract of a function that does nothing.
+ghost use Rattle.std.specs.Prelude.{◌≡◌, ◌↔◌, ℕ, List, [], ◌∷◌, ◌++◌, length, flat_map, Some, Contains, Vec};
+ghost use Rattle.kv_types.specs.declared.change.Change.{Change};
+ghost use Rattle.std.specs.Global.{Global};
+ghost use Rattle.kv_types.specs.declared.record_id.RecordId.{RecordId};
+ghost use Rattle.kv_types.specs.declared.reply.Reply.{Reply, Array};
+ghost use Rattle.kv_types.specs.Keyspaces.{Keyspace, IsKeyspace, value_at, play, play_all};
+ghost use Rattle.kv_types.specs.LookUps.{IsLookedUpAfter};
+ghost use Rattle.kv_types.specs.Replies.{text_of};
+ghost use Rattle.kv_types.specs.Requests.{number_line};
+
+/// Changes played in two parts are the changes played at once.
+pub fn play_in_two_parts()
+    ensures { (s : Keyspace) (first second : List Change) → play_all s (first ++ second) ≡ play_all (play_all s first) second }
+{}
+
+/// Whatever is played on the empty keyspace, or on any other, leaves a keyspace.
+pub fn keyspace_stays()
+    ensures empty { IsKeyspace [] }
+    ensures change { (s : Keyspace) (change : Change) → IsKeyspace s → IsKeyspace (play s change) }
+    ensures changes { (s : Keyspace) (changes : List Change) → IsKeyspace s → IsKeyspace (play_all s changes) }
+{}
+
+/// What a look-up finds after each change, for every record.
+pub fn look_up_after_change()
+    ensures { (s : Keyspace) (change : Change) → IsLookedUpAfter change s (play s change) }
+{}
+
+/// Two keyspaces in which every look-up finds the same are one keyspace.
+pub fn look_ups_tell_apart()
+    ensures { (s t : Keyspace) → IsKeyspace s → IsKeyspace t → ((id : RecordId) → value_at s id ≡ value_at t id) → s ≡ t }
+{}
+
+/// A record stands in a keyspace exactly where the look-up finds it.
+pub fn records_are_found()
+    ensures { (s : Keyspace) (id : RecordId) (value : List ℕ) → IsKeyspace s → (value_at s id ≡ Some value) ↔ Contains s (id, value) }
+{}
+
+/// The text of an array is `*`, the number of its replies, and their texts.
+pub fn array_text()
+    ensures { (replies : Vec Reply Global) → text_of (Array replies) ≡ 42 ∷ number_line (length replies.items) ++ flat_map text_of replies.items }
+{}

@@ -1,0 +1,73 @@
+-- The bytes fed to a connection are the pieces of the feeds that did their step.
+use Rattle.std.proofs.Common.{◌≡◌, ℕ, ◌<◌, Bool, true, false, not, cond, List, [], ◌∷◌, ◌++◌, length, refl, sym, ap, ◌∙◌, append_assoc, append-nil, eq-eqb, ne_eqb}
+use Rattle.std.proofs.lemmas.Bool.{ltb-true}
+use Rattle.machine.specs.declared.event.Event.{Event}
+use Rattle.machine.specs.declared.event.Event.TheVariants.{Enter, Feed, Offer, Turn, CloseGroup, Commit, RaiseLocal, Hand, OpenLink, Send, Deliver, Apply, AckDelivered, RaiseRemote, Hold, Read, Release, Write}
+use Rattle.machine.specs.Events.{Inbound, Outbound, World, connection_of, with_inbound, with_outbound, on_inbound, on_outbound, is_closed_by, is_open, is_enabled, with_call, fed_with, offered_next, taken_first, held_first, having_read, let_out, written, Happens, Step, Run, start, last_world}
+use Rattle.machine.specs.Promises.{fed_by, fed_to}
+use Rattle.machine.proofs.ConnectionLemmas.{each-changed, get-entered, same-changed}
+use Rattle.machine.proofs.SoundEvents.{both}
+
+abbrev fed_in : World → ℕ → List ℕ
+fed_in w c = (connection_of w c).inbound.fed
+
+-- ---- the events that feed nothing
+
+fed-inbound : (w : World) (c d : ℕ) (change : Inbound → Inbound) → ((inbound : Inbound) → (change inbound).fed ≡ inbound.fed) → fed_in (on_inbound c change w) d ≡ fed_in w d
+fed-inbound w c d change same = same-changed (λ connection. connection.inbound.fed) c (with_inbound change) w.connections (λ connection. same connection.inbound) d
+
+fed-outbound : (w : World) (c d : ℕ) (change : Outbound → Outbound) → fed_in (on_outbound c change w) d ≡ fed_in w d
+fed-outbound w c d change = same-changed (λ connection. connection.inbound.fed) c (with_outbound change) w.connections (λ connection. refl) d
+
+-- ---- the one that does
+
+fed-Feed : (w : World) (c d : ℕ) (piece : List ℕ) → c < length w.connections → fed_in (on_inbound c (fed_with piece) w) d ≡ fed_in w d ++ fed_by d (Feed c piece) true
+fed-Feed w c d piece lt =
+    each-changed (λ e connection. connection.inbound.fed ≡ fed_in w e ++ fed_by e (Feed c piece) true) c (with_inbound (fed_with piece)) w.connections lt
+    (ap (λ b. fed_in w c ++ cond b piece []) (sym (eq-eqb c c refl)))
+    (λ e differ. sym (append-nil (fed_in w e)) ∙ ap (λ b. fed_in w e ++ cond b piece []) (sym (ne_eqb c e differ))) d
+
+nothing : {before after : List ℕ} → after ≡ before → after ≡ before ++ []
+nothing {before} e = e ∙ sym (append-nil before)
+
+fed-happens : (w : World) (event : Event) (new : World) (d : ℕ) → is_enabled w event ≡ true → Happens w event new → fed_in new d ≡ fed_in w d ++ fed_by d event true
+fed-happens w Enter new d e h = nothing (ap (λ x. fed_in x d) h ∙ ap (λ connection. connection.inbound.fed) (get-entered w.connections d))
+fed-happens w (Feed c piece) new d e h =
+    let parts = both (is_open w c) (not (is_closed_by (connection_of w c).inbound.fed)) e in
+    ap (λ x. fed_in x d) h ∙ fed-Feed w c d piece (ltb-true c (length w.connections) parts.0)
+fed-happens w (Offer c) new d e h = nothing (ap (λ x. fed_in x d) h ∙ fed-inbound w c d offered_next (λ inbound. refl))
+fed-happens w (Turn c) new d e h =
+    let called_once = on_inbound c taken_first (with_call h.call w) in
+    nothing (ap (λ x. fed_in x d) h.now ∙ fed-outbound called_once c d _ ∙ fed-inbound (with_call h.call w) c d taken_first (λ inbound. refl))
+fed-happens w CloseGroup new d e h = nothing (ap (λ x. fed_in x d) h)
+fed-happens w Commit new d e h = nothing (ap (λ x. fed_in x d) h)
+fed-happens w RaiseLocal new d e h = nothing (ap (λ x. fed_in x d) h)
+fed-happens w Hand new d e h = nothing (ap (λ x. fed_in x d) h)
+fed-happens w OpenLink new d e h = nothing (ap (λ x. fed_in x d) h)
+fed-happens w Send new d e h = nothing (ap (λ x. fed_in x d) h)
+fed-happens w (Deliver frame) new d e h = nothing (ap (λ x. fed_in x d) h)
+fed-happens w Apply new d e h = nothing (ap (λ x. fed_in x d) h.now)
+fed-happens w (AckDelivered a) new d e h = nothing (ap (λ x. fed_in x d) h)
+fed-happens w RaiseRemote new d e h = nothing (ap (λ x. fed_in x d) h)
+fed-happens w (Hold c) new d e h = nothing (ap (λ x. fed_in x d) h ∙ fed-outbound w c d held_first)
+fed-happens w (Read c mark) new d e h = nothing (ap (λ x. fed_in x d) h ∙ fed-outbound w c d (having_read mark w))
+fed-happens w (Release c) new d e h = nothing (ap (λ x. fed_in x d) h ∙ fed-outbound w c d let_out)
+fed-happens w (Write c n) new d e h = nothing (ap (λ x. fed_in x d) h ∙ fed-outbound w c d (written n))
+
+fed_by-not : (d : ℕ) (event : Event) → fed_by d event false ≡ []
+fed_by-not d (Feed c piece) = refl
+fed_by-not d event = refl
+
+pub fed-step : (old : World) (event : Event) (did : Bool) (new : World) (d : ℕ) → Step old event did new → fed_in new d ≡ fed_in old d ++ fed_by d event did
+fed-step old event true new d step = fed-happens old event new d (sym step.done) (step.happens refl)
+fed-step old event false new d step = ap (λ x. fed_in x d) (step.stands refl) ∙ sym (append-nil (fed_in old d)) ∙ ap (λ piece. fed_in old d ++ piece) (sym (fed_by-not d event))
+
+pub fed-from : (w : World) (events : List Event) (done : List Bool) (worlds : List World) (d : ℕ) → Run w events done worlds → fed_in (last_world w worlds) d ≡ fed_in w d ++ fed_to d events done
+fed-from w [] [] [] d run = sym (append-nil (fed_in w d))
+fed-from w (event ∷ events) (did ∷ done) (new ∷ worlds) d run =
+    fed-from new events done worlds d run.1 ∙ ap (λ front. front ++ fed_to d events done) (fed-step w event did new d run.0)
+    ∙ append_assoc (fed_in w d) (fed_by d event did) (fed_to d events done)
+fed-from w events done worlds d run = absurd run
+
+pub fed-run : (events : List Event) (done : List Bool) (worlds : List World) (d : ℕ) → Run start events done worlds → (connection_of (last_world start worlds) d).inbound.fed ≡ fed_to d events done
+fed-run events done worlds d run = fed-from start events done worlds d run

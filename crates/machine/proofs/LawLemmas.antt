@@ -1,0 +1,98 @@
+-- The laws of every run, from what holds between any two events.
+use Rattle.std.proofs.Common.{◌≡◌, ℕ, ◌+◌, Bool, true, false, List, [], ◌∷◌, ◌++◌, length, refl, sym, ap, ◌∙◌, arith, append_assoc, le-ltb, Option, Some, None, slice_get}
+use Rattle.model.specs.Calls.{keyspace_after, position_of}
+use Rattle.machine.specs.declared.event.Event.{Event}
+use Rattle.machine.specs.declared.event.Event.TheVariants.{Enter, Feed, Offer, Turn, CloseGroup, Commit, RaiseLocal, Hand, OpenLink, Send, Deliver, Apply, AckDelivered, RaiseRemote, Hold, Read, Release, Write}
+use Rattle.machine.specs.Events.{World, Link, told, Happens, Step, Run, start, last_world}
+use Rattle.machine.specs.Sound.{Sound, answers_from, answers_to}
+use Rattle.machine.specs.Laws.{IsInOrder, FramesAreCommitted, AnswersBearPositions, RaisesNoRemote, NothingIsReleasedUnacknowledged, OnlyWhatWasMadeIsDelivered}
+use Rattle.machine.proofs.AnswerLemmas.{answers_from-append, answers_to-push_own}
+use Rattle.machine.proofs.GroupLemmas.{chain-le, all_within-weaker}
+use Rattle.machine.proofs.SoundEvents.{sent-remote}
+use Rattle.machine.proofs.RunLemmas.{sound-run}
+use Rattle.machine.proofs.PromiseLemmas.{released-covered}
+
+pub in_order : (w : World) → Sound w → IsInOrder w
+in_order w s =
+    record {
+      local = s.committer.mark;
+      primary = chain-le _ _ _ s.committer.waiting;
+      closed = s.committer.closed;
+      remote = s.link.remote;
+      known = s.standby.known;
+      standby = omega (arith, s.standby.behind, chain-le _ _ _ s.link.waiting);
+      acknowledged = s.standby.acknowledged;
+      read_local = λ c. (s.outbound c).local_read;
+      read_remote = λ c. (s.outbound c).remote_read;
+    }
+
+pub frames_are_committed : FramesAreCommitted
+frames_are_committed events done worlds run =
+    let w = last_world start worlds in
+    let s = sound-run events done worlds run in
+    let le = chain-le _ _ _ s.link.waiting in
+    (all_within-weaker s.sent w.committer.position w.link.frames le s.link.frames, all_within-weaker s.sent w.committer.position w.standby.waiting le s.standby.frames)
+
+pub answers_bear_positions : AnswersBearPositions
+answers_bear_positions front call rest =
+    let c = call.connection in
+    let calls = front ++ call ∷ [] in
+    record {
+      rest = answers_from (keyspace_after calls) (0 + position_of calls) c rest;
+      joined = ap (λ answers. answers ++ answers_from (keyspace_after calls) (0 + position_of calls) c rest) (sym (answers_to-push_own c front call refl))
+          ∙ sym (answers_from-append [] 0 c calls rest) ∙ ap (answers_to c) (append_assoc front (call ∷ []) rest);
+    }
+
+-- ---- without RaiseRemote
+
+told-remote : (o : Option ℕ) (link : Link) → (told o link).remote ≡ link.remote
+told-remote None link = refl
+told-remote (Some position) link = refl
+
+-- no other event moves the remote mark
+remote-happens : (w : World) (event : Event) (new : World) → RaisesNoRemote (event ∷ []) (true ∷ []) → Happens w event new → new.link.remote ≡ w.link.remote
+remote-happens w Enter new none h = ap (λ x. x.link.remote) h
+remote-happens w (Feed c piece) new none h = ap (λ x. x.link.remote) h
+remote-happens w (Offer c) new none h = ap (λ x. x.link.remote) h
+remote-happens w (Turn c) new none h = ap (λ x. x.link.remote) h.now
+remote-happens w CloseGroup new none h = ap (λ x. x.link.remote) h
+remote-happens w Commit new none h = ap (λ x. x.link.remote) h
+remote-happens w RaiseLocal new none h = ap (λ x. x.link.remote) h
+remote-happens w Hand new none h = ap (λ x. x.link.remote) h
+remote-happens w OpenLink new none h = ap (λ x. x.link.remote) h
+remote-happens w Send new none h = ap (λ x. x.link.remote) h ∙ sent-remote w.link.again w.link
+remote-happens w (Deliver frame) new none h = ap (λ x. x.link.remote) h
+remote-happens w Apply new none h = ap (λ x. x.link.remote) h.now
+remote-happens w (AckDelivered a) new none h = ap (λ x. x.link.remote) h ∙ told-remote (slice_get w.standby.acknowledgements a) w.link
+remote-happens w RaiseRemote new none h = absurd none
+remote-happens w (Hold c) new none h = ap (λ x. x.link.remote) h
+remote-happens w (Read c mark) new none h = ap (λ x. x.link.remote) h
+remote-happens w (Release c) new none h = ap (λ x. x.link.remote) h
+remote-happens w (Write c n) new none h = ap (λ x. x.link.remote) h
+
+raises-parts : (event : Event) (did : Bool) (events : List Event) (done : List Bool) → RaisesNoRemote (event ∷ events) (did ∷ done) → RaisesNoRemote (event ∷ []) (did ∷ []) × RaisesNoRemote events done
+raises-parts RaiseRemote true events done none = absurd none
+raises-parts RaiseRemote false events done none = (tt, none)
+raises-parts event did events done none = (tt, none)
+
+remote-step : (old : World) (event : Event) (did : Bool) (new : World) → RaisesNoRemote (event ∷ []) (did ∷ []) → Step old event did new → new.link.remote ≡ old.link.remote
+remote-step old event true new none step = remote-happens old event new none (step.happens refl)
+remote-step old event false new none step = ap (λ x. x.link.remote) (step.stands refl)
+
+remote-from : (w : World) (events : List Event) (done : List Bool) (worlds : List World) → Run w events done worlds → RaisesNoRemote events done → (last_world w worlds).link.remote ≡ w.link.remote
+remote-from w [] [] [] run none = refl
+remote-from w (event ∷ events) (did ∷ done) (new ∷ worlds) run none =
+    let parts = raises-parts event did events done none in
+    remote-from new events done worlds run.1 parts.1 ∙ remote-step w event did new parts.0 run.0
+remote-from w events done worlds run none = absurd run
+
+pub nothing_is_released_unacknowledged : NothingIsReleasedUnacknowledged
+nothing_is_released_unacknowledged events done worlds run none front call released =
+    let w = last_world start worlds in
+    let marks = released-covered w (sound-run events done worlds run) front call released in
+    omega (arith, marks.1, remote-from start events done worlds run none)
+
+-- ---- what was not made
+
+pub only_what_was_made_is_delivered : OnlyWhatWasMadeIsDelivered
+only_what_was_made_is_delivered w n = (le-ltb n (length w.link.frames), le-ltb n (length w.standby.acknowledgements))

@@ -1,0 +1,15 @@
+pub mod ConnectionLemmas
+pub mod GroupLemmas
+pub mod AnswerLemmas
+pub mod InboundLemmas
+pub mod OutboundLemmas
+pub mod CommitterLemmas
+pub mod LinkLemmas
+pub mod StandbyLemmas
+pub mod SoundEvents
+pub mod RunLemmas
+pub mod FedLemmas
+pub mod PromiseLemmas
+pub mod GrowLemmas
+pub mod LawLemmas
+pub mod WorkedRun

@@ -1,0 +1,172 @@
+-- What each event leaves of the link: the groups that it keeps and those that wait are the committed ones that are not acknowledged.
+use Rattle.std.proofs.Common.{◌≡◌, ℕ, ◌+◌, ◌<◌, ◌≤◌, true, not, nat_lt, List, [], ◌∷◌, ◌++◌, length, All, refl, sym, ap, subst, ◌∙◌, arith, append_assoc, append-nil, length-append, le_refl, ◌&&◌, ◌||◌}
+use Rattle.std.proofs.lemmas.Bool.{ltb-true}
+use Rattle.std.proofs.lemmas.List.Elements.{All-nil, All-push, All-head, All-tail, filter-append}
+use Rattle.std.proofs.lemmas.List.Filters.{length-filter_both}
+use Rattle.model.specs.Calls.{is_nonempty}
+use Rattle.machine.specs.declared.event.TheConstants.{PIPE_ITEMS, KEPT_GROUPS}
+use Rattle.machine.specs.Events.{Span, Stage, Ready, Durable, Shown, Committer, Link, is_ready, is_shown, shown, handed, handed_to, opened_link, sent_waiting, sent_next, above, knowing, raised_remote, start}
+use Rattle.machine.specs.Sound.{IsChain, IsGroupWithin, in_hand, HasRoomFor, SoundLink}
+use Rattle.machine.proofs.GroupLemmas.{chain-push, chain-above, chain-within, all_within-weaker}
+
+pub link-start : SoundLink Ready 0 0 start.link
+link-start =
+    record { kept = refl; waiting = refl; frames = All-nil (IsGroupWithin 0); sent_again = []; again = refl; remote = omega arith; few = omega arith; few_kept = omega arith }
+
+-- ---- the committer's turns
+
+in_hand-ready : (stage : Stage) → is_ready stage ≡ true → in_hand stage ≡ []
+in_hand-ready Ready e = refl
+in_hand-ready (Durable group) e = cc
+in_hand-ready (Shown group) e = cc
+
+-- it takes a group, for which there is room
+pub link-committed : (committer : Committer) (group : Span) (sent : ℕ) (link : Link) → is_ready committer.stage ≡ true → length link.waiting < PIPE_ITEMS → group.before ≡ committer.position → group.after ≡ committer.position + 1
+    → SoundLink committer.stage committer.position sent link → SoundLink (Durable group) group.after sent link
+link-committed committer group sent link ready room before after s =
+    let none = in_hand-ready committer.stage ready in
+    let chain : IsChain sent link.waiting committer.position = rw (none, append-nil link.waiting) at s.waiting in
+    record {
+      kept = s.kept;
+      waiting = subst (λ to. IsChain sent (link.waiting ++ group ∷ []) to) (sym after) (chain-push sent link.waiting committer.position group chain before after);
+      frames = s.frames;
+      sent_again = s.sent_again;
+      again = s.again;
+      remote = s.remote;
+      few = room;
+      few_kept = s.few_kept;
+    }
+
+in_hand-shown : (stage : Stage) → in_hand (shown stage) ≡ in_hand stage
+in_hand-shown Ready = refl
+in_hand-shown (Durable group) = refl
+in_hand-shown (Shown group) = refl
+
+room-shown : (stage : Stage) (groups : List Span) → HasRoomFor stage groups → HasRoomFor (shown stage) groups
+room-shown Ready groups h = h
+room-shown (Durable group) groups h = h
+room-shown (Shown group) groups h = h
+
+pub link-raised : (stage : Stage) (position sent : ℕ) (link : Link) → SoundLink stage position sent link → SoundLink (shown stage) position sent link
+link-raised stage position sent link s =
+    record {
+      kept = s.kept;
+      waiting = subst (λ groups. IsChain sent (link.waiting ++ groups) position) (sym (in_hand-shown stage)) s.waiting;
+      frames = s.frames;
+      sent_again = s.sent_again;
+      again = s.again;
+      remote = s.remote;
+      few = room-shown stage link.waiting s.few;
+      few_kept = s.few_kept;
+    }
+
+handed-is : (stage : Stage) → is_shown stage ≡ true → handed stage ≡ in_hand stage
+handed-is Ready e = refl
+handed-is (Durable group) e = cc
+handed-is (Shown group) e = refl
+
+room-handed : (stage : Stage) (groups : List Span) → HasRoomFor stage groups → length (groups ++ handed stage) ≤ PIPE_ITEMS
+room-handed Ready groups h = omega (arith, length-append groups [])
+room-handed (Durable group) groups h = omega (arith, length-append groups [])
+room-handed (Shown group) groups h = omega (arith, length-append groups (group ∷ []))
+
+pub link-handed : (stage : Stage) (position sent : ℕ) (link : Link) → is_shown stage ≡ true → SoundLink stage position sent link → SoundLink Ready position sent (handed_to (handed stage) link)
+link-handed stage position sent link hand s =
+    record {
+      kept = s.kept;
+      waiting = rw (append-nil (link.waiting ++ handed stage), handed-is stage hand) s.waiting;
+      frames = s.frames;
+      sent_again = s.sent_again;
+      again = s.again;
+      remote = s.remote;
+      few = room-handed stage link.waiting s.few;
+      few_kept = s.few_kept;
+    }
+
+-- ---- sending
+
+pub link-opened : (stage : Stage) (position sent : ℕ) (link : Link) → SoundLink stage position sent link → SoundLink stage position sent (opened_link link)
+link-opened stage position sent link s =
+    record { kept = s.kept; waiting = s.waiting; frames = s.frames; sent_again = []; again = refl; remote = s.remote; few = s.few; few_kept = s.few_kept }
+
+room-less : (stage : Stage) (group : Span) (groups : List Span) → HasRoomFor stage (group ∷ groups) → HasRoomFor stage groups
+room-less Ready group groups h = omega arith
+room-less (Durable other) group groups h = omega arith
+room-less (Shown other) group groups h = omega arith
+
+all-middle : (P : Span → Type 0) (xs : List Span) (group : Span) (ys : List Span) → All P (xs ++ group ∷ ys) → P group
+all-middle P [] group ys all = All-head P group ys all
+all-middle P (x ∷ xs) group ys all = all-middle P xs group ys (All-tail P x (xs ++ group ∷ ys) all)
+
+module _ (stage : Stage) (position sent : ℕ) (link : Link) (s : SoundLink stage position sent link) where
+  -- the next group that was never sent
+  sent-first : (groups : List Span) → (is_nonempty groups && nat_lt (length link.kept) KEPT_GROUPS) ≡ true → IsChain sent (groups ++ in_hand stage) position → HasRoomFor stage groups
+      → (sent' : ℕ) × SoundLink stage position sent' (sent_waiting groups link) × (sent ≤ sent')
+  sent-first [] some chain room = (sent, s, le_refl sent)
+  sent-first (group ∷ groups) some chain room =
+      let frames = all_within-weaker sent (sent + 1) link.frames (omega arith) s.frames in
+      let one : IsGroupWithin (sent + 1) group = record { one = omega (arith, chain.0, chain.1); within = omega (arith, chain.1) } in (
+        sent + 1,
+        record {
+          kept = chain-push link.known link.kept sent group s.kept chain.0 chain.1;
+          waiting = chain.2;
+          frames = All-push (IsGroupWithin (sent + 1)) link.frames group frames one;
+          sent_again = link.kept ++ group ∷ [];
+          again = append-nil (link.kept ++ group ∷ []);
+          remote = s.remote;
+          few = room-less stage group groups room;
+          few_kept = omega (arith, length-append link.kept (group ∷ []), ltb-true (length link.kept) KEPT_GROUPS some);
+        },
+        omega arith,
+      )
+
+  -- the next group that is to be sent, or else one that was never sent
+  sent-again : (groups : List Span) → (is_nonempty groups || (is_nonempty link.waiting && nat_lt (length link.kept) KEPT_GROUPS)) ≡ true → s.sent_again ++ groups ≡ link.kept
+      → (sent' : ℕ) × SoundLink stage position sent' (sent_next groups link) × (sent ≤ sent')
+  sent-again [] some joined = sent-first link.waiting some s.waiting s.few
+  sent-again (group ∷ groups) some joined =
+      let kept = subst (All (IsGroupWithin sent)) (sym joined) (chain-within link.known link.kept sent s.kept) in (
+        sent,
+        record {
+          kept = s.kept;
+          waiting = s.waiting;
+          frames = All-push (IsGroupWithin sent) link.frames group s.frames (all-middle (IsGroupWithin sent) s.sent_again group groups kept);
+          sent_again = s.sent_again ++ group ∷ [];
+          again = append_assoc s.sent_again (group ∷ []) groups ∙ joined;
+          remote = s.remote;
+          few = s.few;
+          few_kept = s.few_kept;
+        },
+        le_refl sent,
+      )
+
+  pub link-sent : (is_nonempty link.again || (is_nonempty link.waiting && nat_lt (length link.kept) KEPT_GROUPS)) ≡ true → (sent' : ℕ) × SoundLink stage position sent' (sent_next link.again link) × (sent ≤ sent')
+  link-sent some = sent-again link.again some s.again
+
+  -- ---- acknowledgements
+
+  pub link-knowing : (acknowledged : ℕ) → acknowledged ≤ sent → SoundLink stage position sent (knowing acknowledged link)
+  link-knowing acknowledged le =
+      record {
+        kept = chain-above link.known link.kept sent acknowledged s.kept le;
+        waiting = s.waiting;
+        frames = s.frames;
+        sent_again = above acknowledged s.sent_again;
+        again = sym (filter-append (λ (group : Span). nat_lt acknowledged group.after) s.sent_again link.again) ∙ ap (above acknowledged) s.again;
+        remote = omega (arith, s.remote);
+        few = s.few;
+        few_kept = omega (arith, s.few_kept, length-filter_both (λ (group : Span). nat_lt acknowledged group.after) (λ (group : Span). not (nat_lt acknowledged group.after)) (λ group. refl) link.kept);
+      }
+
+  pub link-raised_remote : SoundLink stage position sent (raised_remote link)
+  link-raised_remote =
+      record {
+        kept = s.kept;
+        waiting = s.waiting;
+        frames = s.frames;
+        sent_again = s.sent_again;
+        again = s.again;
+        remote = le_refl link.known;
+        few = s.few;
+        few_kept = s.few_kept;
+      }

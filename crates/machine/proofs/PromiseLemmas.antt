@@ -1,0 +1,106 @@
+-- Every run keeps the promise.
+use Rattle.std.proofs.Common.{◌≡◌, ℕ, ◌+◌, ◌<◌, ◌≤◌, Bool, List, [], ◌∷◌, ◌++◌, length, drop, All, refl, sym, ap, subst, ◌∙◌, arith, append_assoc, length-append, take-append-drop}
+use Rattle.std.proofs.lemmas.List.Elements.{All-head, All-tail}
+use mathlib.Core.Path.{fun_ext}
+use Rattle.kv_types.specs.declared.limits.TheConstants.{SERVED_LIMITS}
+use Rattle.kv_types.specs.declared.reply.Held.{Held}
+use Rattle.kv_types.specs.Reading.{items_at}
+use Rattle.kv_types.specs.Replies.{text_of}
+use Rattle.model.specs.declared.call.Call.{Call}
+use Rattle.model.specs.Calls.{Serves, items_of, keyspace_after, position_of, replies_to}
+use Rattle.machine.specs.declared.event.Event.{Event}
+use Rattle.machine.specs.Events.{World, Run, start, last_world, connection_of, asked, texts_of}
+use Rattle.machine.specs.Promises.{Tells, IsReleased, HasMarks, IsPromised, EveryRunIsPromised, released_in, fed_to}
+use Rattle.machine.specs.Sound.{IsCoveredBy, Sound, answers_from, answers_to}
+use Rattle.machine.proofs.AnswerLemmas.{answers_from-append, answers_to-push_own, texts_of-answers_to, texts_of-append}
+use Rattle.machine.proofs.GroupLemmas.{chain-le}
+use Rattle.machine.proofs.RunLemmas.{some-last, sound-run}
+use Rattle.machine.proofs.FedLemmas.{fed-run}
+
+-- ---- what was released
+
+-- the replies let out are a front of all replies: one that begins within their texts is among them
+among : (P : Held → Type 0) (out others front : List Held) (reply : Held) (more : List Held) → out ++ others ≡ front ++ reply ∷ more → length (texts_of front) < length (texts_of out) → All P out → P reply
+among P [] others front reply more e lt all = absurd (omega arith)
+among P (x ∷ out) others [] reply more e lt all = let same : x ≡ reply = cc in subst P same (All-head P x out all)
+among P (x ∷ out) others (y ∷ front) reply more e lt all =
+    let same : x ≡ y = cc in
+    let rest : out ++ others ≡ front ++ reply ∷ more = cc in
+    let first = length-append (text_of x.reply) (texts_of out) in
+    let second = length-append (text_of y.reply) (texts_of front) in
+    let texts : length (text_of x.reply) ≡ length (text_of y.reply) = ap (λ (z : Held). length (text_of z.reply)) same in
+    among P out others front reply more rest (omega arith) (All-tail P x out all)
+
+pub released-covered : (w : World) → Sound w → (front : List Call) (call : Call) → IsReleased w.calls (released_in w) front call
+    → (position_of (front ++ call ∷ []) ≤ w.committer.local) × (position_of (front ++ call ∷ []) ≤ w.link.remote)
+released-covered w s front call released =
+    let c = call.connection in
+    let outbound = (connection_of w c).outbound in
+    let o = s.outbound c in
+    let reply : Held = record { reply = call.reply; position = position_of (front ++ call ∷ []) } in
+    let more = answers_from (keyspace_after (front ++ call ∷ [])) (0 + position_of (front ++ call ∷ [])) c released.rest in
+    let all : o.out ++ (outbound.held ++ outbound.made) ≡ answers_to c front ++ reply ∷ more =
+    o.replies ∙ ap (answers_to c) (released.stands ∙ sym (append_assoc front (call ∷ []) released.rest)) ∙ answers_from-append [] 0 c (front ++ call ∷ []) released.rest
+    ∙ ap (λ answers. answers ++ more) (answers_to-push_own c front call refl) ∙ append_assoc (answers_to c front) (reply ∷ []) more in
+    let before = ap length (texts_of-answers_to c front) in
+    let let_out = length-append outbound.released outbound.pending in
+    let covered = among (IsCoveredBy w.committer.local w.link.remote) o.out (outbound.held ++ outbound.made) (answers_to c front) reply more all (omega (arith, released.written, ap length o.texts)) o.covered in
+    (covered.on_primary, covered.on_standby)
+
+-- what was released and what waits are the replies
+pub replies-add_up : (w : World) → Sound w → (c : ℕ) → let outbound = (connection_of w c).outbound in
+    outbound.released ++ (outbound.pending ++ (texts_of outbound.held ++ texts_of outbound.made)) ≡ replies_to c w.calls
+replies-add_up w s c =
+    let outbound = (connection_of w c).outbound in
+    let o = s.outbound c in
+    sym (append_assoc outbound.released outbound.pending (texts_of outbound.held ++ texts_of outbound.made))
+    ∙ ap (λ front. front ++ (texts_of outbound.held ++ texts_of outbound.made)) o.texts
+    ∙ ap (λ rest. texts_of o.out ++ rest) (sym (texts_of-append outbound.held outbound.made)) ∙ sym (texts_of-append o.out (outbound.held ++ outbound.made))
+    ∙ ap texts_of o.replies ∙ texts_of-answers_to c w.calls
+
+-- ---- the promise
+
+pub serves-run : (events : List Event) (done : List Bool) (worlds : List World) → Run start events done worlds → Serves (λ c. items_at SERVED_LIMITS (fed_to c events done)) (last_world start worlds).calls
+serves-run events done worlds run = λ c.
+    let w = last_world start worlds in
+    let inbound = (connection_of w c).inbound in
+    let s = (sound-run events done worlds run).inbound c in
+    record {
+      rest = inbound.waiting ++ drop inbound.offered (asked inbound.fed);
+      joined = sym (append_assoc (items_of c w.calls) inbound.waiting (drop inbound.offered (asked inbound.fed)))
+          ∙ ap (λ front. front ++ drop inbound.offered (asked inbound.fed)) s.order ∙ take-append-drop inbound.offered (asked inbound.fed)
+          ∙ ap asked (fed-run events done worlds c run);
+    }
+
+pub every_run_is_promised : EveryRunIsPromised
+every_run_is_promised events done worlds run =
+    let w = last_world start worlds in
+    let s = sound-run events done worlds run in
+    record {
+      worlds = worlds;
+      run = run;
+      tells = record { list = refl; bytes = λ c. refl; primary_position = refl; standby_position = refl };
+      legal = s.legal;
+      serves = serves-run events done worlds run;
+      begins = λ c.
+          let outbound = (connection_of w c).outbound in
+          record { rest = outbound.pending ++ (texts_of outbound.held ++ texts_of outbound.made); joined = replies-add_up w s c };
+      covered = λ front call released.
+          let marks = released-covered w s front call released in
+          some-last (HasMarks front call) start worlds
+          (record { made = record { rest = released.rest; joined = append_assoc front (call ∷ []) released.rest ∙ sym released.stands }; local = marks.0; remote = marks.1 });
+      held = λ front call released. let marks = released-covered w s front call released in omega (arith, marks.1, s.link.remote, s.standby.known);
+      behind = omega (arith, s.standby.behind, chain-le _ _ _ s.link.waiting);
+      within = omega (arith, s.committer.closed, chain-le _ _ _ s.committer.waiting);
+    }
+
+-- the promise of whatever tells the last world of a run
+pub promised-told : (events : List Event) (done : List Bool) (worlds : List World) (calls : List Call) (released : ℕ → List ℕ) (primary standby : ℕ) → Run start events done worlds
+    → Tells (last_world start worlds) calls released primary standby → IsPromised events done calls released primary standby
+promised-told events done worlds calls released primary standby run tells =
+    let w = last_world start worlds in
+    let promised : IsPromised events done w.calls (released_in w) w.committer.position w.standby.position = every_run_is_promised events done worlds run in
+    subst (λ x. IsPromised events done x released primary standby) (sym tells.list)
+    (subst (λ x. IsPromised events done w.calls x primary standby) (sym (fun_ext tells.bytes))
+    (subst (λ x. IsPromised events done w.calls (released_in w) x standby) (sym tells.primary_position)
+    (subst (λ x. IsPromised events done w.calls (released_in w) w.committer.position x) (sym tells.standby_position) promised)))

@@ -1,0 +1,96 @@
+-- Laws of runs: they go on, they are cut, and what holds between any two events.
+use Rattle.std.proofs.Common.{◌≡◌, ℕ, zero, suc, Bool, true, false, List, [], ◌∷◌, ◌++◌, length, take, drop, All, refl, sym, ap, arith, inl, inr, true≢false}
+use Rattle.std.proofs.lemmas.List.Elements.{All-nil, All-cons}
+use Rattle.machine.specs.declared.event.Event.{Event}
+use Rattle.machine.specs.Events.{World, is_enabled, Happens, Step, Run, start, last_world}
+use Rattle.machine.specs.Promises.{SomeWorld}
+use Rattle.machine.specs.Sound.{Sound}
+use Rattle.machine.proofs.InboundLemmas.{inbound-start}
+use Rattle.machine.proofs.OutboundLemmas.{outbound-start}
+use Rattle.machine.proofs.CommitterLemmas.{committer-start}
+use Rattle.machine.proofs.LinkLemmas.{link-start}
+use Rattle.machine.proofs.StandbyLemmas.{standby-start}
+use Rattle.machine.proofs.SoundEvents.{sound-step}
+
+-- ---- steps
+
+pub step-does : {old new : World} {event : Event} → is_enabled old event ≡ true → Happens old event new → Step old event true new
+step-does e h = record { done = sym e; happens = λ did. h; stands = λ did. absurd (true≢false did) }
+
+pub step-stays : {old : World} {event : Event} → is_enabled old event ≡ false → Step old event false old
+step-stays e = record { done = sym e; happens = λ did. absurd (true≢false (sym did)); stands = λ did. refl }
+
+-- ---- runs go on, and are cut
+
+pub run-append : (w : World) (first second : List Event) (done more : List Bool) (worlds later : List World) → Run w first done worlds → Run (last_world w worlds) second more later → Run w (first ++ second) (done ++ more) (worlds ++ later)
+run-append w [] second [] more [] later run next = next
+run-append w (event ∷ first) second (did ∷ done) more (new ∷ worlds) later run next = (run.0, run-append new first second done more worlds later run.1 next)
+run-append w first second done more worlds later run next = absurd run
+
+pub last_world-append : (w : World) (worlds later : List World) → last_world w (worlds ++ later) ≡ last_world (last_world w worlds) later
+last_world-append w [] later = refl
+last_world-append w (new ∷ worlds) later = last_world-append new worlds later
+
+-- one event more
+pub run-push : (w : World) (events : List Event) (done : List Bool) (worlds : List World) (event : Event) (did : Bool) (new : World) → Run w events done worlds → Step (last_world w worlds) event did new
+    → Run w (events ++ event ∷ []) (done ++ did ∷ []) (worlds ++ new ∷ [])
+run-push w events done worlds event did new run step = run-append w events (event ∷ []) done (did ∷ []) worlds (new ∷ []) run (step, tt)
+
+pub last_world-push : (w : World) (worlds : List World) (new : World) → last_world w (worlds ++ new ∷ []) ≡ new
+last_world-push w worlds new = last_world-append w worlds (new ∷ [])
+
+-- the first events of a run are a run
+pub run-take : (n : ℕ) (w : World) (events : List Event) (done : List Bool) (worlds : List World) → Run w events done worlds → Run w (take n events) (take n done) (take n worlds)
+run-take zero w events done worlds run = tt
+run-take (suc n) w [] [] [] run = tt
+run-take (suc n) w (event ∷ events) (did ∷ done) (new ∷ worlds) run = (run.0, run-take n new events done worlds run.1)
+run-take (suc n) w events done worlds run = absurd run
+
+-- and the others go on from there
+pub run-drop : (n : ℕ) (w : World) (events : List Event) (done : List Bool) (worlds : List World) → Run w events done worlds → Run (last_world w (take n worlds)) (drop n events) (drop n done) (drop n worlds)
+run-drop zero w events done worlds run = run
+run-drop (suc n) w [] [] [] run = tt
+run-drop (suc n) w (event ∷ events) (did ∷ done) (new ∷ worlds) run = run-drop n new events done worlds run.1
+run-drop (suc n) w events done worlds run = absurd run
+
+pub length-run : (w : World) (events : List Event) (done : List Bool) (worlds : List World) → Run w events done worlds → (length done ≡ length events) × (length worlds ≡ length events)
+length-run w [] [] [] run = (refl, refl)
+length-run w (event ∷ events) (did ∷ done) (new ∷ worlds) run = let rest = length-run new events done worlds run.1 in (ap suc rest.0, ap suc rest.1)
+length-run w events done worlds run = absurd run
+
+-- what holds of the last world holds of one of them
+pub some-last : (P : World → Type 0) (w : World) (worlds : List World) → P (last_world w worlds) → SomeWorld P (w ∷ worlds)
+some-last P w [] h = inl h
+some-last P w (new ∷ worlds) h = inr (some-last P new worlds h)
+
+-- ---- what holds between any two events
+
+pub sound-start : Sound start
+sound-start =
+    record {
+      seats = omega arith;
+      legal = tt;
+      inbound = inbound-start;
+      outbound = outbound-start;
+      committer = committer-start;
+      sent = 0;
+      link = link-start;
+      standby = standby-start;
+    }
+
+pub sound-from : (w : World) (events : List Event) (done : List Bool) (worlds : List World) → Run w events done worlds → Sound w → Sound (last_world w worlds)
+sound-from w [] [] [] run s = s
+sound-from w (event ∷ events) (did ∷ done) (new ∷ worlds) run s = sound-from new events done worlds run.1 (sound-step w event did new run.0 s)
+sound-from w events done worlds run s = absurd run
+
+pub sound-worlds_from : (w : World) (events : List Event) (done : List Bool) (worlds : List World) → Run w events done worlds → Sound w → All Sound (w ∷ worlds)
+sound-worlds_from w [] [] [] run s = All-cons Sound w [] s (All-nil Sound)
+sound-worlds_from w (event ∷ events) (did ∷ done) (new ∷ worlds) run s =
+    All-cons Sound w (new ∷ worlds) s (sound-worlds_from new events done worlds run.1 (sound-step w event did new run.0 s))
+sound-worlds_from w events done worlds run s = absurd run
+
+pub sound-run : (events : List Event) (done : List Bool) (worlds : List World) → Run start events done worlds → Sound (last_world start worlds)
+sound-run events done worlds run = sound-from start events done worlds run sound-start
+
+pub sound-worlds : (events : List Event) (done : List Bool) (worlds : List World) → Run start events done worlds → All Sound (start ∷ worlds)
+sound-worlds events done worlds run = sound-worlds_from start events done worlds run sound-start

@@ -1,0 +1,252 @@
+-- The first worked case, world by world.
+use Rattle.std.proofs.Common.{◌≡◌, ℕ, true, List, [], ◌∷◌, take, codes, refl, arith, inl, inr}
+use Rattle.std.proofs.lemmas.List.Elements.{All-from_recursion}
+use Rattle.kv_types.specs.declared.item.Item.{Item}
+use Rattle.kv_types.specs.declared.item.Item.TheVariants.{Request}
+use Rattle.kv_types.specs.declared.reply.Reply.{Reply, Simple}
+use Rattle.kv_types.specs.declared.reply.Held.{Held}
+use Rattle.kv_types.specs.Reading.{items_at}
+use Rattle.model.specs.declared.call.Call.{Call}
+use Rattle.model.specs.Commands.{outcome_of}
+use Rattle.model.specs.Calls.{MayReply, keyspace_after}
+use Rattle.machine.specs.declared.event.Event.TheVariants.{Feed, Offer, Turn, Apply}
+use Rattle.machine.specs.Events.{Inbound, Outbound, Span, Stage, Ready, Durable, Shown, Committer, Link, Standby, World, Step, Run, start}
+use Rattle.machine.specs.Promises.{released_in}
+use Rattle.machine.proofs.RunLemmas.{step-does, step-stays}
+use Rattle.machine.specs.Worked.{set_request, worked_events, worked_done, FirstCaseIsARun}
+
+-- ---- the parts
+
+abbrev item : Item
+item = Request (codes "SET" ∷ codes "a" ∷ codes "1" ∷ [])
+
+abbrev ok : Reply
+ok = Simple (codes "OK")
+
+abbrev call : Call
+call = record { connection = 0; item = item; reply = ok }
+
+abbrev group : Span
+group = record { before = 0; after = 1 }
+
+abbrev inbound : List ℕ → ℕ → List Item → Inbound
+inbound fed offered waiting = record { fed = fed; offered = offered; waiting = waiting }
+
+abbrev outbound : List Held → List Held → List ℕ → List ℕ → ℕ → ℕ → Outbound
+outbound made held pending released local remote = record { made = made; held = held; pending = pending; released = released; local = local; remote = remote }
+
+abbrev reply : List Held
+reply = record { reply = ok; position = 1 } ∷ []
+
+abbrev text : List ℕ
+text = codes "+OK\r\n"
+
+abbrev committer : ℕ → List Span → Stage → ℕ → ℕ → Committer
+committer closed waiting stage position local = record { closed = closed; waiting = waiting; stage = stage; position = position; local = local }
+
+abbrev link : List Span → List Span → List Span → ℕ → ℕ → Link
+link waiting kept frames known remote = record { waiting = waiting; kept = kept; again = []; frames = frames; known = known; remote = remote }
+
+abbrev standby : List Span → ℕ → List ℕ → Standby
+standby waiting position acknowledgements = record { waiting = waiting; position = position; acknowledgements = acknowledgements }
+
+abbrev world : Inbound → Outbound → List Call → Committer → Link → Standby → World
+world i o calls c l s = record { connections = record { inbound = i; outbound = o } ∷ []; calls = calls; committer = c; link = l; standby = s }
+
+abbrev new_inbound : Inbound
+new_inbound = inbound [] 0 []
+
+abbrev new_outbound : Outbound
+new_outbound = outbound [] [] [] [] 0 0
+
+abbrev new_committer : Committer
+new_committer = committer 0 [] Ready 0 0
+
+abbrev new_link : Link
+new_link = link [] [] [] 0 0
+
+abbrev new_standby : Standby
+new_standby = standby [] 0 []
+
+-- ---- the worlds
+
+abbrev idle : Inbound → World
+idle i = world i new_outbound [] new_committer new_link new_standby
+
+-- the request was called: its reply is with the gate, which has read these marks
+abbrev waits : ℕ → ℕ → Committer → Link → Standby → World
+waits local remote c l s = world (inbound set_request 1 []) (outbound [] reply [] [] local remote) (call ∷ []) c l s
+
+abbrev called_once : World
+called_once = world (inbound set_request 1 []) (outbound reply [] [] [] 0 0) (call ∷ []) new_committer new_link new_standby
+
+abbrev handed_on : Committer
+handed_on = committer 1 [] Ready 1 1
+
+-- both marks are 1
+abbrev acknowledged_link : Link
+acknowledged_link = link [] [] (group ∷ []) 1 1
+
+abbrev took_it : Standby
+took_it = standby [] 1 (0 ∷ 1 ∷ [])
+
+abbrev ends : List ℕ → List ℕ → World
+ends pending released = world (inbound set_request 1 []) (outbound [] [] pending released 1 1) (call ∷ []) handed_on acknowledged_link took_it
+
+abbrev worked_worlds : List World
+worked_worlds =
+    idle new_inbound ∷ idle (inbound set_request 0 []) ∷ idle (inbound set_request 1 (item ∷ [])) ∷ called_once
+    ∷ waits 0 0 new_committer new_link new_standby ∷ waits 0 0 new_committer new_link new_standby ∷ waits 0 0 new_committer new_link new_standby
+    ∷ waits 0 0 new_committer new_link new_standby ∷ waits 0 0 new_committer new_link new_standby
+    ∷ waits 0 0 (committer 1 (group ∷ []) Ready 0 0) new_link new_standby
+    ∷ waits 0 0 (committer 1 [] (Durable group) 1 0) new_link new_standby
+    ∷ waits 0 0 (committer 1 [] (Shown group) 1 1) new_link new_standby
+    ∷ waits 1 0 (committer 1 [] (Shown group) 1 1) new_link new_standby
+    ∷ waits 1 0 (committer 1 [] (Shown group) 1 1) new_link new_standby ∷ waits 1 0 (committer 1 [] (Shown group) 1 1) new_link new_standby
+    ∷ waits 1 0 handed_on (link (group ∷ []) [] [] 0 0) new_standby
+    ∷ waits 1 0 handed_on (link (group ∷ []) [] [] 0 0) (standby [] 0 (0 ∷ []))
+    ∷ waits 1 0 handed_on (link [] (group ∷ []) (group ∷ []) 0 0) (standby [] 0 (0 ∷ []))
+    ∷ waits 1 0 handed_on (link [] (group ∷ []) (group ∷ []) 0 0) (standby (group ∷ []) 0 (0 ∷ []))
+    ∷ waits 1 0 handed_on (link [] (group ∷ []) (group ∷ []) 0 0) took_it
+    ∷ waits 1 0 handed_on (link [] [] (group ∷ []) 1 0) took_it
+    ∷ waits 1 0 handed_on acknowledged_link took_it
+    ∷ waits 1 1 handed_on acknowledged_link took_it
+    ∷ ends text [] ∷ ends [] text ∷ []
+
+-- ---- the steps
+
+feeds : Step (idle new_inbound) (Feed 0 set_request) true (idle (inbound set_request 0 []))
+unfolding items_at
+feeds = step-does refl refl
+
+offers : Step (idle (inbound set_request 0 [])) (Offer 0) true (idle (inbound set_request 1 (item ∷ [])))
+unfolding items_at
+offers = step-does refl refl
+
+may_reply : MayReply (outcome_of (keyspace_after []) item) ok
+may_reply = inr (inr (inl (omega arith, refl)))
+
+turns : Step (idle (inbound set_request 1 (item ∷ []))) (Turn 0) true called_once
+turns = step-does refl (record { call = call; connection = refl; first = refl; reply = may_reply; now = refl })
+
+applies : Step (waits 1 0 handed_on (link [] (group ∷ []) (group ∷ []) 0 0) (standby (group ∷ []) 0 (0 ∷ []))) Apply true (waits 1 0 handed_on (link [] (group ∷ []) (group ∷ []) 0 0) took_it)
+applies = step-does refl (record { frame = group; first = refl; standby = took_it; takes = inr (inl (omega arith, refl, refl)); now = refl })
+
+worked_run : Run start worked_events worked_done worked_worlds
+worked_run = (
+  step-does refl refl,
+  (
+    feeds,
+    (
+      offers,
+      (
+        turns,
+        (
+          step-does refl refl,
+          (
+            step-does refl refl,
+            (
+              step-does refl refl,
+              (
+                step-stays refl,
+                (
+                  step-stays refl,
+                  (
+                    step-does refl refl,
+                    (
+                      step-does refl refl,
+                      (
+                        step-does refl refl,
+                        (
+                          step-does refl refl,
+                          (
+                            step-stays refl,
+                            (
+                              step-stays refl,
+                              (
+                                step-does refl refl,
+                                (
+                                  step-does refl refl,
+                                  (
+                                    step-does refl refl,
+                                    (
+                                      step-does refl refl,
+                                      (
+                                        applies,
+                                        (
+                                          step-does refl refl,
+                                          (
+                                            step-does refl refl,
+                                            (step-does refl refl, (step-does refl refl, (step-does refl refl, tt))),
+                                          ),
+                                        ),
+                                      ),
+                                    ),
+                                  ),
+                                ),
+                              ),
+                            ),
+                          ),
+                        ),
+                      ),
+                    ),
+                  ),
+                ),
+              ),
+            ),
+          ),
+        ),
+      ),
+    ),
+  ),
+)
+
+pub worked : FirstCaseIsARun
+worked =
+    record {
+      worlds = worked_worlds;
+      run = worked_run;
+      nothing_before = All-from_recursion (λ w. released_in w 0 ≡ []) (start ∷ take 24 worked_worlds) (
+        refl,
+        (
+          refl,
+          (
+            refl,
+            (
+              refl,
+              (
+                refl,
+                (
+                  refl,
+                  (
+                    refl,
+                    (
+                      refl,
+                      (
+                        refl,
+                        (
+                          refl,
+                          (
+                            refl,
+                            (
+                              refl,
+                              (
+                                refl,
+                                (refl, (refl, (refl, (refl, (refl, (refl, (refl, (refl, (refl, (refl, (refl, (refl, tt)))))))))))),
+                              ),
+                            ),
+                          ),
+                        ),
+                      ),
+                    ),
+                  ),
+                ),
+              ),
+            ),
+          ),
+        ),
+      );
+      local = refl;
+      remote = refl;
+      reply = refl;
+    }

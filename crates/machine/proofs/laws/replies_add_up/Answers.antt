@@ -1,0 +1,17 @@
+use Rattle.machine.specs.Events.{start, last_world}
+use Rattle.machine.proofs.RunLemmas.{sound-run}
+use Rattle.machine.proofs.PromiseLemmas.{replies-add_up, released-covered}
+use Rattle.machine.proofs.LawLemmas.{answers_bear_positions}
+use Rattle.machine.proofs.laws.replies_add_up.Goals as goal
+
+pub returns-clause-texts : goal.returns-clause-texts
+returns-clause-texts c = λ events done worlds run. replies-add_up (last_world start worlds) (sound-run events done worlds run)
+
+pub returns-clause-waiting : goal.returns-clause-waiting
+returns-clause-waiting c = λ events done worlds run d. let o = (sound-run events done worlds run).outbound d in (o.out, o.replies)
+
+pub returns-clause-positions : goal.returns-clause-positions
+returns-clause-positions c = answers_bear_positions
+
+pub returns-clause-covered : goal.returns-clause-covered
+returns-clause-covered c = λ events done worlds run. released-covered (last_world start worlds) (sound-run events done worlds run)

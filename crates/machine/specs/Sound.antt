@@ -1,0 +1,120 @@
+-- What holds of the pair of nodes between any two events (this project's profile): the facts from which the promise follows.
+use Rattle.std.specs.Prelude.{◌≡◌, ℕ, ◌+◌, ◌<◌, ◌≤◌, nat_eq, if◌then◌else◌, List, [], ◌∷◌, ◌++◌, length, take, All}
+use Rattle.kv_types.specs.declared.reply.Held.{Held}
+use Rattle.kv_types.specs.Keyspaces.{Keyspace}
+use Rattle.model.specs.declared.call.Call.{Call}
+use Rattle.model.specs.Calls.{IsLegal, after_call, is_changing, items_of, position_of}
+use Rattle.machine.specs.declared.event.TheConstants.{SEATS, PIPE_ITEMS, OPEN_CHANGES, KEPT_GROUPS}
+use Rattle.machine.specs.Events.{Span, Stage, Ready, Durable, Shown, Inbound, Outbound, Committer, Link, Standby, World, asked, connection_of, texts_of}
+
+-- ---- replies
+
+-- the position of the list after a call
+abbrev pub position_with : Keyspace → ℕ → Call → ℕ
+position_with s p call = p + (if is_changing s call then 1 else 0)
+
+-- the reply of a call of this connection, with the position after the call; nothing for a call of another one
+abbrev pub answer_at : Keyspace → ℕ → ℕ → Call → List Held
+answer_at s p c call = if nat_eq call.connection c then record { reply = call.reply; position = position_with s p call } ∷ [] else []
+
+abbrev pub answers_from : Keyspace → ℕ → ℕ → List Call → List Held
+answers_from s p c [] = []
+answers_from s p c (call ∷ calls) = answer_at s p c call ++ answers_from (after_call s call) (position_with s p call) c calls
+
+-- the replies of one connection's calls, in order, each with the position of the list after its call
+abbrev pub answers_to : ℕ → List Call → List Held
+answers_to = answers_from [] 0
+
+-- both marks cover the reply
+pub record IsCoveredBy (local remote : ℕ) (reply : Held) : Type 0 where
+  pub on_primary : reply.position ≤ local
+  pub on_standby : reply.position ≤ remote
+
+-- ---- groups
+
+-- groups that follow one another from one position to another. Each is one change, until groups grow.
+abbrev pub IsChain : ℕ → List Span → ℕ → Type 0
+IsChain from [] to = from ≡ to
+IsChain from (group ∷ groups) to = (group.before ≡ from) × (group.after ≡ from + 1) × IsChain (from + 1) groups to
+
+-- a group, one change, that ends at this position or below
+pub record IsGroupWithin (position : ℕ) (group : Span) : Type 0 where
+  pub one : group.after ≡ group.before + 1
+  pub within : group.after ≤ position
+
+-- the group that the committer has in hand
+abbrev pub in_hand : Stage → List Span
+in_hand Ready = []
+in_hand (Durable group) = group ∷ []
+in_hand (Shown group) = group ∷ []
+
+-- the local mark is the primary's position, but for a commit that is not shown yet
+abbrev pub IsShownUpTo : Stage → ℕ → ℕ → Type 0
+IsShownUpTo Ready position local = local ≡ position
+IsShownUpTo (Durable group) position local = local ≡ group.before
+IsShownUpTo (Shown group) position local = local ≡ position
+
+-- while the committer has a group in hand there is room for it at the link
+abbrev pub HasRoomFor : Stage → List Span → Type 0
+HasRoomFor Ready waiting = length waiting ≤ PIPE_ITEMS
+HasRoomFor (Durable group) waiting = length waiting < PIPE_ITEMS
+HasRoomFor (Shown group) waiting = length waiting < PIPE_ITEMS
+
+-- ---- each part
+
+-- the items that were handed to the sequencer are those of the connection's calls and those that wait
+pub record SoundInbound (calls : List Call) (c : ℕ) (inbound : Inbound) : Type 0 where
+  pub offered : inbound.offered ≤ length (asked inbound.fed)
+  pub order : items_of c calls ++ inbound.waiting ≡ take inbound.offered (asked inbound.fed)
+  pub few : length inbound.waiting ≤ PIPE_ITEMS
+
+-- the replies of the connection's calls are those that were let out and those that wait, and both marks cover what was let out
+pub record SoundOutbound (calls : List Call) (c : ℕ) (local remote : ℕ) (outbound : Outbound) : Type 0 where
+  -- what was let out
+  pub out : List Held
+  pub replies : out ++ (outbound.held ++ outbound.made) ≡ answers_to c calls
+  pub texts : outbound.released ++ outbound.pending ≡ texts_of out
+  pub covered : All (IsCoveredBy local remote) out
+  pub local_read : outbound.local ≤ local
+  pub remote_read : outbound.remote ≤ remote
+  pub few : length outbound.made ≤ PIPE_ITEMS
+
+-- beside the position of the list of calls
+pub record SoundCommitter (position : ℕ) (committer : Committer) : Type 0 where
+  pub waiting : IsChain committer.position committer.waiting committer.closed
+  pub closed : committer.closed ≤ position
+  pub few_open : position ≤ committer.closed + OPEN_CHANGES
+  pub few : length committer.waiting ≤ PIPE_ITEMS
+  pub mark : committer.local ≤ committer.position
+  pub shown : IsShownUpTo committer.stage committer.position committer.local
+
+-- beside the committer's stage, the position of the primary's record, and the one up to which groups were sent
+pub record SoundLink (stage : Stage) (position sent : ℕ) (link : Link) : Type 0 where
+  pub kept : IsChain link.known link.kept sent
+  -- those that wait and the one in the committer's hand are the other groups that were committed
+  pub waiting : IsChain sent (link.waiting ++ in_hand stage) position
+  pub frames : All (IsGroupWithin sent) link.frames
+  -- what is to be sent again is the end of what is kept
+  pub sent_again : List Span
+  pub again : sent_again ++ link.again ≡ link.kept
+  pub remote : link.remote ≤ link.known
+  pub few : HasRoomFor stage link.waiting
+  pub few_kept : length link.kept ≤ KEPT_GROUPS
+
+-- beside the position up to which the link has sent groups, and the one that it knows
+pub record SoundStandby (sent link_knows : ℕ) (standby : Standby) : Type 0 where
+  pub frames : All (IsGroupWithin sent) standby.waiting
+  pub behind : standby.position ≤ sent
+  pub acknowledged : All (λ position. position ≤ standby.position) standby.acknowledgements
+  pub known : link_knows ≤ standby.position
+
+pub record Sound (w : World) : Type 0 where
+  pub seats : length w.connections ≤ SEATS
+  pub legal : IsLegal w.calls
+  pub inbound : (c : ℕ) → SoundInbound w.calls c (connection_of w c).inbound
+  pub outbound : (c : ℕ) → SoundOutbound w.calls c w.committer.local w.link.remote (connection_of w c).outbound
+  pub committer : SoundCommitter (position_of w.calls) w.committer
+  -- groups were sent up to this position
+  pub sent : ℕ
+  pub link : SoundLink w.committer.stage w.committer.position sent w.link
+  pub standby : SoundStandby sent w.link.known w.standby

@@ -1,0 +1,64 @@
+//! What may happen to a pair of nodes and their connections.
+use bytes::Bytes;
+
+/// The most connections at a time.
+pub const SEATS: u64 = 1_024;
+
+/// The most items that wait in a pipe.
+pub const PIPE_ITEMS: u64 = 256;
+
+/// The most changing commands that wait to be closed into a group.
+pub const OPEN_CHANGES: u64 = 64;
+
+/// The most groups that the link keeps until they are acknowledged.
+pub const KEPT_GROUPS: u64 = 256;
+
+/// One of the two numbers up to which replies are covered.
+#[derive(Clone, Copy, Debug, PartialEq, Eq)]
+pub enum Mark {
+    /// What is durable on the primary.
+    Local,
+    /// What the standby has acknowledged.
+    Remote,
+}
+
+/// One turn of one actor. A connection is named by its number: they count from 0, in the order in which they entered.
+#[derive(Debug, Drop)]
+pub enum Event {
+    /// A new connection takes a seat.
+    Enter,
+    /// Bytes come in from a connection.
+    Feed(u64, Bytes),
+    /// The next item of a connection's bytes is handed to the sequencer.
+    Offer(u64),
+    /// The sequencer runs the first item that waits.
+    Turn(u64),
+    /// The oldest changing commands are handed to the committer as a group.
+    CloseGroup,
+    /// The committer commits the first group that waits.
+    Commit,
+    /// The committer shows its commit.
+    RaiseLocal,
+    /// The committer hands the group to the link.
+    Hand,
+    /// The link to the standby opens: the standby tells its position, and the link sends again from there.
+    OpenLink,
+    /// The link sends one frame.
+    Send,
+    /// A frame that was sent comes to the standby. Frames are numbered from 0, in the order of their sending.
+    Deliver(u64),
+    /// The standby takes the first frame that came.
+    Apply,
+    /// An acknowledgement that was made comes to the link. They are numbered from 0.
+    AckDelivered(u64),
+    /// The link shows what was acknowledged.
+    RaiseRemote,
+    /// A connection's gate takes the first reply that waits.
+    Hold(u64),
+    /// A connection's gate reads a mark.
+    Read(u64, Mark),
+    /// A connection's gate lets out the replies that both its numbers cover.
+    Release(u64),
+    /// So many bytes of what was let out are written to the connection.
+    Write(u64, u64),
+}

@@ -1,0 +1,84 @@
+//! Laws of every run, each the contract of a function that does nothing.
+ghost use Rattle.machine.specs.Promises.{EveryRunIsPromised};
+ghost use Rattle.machine.specs.Laws.{
+  EveryWorldIsSound,
+  BeginningsAreRuns,
+  RunsGoOn,
+  WorldsGrow,
+  CutsStay,
+  EveryListIsLegal,
+  EveryListServes,
+  ItemsComeInOrder,
+  RepliesAddUp,
+  RepliesBearPositions,
+  AnswersBearPositions,
+  ReleasedIsCovered,
+  PositionsAreInOrder,
+  GroupsAreInOrder,
+  FramesAreCommitted,
+  NothingIsReleasedUnacknowledged,
+  OnlyWhatWasMadeIsDelivered,
+};
+ghost use Rattle.machine.specs.Worked.{FirstCaseIsARun};
+
+/// Whatever happens, and in whatever order: the bytes released to each connection begin the replies of one sequential Redis, which takes each
+/// connection's requests in order; each released call is covered, and both nodes hold it.
+pub fn every_run_is_promised()
+    ensures { EveryRunIsPromised }
+{}
+
+/// The invariant of the machine holds in each world of each run.
+pub fn every_world_is_sound()
+    ensures { EveryWorldIsSound }
+{}
+
+/// A beginning of a run is a run, the rest goes on from there, and a step more makes a longer one.
+pub fn runs_are_made_of_steps()
+    ensures beginning { BeginningsAreRuns }
+    ensures longer { RunsGoOn }
+{}
+
+/// The list of calls, the released bytes, frames and acknowledgements only go on; no position and no mark falls; and the keyspace at a position
+/// that the list has reached stays.
+pub fn worlds_grow()
+    ensures grows { WorldsGrow }
+    ensures cuts { CutsStay }
+{}
+
+/// The list of calls is what one sequential Redis answers, and each connection's calls take its requests in order, each once.
+pub fn calls_take_requests_in_order()
+    ensures legal { EveryListIsLegal }
+    ensures serves { EveryListServes }
+    ensures waiting { ItemsComeInOrder }
+{}
+
+/// The replies of a connection's calls are what was released to it and what waits, in order, each with the position of the list after its call.
+pub fn replies_add_up()
+    ensures texts { RepliesAddUp }
+    ensures waiting { RepliesBearPositions }
+    ensures positions { AnswersBearPositions }
+    ensures covered { ReleasedIsCovered }
+{}
+
+/// The numbers stand in this order. The local mark, the primary's position, the groups that were closed, the list; and the remote mark, what
+/// the link knows, the standby's position, the primary's position.
+pub fn positions_are_in_order()
+    ensures { PositionsAreInOrder }
+{}
+
+/// Groups follow one another, and each frame is one that was committed.
+pub fn frames_are_committed_groups()
+    ensures groups { GroupsAreInOrder }
+    ensures frames { FramesAreCommitted }
+{}
+
+/// Without the remote mark nothing goes out that rests on a change, and nothing comes that was not made.
+pub fn nothing_comes_of_nothing()
+    ensures released { NothingIsReleasedUnacknowledged }
+    ensures delivered { OnlyWhatWasMadeIsDelivered }
+{}
+
+/// The run of one `SET a 1`, with each event in it: `+OK` goes out once both marks are 1, and nothing before.
+pub fn first_case_is_a_run()
+    ensures { FirstCaseIsARun }
+{}

@@ -1,0 +1,14 @@
+//! The pair of nodes as a machine: what may happen, and what is promised of every run.
+#![tactic(auto)]
+
+mod event;
+mod laws;
+#[cfg(test)]
+mod tests;
+
+pub use event::{Event, KEPT_GROUPS, Mark, OPEN_CHANGES, PIPE_ITEMS, SEATS};
+pub use laws::{
+    calls_take_requests_in_order, every_run_is_promised, every_world_is_sound, first_case_is_a_run,
+    frames_are_committed_groups, nothing_comes_of_nothing, positions_are_in_order, replies_add_up,
+    runs_are_made_of_steps, worlds_grow,
+};

@@ -1,0 +1,9 @@
+pub mod PrefixLemmas
+pub mod CallsLemmas
+pub mod PositionsLemmas
+pub mod ServesLemmas
+pub mod MapLemmas
+pub mod VersionsLemmas
+pub mod GroupsLemmas
+pub mod RecordLemmas
+pub mod StandingLemmas

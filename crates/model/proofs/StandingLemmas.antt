@@ -1,0 +1,43 @@
+-- Images that hold a record and a keyspace, and that stand at a position.
+use Rattle.std.proofs.Common.{◌≡◌, ℕ, ◌<◌, ◌≤◌, Option, List, ◌++◌, length, refl, sym, subst}
+use Rattle.kv_types.specs.Keyspaces.{Keyspace, IsKeyspace}
+use Rattle.model.specs.declared.call.Call.{Call}
+use Rattle.model.specs.declared.record.Record.{Record}
+use Rattle.model.specs.declared.record.TheConstants.{MAX_GAPS}
+use Rattle.model.specs.Calls.{keyspace_after, cut_at, position_of}
+use Rattle.model.specs.Images.{Image, Version, entries_of_lines, HasSuperblock, HasRecord, version_at, IsMapOf, map_below, Holds}
+use Rattle.model.specs.Standing.{StandsAt}
+use Rattle.model.proofs.CallsLemmas.{keyspace_after-cut_at-append}
+use Rattle.model.proofs.MapLemmas.{IsMapOf-unique, IsMapOf-same, map_below-map}
+use Rattle.model.proofs.RecordLemmas.{HasRecord-unique}
+
+-- an image with this record holds the map of the versions that its entries have
+pub Holds-versions : (lines : ℕ) (r : Record) (versions : ℕ → Option Version) (s : Keyspace) (image : Image) → HasSuperblock lines image → HasRecord r image
+    → ((i : ℕ) → i < entries_of_lines lines → version_at r image i ≡ versions i) → IsMapOf versions (entries_of_lines lines) s → Holds lines r s image
+Holds-versions lines r versions s image superblock has_record same map =
+    record { superblock = superblock; has_record = has_record; map = IsMapOf-same versions (version_at r image) (entries_of_lines lines) s (λ i lt. sym (same i lt)) map }
+
+-- an image holds one record and one keyspace
+pub Holds-record : {lines : ℕ} {a b : Record} {s t : Keyspace} {image : Image} → length a.gaps.items ≤ MAX_GAPS → Holds lines a s image → Holds lines b t image → a ≡ b
+Holds-record {a = a} {b = b} {image = image} few in_a in_b = HasRecord-unique image a b few in_a.has_record in_b.has_record
+
+pub Holds-keyspace : {lines : ℕ} {r : Record} {s t : Keyspace} {image : Image} → IsKeyspace s → IsKeyspace t → Holds lines r s image → Holds lines r t image → s ≡ t
+Holds-keyspace lawful_s lawful_t in_s in_t = IsMapOf-unique in_s.map in_t.map lawful_s lawful_t
+
+-- and the keyspace is computed from the entries
+pub map_below-Holds : {lines : ℕ} {r : Record} {s : Keyspace} {image : Image} → IsKeyspace s → Holds lines r s image → map_below (version_at r image) (entries_of_lines lines) ≡ s
+map_below-Holds lawful held = map_below-map held.map lawful
+
+-- ---- standing
+
+-- an image that stands at a position stands there while the list grows
+pub StandsAt-append : (lines : ℕ) (calls more : List Call) (p : ℕ) (image : Image) → p ≤ position_of calls → StandsAt lines calls p image → StandsAt lines (calls ++ more) p image
+StandsAt-append lines calls more p image le stands = record {
+  current = stands.current;
+  position = stands.position;
+  holds = subst (λ s. Holds lines stands.current s image) (sym (keyspace_after-cut_at-append calls more p le)) stands.holds;
+}
+
+-- an image with a record of this position and the keyspace of the cut there
+pub StandsAt-holds : (lines : ℕ) (calls : List Call) (r : Record) (s : Keyspace) (image : Image) → keyspace_after (cut_at calls r.position) ≡ s → Holds lines r s image → StandsAt lines calls r.position image
+StandsAt-holds lines calls r s image e held = record { current = r; position = refl; holds = subst (λ t. Holds lines r t image) (sym e) held }

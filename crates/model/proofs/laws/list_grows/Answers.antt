@@ -1,0 +1,5 @@
+use Rattle.model.proofs.CallsLemmas.{IsLegal-push, IsLegal-front, keyspace_after-push, position_of-push}
+use Rattle.model.proofs.laws.list_grows.Goals as goal
+
+pub returns : goal.returns
+returns c = record { legal = IsLegal-push; beginning = IsLegal-front; keyspace = keyspace_after-push; position = position_of-push }

@@ -1,0 +1,93 @@
+//! Laws of the definitions, each the contract of a function that does nothing.
+ghost use Rattle.std.specs.Prelude.{◌≡◌, ℕ, ◌+◌, ◌<◌, ◌≤◌, min, true, false, if◌then◌else◌, List, [], ◌∷◌, ◌++◌, length, Option, None};
+ghost use Rattle.kv_types.specs.declared.reply.Reply.{Error};
+ghost use Rattle.kv_types.specs.Keyspaces.{Keyspace, IsKeyspace, play_all};
+ghost use Rattle.model.specs.declared.call.Call.{Call};
+ghost use Rattle.model.specs.declared.group.Group.{Group};
+ghost use Rattle.model.specs.declared.record.Record.{Record};
+ghost use Rattle.model.specs.Commands.{outcome_of};
+ghost use Rattle.model.specs.Calls.{MayReply, after_call, IsLegal, keyspace_after, is_changing, position_of, cut_at, IsPrefix};
+ghost use Rattle.model.specs.Positions.{changes_at};
+ghost use Rattle.model.specs.Images.{Image, Version, IsMapOf, map_below, Holds, entries_of_lines};
+ghost use Rattle.model.specs.Groups.{Contents, IsGroup, IsConsistent, after_group, changes_of_group};
+ghost use Rattle.model.specs.Standing.{StandsAt};
+
+use crate::record::MAX_GAPS;
+
+/// What one call more makes of a list: it is legal where the call's reply may stand at its place, its keyspace is that after the call, and its
+/// position rises by one exactly where the call changed something. A beginning of a legal list is legal.
+pub fn list_grows()
+    ensures legal { (calls : List Call) (call : Call) → IsLegal calls
+        → MayReply (outcome_of (keyspace_after calls) call.item) call.reply → IsLegal (calls ++ call ∷ []) }
+    ensures beginning { (front rest : List Call) → IsLegal (front ++ rest) → IsLegal front }
+    ensures keyspace { (calls : List Call) (call : Call) → keyspace_after (calls ++ call ∷ []) ≡ after_call (keyspace_after calls) call }
+    ensures position { (calls : List Call) (call : Call)
+        → position_of (calls ++ call ∷ []) ≡ position_of calls + (if is_changing (keyspace_after calls) call then 1 else 0) }
+{}
+
+/// A call that was answered an error changes nothing, and neither does any that is not counted in the position.
+pub fn refused_calls_change_nothing()
+    ensures error { (s : Keyspace) (call : Call) (text : List ℕ) → call.reply ≡ Error text → after_call s call ≡ s }
+    ensures uncounted { (s : Keyspace) (call : Call) → is_changing s call ≡ false → after_call s call ≡ s }
+{}
+
+/// The cut at a position is the longest beginning of the list with at most so many changing calls: it is one, and every other begins it.
+pub fn cut_is_the_longest_beginning()
+    ensures beginning { (calls : List Call) (p : ℕ) → IsPrefix (cut_at calls p) calls }
+    ensures few { (calls : List Call) (p : ℕ) → position_of (cut_at calls p) ≤ p }
+    ensures longest { (calls front : List Call) (p : ℕ) → IsPrefix front calls → position_of front ≤ p → IsPrefix front (cut_at calls p) }
+{}
+
+/// The keyspace at a position does not change while the list grows. At the position of the list it is the keyspace of the list.
+pub fn keyspace_of_a_cut_is_stable()
+    ensures stable { (calls more : List Call) (p : ℕ) → p ≤ position_of calls
+        → keyspace_after (cut_at (calls ++ more) p) ≡ keyspace_after (cut_at calls p) }
+    ensures newest { (calls : List Call) → keyspace_after (cut_at calls (position_of calls)) ≡ keyspace_after calls }
+    ensures oldest { (calls : List Call) → keyspace_after (cut_at calls 0) ≡ [] }
+    ensures position { (calls : List Call) (p : ℕ) → position_of (cut_at calls p) ≡ min p (position_of calls) }
+{}
+
+/// The changes of each position take the keyspace there to that of the next position, and stay while the list grows.
+pub fn changes_lead_from_position_to_position()
+    ensures next { (calls : List Call) (p : ℕ) → p < position_of calls
+        → keyspace_after (cut_at calls (p + 1)) ≡ play_all (keyspace_after (cut_at calls p)) (changes_at calls p) }
+    ensures stable { (calls more : List Call) (p : ℕ) → p < position_of calls → changes_at (calls ++ more) p ≡ changes_at calls p }
+{}
+
+/// After a list of calls there is a keyspace: its records in order, each once, and no key both a string and a hash.
+pub fn lists_leave_keyspaces()
+    ensures { (calls : List Call) → IsKeyspace (keyspace_after calls) }
+{}
+
+/// Versions have one map at most, an image one record and one keyspace at most.
+pub fn images_hold_one_keyspace()
+    ensures map { (versions : ℕ → Option Version) (entries : ℕ) (s t : Keyspace) → IsKeyspace s → IsKeyspace t
+        → IsMapOf versions entries s → IsMapOf versions entries t → s ≡ t }
+    ensures current { (lines : ℕ) (a b : Record) (s t : Keyspace) (image : Image) → length a.gaps.items ≤ MAX_GAPS
+        → Holds lines a s image → Holds lines b t image → a ≡ b }
+    ensures keyspace { (lines : ℕ) (r : Record) (s t : Keyspace) (image : Image) → IsKeyspace s → IsKeyspace t
+        → Holds lines r s image → Holds lines r t image → s ≡ t }
+{}
+
+/// The map of versions is computed by adding the live ones, entry by entry. Where nothing was begun, it is empty.
+pub fn map_is_computed()
+    ensures computed { (versions : ℕ → Option Version) (entries : ℕ) (s : Keyspace) → IsKeyspace s → IsMapOf versions entries s
+        → map_below versions entries ≡ s }
+    ensures none { (versions : ℕ → Option Version) (entries : ℕ) → ((i : ℕ) → i < entries → versions i ≡ None)
+        → IsMapOf versions entries [] }
+{}
+
+/// A group moves the map by just its changes, in their order, and free entries stay without versions.
+pub fn map_moves_by_the_group()
+    ensures map { (contents : Contents) (group : Group) (s : Keyspace) → IsConsistent contents → IsGroup contents group
+        → IsMapOf contents.versions (entries_of_lines contents.lines) s
+        → IsMapOf (after_group contents group).versions (entries_of_lines contents.lines) (play_all s (changes_of_group group)) }
+    ensures consistent { (contents : Contents) (group : Group) → IsConsistent contents → IsGroup contents group
+        → IsConsistent (after_group contents group) }
+{}
+
+/// An image that stands at a position of a list stands there while the list grows.
+pub fn images_stand_while_the_list_grows()
+    ensures { (lines : ℕ) (calls more : List Call) (p : ℕ) (image : Image) → p ≤ position_of calls
+        → StandsAt lines calls p image → StandsAt lines (calls ++ more) p image }
+{}

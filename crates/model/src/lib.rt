@@ -1,0 +1,18 @@
+//! What the server means: commands, the list of calls, and the image, with the plain programs that compute them.
+#![tactic(auto)]
+
+mod call;
+mod group;
+mod image;
+mod laws;
+mod record;
+
+pub use call::{Call, MAX_CHANGE_BYTES};
+pub use group::{Group, MAX_PARTS, Part, PlacedChange, Put};
+pub use image::{COUNTER_LIMIT, MAGIC, MAX_LINES, MIN_LINES, STAMP_WINDOW, VERSION};
+pub use laws::{
+    changes_lead_from_position_to_position, cut_is_the_longest_beginning, images_hold_one_keyspace,
+    images_stand_while_the_list_grows, keyspace_of_a_cut_is_stable, list_grows,
+    lists_leave_keyspaces, map_is_computed, map_moves_by_the_group, refused_calls_change_nothing,
+};
+pub use record::{Gap, MAX_GAPS, Record, Role};

@@ -1,0 +1,4 @@
+pub mod TableLemmas
+pub mod VersionTables
+pub mod TableMembers
+pub mod PartTables

@@ -1,0 +1,90 @@
+-- A table moves as its keyspace does, and as the versions do.
+use Rattle.std.proofs.Common.{◌≡◌, ℕ, ◌<◌, ◌≤◌, Bool, true, false, cond, not, List, [], ◌∷◌, ◌++◌, map, Option, Some, None, Contains, IsTrue, nat_eq, refl, sym, ap, subst, ◌∙◌}
+use Rattle.std.specs.Prelude.{filter}
+use Rattle.std.specs.Option.{option_map}
+use Rattle.std.specs.FinMap.Entries.{put, find, where_key, find-put, find-where_key, by_order}
+use Rattle.std.specs.declared.cmp.Ordering.{Ordering}
+use Rattle.std.specs.declared.cmp.Ordering.TheVariants.{Less, Equal, Greater}
+use Rattle.kv_types.specs.declared.record_id.RecordId.{RecordId}
+use Rattle.kv_types.specs.declared.record_id.RecordId.TheVariants.{Str, Field}
+use Rattle.kv_types.specs.declared.change.Change.TheVariants as change
+use Rattle.kv_types.specs.Keyspaces.{Keyspace, IsKeyspace, key_of, record_cmp, value_at, with_record, without_record, without_key, play, play_all}
+use Rattle.kv_types.specs.Orders.{record_cmp_total}
+use Rattle.kv_types.proofs.OrderLemmas.{record_cmp_equal, same_record}
+use Rattle.kv_types.proofs.LookUpLemmas.{is_same, is_same_key}
+use Rattle.kv_types.proofs.PlayLemmas.{is_keyspace-play}
+use Rattle.model.specs.declared.group.Put.{Put}
+use Rattle.model.specs.declared.group.PlacedChange.{PlacedChange}
+use Rattle.model.specs.declared.group.PlacedChange.TheVariants as placed
+use Rattle.model.specs.Groups.{change_of, put_of, ends_record}
+use Rattle.mv_keyspace.specs.Tables.{Cell, Table, records, cell_at, with_cell, without_row, without_rows, cell_of_put, placed_at, place, place_all}
+
+-- ---- the records of a table
+
+abbrev row_of : RecordId × Cell → RecordId × List ℕ
+row_of row = (row.0, row.1.value)
+
+pub value_at-records : (table : Table) (id : RecordId) → value_at (records table) id ≡ option_map (λ cell. cell.value) (cell_at table id)
+value_at-records [] id = refl
+value_at-records (row ∷ table) id =
+    elim (is_same id row.0) as (λ b. cond b (Some row.1.value) (value_at (records table) id) ≡ option_map (λ cell. cell.value) (cond b (Some row.1) (cell_at table id))) [
+      | true ↦ refl
+      | false ↦ value_at-records table id
+    ]
+
+pub records-with_cell : (id : RecordId) (cell : Cell) (table : Table) → records (with_cell id cell table) ≡ with_record id cell.value (records table)
+records-with_cell id cell [] = refl
+records-with_cell id cell (row ∷ table) =
+    elim (record_cmp id row.0) as (λ o. records (by_order o ((id, cell) ∷ row ∷ table) ((row.0, cell) ∷ table) (row ∷ with_cell id cell table))
+      ≡ by_order o ((id, cell.value) ∷ records (row ∷ table)) ((row.0, cell.value) ∷ records table) (row_of row ∷ with_record id cell.value (records table))) [
+      | Less ↦ refl
+      | Equal ↦ refl
+      | Greater ↦ ap (λ rows. row_of row ∷ rows) (records-with_cell id cell table)
+    ]
+
+records-where : (p : RecordId → Bool) (table : Table) → records (where_key record_cmp p table) ≡ where_key record_cmp p (records table)
+records-where p [] = refl
+records-where p (row ∷ table) =
+    elim (p row.0) as (λ b. records (cond b (row ∷ where_key record_cmp p table) (where_key record_cmp p table)) ≡ cond b (row_of row ∷ where_key record_cmp p (records table)) (where_key record_cmp p (records table))) [
+      | true ↦ ap (λ rows. row_of row ∷ rows) (records-where p table)
+      | false ↦ records-where p table
+    ]
+
+pub records-without_row : (id : RecordId) (table : Table) → records (without_row id table) ≡ without_record id (records table)
+records-without_row id table = records-where (λ other. not (is_same other id)) table
+
+pub records-without_rows : (key : List ℕ) (table : Table) → records (without_rows key table) ≡ without_key key (records table)
+records-without_rows key table = records-where (λ other. not (is_same_key (key_of other) key)) table
+
+records-placed_at : (id : RecordId) (cell : Cell) (table : Table) → records (placed_at id cell table) ≡ play (records table) (change.Put id cell.value)
+records-placed_at (Str key) cell table = records-with_cell (Str key) cell (without_rows key table) ∙ ap (with_record (Str key) cell.value) (records-without_rows key table)
+records-placed_at (Field key field) cell table = records-with_cell (Field key field) cell (without_row (Str key) table) ∙ ap (with_record (Field key field) cell.value) (records-without_row (Str key) table)
+
+pub records-place : (table : Table) (change : PlacedChange) → records (place table change) ≡ play (records table) (change_of change)
+records-place table (placed.Put put) = records-placed_at put.id (cell_of_put put) table
+records-place table (placed.Drop id) = records-without_row id table
+records-place table (placed.DropKey key) = records-without_rows key table
+records-place table placed.Clear = refl
+
+pub records-place_all : (table : Table) (changes : List PlacedChange) → records (place_all table changes) ≡ play_all (records table) (map change_of changes)
+records-place_all table [] = refl
+records-place_all table (change ∷ changes) = records-place_all (place table change) changes ∙ ap (λ s. play_all s (map change_of changes)) (records-place table change)
+
+-- ---- what is found in a table
+
+cond_not : {A : Type 0} (b : Bool) (x y : A) → cond (not b) x y ≡ cond b y x
+cond_not true x y = refl
+cond_not false x y = refl
+
+pub cell_at-with_cell : (table : Table) (id : RecordId) (cell : Cell) (q : RecordId) → cell_at (with_cell id cell table) q ≡ cond (is_same q id) (Some cell) (cell_at table q)
+cell_at-with_cell table id cell q = find-put record_cmp record_cmp_total q id cell table
+
+pub cell_at-without_row : (table : Table) (id q : RecordId) → cell_at (without_row id table) q ≡ cond (is_same q id) None (cell_at table q)
+cell_at-without_row table id q =
+    find-where_key record_cmp (λ other. not (is_same other id)) q (λ x e. ap (λ y. not (is_same y id)) (sym (record_cmp_equal q x e))) table
+    ∙ cond_not (is_same q id) (cell_at table q) None
+
+pub cell_at-without_rows : (table : Table) (key : List ℕ) (q : RecordId) → cell_at (without_rows key table) q ≡ cond (is_same_key (key_of q) key) None (cell_at table q)
+cell_at-without_rows table key q =
+    find-where_key record_cmp (λ other. not (is_same_key (key_of other) key)) q (λ x e. ap (λ y. not (is_same_key (key_of y) key)) (sym (record_cmp_equal q x e))) table
+    ∙ cond_not (is_same_key (key_of q) key) (cell_at table q) None

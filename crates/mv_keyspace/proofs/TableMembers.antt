@@ -1,0 +1,72 @@
+-- A row stands in a table exactly where the look-up finds it.
+use Rattle.std.proofs.Common.{◌≡◌, ℕ, zero, suc, ◌<◌, List, [], ◌∷◌, length, get_or, map, Bool, true, false, ◌&&◌, IsTrue, cond, Option, Some, None, Contains, refl, sym, ap, ◌∙◌, arith}
+use Rattle.std.proofs.lemmas.Bool.{and_parts}
+use Rattle.std.specs.FinMap.Entries.{is_sorted, below_all}
+use Rattle.std.specs.declared.cmp.Ordering.{Ordering}
+use Rattle.std.specs.declared.cmp.Ordering.TheVariants.{Less, Equal, Greater}
+use Rattle.std.specs.Ordering.{is_eq, is_lt}
+use Rattle.kv_types.specs.declared.record_id.RecordId.{RecordId}
+use Rattle.kv_types.specs.Keyspaces.{record_cmp}
+use Rattle.kv_types.proofs.OrderLemmas.{same_record, record_itself}
+use Rattle.kv_types.proofs.LookUpLemmas.{is_same}
+use Rattle.mv_keyspace.specs.Tables.{Cell, Table, records, cell_at, entries_of}
+
+is_lt-no_eq : (o : Ordering) → is_lt o ≡ true → is_eq o ≡ false
+is_lt-no_eq Less e = refl
+is_lt-no_eq Equal e = cc
+is_lt-no_eq Greater e = refl
+
+-- a table in order as a list of its own
+abbrev pub IsSortedTable : Table → Type 0
+IsSortedTable table = IsTrue (is_sorted record_cmp table)
+
+below_all-records : (id : RecordId) (table : Table) → below_all record_cmp id (records table) ≡ below_all record_cmp id table
+below_all-records id [] = refl
+below_all-records id (row ∷ table) = ap (λ b. is_lt (record_cmp id row.0) && b) (below_all-records id table)
+
+pub is_sorted-records : (table : Table) → is_sorted record_cmp (records table) ≡ is_sorted record_cmp table
+is_sorted-records [] = refl
+is_sorted-records (row ∷ table) =
+    ap (λ b. b && is_sorted record_cmp (records table)) (below_all-records row.0 table)
+    ∙ ap (λ b. below_all record_cmp row.0 table && b) (is_sorted-records table)
+
+cell_at-below_all : (id : RecordId) (table : Table) → IsTrue (below_all record_cmp id table) → cell_at table id ≡ None
+cell_at-below_all id [] h = refl
+cell_at-below_all id (row ∷ table) h =
+    let parts = and_parts (is_lt (record_cmp id row.0)) (below_all record_cmp id table) h in
+    ap (λ b. cond b (Some row.1) (cell_at table id)) (is_lt-no_eq (record_cmp id row.0) parts.0) ∙ cell_at-below_all id table parts.1
+
+-- an entry is that of a row
+pub record IsEntryOf (table : Table) (i : ℕ) : Type 0 where
+  pub id : RecordId
+  pub cell : Cell
+  pub found : cell_at table id ≡ Some cell
+  pub entry : cell.entry ≡ i
+
+pub entry-from_found : (table : Table) (id : RecordId) (cell : Cell) → cell_at table id ≡ Some cell → Contains (entries_of table) cell.entry
+entry-from_found [] id cell e = cc
+entry-from_found (row ∷ table) id cell e =
+    elim (is_same id row.0) as (λ b. cond b (Some row.1) (cell_at table id) ≡ Some cell → Contains (entries_of (row ∷ table)) cell.entry) [
+      | true ↦ λ is. let same : row.1 ≡ cell = cc in (0, omega arith, ap (λ (c : Cell). c.entry) same)
+      | false ↦ λ is. let m = entry-from_found table id cell is in (suc m.0, omega (arith, m.1), m.2)
+    ] e
+
+one_later : (row : RecordId × Cell) (table : Table) (i : ℕ) → IsTrue (below_all record_cmp row.0 table) → IsEntryOf table i → IsEntryOf (row ∷ table) i
+one_later row table i below of = record {
+  id = of.id; cell = of.cell; entry = of.entry;
+  found =
+      elim (is_same of.id row.0) as (λ b. is_same of.id row.0 ≡ b → cond b (Some row.1) (cell_at table of.id) ≡ Some of.cell) [
+        | true ↦ λ t. let missed : cell_at table of.id ≡ None = ap (cell_at table) (same_record of.id row.0 t) ∙ cell_at-below_all row.0 table below in let there = of.found in cc
+        | false ↦ λ t. of.found
+      ] refl;
+}
+
+entry_at : (table : Table) (i k : ℕ) → IsSortedTable table → k < length (entries_of table) → get_or (entries_of table) k i ≡ i → IsEntryOf table i
+entry_at [] i k h lt e = absurd (omega arith)
+entry_at (row ∷ table) i zero h lt e = record { id = row.0; cell = row.1; found = ap (λ b. cond b (Some row.1) (cell_at table row.0)) (record_itself row.0); entry = e }
+entry_at (row ∷ table) i (suc k) h lt e =
+    let parts = and_parts (below_all record_cmp row.0 table) (is_sorted record_cmp table) h in
+    one_later row table i parts.0 (entry_at table i k parts.1 (omega arith) e)
+
+pub found-from_entry : (table : Table) (i : ℕ) → IsSortedTable table → Contains (entries_of table) i → IsEntryOf table i
+found-from_entry table i h m = entry_at table i m.0 h m.1 m.2

@@ -1,0 +1,31 @@
+//! What a sequencer and a standby know of a keyspace.
+ghost use Rattle.std.specs.Prelude.{◌≡◌, OnOk, OnErr, IfOk, IfErr};
+ghost use Rattle.std.specs.Option.{option_copied};
+ghost use Rattle.kv_types.specs.declared.record_id.RecordId.TheVariants.{Str};
+ghost use Rattle.kv_types.specs.declared.refusal.Refusal.TheVariants.{Memory};
+ghost use Rattle.kv_types.specs.Keyspaces.{value_at, IsKeyspace};
+ghost use Rattle.mv_keyspace.specs.Tables.{Table, records, place_all, puts_of, AreEnded, AreFresh, IsLawful};
+
+use kv_types::{EntryNo, Refusal, Value};
+use model::PlacedChange;
+use std::alloc::Global;
+
+/// The live records of a node, each with its value and its entry.
+pub trait Keyspace {
+    /// Each live record with its value and its entry, in the order of records.
+    ghost table: { Self → Table };
+
+    /// The string at a key, or `None` where there is none.
+    fn get(&self, key: &[u8]) -> Option<&Value>
+        ensures { option_copied result ≡ value_at (records (table self.now)) (Str key.now) };
+
+    /// Makes all changes of a command or of a frame, made at this position of the list, and answers the entries that they ended, each once.
+    /// Refused with `Memory` where a growth was refused, and then nothing changed.
+    fn apply(&mut self, alloc: Global, changes: &[PlacedChange], position: u64) -> Result<Vec<EntryNo>, Refusal>
+        requires lawful { IsLawful (table self.old) }
+        requires fresh { AreFresh (table self.old) (puts_of changes.now) }
+        ensures table { OnOk result (table self.new ≡ place_all (table self.old) changes.now) }
+        ensures ended { IfOk result (λ ended. AreEnded (table self.old) changes.now ended.items) }
+        ensures err { OnErr result (table self.new ≡ table self.old) }
+        ensures cause { IfErr result (λ refusal. refusal ≡ Memory) };
+}

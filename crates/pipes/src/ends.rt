@@ -1,0 +1,60 @@
+//! The two ends of a pipe, as an actor sees them that waits for nobody.
+ghost use Rattle.std.specs.Prelude.{◌≡◌, ℕ, ◌+◌, ◌≤◌, List, [], ◌∷◌, ◌++◌, Option, MatchOption, IfErr, OnOk, OnErr};
+ghost use mathlib.Core.List.{IsPrefix};
+
+/// The end of a pipe at which items go in. An offered item goes last.
+pub trait Outlet {
+    /// What the pipe holds.
+    type Item;
+
+    /// What was offered here and stands, in order: of a pipe that is one object the items that wait in it, of an end in a thread of its own
+    /// all that it ever pushed.
+    ghost offered: { Self → List Self.Item };
+
+    /// How many more items this end knows that the pipe has room for.
+    ghost known_room: { Self → ℕ };
+
+    /// The second value is the same end of the same pipe as the first.
+    ghost is_same: { Self → Self → Type 0 };
+
+    /// Looks how many items there is room for. The other end may make more room at any time, and never takes any away.
+    fn room(&mut self) -> usize
+        ensures value { result ≡ known_room self.new }
+        ensures kept { known_room self.old ≤ known_room self.new }
+        ensures unchanged { offered self.new ≡ offered self.old }
+        ensures same { is_same self.old self.new };
+
+    /// Puts an item last. An `Err` gives it back, and comes only where this end neither knew nor found room.
+    fn offer(&mut self, item: Self::Item) -> Result<(), Self::Item>
+        ensures last { OnOk result (offered self.new ≡ offered self.old ++ item ∷ []) }
+        ensures room { OnOk result (known_room self.old ≤ known_room self.new + 1) }
+        ensures full { OnErr result ((known_room self.old ≡ 0) × (known_room self.new ≡ 0)) }
+        ensures returned { IfErr result (λ back. back ≡ item) }
+        ensures unchanged { OnErr result (offered self.new ≡ offered self.old) }
+        ensures same { is_same self.old self.new };
+
+    /// Each end is the same end as itself, and what is the same end twice over is the same end.
+    ghost same_refl: { (end : Self) → is_same end end };
+
+    ghost same_trans: { (first middle last : Self) → is_same first middle → is_same middle last → is_same first last };
+}
+
+/// The end of a pipe at which items come out. An item that this end knows is taken first.
+pub trait Inlet {
+    /// What the pipe holds.
+    type Item;
+
+    /// The items that this end knows to wait, oldest first.
+    ghost known_items: { Self → List Self.Item };
+
+    /// What one call of `take` does to the end before it, what it answers, and the end after it.
+    ghost take_gives: { Self → Option Self.Item → Self → Type 0 };
+
+    /// Takes the oldest item. A `None` comes only where this end neither knew nor found one.
+    fn take(&mut self) -> Option<Self::Item>
+        ensures { take_gives self.old result self.new };
+
+    /// A known item is taken first, and those behind it stay known.
+    ghost known_first: { (before after : Self) (taken : Option Self.Item) → take_gives before taken after
+        → MatchOption taken (known_items before ≡ []) (λ item. IsPrefix (known_items before) (item ∷ known_items after)) };
+}

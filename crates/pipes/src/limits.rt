@@ -1,0 +1,7 @@
+//! The limits of pipes and of a lobby, each in one place.
+
+/// How many items a pipe holds.
+pub const PIPE_ITEMS: usize = 256;
+
+/// How many seats a lobby has, which are numbered from 0.
+pub const MAX_SEATS: usize = 1_024;

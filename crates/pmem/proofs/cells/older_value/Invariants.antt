@@ -1,0 +1,15 @@
+use Rattle.std.proofs.Common.{◌-◌, length}
+use Rattle.pmem.specs.Cells.{older_in}
+use Rattle.pmem.proofs.Walks.{end_of}
+use Rattle.pmem.proofs.Picking.{Walking, Seeking}
+use Rattle.pmem.proofs.cells.older_value.Given as goal
+
+abbrev pub invariant-loop-place : goal.invariant-loop-place
+invariant-loop-place l =
+    record {
+      walking : Walking l.pool.items l.word l.place;
+      seeking : Seeking l.pool.items l.word (end_of l.place) (length (older_in l.pool.items l.word) - 1 - l.fn.newer) l.newer;
+    }
+
+abbrev pub decreases-loop-place : goal.decreases-loop-place
+decreases-loop-place l = end_of l.place

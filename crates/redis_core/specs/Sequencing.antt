@@ -1,0 +1,79 @@
+-- What a sequencer holds, and that its tables say what an engine will hold once the waiting parts have committed.
+use Rattle.std.specs.Prelude.{◌≡◌, ℕ, ◌+◌, ◌<◌, ◌≤◌, Bool, true, false, List, [], ◌∷◌, ◌++◌, Option, Some, None, IsTrue, slice_index_or}
+use Rattle.std.specs.List.{flat_map, AllByRecursion}
+use Rattle.model.specs.declared.group.Group.{Group}
+use Rattle.model.specs.declared.group.Part.{Part}
+use Rattle.model.specs.declared.group.Put.{Put}
+use Rattle.model.specs.Images.{Version, entries_of_lines, first_extent_line}
+use Rattle.model.specs.Groups.{Contents, AreAllApart, AreParts, HasItsLines, IsPlaced, IsUnused, last_position, parts_versions, puts_of_part}
+use Rattle.extent_heap.specs.Room.{Room, is_free_entry, is_free_line}
+use Rattle.mv_keyspace.specs.Tables.{Table, IsTable}
+
+pub record Sequencing : Type 0 where
+  -- each live record with its value and its entry
+  pub table : Table
+  -- the lines and entries that are free
+  pub room : Room
+  -- the position of the list of calls
+  pub position : ℕ
+  -- the position before the oldest part that waits
+  pub before : ℕ
+  -- what each changing command did that is in no group yet, oldest first
+  pub waiting : List Part
+  -- for each seat, whether a fault was answered there
+  pub closed : List Bool
+
+abbrev pub is_closed : Sequencing → ℕ → Bool
+is_closed s seat = slice_index_or s.closed seat false
+
+abbrev pub puts_of_parts : List Part → List Put
+puts_of_parts = flat_map puts_of_part
+
+-- there are lines, and none of them is free
+pub record HasNoFreeLine (room : Room) (first lines : ℕ) : Type 0 where
+  pub some : 0 < lines
+  pub none : (line : ℕ) → first ≤ line → line < first + lines → is_free_line room line ≡ false
+
+-- neither the entry nor a line of the put is free
+pub record IsTaken (room : Room) (put : Put) : Type 0 where
+  pub entry : is_free_entry room put.entry.0 ≡ false
+  pub lines : HasNoFreeLine room put.extent.first_line put.extent.lines
+
+-- What the heap has left is free in the contents.
+pub record IsLeftOf (contents : Contents) (room : Room) : Type 0 where
+  pub entries : (i : ℕ) → IsTrue (is_free_entry room i) → (i < entries_of_lines contents.lines) × IsTrue (contents.is_free i) × (contents.versions i ≡ None)
+  pub lines : (line : ℕ) → IsTrue (is_free_line room line) → (first_extent_line contents.lines ≤ line) × (line < contents.lines)
+  pub apart : (i : ℕ) (version : Version) → contents.versions i ≡ Some version → HasNoFreeLine room version.first_line version.lines
+
+-- The sequencer is ahead of an engine with these contents by the parts that wait, and by nothing else: what commits will ask of these parts
+-- holds, and the table is that of the versions after them.
+pub record StandsFor (s : Sequencing) (contents : Contents) : Type 0 where
+  pub before : s.before ≡ contents.current.position
+  pub last : last_position s.before s.waiting ≡ s.position
+  pub parts : AreParts s.before contents.versions s.waiting
+  pub placed : AllByRecursion (IsPlaced contents.lines) (puts_of_parts s.waiting)
+  pub fitting : AllByRecursion HasItsLines (puts_of_parts s.waiting)
+  pub unused : AllByRecursion (IsUnused contents.versions contents.is_free) (puts_of_parts s.waiting)
+  pub apart : AreAllApart (puts_of_parts s.waiting)
+  pub taken : AllByRecursion (IsTaken s.room) (puts_of_parts s.waiting)
+  pub left : IsLeftOf contents s.room
+  pub table : IsTable (parts_versions contents.versions s.waiting) s.table
+
+-- Tables with which a sequencer may start over these contents: nothing waits, and the heap has what is free.
+pub record Underlies (contents : Contents) (table : Table) (room : Room) (position : ℕ) : Type 0 where
+  pub position_is : position ≡ contents.current.position
+  pub left : IsLeftOf contents room
+  pub table_is : IsTable contents.versions table
+
+-- a new sequencer over these tables
+abbrev pub starts : Table → Room → ℕ → List Bool → Sequencing
+starts table room position closed = record { table = table; room = room; position = position; before = position; waiting = []; closed = closed }
+
+-- The oldest part that waits leaves as a group of its own.
+pub record HandsOut (old : Sequencing) (group : Group) (new : Sequencing) : Type 0 where
+  pub part : Part
+  pub rest : List Part
+  pub oldest : old.waiting ≡ part ∷ rest
+  pub alone : group.parts.items ≡ part ∷ []
+  pub before : group.before ≡ old.before
+  pub after : new ≡ record old { before = part.position; waiting = rest }

@@ -1,0 +1,11 @@
+//! The sequencer: it turns what the connections ask into one list of calls, and hands out what changed as groups to commit.
+#![tactic(auto)]
+
+mod command;
+mod outcome;
+mod places;
+mod sequencer;
+mod turn;
+
+pub use sequencer::Sequencer;
+pub use turn::Turn;

@@ -1,0 +1,242 @@
+//! The sequencer: one list of calls for all seats, and the groups of what they changed.
+ghost use Rattle.std.specs.Prelude.{◌≡◌, ◌≢◌, ◌+◌, ◌<◌, ◌≤◌, ◌↔◌, ◌⊎◌, ◌++◌, ◌∷◌, [], ℕ, true, false, length, replicate, Some, None, Ok, Err, IsTrue, IfOk, IfErr, IsErrOf, OnOk, OnErr, Contains};
+ghost use Rattle.kv_types.specs.declared.item.Item.{Item};
+ghost use Rattle.kv_types.specs.declared.reply.Reply.{Reply};
+ghost use Rattle.model.specs.declared.group.Group.{Group};
+ghost use Rattle.model.specs.Groups.{Contents, IsGroup, after_group};
+ghost use Rattle.mv_keyspace.specs.Tables.{IsLawful};
+ghost use Rattle.redis_core.specs.Keeping.{IsBeside};
+ghost use Rattle.redis_core.specs.Sequencing.{StandsFor, HandsOut, Underlies, is_closed, starts};
+ghost use Rattle.redis_core.specs.Turns.{Answers, OnServed, OnIdle, OnBlocked, OnGroupFull, OnEnded, OnUnserved};
+
+use crate::outcome::{Outcome, outcome_of};
+use crate::places::{give_back, place_all};
+use crate::turn::Turn;
+use bytes::Bytes;
+use extent_heap::ExtentHeap;
+use kv_types::{Change, Held, Item, Refusal, Reply, changes_fit};
+use model::{COUNTER_LIMIT, Group, MAX_CHANGE_BYTES, MAX_PARTS, Part};
+use mv_keyspace::Keyspace;
+use pipes::{Inlet, MAX_SEATS, Outlet, Seat};
+use std::alloc::Global;
+use std::collections::VecDeque;
+use std::marker::Model;
+
+/// Turns what each seat asks into calls of one list, one a turn, and keeps what they changed until a group takes it.
+///
+/// It runs ahead of the engine: its keyspace and its heap are those after the parts that wait, which no commit has seen yet. A clause sees a
+/// `Sequencing`.
+#[derive(Drop)]
+pub struct Sequencer<K: Keyspace> {
+    keyspace: K,
+    heap: ExtentHeap,
+    position: u64,
+    before: u64,
+    waiting: VecDeque<Part>,
+    // By the number of the seat.
+    closed: Vec<bool>,
+}
+
+impl<K: Keyspace> Model for Sequencer<K> {
+    ghost use Rattle.redis_core.specs.Keeping.{IsReady};
+    ghost use Rattle.redis_core.specs.Sequencing.{Sequencing};
+
+    ghost Value = { Sequencing };
+
+    ghost view = { λ s. record {
+        table = K.table s.keyspace; room = s.heap; position = s.position; before = s.before; waiting = s.waiting.items; closed = s.closed.items
+    } };
+
+    ghost invariant = { λ s. IsReady (K.table s.keyspace) s.heap s.waiting.items s.waiting.cap s.closed.items };
+}
+
+impl<K: Keyspace + Drop> Sequencer<K> {
+    /// A sequencer over a keyspace at this position of the list, with a heap of what is free beside it. No seat is closed and nothing waits.
+    ///
+    /// # Errors
+    ///
+    /// `Memory` alone.
+    pub fn new(
+        alloc: Global,
+        keyspace: K,
+        heap: ExtentHeap,
+        position: u64,
+    ) -> Result<Sequencer<K>, Refusal>
+        requires lawful { IsLawful (K.table keyspace) }
+        requires beside { IsBeside (K.table keyspace) heap }
+        ensures ok { IfOk result (λ s. s ≡ starts (K.table keyspace) heap position (replicate MAX_SEATS false)) }
+        ensures stands { IfOk result (λ s. (contents : Contents) → Underlies contents (K.table keyspace) heap position → StandsFor s contents) }
+        ensures err { IfErr result (λ refusal. refusal ≡ Refusal.Memory) }
+    {
+        let waiting = VecDeque::with_capacity(alloc, MAX_PARTS)?;
+        let closed = vec![in alloc; false; MAX_SEATS]?;
+        Ok(Sequencer {
+            keyspace,
+            heap,
+            position,
+            before: position,
+            waiting,
+            closed,
+        })
+    }
+}
+
+impl<K: Keyspace> Sequencer<K> {
+    /// The keyspace after all calls so far.
+    pub fn keyspace(&self) -> &K
+        ensures { K.table result.now ≡ (self.now).table }
+    {
+        &self.keyspace
+    }
+
+    /// Whether a changing command waits for a group.
+    pub fn has_open(&self) -> bool
+        ensures { IsTrue result ↔ ((self.now).waiting ≢ []) }
+    {
+        !self.waiting.is_empty()
+    }
+
+    /// Answers one item of a seat, if there is one and there is room for its reply. It waits for nobody.
+    ///
+    /// `Served` is one legal entry of the list, whose reply bears the list's position after it. Its replies `ERR out of memory` and
+    /// `ERR store is full` leave all as it was; the second comes only where the heap has no room for what the command puts.
+    pub fn turn<I: Inlet<Item = Item>, O: Outlet<Item = Held>>(
+        &mut self,
+        alloc: Global,
+        seat: &Seat,
+        inlet: &mut I,
+        outlet: &mut O,
+    ) -> Turn
+        ensures served { OnServed result ((item : Item) × (reply : Reply) × I.take_gives inlet.old (Some item) inlet.new
+            × (O.offered outlet.new ≡ O.offered outlet.old ++ record { reply = reply; position = (self.new).position } ∷ [])
+            × Answers self.old seat.now item reply self.new) }
+        ensures idle { OnIdle result (I.take_gives inlet.old None inlet.new) }
+        ensures blocked { OnBlocked result ((O.known_room outlet.old ≡ 0) × (inlet.new ≡ inlet.old)) }
+        ensures group_full { OnGroupFull result ((length (self.old).waiting ≡ MAX_PARTS) × (inlet.new ≡ inlet.old)) }
+        ensures ended { OnEnded result ((is_closed self.old seat.now ≡ true) × (inlet.new ≡ inlet.old)) }
+        ensures unserved { OnUnserved result ((self.new ≡ self.old) × (O.offered outlet.new ≡ O.offered outlet.old)) }
+
+        // In the converse of the four: none of them holds where it is served, and where none holds it is served.
+        ensures open { OnServed result ((is_closed self.old seat.now ≡ false) × (length (self.old).waiting < MAX_PARTS)) }
+        ensures otherwise { is_closed self.old seat.now ≡ false → length (self.old).waiting < MAX_PARTS → 0 < O.known_room outlet.old
+            → I.known_items inlet.old ≢ [] → result ≡ Turn.Served }
+        ensures same { O.is_same outlet.old outlet.new }
+        ensures stands { (contents : Contents) → StandsFor self.old contents → StandsFor self.new contents }
+    {
+        if self.closed[seat.number()] {
+            return Turn::Ended;
+        }
+        if self.waiting.len() == MAX_PARTS {
+            return Turn::GroupFull;
+        }
+        if outlet.room() == 0 {
+            return Turn::Blocked;
+        }
+        let Some(item) = inlet.take() else {
+            return Turn::Idle;
+        };
+        let reply = self.answer(alloc, seat, &item);
+        let held = Held {
+            reply,
+            position: self.position,
+        };
+        match outlet.offer(held) {
+            Ok(()) => Turn::Served,
+            Err(_) => unreachable!(),
+        }
+    }
+
+    /// Hands out the oldest part that waits, as a group of its own.
+    ///
+    /// # Errors
+    ///
+    /// `PipeFull` where there was no known room, `Memory` where a growth was refused. The part goes on waiting.
+    pub fn close_group<G: Outlet<Item = Group>>(
+        &mut self,
+        alloc: Global,
+        outlet: &mut G,
+    ) -> Result<(), Refusal>
+        requires { (self.old).waiting ≢ [] }
+        ensures ok { OnOk result ((group : Group) × (G.offered outlet.new ≡ G.offered outlet.old ++ group ∷ [])
+            × HandsOut self.old group self.new
+            × ((contents : Contents) → StandsFor self.old contents → IsGroup contents group × StandsFor self.new (after_group contents group))) }
+        ensures err { OnErr result ((self.new ≡ self.old) × (G.offered outlet.new ≡ G.offered outlet.old)) }
+        ensures causes { IfErr result (λ refusal. (refusal ≡ Refusal.PipeFull) ⊎ (refusal ≡ Refusal.Memory)) }
+        ensures full_only { IsErrOf result Refusal.PipeFull → G.known_room outlet.old ≡ 0 }
+        ensures same { G.is_same outlet.old outlet.new }
+    {
+        if outlet.room() == 0 {
+            return Err(Refusal::PipeFull);
+        }
+        let mut parts = Vec::with_capacity(alloc, 1)?;
+        let Some(part) = self.waiting.pop_front() else {
+            unreachable!()
+        };
+        let before = self.before;
+        self.before = part.position;
+        parts.push_reserved(part);
+        match outlet.offer(Group { before, parts }) {
+            Ok(()) => Ok(()),
+            Err(_) => unreachable!(),
+        }
+    }
+
+    /// The reply to an item, with all that it changes. A fault closes the seat.
+    fn answer(&mut self, alloc: Global, seat: &Seat, item: &Item) -> Reply
+        requires { length (self.old).waiting < MAX_PARTS }
+        ensures answers { Answers self.old seat.now item.now result self.new }
+        ensures stands { (contents : Contents) → StandsFor self.old contents → StandsFor self.new contents }
+    {
+        if let Item::Fault(_) = item {
+            self.closed[seat.number()] = true;
+        }
+        match self.serve(alloc, item) {
+            Ok(reply) => reply,
+            Err(Refusal::Full) => error(b"ERR store is full"),
+            Err(_) => error(b"ERR out of memory"),
+        }
+    }
+
+    fn serve(&mut self, alloc: Global, item: &Item) -> Result<Reply, Refusal> {
+        let Outcome { reply, changes } = outcome_of(alloc, &self.keyspace, item)?;
+        if !changes_fit(&changes, MAX_CHANGE_BYTES) {
+            return Ok(error(b"ERR change is too large"));
+        }
+        if !changes.is_empty() {
+            self.make(alloc, changes)?;
+        }
+        Ok(reply)
+    }
+
+    /// Makes the changes of one command.
+    fn make(&mut self, alloc: Global, changes: Vec<Change>) -> Result<(), Refusal> {
+        // No list of calls gets so long. One that did would refuse its changes.
+        if self.position >= COUNTER_LIMIT - 1 {
+            return Err(Refusal::Exhausted);
+        }
+        let position = self.position + 1;
+        let changes = place_all(alloc, &mut self.heap, changes)?;
+        match self.keyspace.apply(alloc, &changes, position) {
+            Ok(ended) => {
+                self.position = position;
+                self.waiting.push_back_reserved(Part {
+                    position,
+                    changes,
+                    ended,
+                });
+                Ok(())
+            }
+            Err(refusal) => {
+                give_back(&mut self.heap, changes);
+                Err(refusal)
+            }
+        }
+    }
+}
+
+/// An error with a constant text, which takes no memory.
+fn error(text: &'static [u8]) -> Reply
+    ensures { result ≡ Reply.Error text.now }
+{
+    Reply::Error(Bytes::from_static(text))
+}

@@ -1,0 +1,27 @@
+-- Lemmas on the replies that a gate holds.
+use Rattle.std.proofs.Common.{◌≡◌, ℕ, ◌+◌, ◌-◌, ◌≤◌, Bool, true, false, List, [], ◌∷◌, ◌++◌, length, take, drop, cond, refl, sym, ap, ◌∙◌, arith, length-append, length-drop}
+use Rattle.reply_gate.specs.declared.held_text.HeldText.{HeldText}
+use Rattle.reply_gate.specs.Gates.{held_bytes, covered_bytes, uncovered_rest, is_covered}
+
+pub held_bytes-append : (xs ys : List HeldText) → held_bytes (xs ++ ys) ≡ held_bytes xs + held_bytes ys
+held_bytes-append [] ys = omega arith
+held_bytes-append (x ∷ xs) ys = omega (arith, held_bytes-append xs ys)
+
+-- the bytes of the covered front and those of the rest are together all
+pub held_bytes-split : (local remote : ℕ) (xs : List HeldText) → covered_bytes local remote xs + held_bytes (uncovered_rest local remote xs) ≡ held_bytes xs
+held_bytes-split local remote [] = refl
+held_bytes-split local remote (x ∷ xs) =
+    elim (is_covered local remote x) as (λ b. cond b (x.bytes + covered_bytes local remote xs) 0 + held_bytes (cond b (uncovered_rest local remote xs) (x ∷ xs)) ≡ x.bytes + held_bytes xs) [
+      | true ↦ omega (arith, held_bytes-split local remote xs)
+      | false ↦ omega arith
+    ]
+
+-- the last reply's bytes are those that were written
+pub held_more : (p : ℕ) (old text new : List ℕ) (held held' : List HeldText) (position bytes : ℕ)
+    → new ≡ old ++ text → held' ≡ held ++ record { position = position; bytes = bytes } ∷ [] → bytes ≡ length text
+    → p ≤ length old → length (drop p old) ≡ held_bytes held
+    → (p ≤ length new) × (length (drop p new) ≡ held_bytes held')
+held_more p old text new held held' position bytes is_new is_held is_bytes within all =
+    rw (is_new, is_held)
+    ( omega (arith, length-append old text)
+    , omega (arith, length-append old text, length-drop p (old ++ text), length-drop p old, held_bytes-append held (record { position = position; bytes = bytes } ∷ [])) )

@@ -1,0 +1,20 @@
+//! What the two nodes tell each other.
+use kv_types::Change;
+
+/// The changes of the list of calls between two positions, as the primary of an epoch sends them.
+#[derive(Debug, Drop)]
+pub struct Frame {
+    pub epoch: u64,
+    /// The position before the changes.
+    pub before: u64,
+    /// The position after them.
+    pub after: u64,
+    pub changes: Vec<Change>,
+}
+
+/// The standby's word that everything up to a position is durable there.
+#[derive(Clone, Copy, Debug, PartialEq, Eq)]
+pub struct Ack {
+    pub epoch: u64,
+    pub position: u64,
+}

@@ -1,0 +1,157 @@
+-- A group moves the versions of an image by just what its changes do.
+use Rattle.std.proofs.Common.{◌≡◌, ◌≢◌, ℕ, zero, suc, ◌+◌, ◌-◌, ◌*◌, ◌<◌, ◌≤◌, Bool, true, false, not, ◌||◌, IsTrue, List, [], ◌∷◌, ◌++◌, ◌⊎◌, inl, inr, Option, None, Some, length, refl, sym, ap, subst, ◌∙◌, arith}
+use Rattle.std.specs.List.{flat_map, AllByRecursion}
+use Rattle.std.proofs.lemmas.Bool.{cases_Bool, or_cases}
+use Rattle.pmem.specs.Runs.{written}
+use Rattle.pmem.proofs.Staging.{written-append}
+use Rattle.model.specs.declared.record.Record.{Record}
+use Rattle.model.specs.declared.group.Group.{Group}
+use Rattle.model.specs.declared.group.Part.{Part}
+use Rattle.model.specs.declared.group.Put.{Put}
+use Rattle.model.specs.Images.{Image, Version, entry_word, entries_of_lines}
+use Rattle.model.specs.Groups.{Versions, IsPlaced, HasItsLines, AreApart, IsApartFrom, AreAllApart, AreParts, NamesEnded, is_put_at, puts_of_part, part_versions, parts_versions, version_of_put}
+use Rattle.wbl_engine.specs.Entries.{IsStorable}
+use Rattle.wbl_engine.specs.Stages.{part_pairs, parts_pairs, puts_of_parts}
+use Rattle.wbl_engine.proofs.CountLemmas.{with_cp}
+use Rattle.wbl_engine.proofs.PartEffects.{IsAmong, end_if, end_if_begun, changes_kept, changes_made, is_put_at-among}
+use Rattle.wbl_engine.proofs.PartWords.{part_word-kept}
+use Rattle.wbl_engine.proofs.PartSteps.{Fits, IsReady, AreStored, part_fits}
+use Rattle.wbl_engine.proofs.PutPairs.{among-all}
+
+-- lists one after another
+
+all-front : (P : Put → Type 0) (a b : List Put) → AllByRecursion P (a ++ b) → AllByRecursion P a
+all-front P [] b all = tt
+all-front P (put ∷ a) b all = (all.0, all-front P a b all.1)
+
+all-back : (P : Put → Type 0) (a b : List Put) → AllByRecursion P (a ++ b) → AllByRecursion P b
+all-back P [] b all = all
+all-back P (put ∷ a) b all = all-back P a b all.1
+
+apart-front : (a b : List Put) → AreAllApart (a ++ b) → AreAllApart a
+apart-front [] b apart = tt
+apart-front (put ∷ a) b apart = (all-front (IsApartFrom put) a b apart.0, apart-front a b apart.1)
+
+apart-back : (a b : List Put) → AreAllApart (a ++ b) → AreAllApart b
+apart-back [] b apart = apart
+apart-back (put ∷ a) b apart = apart-back a b apart.1
+
+-- each of the first is apart from each of the second
+apart-across : (a b : List Put) → AreAllApart (a ++ b) → (put other : Put) → IsAmong put a → IsAmong other b → IsApartFrom put other
+apart-across [] b apart put other among there = absurd among
+apart-across (first ∷ a) b apart put other (inl here) there =
+    subst (λ (p : Put). IsApartFrom p other) (sym here) (among-all (IsApartFrom first) b other there (all-back (IsApartFrom first) a b apart.0))
+apart-across (first ∷ a) b apart put other (inr later) there = apart-across a b apart.1 put other later there
+
+pub among-front : (a b : List Put) (put : Put) → IsAmong put a → IsAmong put (a ++ b)
+among-front [] b put among = absurd among
+among-front (first ∷ a) b put (inl here) = inl here
+among-front (first ∷ a) b put (inr later) = inr (among-front a b put later)
+
+pub among-back : (a b : List Put) (put : Put) → IsAmong put b → IsAmong put (a ++ b)
+among-back [] b put among = among
+among-back (first ∷ a) b put among = inr (among-back a b put among)
+
+all-from : (P : Put → Type 0) (puts : List Put) → ((put : Put) → IsAmong put puts → P put) → AllByRecursion P puts
+all-from P [] each = tt
+all-from P (put ∷ puts) each = (each put (inl refl), all-from P puts (λ q among. each q (inr among)))
+
+none-from : (i : ℕ) (puts : List Put) → ((put : Put) → IsAmong put puts → i ≡ put.entry.0 → ⊥) → is_put_at i puts ≡ false
+none-from i puts none =
+    elim (cases_Bool (is_put_at i puts)) [
+      inl put ↦ let at = is_put_at-among i puts put in absurd (none at.0 at.1 at.2)
+    | inr no_put ↦ no_put
+    ]
+
+flip_apart : (a b c d : ℕ) → AreApart a b c d → AreApart c d a b
+flip_apart a b c d (inl before) = inr before
+flip_apart a b c d (inr after) = inl after
+
+-- the part's own puts
+part_stored : (lines : ℕ) (versions : Versions) (image : Image) (part : Part) (parts : List Part)
+    → AreStored lines versions image (puts_of_parts (part ∷ parts)) → AreStored lines versions image (puts_of_part part)
+part_stored lines versions image part parts stored =
+    let a : List Put = puts_of_part part in
+    let b : List Put = puts_of_parts parts in
+    record {
+      placed = all-front (IsPlaced lines) a b stored.placed;
+      fitting = all-front HasItsLines a b stored.fitting;
+      storable = all-front IsStorable a b stored.storable;
+      ready = all-front (IsReady versions image) a b stored.ready;
+      apart = apart-front a b stored.apart;
+    }
+
+-- a put of a later part has still its place
+still_ready : (lines stamp : ℕ) (versions : Versions) (image : Image) (part : Part) (parts : List Part)
+    → AreStored lines versions image (puts_of_parts (part ∷ parts)) → (put : Put) → IsAmong put (puts_of_parts parts)
+    → IsReady (part_versions versions part) (written (part_pairs stamp part) image) put
+still_ready lines stamp versions image part parts stored put among =
+    let a : List Put = puts_of_part part in
+    let b : List Put = puts_of_parts parts in
+    let was : IsReady versions image put = among-all (IsReady versions image) (a ++ b) put (among-back a b put among) stored.ready in
+    let placed : IsPlaced lines put = among-all (IsPlaced lines) (a ++ b) put (among-back a b put among) stored.placed in
+    let none : is_put_at put.entry.0 a ≡ false =
+        none-from put.entry.0 a (λ other there e. (apart-across a b stored.apart other put there among).entries (sym e)) in
+    record {
+      free =
+        part_word-kept lines stamp part image put.entry.0 0 placed.entry (omega arith) (omega arith) none (all-front (IsPlaced lines) a b stored.placed)
+          ∙ was.free;
+      lines = λ i version is.
+        elim (cases_Bool (is_put_at i a)) [
+          inl there ↦
+            let at = is_put_at-among i a there in
+            let made = changes_made part.position versions part.changes.items at.0 at.1 (apart-front a b stored.apart) in
+            let same : Some version ≡ Some (end_if made.test (version_of_put part.position at.0)) =
+                sym is ∙ ap (part_versions versions part) at.2 ∙ made.is in
+            let version_is : version ≡ end_if made.test (version_of_put part.position at.0) = cc in
+            subst (λ (v : Version). AreApart put.extent.first_line put.extent.lines v.first_line v.lines) (sym version_is)
+              (flip_apart at.0.extent.first_line at.0.extent.lines put.extent.first_line put.extent.lines
+                (apart-across a b stored.apart at.0 put at.1 among).lines)
+        | inr none_there ↦
+            let kept = changes_kept part.position versions part.changes.items i none_there in
+            apart_where_kept put kept.test (versions i) version (was.lines i) (sym kept.is ∙ is)
+        ];
+    }
+  where
+    apart_where_kept : (put : Put) (test : Bool) (old : Option Version) (version : Version)
+        → ((v : Version) → old ≡ Some v → AreApart put.extent.first_line put.extent.lines v.first_line v.lines)
+        → end_if_begun test old ≡ Some version → AreApart put.extent.first_line put.extent.lines version.first_line version.lines
+    apart_where_kept put test None version apart e = absurd (cc)
+    apart_where_kept put test (Some v) version apart e =
+        let is : version ≡ end_if test v = cc in
+        subst (λ (w : Version). AreApart put.extent.first_line put.extent.lines w.first_line w.lines) (sym is) (apart v refl)
+
+rest_stored : (lines stamp : ℕ) (versions : Versions) (image : Image) (part : Part) (parts : List Part)
+    → AreStored lines versions image (puts_of_parts (part ∷ parts))
+    → AreStored lines (part_versions versions part) (written (part_pairs stamp part) image) (puts_of_parts parts)
+rest_stored lines stamp versions image part parts stored =
+    let a : List Put = puts_of_part part in
+    let b : List Put = puts_of_parts parts in
+    record {
+      placed = all-back (IsPlaced lines) a b stored.placed;
+      fitting = all-back HasItsLines a b stored.fitting;
+      storable = all-back IsStorable a b stored.storable;
+      ready = all-from (IsReady (part_versions versions part) (written (part_pairs stamp part) image)) b
+        (λ put among. still_ready lines stamp versions image part parts stored put among);
+      apart = apart-back a b stored.apart;
+    }
+
+-- The versions after the stores of all parts, under the record with as many stamps more, are those after their changes.
+pub parts_fit : (lines : ℕ) (parts : List Part) (before : ℕ) (r : Record) (image : Image) (versions : Versions) → Fits r lines image versions
+    → AreStored lines versions image (puts_of_parts parts) → AreParts before versions parts
+    → Fits (with_cp r (r.cp + length parts)) lines (written (parts_pairs (r.cp + 1) parts) image) (parts_versions versions parts)
+parts_fit lines [] before r image versions fits stored follow =
+    let e : r.cp ≡ r.cp + 0 = omega arith in
+    subst (λ (n : ℕ). Fits (with_cp r n) lines image versions) e fits
+parts_fit lines (part ∷ parts) before r image versions fits stored follow =
+    let r' : Record = with_cp r (r.cp + 1) in
+    let image' : Image = written (part_pairs (r.cp + 1) part) image in
+    let first : Fits r' lines image' (part_versions versions part) =
+        part_fits part fits (part_stored lines versions image part parts stored) follow.1 in
+    let rest : Fits (with_cp r ((r.cp + 1) + length parts)) lines (written (parts_pairs ((r.cp + 1) + 1) parts) image') (parts_versions versions (part ∷ parts)) =
+        parts_fit lines parts part.position r' image' (part_versions versions part) first
+            (rest_stored lines (r.cp + 1) versions image part parts stored) follow.2 in
+    let e : (r.cp + 1) + length parts ≡ r.cp + suc (length parts) = omega arith in
+    subst (λ (n : ℕ). Fits (with_cp r n) lines (written (parts_pairs (r.cp + 1) (part ∷ parts)) image) (parts_versions versions (part ∷ parts))) e
+        (subst (λ (f : ℕ → ℕ). Fits (with_cp r ((r.cp + 1) + length parts)) lines f (parts_versions versions (part ∷ parts)))
+            (sym (written-append (part_pairs (r.cp + 1) part) (parts_pairs ((r.cp + 1) + 1) parts) image)) rest)

@@ -1,0 +1,17 @@
+pub mod CountLemmas
+pub mod GroupSteps
+pub mod LayoutRuns
+pub mod Mixing
+pub mod Packing
+pub mod PartEffects
+pub mod PartSteps
+pub mod PartWords
+pub mod PutPairs
+pub mod ReadBack
+pub mod RecordLemmas
+pub mod RecordWords
+pub mod Results
+pub mod Staged
+pub mod StagingLemmas
+pub mod StoredBy
+pub mod VersionLemmas

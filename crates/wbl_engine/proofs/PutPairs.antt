@@ -1,0 +1,169 @@
+-- Where the puts and the ends of a part store, and what they leave there.
+use Rattle.std.proofs.Common.{◌≡◌, ◌≢◌, ℕ, zero, suc, ◌+◌, ◌-◌, ◌*◌, ◌<◌, ◌≤◌, Bool, true, false, cond, List, [], ◌∷◌, ◌++◌, ◌⊎◌, inl, inr, length, get_or, map, refl, sym, ap, subst, ◌∙◌, arith}
+use Rattle.std.specs.List.{flat_map, AllByRecursion}
+use Rattle.kv_types.specs.declared.place.EntryNo.{EntryNo}
+use Rattle.pmem.specs.Runs.{pairs_from, IsStored, IsOutside, written}
+use Rattle.pmem.proofs.Staging.{IsStored-append, IsStored-pairs_from, pairs_from-outside, written-append, written-outside, written-pairs_from, written-stored}
+use Rattle.model.specs.declared.group.Put.{Put}
+use Rattle.model.specs.Images.{Image, entry_word, entries_of_lines, first_extent_line}
+use Rattle.model.specs.Groups.{IsPlaced, AreApart, IsApartFrom, AreAllApart}
+use Rattle.wbl_engine.specs.Entries.{word_of_bytes, packed, version_bytes, entry_words, extent_words, put_pairs}
+use Rattle.wbl_engine.specs.Stages.{puts_pairs, end_pairs}
+use Rattle.wbl_engine.proofs.Packing.{length-packed, get_or-packed}
+use Rattle.wbl_engine.proofs.PartEffects.{IsAmong}
+
+-- the word is of the put's entry
+pub record IsOfEntry (put : Put) (word : ℕ) : Type 0 where
+  pub low : entry_word put.entry.0 0 ≤ word
+  pub high : word < entry_word put.entry.0 0 + 8
+
+-- the word is of its extent
+pub record IsOfExtent (put : Put) (word : ℕ) : Type 0 where
+  pub low : 8 * put.extent.first_line ≤ word
+  pub high : word < 8 * (put.extent.first_line + put.extent.lines)
+
+-- each pair of a put stores to its entry or to its extent
+pub put_pairs-where : (stamp position : ℕ) (put : Put) (word x : ℕ) → IsStored (put_pairs stamp position put) word x
+    → (IsOfExtent put word) ⊎ (IsOfEntry put word × (get_or (entry_words stamp position put) (word - entry_word put.entry.0 0) 0 ≡ x))
+put_pairs-where stamp position put word x stored =
+    elim (IsStored-append (pairs_from (8 * put.extent.first_line) (extent_words put)) (pairs_from (entry_word put.entry.0 0) (entry_words stamp position put)) word x stored) [
+      inl extent ↦
+        let at = IsStored-pairs_from (8 * put.extent.first_line) (extent_words put) word x extent in
+        inl (record { low = at.0; high = omega (arith, at.1, length-packed (version_bytes put) 0 (8 * put.extent.lines)) })
+    | inr entry ↦
+        let at = IsStored-pairs_from (entry_word put.entry.0 0) (entry_words stamp position put) word x entry in
+        inr (record { low = at.0; high = at.1 }, at.2)
+    ]
+
+-- elsewhere it stores nothing
+pub put_pairs-outside : (stamp position : ℕ) (put : Put) (word : ℕ) → (IsOfExtent put word → ⊥) → (IsOfEntry put word → ⊥)
+    → IsOutside (put_pairs stamp position put) word
+put_pairs-outside stamp position put word extent entry x stored =
+    elim (put_pairs-where stamp position put word x stored) [ inl h ↦ extent h | inr h ↦ entry h.0 ]
+
+-- the entry of a put, written
+put_pairs-entry : (lines stamp position : ℕ) (put : Put) (image : Image) (k : ℕ) → k < 8
+    → written (put_pairs stamp position put) image (entry_word put.entry.0 k) ≡ get_or (entry_words stamp position put) k 0
+put_pairs-entry lines stamp position put image k below =
+    let extent : List (ℕ × ℕ) = pairs_from (8 * put.extent.first_line) (extent_words put) in
+    let entry : List (ℕ × ℕ) = pairs_from (entry_word put.entry.0 0) (entry_words stamp position put) in
+    let e : entry_word put.entry.0 0 + k ≡ entry_word put.entry.0 k = omega arith in
+    ap (λ (f : ℕ → ℕ). f (entry_word put.entry.0 k)) (written-append extent entry image)
+        ∙ ap (written entry (written extent image)) (sym e)
+        ∙ written-pairs_from (entry_word put.entry.0 0) (entry_words stamp position put) (written extent image) k below
+
+-- its extent
+put_pairs-extent : (lines stamp position : ℕ) (put : Put) (image : Image) (j : ℕ) → IsPlaced lines put → j < 8 * put.extent.lines
+    → written (put_pairs stamp position put) image (8 * put.extent.first_line + j) ≡ word_of_bytes (version_bytes put) (8 * j)
+put_pairs-extent lines stamp position put image j at below =
+    let extent : List (ℕ × ℕ) = pairs_from (8 * put.extent.first_line) (extent_words put) in
+    let entry : List (ℕ × ℕ) = pairs_from (entry_word put.entry.0 0) (entry_words stamp position put) in
+    let e : 0 + 8 * j ≡ 8 * j = omega arith in
+    ap (λ (f : ℕ → ℕ). f (8 * put.extent.first_line + j)) (written-append extent entry image)
+        ∙ written-outside entry (written extent image) (8 * put.extent.first_line + j)
+            (pairs_from-outside (entry_word put.entry.0 0) (entry_words stamp position put) (8 * put.extent.first_line + j)
+                (inr (omega (arith, at.entry, at.above))))
+        ∙ written-pairs_from (8 * put.extent.first_line) (extent_words put) image j (omega (arith, length-packed (version_bytes put) 0 (8 * put.extent.lines)))
+        ∙ get_or-packed (version_bytes put) 0 (8 * put.extent.lines) j below
+        ∙ ap (word_of_bytes (version_bytes put)) e
+
+pub among-all : (P : Put → Type 0) (puts : List Put) (put : Put) → IsAmong put puts → AllByRecursion P puts → P put
+among-all P [] put among all = absurd among
+among-all P (other ∷ puts) put (inl here) all = subst P (sym here) all.0
+among-all P (other ∷ puts) put (inr later) all = among-all P puts put later all.1
+
+-- several puts store nothing elsewhere
+pub puts_pairs-outside : (stamp position : ℕ) (puts : List Put) (word : ℕ) → ((put : Put) → IsAmong put puts → IsOfExtent put word → ⊥)
+    → ((put : Put) → IsAmong put puts → IsOfEntry put word → ⊥) → IsOutside (puts_pairs stamp position puts) word
+puts_pairs-outside stamp position [] word extents entries x stored = stored
+puts_pairs-outside stamp position (put ∷ puts) word extents entries x stored =
+    elim (IsStored-append (put_pairs stamp position put) (puts_pairs stamp position puts) word x stored) [
+      inl here ↦ put_pairs-outside stamp position put word (extents put (inl refl)) (entries put (inl refl)) x here
+    | inr later ↦
+      puts_pairs-outside stamp position puts word (λ q among. extents q (inr among)) (λ q among. entries q (inr among)) x later
+    ]
+
+entries_apart : (lines : ℕ) (put other : Put) (k : ℕ) → k < 8 → IsApartFrom put other → IsOfEntry other (entry_word put.entry.0 k) → ⊥
+entries_apart lines put other k below apart of =
+    apart.entries (omega (arith, of.low, of.high))
+
+entry_below : (lines : ℕ) (put other : Put) (k : ℕ) → k < 8 → IsPlaced lines put → IsPlaced lines other → IsOfExtent other (entry_word put.entry.0 k) → ⊥
+entry_below lines put other k below at there of = omega (arith, of.low, at.entry, there.above)
+
+-- the entry of one of several puts
+pub puts_pairs-entry : (lines stamp position : ℕ) (puts : List Put) (put : Put) (image : Image) (k : ℕ) → k < 8 → IsAmong put puts
+    → AllByRecursion (IsPlaced lines) puts → AreAllApart puts
+    → written (puts_pairs stamp position puts) image (entry_word put.entry.0 k) ≡ get_or (entry_words stamp position put) k 0
+puts_pairs-entry lines stamp position [] put image k below among placed apart = absurd among
+puts_pairs-entry lines stamp position (other ∷ puts) put image k below (inl here) placed apart =
+    let word : ℕ = entry_word other.entry.0 k in
+    let head : written (puts_pairs stamp position (other ∷ puts)) image word ≡ get_or (entry_words stamp position other) k 0 =
+        ap (λ (f : ℕ → ℕ). f word) (written-append (put_pairs stamp position other) (puts_pairs stamp position puts) image)
+            ∙ written-outside (puts_pairs stamp position puts) (written (put_pairs stamp position other) image) word
+                (puts_pairs-outside stamp position puts word
+                    (λ q among. entry_below lines other q k below placed.0 (among-all (IsPlaced lines) puts q among placed.1))
+                    (λ q among. entries_apart lines other q k below (among-all (IsApartFrom other) puts q among apart.0)))
+            ∙ put_pairs-entry lines stamp position other image k below in
+    subst (λ (p : Put). written (puts_pairs stamp position (other ∷ puts)) image (entry_word p.entry.0 k) ≡ get_or (entry_words stamp position p) k 0)
+        (sym here) head
+puts_pairs-entry lines stamp position (other ∷ puts) put image k below (inr later) placed apart =
+    ap (λ (f : ℕ → ℕ). f (entry_word put.entry.0 k)) (written-append (put_pairs stamp position other) (puts_pairs stamp position puts) image)
+        ∙ puts_pairs-entry lines stamp position puts put (written (put_pairs stamp position other) image) k below later placed.1 apart.1
+
+extents_apart : (put other : Put) (j : ℕ) → j < 8 * put.extent.lines → IsApartFrom put other → IsOfExtent other (8 * put.extent.first_line + j) → ⊥
+extents_apart put other j below apart of =
+    elim apart.lines [ inl before ↦ omega (arith, before, of.low) | inr after ↦ omega (arith, after, of.high) ]
+
+extent_above : (lines : ℕ) (put other : Put) (j : ℕ) → IsPlaced lines put → IsPlaced lines other → IsOfEntry other (8 * put.extent.first_line + j) → ⊥
+extent_above lines put other j at there of = omega (arith, at.above, there.entry, of.high)
+
+-- the extent of one of several puts
+pub puts_pairs-extent : (lines stamp position : ℕ) (puts : List Put) (put : Put) (image : Image) (j : ℕ) → j < 8 * put.extent.lines → IsAmong put puts
+    → AllByRecursion (IsPlaced lines) puts → AreAllApart puts
+    → written (puts_pairs stamp position puts) image (8 * put.extent.first_line + j) ≡ word_of_bytes (version_bytes put) (8 * j)
+puts_pairs-extent lines stamp position [] put image j below among placed apart = absurd among
+puts_pairs-extent lines stamp position (other ∷ puts) put image j below (inl here) placed apart =
+    let there : j < 8 * other.extent.lines = subst (λ (p : Put). j < 8 * p.extent.lines) here below in
+    let word : ℕ = 8 * other.extent.first_line + j in
+    let head : written (puts_pairs stamp position (other ∷ puts)) image word ≡ word_of_bytes (version_bytes other) (8 * j) =
+        ap (λ (f : ℕ → ℕ). f word) (written-append (put_pairs stamp position other) (puts_pairs stamp position puts) image)
+            ∙ written-outside (puts_pairs stamp position puts) (written (put_pairs stamp position other) image) word
+                (puts_pairs-outside stamp position puts word
+                    (λ q among. extents_apart other q j there (among-all (IsApartFrom other) puts q among apart.0))
+                    (λ q among. extent_above lines other q j placed.0 (among-all (IsPlaced lines) puts q among placed.1)))
+            ∙ put_pairs-extent lines stamp position other image j placed.0 there in
+    subst (λ (p : Put). written (puts_pairs stamp position (other ∷ puts)) image (8 * p.extent.first_line + j) ≡ word_of_bytes (version_bytes p) (8 * j))
+        (sym here) head
+puts_pairs-extent lines stamp position (other ∷ puts) put image j below (inr later) placed apart =
+    ap (λ (f : ℕ → ℕ). f (8 * put.extent.first_line + j)) (written-append (put_pairs stamp position other) (puts_pairs stamp position puts) image)
+        ∙ puts_pairs-extent lines stamp position puts put (written (put_pairs stamp position other) image) j below later placed.1 apart.1
+
+-- the entry is one of these
+abbrev pub IsNamed : ℕ → List EntryNo → Type 0
+IsNamed i [] = ⊥
+IsNamed i (entry ∷ ended) = (entry.0 ≡ i) ⊎ IsNamed i ended
+
+pub end_pairs-where : (stamp : ℕ) (ended : List EntryNo) (word x : ℕ) → IsStored (end_pairs stamp ended) word x
+    → (i : ℕ) × IsNamed i ended × (word ≡ entry_word i 1) × (x ≡ stamp)
+end_pairs-where stamp [] word x stored = absurd stored
+end_pairs-where stamp (entry ∷ ended) word x (inl here) = (entry.0, inl refl, sym here.0, sym here.1)
+end_pairs-where stamp (entry ∷ ended) word x (inr later) =
+    let more = end_pairs-where stamp ended word x later in (more.0, inr more.1, more.2, more.3)
+
+named-stored : (stamp : ℕ) (ended : List EntryNo) (i : ℕ) → IsNamed i ended → IsStored (end_pairs stamp ended) (entry_word i 1) stamp
+named-stored stamp [] i named = absurd named
+named-stored stamp (entry ∷ ended) i (inl here) = inl (ap (λ (n : ℕ). entry_word n 1) here, refl)
+named-stored stamp (entry ∷ ended) i (inr later) = inr (named-stored stamp ended i later)
+
+-- the end word of a named entry
+pub end_pairs-named : (stamp : ℕ) (ended : List EntryNo) (image : Image) (i : ℕ) → IsNamed i ended
+    → written (end_pairs stamp ended) image (entry_word i 1) ≡ stamp
+end_pairs-named stamp ended image i named =
+    written-stored (end_pairs stamp ended) image (entry_word i 1) stamp (named-stored stamp ended i named)
+        (λ y stored. (end_pairs-where stamp ended (entry_word i 1) y stored).3)
+
+-- every other word stays
+pub end_pairs-outside : (stamp : ℕ) (ended : List EntryNo) (word : ℕ) → ((i : ℕ) → IsNamed i ended → word ≡ entry_word i 1 → ⊥)
+    → IsOutside (end_pairs stamp ended) word
+end_pairs-outside stamp ended word other x stored =
+    let at = end_pairs-where stamp ended word x stored in other at.0 at.1 at.2

@@ -1,0 +1,152 @@
+-- The loops over parts, changes and entries, one step at a time.
+use Rattle.std.proofs.Common.{◌≡◌, ℕ, zero, suc, ◌+◌, ◌<◌, ◌≤◌, List, [], ◌∷◌, ◌++◌, map, length, take, get_or, refl, sym, ap, subst, ◌∙◌, arith, append_assoc}
+use Rattle.std.specs.List.{flat_map, AllByRecursion}
+use Rattle.std.proofs.lemmas.Grind.{flat_map-append}
+use Rattle.std.proofs.lemmas.List.{take_more, take_all, map-append, append-nil}
+use Rattle.kv_types.specs.declared.place.EntryNo.{EntryNo}
+use Rattle.pmem.specs.Device.{Word, State}
+use Rattle.pmem.specs.Runs.{Runs, stores, flushes}
+use Rattle.model.specs.declared.group.Part.{Part}
+use Rattle.model.specs.declared.group.PlacedChange.{PlacedChange}
+use Rattle.model.specs.declared.group.PlacedChange.TheVariants as placed
+use Rattle.model.specs.declared.group.Put.{Put}
+use Rattle.model.specs.Images.{entry_word}
+use Rattle.model.specs.Groups.{put_of, puts_of_part}
+use Rattle.wbl_engine.specs.Entries.{put_pairs, put_lines}
+use Rattle.wbl_engine.specs.Stages.{puts_of_changes, puts_of_parts, puts_pairs, end_pairs, part_pairs, parts_pairs, puts_lines, end_lines, part_lines, parts_lines}
+use Rattle.wbl_engine.proofs.LayoutRuns.{Runs-more_stores, Runs-more_flushes}
+
+-- a change that puts nothing
+pub no_put : (change : PlacedChange) → ((put : Put) → change ≡ placed.Put put → ⊥) → put_of change ≡ []
+no_put (placed.Put put) other = absurd (other put refl)
+no_put (placed.Drop id) other = refl
+no_put (placed.DropKey key) other = refl
+no_put placed.Clear other = refl
+
+-- what holds of all holds of one
+pub all_item : {X : Type 0} (P : X → Type 0) (xs : List X) (i : ℕ) (x : X) → i < length xs → x ≡ get_or xs i x → AllByRecursion P xs → P x
+all_item P [] i x below is all = absurd (omega arith)
+all_item P (y ∷ xs) zero x below is all = subst P (sym is) all.0
+all_item P (y ∷ xs) (suc i) x below is all = all_item P xs i x (omega arith) is all.1
+
+pub all_at : {X : Type 0} (P : X → Type 0) (xs : List X) (i : ℕ) (d : X) → i < length xs → AllByRecursion P xs → P (get_or xs i d)
+all_at P [] i d below all = absurd (omega arith)
+all_at P (y ∷ xs) zero d below all = all.0
+all_at P (y ∷ xs) (suc i) d below all = all_at P xs i d (omega arith) all.1
+
+all-front : {Y : Type 0} (P : Y → Type 0) (a b : List Y) → AllByRecursion P (a ++ b) → AllByRecursion P a
+all-front P [] b all = tt
+all-front P (y ∷ a) b all = (all.0, all-front P a b all.1)
+
+all-back : {Y : Type 0} (P : Y → Type 0) (a b : List Y) → AllByRecursion P (a ++ b) → AllByRecursion P b
+all-back P [] b all = all
+all-back P (y ∷ a) b all = all-back P a b all.1
+
+all-both : {Y : Type 0} (P : Y → Type 0) (a b : List Y) → AllByRecursion P a → AllByRecursion P b → AllByRecursion P (a ++ b)
+all-both P [] b first second = second
+all-both P (y ∷ a) b first second = (first.0, all-both P a b first.1 second)
+
+-- what holds of all that the elements give holds of what one gives
+pub all_of_item : {X Y : Type 0} (P : Y → Type 0) (f : X → List Y) (xs : List X) (i : ℕ) (x : X) → i < length xs → x ≡ get_or xs i x
+    → AllByRecursion P (flat_map f xs) → AllByRecursion P (f x)
+all_of_item P f [] i x below is all = absurd (omega arith)
+all_of_item P f (y ∷ xs) zero x below is all = subst (λ z. AllByRecursion P (f z)) (sym is) (all-front P (f y) (flat_map f xs) all)
+all_of_item P f (y ∷ xs) (suc i) x below is all = all_of_item P f xs i x (omega arith) is (all-back P (f y) (flat_map f xs) all)
+
+-- one element more
+pub take-item : {X : Type 0} (xs : List X) (i : ℕ) (x : X) → i < length xs → x ≡ get_or xs i x → take (i + 1) xs ≡ take i xs ++ x ∷ []
+take-item xs i x below is = take_more xs i x below ∙ ap (λ y. take i xs ++ y ∷ []) (sym is)
+
+flat_map-item : {X Y : Type 0} (f : X → List Y) (xs : List X) (i : ℕ) (x : X) → i < length xs → x ≡ get_or xs i x
+    → flat_map f (take (i + 1) xs) ≡ flat_map f (take i xs) ++ f x
+flat_map-item f xs i x below is =
+    ap (flat_map f) (take-item xs i x below is) ∙ flat_map-append f (take i xs) (x ∷ []) ∙ ap (λ ys. flat_map f (take i xs) ++ ys) (append-nil (f x))
+
+pub all_more : {X Y : Type 0} (P : Y → Type 0) (f : X → List Y) (xs : List X) (i : ℕ) (x : X) → i < length xs → x ≡ get_or xs i x
+    → AllByRecursion P (flat_map f (take i xs)) → AllByRecursion P (f x) → AllByRecursion P (flat_map f (take (i + 1) xs))
+all_more P f xs i x below is front one =
+    subst (AllByRecursion P) (sym (flat_map-item f xs i x below is)) (all-both P (flat_map f (take i xs)) (f x) front one)
+
+-- runs that store as far as a loop has come
+stores_more : {a b c : State} (now front one : List (ℕ × ℕ)) → now ≡ front ++ one → Runs a b (stores front a.words) → Runs b c (stores one b.words)
+    → Runs a c (stores now a.words)
+stores_more {a} {b} {c} now front one is run more =
+    subst (λ (pairs : List (ℕ × ℕ)). Runs a c (stores pairs a.words)) (sym is) (Runs-more_stores front one run more)
+
+flushes_more : {a b c : State} (now front one : List ℕ) → now ≡ front ++ one → Runs a b (flushes front a.words) → Runs b c (flushes one b.words)
+    → Runs a c (flushes now a.words)
+flushes_more {a} {b} {c} now front one is run more =
+    subst (λ (lines : List ℕ). Runs a c (flushes lines a.words)) (sym is) (Runs-more_flushes front one run more)
+
+-- the loop over changes
+pub changes_stored : {a b c : State} (stamp position : ℕ) (changes : List PlacedChange) (i : ℕ) (change : PlacedChange) → i < length changes
+    → change ≡ get_or changes i change → Runs a b (stores (puts_pairs stamp position (puts_of_changes (take i changes))) a.words)
+    → Runs b c (stores (puts_pairs stamp position (put_of change)) b.words)
+    → Runs a c (stores (puts_pairs stamp position (puts_of_changes (take (i + 1) changes))) a.words)
+changes_stored {a} {b} {c} stamp position changes i change below is run more =
+    stores_more (puts_pairs stamp position (puts_of_changes (take (i + 1) changes))) (puts_pairs stamp position (puts_of_changes (take i changes)))
+        (puts_pairs stamp position (put_of change))
+        (ap (puts_pairs stamp position) (flat_map-item put_of changes i change below is)
+            ∙ flat_map-append (put_pairs stamp position) (puts_of_changes (take i changes)) (put_of change))
+        run more
+
+pub changes_flushed : {a b c : State} (changes : List PlacedChange) (i : ℕ) (change : PlacedChange) → i < length changes
+    → change ≡ get_or changes i change → Runs a b (flushes (puts_lines (puts_of_changes (take i changes))) a.words)
+    → Runs b c (flushes (puts_lines (put_of change)) b.words)
+    → Runs a c (flushes (puts_lines (puts_of_changes (take (i + 1) changes))) a.words)
+changes_flushed {a} {b} {c} changes i change below is run more =
+    flushes_more (puts_lines (puts_of_changes (take (i + 1) changes))) (puts_lines (puts_of_changes (take i changes))) (puts_lines (put_of change))
+        (ap puts_lines (flat_map-item put_of changes i change below is) ∙ flat_map-append put_lines (puts_of_changes (take i changes)) (put_of change))
+        run more
+
+-- the loop over the entries that a part ended
+pub ends_stored : {a b c : State} (stamp : ℕ) (ended : List EntryNo) (i : ℕ) (d : EntryNo) → i < length ended
+    → Runs a b (stores (end_pairs stamp (take i ended)) a.words) → Runs b c (stores ((entry_word (get_or ended i d).0 1, stamp) ∷ []) b.words)
+    → Runs a c (stores (end_pairs stamp (take (i + 1) ended)) a.words)
+ends_stored {a} {b} {c} stamp ended i d below run more =
+    stores_more (end_pairs stamp (take (i + 1) ended)) (end_pairs stamp (take i ended)) ((entry_word (get_or ended i d).0 1, stamp) ∷ [])
+        (ap (end_pairs stamp) (take_more ended i d below)
+            ∙ map-append (λ (e : EntryNo). (entry_word e.0 1, stamp)) (take i ended) (get_or ended i d ∷ []))
+        run more
+
+pub ends_flushed : {a b c : State} (ended : List EntryNo) (i : ℕ) (d : EntryNo) → i < length ended
+    → Runs a b (flushes (end_lines (take i ended)) a.words) → Runs b c (flushes ((8 + (get_or ended i d).0) ∷ []) b.words)
+    → Runs a c (flushes (end_lines (take (i + 1) ended)) a.words)
+ends_flushed {a} {b} {c} ended i d below run more =
+    flushes_more (end_lines (take (i + 1) ended)) (end_lines (take i ended)) ((8 + (get_or ended i d).0) ∷ [])
+        (ap end_lines (take_more ended i d below) ∙ map-append (λ (e : EntryNo). 8 + e.0) (take i ended) (get_or ended i d ∷ []))
+        run more
+
+parts_pairs-append : (stamp : ℕ) (a b : List Part) → parts_pairs stamp (a ++ b) ≡ parts_pairs stamp a ++ parts_pairs (stamp + length a) b
+parts_pairs-append stamp [] b = let e : stamp ≡ stamp + 0 = omega arith in ap (λ (n : ℕ). parts_pairs n b) e
+parts_pairs-append stamp (part ∷ a) b =
+    let e : (stamp + 1) + length a ≡ stamp + suc (length a) = omega arith in
+    ap (λ (rest : List (ℕ × ℕ)). part_pairs stamp part ++ rest)
+        (parts_pairs-append (stamp + 1) a b ∙ ap (λ (n : ℕ). parts_pairs (stamp + 1) a ++ parts_pairs n b) e)
+        ∙ sym (append_assoc (part_pairs stamp part) (parts_pairs (stamp + 1) a) (parts_pairs (stamp + suc (length a)) b))
+
+length-take_below : {X : Type 0} (xs : List X) (i : ℕ) → i < length xs → length (take i xs) ≡ i
+length-take_below [] i below = absurd (omega arith)
+length-take_below (x ∷ xs) zero below = refl
+length-take_below (x ∷ xs) (suc i) below = ap suc (length-take_below xs i (omega arith))
+
+-- the loop over parts
+pub parts_stored : {a b c : State} (stamp : ℕ) (parts : List Part) (i : ℕ) (part : Part) → i < length parts → part ≡ get_or parts i part
+    → Runs a b (stores (parts_pairs stamp (take i parts)) a.words) → Runs b c (stores (part_pairs (stamp + i) part) b.words)
+    → Runs a c (stores (parts_pairs stamp (take (i + 1) parts)) a.words)
+parts_stored {a} {b} {c} stamp parts i part below is run more =
+    stores_more (parts_pairs stamp (take (i + 1) parts)) (parts_pairs stamp (take i parts)) (part_pairs (stamp + i) part)
+        (ap (parts_pairs stamp) (take-item parts i part below is) ∙ parts_pairs-append stamp (take i parts) (part ∷ [])
+            ∙ ap (λ (n : ℕ). parts_pairs stamp (take i parts) ++ (part_pairs (stamp + n) part ++ [])) (length-take_below parts i below)
+            ∙ ap (λ (pairs : List (ℕ × ℕ)). parts_pairs stamp (take i parts) ++ pairs) (append-nil (part_pairs (stamp + i) part)))
+        run more
+
+pub parts_flushed : {a b c : State} (parts : List Part) (i : ℕ) (part : Part) → i < length parts → part ≡ get_or parts i part
+    → Runs a b (flushes (parts_lines (take i parts)) a.words) → Runs b c (flushes (part_lines part) b.words)
+    → Runs a c (flushes (parts_lines (take (i + 1) parts)) a.words)
+parts_flushed {a} {b} {c} parts i part below is run more =
+    flushes_more (parts_lines (take (i + 1) parts)) (parts_lines (take i parts)) (part_lines part) (flat_map-item part_lines parts i part below is) run more
+
+-- what stands past the end of a list of entries
+abbrev pub no_entry : EntryNo
+no_entry = record { 0 = 0 }

@@ -1,0 +1,9 @@
+use Rattle.std.proofs.Common.{take}
+use Rattle.pmem.specs.Runs.{Runs, flushes}
+use Rattle.wbl_engine.specs.Stages.{end_lines}
+use Rattle.wbl_engine.proofs.staging.flush_ends.Given as goal
+
+abbrev pub invariant-loop-entry : goal.invariant-loop-entry
+invariant-loop-entry g l =
+    Runs (g.P.Pmem.state l.fn.device) (g.P.Pmem.state l.device)
+        (flushes (end_lines (take l.entry-index l.ended)) (g.P.Pmem.state l.fn.device).words)

@@ -1,0 +1,24 @@
+use Rattle.std.proofs.Common.{ℕ, ◌+◌, ◌<◌, ◌*◌, arith, subst}
+use Rattle.kv_types.specs.declared.place.EntryNo.{EntryNo}
+use Rattle.pmem.specs.Device.{Steps, store_at}
+use Rattle.pmem.proofs.Chaining.{Runs-none, Runs-step_store}
+use Rattle.model.specs.Images.{entry_word}
+use Rattle.wbl_engine.proofs.StagingLemmas.{all_at, ends_stored, no_entry}
+use Rattle.wbl_engine.proofs.staging.store_ends.Goals as goal
+
+pub loop-entry-init : goal.loop-entry-init
+loop-entry-init g c = Runs-none (g.P.Pmem.state c.args.device.now)
+
+pub store-requires : goal.store-requires
+store-requires g c =
+    omega (arith, c.entry_word.ensures, c.loop-entry.invariant.stays.lines,
+        all_at (λ (entry : EntryNo). 8 + entry.0 < (g.P.Pmem.state c.args.device.now).lines) c.args.ended.now c.loop-entry.entry-index
+            no_entry c.loop-entry-test.true c.requires)
+
+pub loop-entry-preserved : goal.loop-entry-preserved
+loop-entry-preserved g c =
+    let old = g.P.Pmem.state c.loop-entry.device in
+    ends_stored c.args.stamp c.args.ended.now c.loop-entry.entry-index no_entry c.loop-entry-test.true c.loop-entry.invariant
+        (Runs-step_store _ c.args.stamp
+            (subst (λ (word : ℕ). Steps old (g.P.Pmem.state c.store.new.self) (store_at word c.args.stamp old.words) old.failures old.fences)
+                c.entry_word.ensures c.store.ensures))

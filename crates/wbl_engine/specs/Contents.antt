@@ -1,0 +1,63 @@
+-- What an engine holds and what its device holds.
+use Rattle.std.specs.Prelude.{◌≡◌, ℕ, ◌+◌, ◌*◌, ◌<◌, ◌≤◌, ◌⊎◌, List, [], None, true, IsTrue}
+use Rattle.pmem.specs.Device.{State}
+use Rattle.pmem.specs.Crash.{IsImage, image_of}
+use Rattle.model.specs.declared.group.Group.{Group}
+use Rattle.model.specs.declared.image.TheConstants.{COUNTER_LIMIT, STAMP_WINDOW}
+use Rattle.model.specs.declared.record.Record.{Record}
+use Rattle.model.specs.declared.record.Role.{Role}
+use Rattle.model.specs.Images.{Image, HasSuperblock, HasRecord, root_word, entries_of_lines, first_extent_line, entry_word, version_at, counts}
+use Rattle.model.specs.Groups.{Contents, next_record}
+
+-- The image holds these contents: its record is the current one, and each entry holds the version that it should. Every stamp in it is below
+-- the limit of the record.
+pub record Keeps (contents : Contents) (image : Image) : Type 0 where
+  pub superblock : HasSuperblock contents.lines image
+  pub has_record : HasRecord contents.current image
+  pub versions : (i : ℕ) → i < entries_of_lines contents.lines → version_at contents.current image i ≡ contents.versions i
+  pub begins : (i : ℕ) → i < entries_of_lines contents.lines → image (entry_word i 0) < contents.current.cd
+  pub ends : (i : ℕ) → i < entries_of_lines contents.lines → image (entry_word i 1) < contents.current.cd
+
+-- every crash now leaves an image that holds the contents
+abbrev pub IsDurable : State → Contents → Type 0
+IsDurable device contents = (image : Image) → IsImage device.words image → Keeps contents image
+
+-- two contents say the same of each entry
+pub record Same (old new : Contents) : Type 0 where
+  pub current : new.current ≡ old.current
+  pub lines : new.lines ≡ old.lines
+  pub versions : (i : ℕ) → new.versions i ≡ old.versions i
+  pub is_free : (i : ℕ) → new.is_free i ≡ old.is_free i
+
+-- a counter of the record would reach the limit
+abbrev pub Exhausts : Contents → Group → Type 0
+Exhausts contents group =
+    let next = next_record contents.current group in
+    (COUNTER_LIMIT ≤ next.cd) ⊎ (COUNTER_LIMIT ≤ next.position) ⊎ (COUNTER_LIMIT ≤ next.number)
+
+-- the contents of a new image
+pub record IsNew (lines : ℕ) (role : Role) (contents : Contents) : Type 0 where
+  pub number : contents.current.number ≡ 1
+  pub position : contents.current.position ≡ 0
+  pub cp : contents.current.cp ≡ 0
+  pub cd : contents.current.cd ≡ 1 + STAMP_WINDOW
+  pub epoch : contents.current.epoch ≡ 1
+  pub role_is : contents.current.role ≡ role
+  pub gaps : contents.current.gaps.items ≡ []
+  pub line_count : contents.lines ≡ lines
+  pub versions : (i : ℕ) → contents.versions i ≡ None
+  pub is_free : (i : ℕ) → i < entries_of_lines lines → contents.is_free i ≡ true
+
+-- ---- what an engine at rest keeps
+
+-- the word is of the extent that entry i names
+pub record IsInExtent (image : Image) (i word : ℕ) : Type 0 where
+  pub low : 8 * image (entry_word i 3) ≤ word
+  pub high : word < 8 * (image (entry_word i 3) + image (entry_word i 4))
+
+-- The map depends on this word: it is of the superblock's front, of the directory, or of the extent of an entry whose begin counts.
+abbrev pub Matters : Record → ℕ → Image → ℕ → Type 0
+Matters r lines image word =
+    (word < root_word)
+      ⊎ ((8 * 8 ≤ word) × (word < 8 * first_extent_line lines))
+      ⊎ ((i : ℕ) × (i < entries_of_lines lines) × IsTrue (counts r (image (entry_word i 0))) × IsInExtent image i word)

@@ -1,0 +1,4 @@
+pub mod Contents
+pub mod Entries
+pub mod Records
+pub mod Stages

@@ -1,0 +1,18 @@
+//! The word of a commit.
+use std::marker::Model;
+
+/// The position up to which everything is durable on this node, as a commit has shown it. A clause sees the number.
+#[derive(Clone, Copy, Debug, PartialEq, Eq)]
+pub struct Committed {
+    position: u64,
+}
+
+impl Model for Committed {
+    ghost use Rattle.std.specs.Prelude.{ℕ};
+
+    ghost Value = { ℕ };
+
+    ghost view = { λ c. c.position };
+
+    ghost inverse = { λ n. record { position = n } };
+}

@@ -1,0 +1,14 @@
+//! Write-behind logging on persistent memory: an image that is formatted, and commits that move its map whole or not at all.
+#![tactic(auto)]
+
+mod committed;
+mod durable;
+mod layout;
+mod record;
+mod staging;
+
+pub use committed::Committed;
+pub use durable::Durable;
+pub use layout::{flush_entry, lines_for, write_entry};
+pub use model::{Gap, Record, Role};
+pub use record::write_next;

@@ -1,0 +1,2 @@
+pub mod ParserLemmas
+pub mod InboundLemmas

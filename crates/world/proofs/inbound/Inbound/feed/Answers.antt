@@ -1,0 +1,16 @@
+use Rattle.std.proofs.Common.{◌≡◌, ℕ, not, List, refl, sym, ap, ◌∙◌}
+use Rattle.resp_codec.specs.Parsing.{fed}
+use Rattle.machine.specs.Events.{Inbound as Machine}
+use Rattle.world.specs.Inbounds.{InboundStands}
+use Rattle.world.proofs.InboundLemmas.{fed-stands}
+use Rattle.world.proofs.inbound.Inbound.feed.Goals as goal
+
+pub returns : goal.returns
+returns c = λ machine stands.
+    record {
+      done = sym (ap not (sym stands.closed ∙ c.if-self.false));
+      taken = λ did. fed-stands c.args.self.now _ machine c.args.piece.now c.feed.new.self stands c.if-self.false
+          (c.in_ok-feed.ensures.ok ∙ ap (fed c.args.self.now.parser) c.in_ok-clone.ensures.cases)
+          c.in_ok-is_closed.ensures.asked c.in_ok-is_closed.ensures.drained c.in_ok-is_closed.ensures.later c.in_ok-is_closed.ensures.closes refl;
+      stays = λ did. cc;
+    }

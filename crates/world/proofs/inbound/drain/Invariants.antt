@@ -1,0 +1,16 @@
+use Rattle.std.proofs.Common.{◌≡◌, ℕ, ◌++◌, ◌||◌, List, length}
+use Rattle.std.specs.List.{list_any}
+use Rattle.model.specs.Commands.{closes}
+use Rattle.resp_codec.specs.Parsing.{fed, ahead}
+use Rattle.world.proofs.inbound.drain.Given as goal
+
+-- what was taken and what is ahead are together what was ahead
+abbrev pub invariant-loop-item : goal.invariant-loop-item
+invariant-loop-item l = record {
+  kept : l.asked.items ++ ahead l.parser ≡ l.initial.asked.items ++ ahead l.initial.parser;
+  later : (more : List ℕ) → l.asked.items ++ ahead (fed l.parser more) ≡ l.initial.asked.items ++ ahead (fed l.initial.parser more);
+  closing : (l.is_closed || list_any closes (ahead l.parser)) ≡ list_any closes (ahead l.initial.parser);
+}
+
+abbrev pub decreases-loop-item : goal.decreases-loop-item
+decreases-loop-item l = length (ahead l.parser)

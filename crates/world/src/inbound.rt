@@ -1,0 +1,97 @@
+//! What comes in from a connection, up to the sequencer.
+ghost use Rattle.std.specs.Prelude.{◌≡◌, ℕ, [], ◌++◌, List, IfOk, OnOk};
+ghost use Rattle.std.specs.List.{list_any};
+ghost use Rattle.machine.specs.Events.{Inbound as Machine};
+ghost use Rattle.model.specs.Commands.{closes};
+ghost use Rattle.resp_codec.specs.Parsing.{fed, ahead};
+
+use bytes::Bytes;
+use kv_types::{Item, Refusal};
+use pipes::{LocalPipe, Outlet, PIPE_ITEMS};
+use resp_codec::Parser;
+use std::alloc::{AllocError, Global};
+use std::collections::VecDeque;
+
+/// The bytes of a connection, and the items that they ask for.
+#[derive(Drop)]
+pub(crate) struct Inbound {
+    pub(crate) parser: Parser,
+    /// One of the items closes the connection: nothing more is read.
+    pub(crate) is_closed: bool,
+    /// The items that were asked for and not run. The first of them wait in the pipe.
+    pub(crate) asked: VecDeque<Item>,
+    /// Clones of those that wait for the sequencer.
+    pub(crate) waiting: LocalPipe<Item>,
+}
+
+impl Inbound {
+    ghost use Rattle.world.specs.Inbounds.{InboundStands, Feeds, Offers};
+    ghost use Rattle.machine.specs.Events.{no_connection};
+
+    pub(crate) fn new(alloc: Global) -> Result<Inbound, AllocError>
+        ensures { IfOk result (λ inbound. InboundStands inbound no_connection.inbound) }
+    {
+        Ok(Inbound {
+            parser: Parser::new(alloc),
+            is_closed: false,
+            asked: VecDeque::new(alloc),
+            waiting: LocalPipe::new(alloc)?,
+        })
+    }
+
+    /// Takes a piece of the connection's bytes, unless an item closed it. Answers whether it did.
+    pub(crate) fn feed(&mut self, piece: &Bytes) -> Result<bool, Refusal>
+        ensures { IfOk result (λ did. (machine : Machine) → InboundStands self.old machine → Feeds piece.now self.old self.new did machine) }
+    {
+        if self.is_closed {
+            return Ok(false);
+        }
+        self.parser.feed(piece.clone()?)?;
+        let is_closed = drain(&mut self.parser, &mut self.asked)?;
+        self.is_closed = is_closed;
+        Ok(true)
+    }
+
+    /// Hands the next item to the sequencer, if there is one and room for it. Answers whether it did.
+    pub(crate) fn offer(&mut self) -> Result<bool, Refusal>
+        ensures { IfOk result (λ did. (machine : Machine) → InboundStands self.old machine → Offers self.old self.new did machine) }
+    {
+        let count = self.waiting.len();
+        if count == PIPE_ITEMS {
+            return Ok(false);
+        }
+        match self.asked.get(count) {
+            Some(item) => {
+                let item = item.clone()?;
+                let _ = self.waiting.offer(item);
+                Ok(true)
+            }
+            None => Ok(false),
+        }
+    }
+}
+
+/// Takes all items that the parser has to give, and answers whether one of them closes the connection.
+fn drain(parser: &mut Parser, asked: &mut VecDeque<Item>) -> Result<bool, Refusal>
+    ensures asked { OnOk result (asked.new.items ≡ asked.old.items ++ ahead parser.old) }
+    ensures drained { OnOk result (ahead parser.new ≡ []) }
+    ensures later { OnOk result ((more : List ℕ) → ahead (fed parser.old more) ≡ ahead parser.old ++ ahead (fed parser.new more)) }
+    ensures closes { IfOk result (λ closed. closed ≡ list_any closes (ahead parser.old)) }
+{
+    let mut is_closed = false;
+    while let Some(item) = parser.next()? {
+        is_closed |= closes_connection(&item);
+        asked.push_back(item)?;
+    }
+    Ok(is_closed)
+}
+
+/// Whether nothing more is taken from the connection after this item.
+fn closes_connection(item: &Item) -> bool
+    ensures { result ≡ closes item.now }
+{
+    match item {
+        Item::Request(_) => false,
+        Item::Fault(_) => true,
+    }
+}
