@@ -174,6 +174,7 @@ fn finds_each_fault_at_its_byte(rt: HostRuntime) -> Result<(), Fail> {
         b"*1\r\n$1\n",
         b"*1\r\n$1\r1",
         b"*2\r\n$1\r\na\r\n$+",
+        b"*3\r\n$3\r\nSET\r\n$1\r\na\r\n$10",
     ];
     for text in in_length {
         expect_fault_at_last(&rt, alloc, text, ProtocolFault::InvalidBulkLength)?;
