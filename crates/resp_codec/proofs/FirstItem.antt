@@ -1,20 +1,18 @@
 -- The first item of the bytes, behind the requests of no words.
-use Rattle.std.proofs.Common.{◌≡◌, ℕ, zero, suc, ◌^◌, ◌<◌, ◌≤◌, List, [], ◌∷◌, ◌++◌, length, Option, None, Some, Result, Ok, Err, refl, ap, sym, ◌∙◌, lit<, lit≤, arith}
-use Rattle.std.proofs.lemmas.List.{append_assoc, append-nil, length-append}
+use Rattle.std.proofs.Common.{◌≡◌, ℕ, ◌<◌, ◌≤◌, List, [], ◌∷◌, ◌++◌, length, None, Some, Ok, Err, refl, ap, sym, ◌∙◌, lit<, arith}
+use Rattle.std.proofs.lemmas.List.{append_assoc}
 use Rattle.std.specs.List.{AllByRecursion}
 use Rattle.kv_types.specs.declared.limits.Limits.{Limits}
 use Rattle.kv_types.specs.declared.limits.TheConstants.{SERVED_LIMITS, FULL_LIMITS}
 use Rattle.kv_types.specs.declared.item.ProtocolFault.{ProtocolFault}
-use Rattle.kv_types.specs.declared.item.Item.{Item}
 use Rattle.kv_types.specs.declared.item.Item.TheVariants.{Request, Fault}
-use Rattle.kv_types.specs.Words.{IsWithin, AreWords}
+use Rattle.kv_types.specs.Words.{AreWords}
 use Rattle.kv_types.specs.Reading as reading
 use Rattle.kv_types.specs.Reading.{request_at, words_at, items_at}
 use Rattle.kv_types.proofs.GrammarRests.{IsEndOf, length-IsEndOf, request_at-leaves}
 use Rattle.kv_types.proofs.GrammarItems.{items_at-read, items_at-short, items_at-broken}
 use Rattle.kv_types.proofs.GrammarRequests.{HasNumbers, request_at-takes, words_at-takes}
-use Rattle.resp_codec.specs.Parsing.{fed, ahead}
-use Rattle.resp_codec.specs.Gives.{IsWhole, left_behind, IsFirst}
+use Rattle.resp_codec.specs.Gives.{IsWhole, IsFirst}
 
 pub served_numbers : HasNumbers SERVED_LIMITS
 served_numbers = record { words = lit< tt; word_bytes = lit< tt }

@@ -1,3 +1,4 @@
 pub mod FirstItem
+pub mod Pieces
 pub mod ReplyTexts
 pub mod WordsRead

@@ -1,6 +1,6 @@
 -- Words read one after another, where some are still to be read.
 use Rattle.std.proofs.Common.{◌≡◌, ℕ, suc, ◌+◌, ◌-◌, ◌<◌, List, [], ◌∷◌, ◌++◌, Result, Ok, Err, refl, ap, sym, ◌∙◌, arith}
-use Rattle.std.proofs.lemmas.List.{append_assoc, append-nil}
+use Rattle.std.proofs.lemmas.List.{append_assoc}
 use Rattle.kv_types.specs.declared.limits.Limits.{Limits}
 use Rattle.kv_types.specs.Reading.{Stop, Read, ◌>>=◌, word_at, with_first, words_at}
 use Rattle.resp_codec.specs.Gives.{skipped, with_front}

@@ -1,9 +1,11 @@
 //! The protocol's two directions: requests out of bytes in any pieces, and replies as bytes.
 #![tactic(auto)]
 
+mod laws;
 mod parser;
 mod reading;
 mod replies;
 
+pub use laws::in_any_pieces;
 pub use parser::Parser;
 pub use replies::write_reply;

@@ -1,9 +1,9 @@
 //! Requests out of a connection's bytes, in whatever pieces they come.
-ghost use Rattle.std.specs.Prelude.{◌≡◌, ℕ, List, [], ◌++◌, IfOk, IfErr, OnOk, OnErr, option_to_list};
+ghost use Rattle.std.specs.Prelude.{◌≡◌, [], IfOk, IfErr, OnOk, OnErr};
 ghost use Rattle.kv_types.specs.declared.item.ProtocolFault.{ProtocolFault};
 ghost use Rattle.kv_types.specs.declared.item.Item.TheVariants.{Fault};
 ghost use Rattle.kv_types.specs.declared.refusal.Refusal.TheVariants.{Memory};
-ghost use Rattle.resp_codec.specs.Parsing.{fed, ahead};
+ghost use Rattle.resp_codec.specs.Parsing.{fed, ahead, Advances};
 
 use crate::reading::first_item;
 use bytes::{Bytes, BytesMut};
@@ -52,9 +52,8 @@ impl Parser {
     /// The next item, or `None` where what was fed holds no more whole request. `*0` asks for nothing and is passed over. After a fault
     /// there are no more items. Refused with 14 for want of memory, and then nothing changed and the call may be made again.
     pub fn next(&mut self) -> Result<Option<Item>, Refusal>
-        // Whatever comes later, the item given is the first of those ahead, and what is left is ahead still.
-        ensures given { IfOk result (λ item. (more : List ℕ) →
-            ahead (fed self.old more) ≡ option_to_list item ++ ahead (fed self.new more)) }
+        // Whatever comes later, the item given is the first of those ahead, and the others are ahead still.
+        ensures given { IfOk result (λ item. Advances self.old item self.new) }
 
         // `None` only where nothing is ahead.
         ensures none { result ≡ Ok None → ahead self.new ≡ [] }
@@ -75,3 +74,6 @@ impl Parser {
         Ok(item)
     }
 }
+
+#[cfg(test)]
+mod tests;

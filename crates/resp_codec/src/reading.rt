@@ -139,7 +139,12 @@ fn skip_words(bytes: &[u8], limits: Limits, count: u64) -> Result<&[u8], Stop>
 }
 
 /// Copies of so many words, where they are there.
-fn copy_words(alloc: Global, bytes: &[u8], limits: Limits, count: u64) -> Result<Vec<Bytes>, AllocError>
+fn copy_words(
+    alloc: Global,
+    bytes: &[u8],
+    limits: Limits,
+    count: u64,
+) -> Result<Vec<Bytes>, AllocError>
     ensures { IfOk result (λ v. (words : List (List ℕ)) (rest : List ℕ) →
         words_at limits count bytes.now ≡ Ok (words, rest) → v.items ≡ words) }
 {

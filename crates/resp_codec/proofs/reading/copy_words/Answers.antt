@@ -9,4 +9,4 @@ loop-i-preserved c =
     c.loop-i.invariant
     ∙ with_front-word c.args.limits c.args.count c.loop-i._i c.loop-i.words.items c.loop-i.rest.now c.in-Ok.word.now c.in-Ok.after.now c.loop-i-test.true c.in-Ok.ensures
     ∙ ap (λ words. with_front words (words_at c.args.limits (c.args.count - (c.loop-i._i + 1)) c.in-Ok.after.now))
-        (sym (c.in_ok-push.ensures.items ∙ ap (λ word. c.loop-i.words.items ++ word ∷ []) c.in_ok-copy_from_slice.ensures))
+    (sym (c.in_ok-push.ensures.items ∙ ap (λ word. c.loop-i.words.items ++ word ∷ []) c.in_ok-copy_from_slice.ensures))

@@ -1,4 +1,3 @@
-use Rattle.std.proofs.Common.{arith}
 use Rattle.resp_codec.proofs.FirstItem.{IsPassedOver-whole, AreWords-whole, IsFirst-whole, IsFirst-short, IsFirst-broken, length-whole}
 use Rattle.resp_codec.proofs.reading.first_item.Goals as goal
 

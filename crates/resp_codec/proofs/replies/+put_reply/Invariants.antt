@@ -8,6 +8,3 @@ abbrev pub invariant-loop-element : goal.invariant-loop-element
 invariant-loop-element g l =
     let left = flat_map text_of (drop l.element-index l.element-items) in
     (g.W.BufMut.written l.out ++ left ≡ g.W.BufMut.written l.fn.out ++ text_of l.reply) × (g.W.BufMut.spare l.fn.out + length left ≤ g.W.BufMut.spare l.out + length (text_of l.reply))
-
-abbrev pub decreases-put_reply : goal.decreases-put_reply
-decreases-put_reply g l = goal.size-put_reply g l
