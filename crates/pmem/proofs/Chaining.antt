@@ -1,9 +1,9 @@
 -- One run of calls after another.
-use Rattle.std.proofs.Common.{◌≡◌, ℕ, suc, ◌+◌, ◌≤◌, List, [], ◌∷◌, length, refl, sym, ap, subst, ◌∙◌, ◌<◌, take, get_or}
+use Rattle.std.proofs.Common.{◌≡◌, ℕ, suc, ◌+◌, ◌≤◌, List, [], ◌∷◌, length, refl, sym, ap, subst, ◌∙◌, ◌<◌, take, get_or, ◌⊎◌, Bool, true, false, ◌||◌, inl, inr}
 use Rattle.std.proofs.lemmas.List.{take_more, take_all}
-use Rattle.pmem.specs.Device.{Word, State, Fences, Steps, MayBe, Only, store_at, flush_at, fenced}
+use Rattle.pmem.specs.Device.{Word, State, Fences, Steps, MayBe, Only, store_at, flush_at, fenced, fences_after, is_asked, is_unsure, must_fail, may_fail}
 use Rattle.pmem.specs.Crash.{IsImage, image_of}
-use Rattle.pmem.specs.Runs.{LeavesOnly, Runs, Stays, Staged, StageFailed, stores, flushes, written, IsPartlyStored}
+use Rattle.pmem.specs.Runs.{LeavesOnly, Runs, Stays, Staged, StageFailed, stores, flushes, written, IsPartlyStored, HasCause}
 use Rattle.pmem.proofs.Leaving.{step_leaves, none_leaves, LeavesOnly-then, LeavesOnly-weaken}
 use Rattle.pmem.proofs.Staging.{IsImage-store_at, IsImage-stores, flush_at-IsImage, flushes-IsImage, IsImage-fenced, image_of-staged, Only-staged, IsPartlyStored-staged, MayBe-staged, stores-append, flushes-append}
 
@@ -126,8 +126,8 @@ staged_moments {a} {b} {c} pairs lines run fence =
     (LeavesOnly-then run.moments (subst (λ (w : ℕ → Word). LeavesOnly b c (IsImage w)) run.words fence))
 
 -- stores, flushes and a fence that succeeds
-pub stage_ok : {a b c : State} {fences : Fences} (pairs : List (ℕ × ℕ)) (lines : List ℕ) → Runs a b (flushes lines (stores pairs a.words))
-    → Steps b c (fenced b.words) b.failures fences → Staged a c pairs lines
+pub stage_ok : {a b c : State} (pairs : List (ℕ × ℕ)) (lines : List ℕ) → Runs a b (flushes lines (stores pairs a.words))
+    → Steps b c (fenced b.words) b.failures (fences_after b.fences) → Staged a c pairs lines
 stage_ok {a} {b} {c} pairs lines run step =
     let words : c.words ≡ fenced (flushes lines (stores pairs a.words)) = step.words ∙ ap fenced run.words in
     record {
@@ -138,18 +138,51 @@ stage_ok {a} {b} {c} pairs lines run step =
       elsewhere = λ word y out may.
           MayBe-staged pairs lines a.words word y out (subst (λ (w : ℕ → Word). MayBe (w word) y) words may);
       failures = step.failures ∙ run.failures;
+      fences = step.fences ∙ ap fences_after run.fences;
       stays = Stays-then run.stays (Stays-step step);
       moments = staged_moments pairs lines run (fence_leaves step);
     }
 
 -- and one that fails
-pub stage_err : {a b c : State} {fences : Fences} (pairs : List (ℕ × ℕ)) (lines : List ℕ) → Runs a b (flushes lines (stores pairs a.words))
-    → Steps b c b.words (suc b.failures) fences → StageFailed a c pairs
+pub stage_err : {a b c : State} (pairs : List (ℕ × ℕ)) (lines : List ℕ) → Runs a b (flushes lines (stores pairs a.words))
+    → Steps b c b.words (suc b.failures) (fences_after b.fences) → StageFailed a c pairs
 stage_err {a} {b} {c} pairs lines run step =
     record {
       newest = λ word.
           ap (λ (w : ℕ → Word). image_of w word) (step.words ∙ run.words) ∙ image_of-staged pairs lines a.words word;
       failures = step.failures ∙ ap suc run.failures;
+      fences = step.fences ∙ ap fences_after run.fences;
       stays = Stays-then run.stays (Stays-step step);
       moments = staged_moments pairs lines run (fault_leaves step);
     }
+
+or-true_left : (a b : Bool) → b ≡ true → (a || b) ≡ true
+or-true_left true b e = refl
+or-true_left false b e = e
+
+or_cases : (a b : Bool) → (a || b) ≡ true → (a ≡ true) ⊎ (b ≡ true)
+or_cases true b e = inl refl
+or_cases false b e = inr e
+
+-- Where the fence after a run was asked to fail, or the device was starved, it does.
+pub stage_must_fail : {a b : State} {u : ℕ → Word} → Runs a b u → must_fail a ≡ true → must_fail b ≡ true
+stage_must_fail {a} {b} run asked =
+    let go : (starved : Bool) → a.starved ≡ starved → (starved || is_asked a.fences) ≡ true → must_fail b ≡ true =
+    elim [
+      | true ↦ λ was e. ap (λ (s : Bool). s || is_asked b.fences) (run.stays.starved was)
+      | false ↦ λ was e. or-true_left b.starved (is_asked b.fences) (ap is_asked run.fences ∙ e)
+    ] in
+    go a.starved refl asked
+
+-- Where it failed, it had a cause.
+pub stage_cause : {a b c : State} {u v : ℕ → Word} {failures : ℕ} {fences : Fences} → Runs a b u → Steps b c v failures fences → may_fail b ≡ true
+    → HasCause a.fences c
+stage_cause {a} {b} {c} run step may =
+    elim (or_cases (must_fail b) (is_unsure b.fences) may) [
+      | inl must ↦
+          elim (or_cases b.starved (is_asked b.fences) must) [
+            | inl starved ↦ inl (step.starved starved)
+            | inr asked ↦ inr (inl (ap is_asked (sym run.fences) ∙ asked))
+          ]
+      | inr unsure ↦ inr (inr (ap is_unsure (sym run.fences) ∙ unsure))
+    ]

@@ -30,12 +30,12 @@ forgotten-starved (Forgotten after) lines now starved kept e = kept
 -- the moment that was asked for may be kept now
 pub starves_cases : (starved forgotten : Bool) (keep keep' : Keep) (lines : ℕ) (now : History) → HoldsKept keep lines now starved
     → forgotten ≡ is_forgotten keep' → (is_forgotten keep' ≡ true → (is_forgotten keep ≡ true) ⊎ (keep ≡ Awaited 0))
-    → (starved || forgotten) ≡ true → (starved ≡ true) ⊎ (keep ≡ Awaited 0)
+    → (starved || forgotten) ≡ true → (starved ≡ true) ⊎ ((keep ≡ Awaited 0) × (is_forgotten keep' ≡ true))
 starves_cases true forgotten keep keep' lines now kept is forgets e = inl refl
 starves_cases false forgotten keep keep' lines now kept is forgets e =
     elim (forgets (sym is ∙ e)) [
       | inl was ↦ inl (forgotten-starved keep lines now false kept was)
-      | inr awaited ↦ inr awaited
+      | inr awaited ↦ inr (awaited, sym is ∙ e)
     ]
 
 -- a store may have been refused too

@@ -1,6 +1,6 @@
 -- What runs of calls do, for the layers above.
 use Rattle.std.specs.Prelude.{◌≡◌, ◌⊎◌, ℕ, zero, suc, ◌+◌, ◌/◌, ◌≤◌, true, ◌==◌, if◌then◌else◌, List, [], ◌∷◌}
-use Rattle.pmem.specs.Device.{Older, Word, State, MayBe, Only, store_at, flush_at, moment}
+use Rattle.pmem.specs.Device.{Older, Word, State, Fences, MayBe, Only, store_at, flush_at, moment, fences_after, is_asked, is_unsure}
 use Rattle.pmem.specs.Crash.{IsImage, MayLeave, image_of}
 
 -- stores of these pairs of a word and a value, in this order
@@ -71,6 +71,10 @@ pub record LeavesOnly (old new : State) (P : (ℕ → ℕ) → Type 0) : Type 0 
   -- for a run that began earlier
   pub before : (t : ℕ) (image : ℕ → ℕ) → t ≤ moment old → MayLeave new t image → MayLeave old t image ⊎ P image
 
+-- A fence that failed had a cause: the device is starved, or the fence was asked to fail, or each may fail.
+abbrev pub HasCause : Fences → State → Type 0
+HasCause fences new = (new.starved ≡ true) ⊎ ((is_asked fences ≡ true) ⊎ (is_unsure fences ≡ true))
+
 -- A run without a fence led from old to new: its words are these, and a crash at any moment of it leaves one of their images.
 pub record Runs (old new : State) (words' : ℕ → Word) : Type 0 where
   pub words : new.words ≡ words'
@@ -88,6 +92,7 @@ pub record Staged (old new : State) (pairs : List (ℕ × ℕ)) (lines' : List �
   -- elsewhere it leaves nothing that it did not leave before
   pub elsewhere : (word y : ℕ) → IsOutside pairs word → MayBe (new.words word) y → MayBe (old.words word) y
   pub failures : new.failures ≡ old.failures
+  pub fences : new.fences ≡ fences_after old.fences
   pub stays : Stays old new
   pub moments : LeavesOnly old new (IsPartlyStored pairs old.words)
 
@@ -95,5 +100,6 @@ pub record Staged (old new : State) (pairs : List (ℕ × ℕ)) (lines' : List �
 pub record StageFailed (old new : State) (pairs : List (ℕ × ℕ)) : Type 0 where
   pub newest : (word : ℕ) → image_of new.words word ≡ written pairs (image_of old.words) word
   pub failures : new.failures ≡ suc old.failures
+  pub fences : new.fences ≡ fences_after old.fences
   pub stays : Stays old new
   pub moments : LeavesOnly old new (IsPartlyStored pairs old.words)

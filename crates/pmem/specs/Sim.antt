@@ -1,11 +1,11 @@
 -- What a simulated device has gone through.
-use Rattle.std.specs.Prelude.{◌≡◌, ℕ, false, [], length, None, vec_len, vec_capacity, ◌≤◌}
+use Rattle.std.specs.Prelude.{◌≡◌, ℕ, true, false, [], length, None, vec_len, vec_capacity, ◌≤◌}
 use Rattle.pmem.specs.declared.sim.SimPmem.{SimPmem}
 use Rattle.pmem.specs.declared.keep.Keep.TheVariants.{Awaited}
 use Rattle.pmem.specs.Device.{State, settled}
 use Rattle.pmem.specs.Device.Fences.{Sure}
 use Rattle.pmem.specs.History.{words_of, past_of, failures_of}
-use Rattle.pmem.specs.Keep.{kept_moment}
+use Rattle.pmem.specs.Keep.{kept_moment, is_forgotten}
 
 -- it has made no call
 abbrev pub fresh : ℕ → State
@@ -23,10 +23,15 @@ state_of device =
       kept = kept_moment device.keep (length (past_of device.history));
     }
 
--- there is no room for one more older candidate: a store asks for memory
-abbrev pub IsFull : SimPmem → Type 0
-IsFull device = vec_capacity device.cells.pool ≤ vec_len device.cells.pool
+-- a store found no room for one more older candidate, and got none
+abbrev pub IsRefusedGrowth : SimPmem → SimPmem → Type 0
+IsRefusedGrowth old new =
+    (vec_capacity old.cells.pool ≤ vec_len old.cells.pool) × (vec_len new.cells.pool ≡ vec_len old.cells.pool)
 
--- the next call asks for memory, for the copy that the next crash is to pick from
-abbrev pub AwaitsCopy : SimPmem → Type 0
-AwaitsCopy device = device.keep ≡ Awaited 0
+-- the call was to make the copy that the next crash picks from, and there is none
+abbrev pub IsRefusedCopy : SimPmem → SimPmem → Type 0
+IsRefusedCopy old new = (old.keep ≡ Awaited 0) × (is_forgotten new.keep ≡ true)
+
+-- the copy that the next crash picks from is not there
+abbrev pub LacksCopy : SimPmem → Type 0
+LacksCopy device = is_forgotten device.keep ≡ true

@@ -51,8 +51,9 @@ impl Cells {
             Holds self.old words starved → Holds self.new (store_at word value words) starved) }
         ensures err { OnErr result ((words : ℕ → Word) (starved : Bool) →
             Holds self.old words starved → Holds self.new (store_at word value words) true) }
-        // memory is asked for only where there is no room
-        ensures full { OnErr result (vec_capacity self.old.pool ≤ vec_len self.old.pool) }
+        // memory was asked for, as there was no room for one more candidate, and not given
+        ensures refused { OnErr result ((vec_capacity self.old.pool ≤ vec_len self.old.pool)
+            × (vec_len self.new.pool ≡ vec_len self.old.pool)) }
         ensures lines { vec_len self.new.heads ≡ vec_len self.old.heads }
     {
         let line = word as usize / 8;

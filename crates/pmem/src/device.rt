@@ -1,5 +1,5 @@
 // A device of persistent memory, as the layers above see it.
-ghost use Rattle.std.specs.Prelude.{◌≡◌, ◌⊎◌, ℕ, suc, ◌+◌, ◌-◌, ◌*◌, ◌^◌, ◌<◌, ◌==◌, if◌then◌else◌, Some, None, false, true, min, length, IsTrue, IsErr, OnOk, OnErr};
+ghost use Rattle.std.specs.Prelude.{◌≡◌, ◌⊎◌, ℕ, suc, ◌+◌, ◌-◌, ◌*◌, ◌^◌, ◌<◌, ◌==◌, if◌then◌else◌, Some, None, false, true, min, length, IsTrue, codes, IsErr, OnOk, OnErr};
 ghost use Rattle.pmem.specs.Device.{State, Fences, Steps, store_at, flush_at, fenced, fences_after, must_fail, may_fail, is_unsure, newest_at, moment};
 ghost use Rattle.pmem.specs.Device.Fences.{Sure};
 ghost use Rattle.pmem.specs.Crash.{IsImage, Keeps, Restarts, image_of, words_to_crash, picked};
@@ -12,6 +12,8 @@ use std::fmt;
 pub struct Fault;
 
 impl fmt::Display for Fault {
+    ghost output = { λ _. Some (codes "device fault") };
+
     fn fmt<W: fmt::Write>(&self, f: &mut fmt::Formatter<W>) -> fmt::Result {
         f.write_str("device fault")
     }

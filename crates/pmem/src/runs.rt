@@ -1,7 +1,7 @@
 // Runs of stores and flushes: the only loops over words and lines.
-ghost use Rattle.std.specs.Prelude.{◌≡◌, ℕ, suc, ◌+◌, ◌*◌, ◌≤◌, ◌<◌, All, length, OnOk, OnErr};
-ghost use Rattle.pmem.specs.Device.{State};
-ghost use Rattle.pmem.specs.Runs.{Runs, Staged, StageFailed, stores, flushes, pairs_from, lines_from};
+ghost use Rattle.std.specs.Prelude.{◌≡◌, ℕ, suc, ◌+◌, ◌*◌, ◌≤◌, ◌<◌, All, length, OnOk, OnErr, IsErr, IsTrue};
+ghost use Rattle.pmem.specs.Device.{must_fail};
+ghost use Rattle.pmem.specs.Runs.{Runs, Staged, StageFailed, HasCause, stores, flushes, pairs_from, lines_from};
 
 use crate::device::{Fault, Pmem};
 
@@ -52,6 +52,8 @@ pub fn persist<P: Pmem>(device: &mut P, pairs: &[(u64, u64)], lines: &[u64]) -> 
     requires lines_in_range { All (λ line. line < (P.state device.old).lines) lines.now }
     ensures ok { OnOk result (Staged (P.state device.old) (P.state device.new) pairs.now lines.now) }
     ensures err { OnErr result (StageFailed (P.state device.old) (P.state device.new) pairs.now) }
+    ensures asked { IsTrue (must_fail (P.state device.old)) → IsErr result }
+    ensures unasked { IsErr result → HasCause (P.state device.old).fences (P.state device.new) }
 {
     store_all(device, pairs);
     flush_all(device, lines);

@@ -51,7 +51,7 @@ impl SimPmem {
 impl Pmem for SimPmem {
     ghost use Rattle.std.specs.Prelude.{◌≡◌, ◌⊎◌, true, suc, OnOk, OnErr, IsErr, IsTrue};
     ghost use Rattle.pmem.specs.Device.{Steps, store_at, flush_at, fenced, must_fail, may_fail};
-    ghost use Rattle.pmem.specs.Sim.{state_of, IsFull, AwaitsCopy};
+    ghost use Rattle.pmem.specs.Sim.{state_of, IsRefusedGrowth, IsRefusedCopy};
 
     ghost state = { state_of };
 
@@ -63,9 +63,9 @@ impl Pmem for SimPmem {
         requires { word < 8 * (state_of self.old).lines }
         ensures steps { Steps (state_of self.old) (state_of self.new)
             (store_at word value (state_of self.old).words) (state_of self.old).failures (state_of self.old).fences }
-        // it is starved only where it had to ask for memory
+        // it is starved only where memory was asked for and not given
         ensures starves { (state_of self.new).starved ≡ true
-            → ((state_of self.old).starved ≡ true) ⊎ (IsFull self.old ⊎ AwaitsCopy self.old) }
+            → ((state_of self.old).starved ≡ true) ⊎ (IsRefusedGrowth self.old self.new ⊎ IsRefusedCopy self.old self.new) }
     {
         let refused = self.cells.store(word, value).is_err();
         self.history.stored(word, value);
@@ -77,7 +77,8 @@ impl Pmem for SimPmem {
         requires { line < (state_of self.old).lines }
         ensures steps { Steps (state_of self.old) (state_of self.new)
             (flush_at line (state_of self.old).words) (state_of self.old).failures (state_of self.old).fences }
-        ensures starves { (state_of self.new).starved ≡ true → ((state_of self.old).starved ≡ true) ⊎ AwaitsCopy self.old }
+        ensures starves { (state_of self.new).starved ≡ true
+            → ((state_of self.old).starved ≡ true) ⊎ IsRefusedCopy self.old self.new }
     {
         self.cells.flush(line);
         self.history.flushed(line);
@@ -91,7 +92,8 @@ impl Pmem for SimPmem {
             (state_of self.old).words (suc (state_of self.old).failures) (fences_after (state_of self.old).fences)) }
         ensures asked { IsTrue (must_fail (state_of self.old)) → IsErr result }
         ensures unasked { IsErr result → IsTrue (may_fail (state_of self.old)) }
-        ensures starves { (state_of self.new).starved ≡ true → ((state_of self.old).starved ≡ true) ⊎ AwaitsCopy self.old }
+        ensures starves { (state_of self.new).starved ≡ true
+            → ((state_of self.old).starved ≡ true) ⊎ IsRefusedCopy self.old self.new }
     {
         if pass_fence(&mut self.fail_in) | self.starved {
             self.history.failed();
@@ -139,7 +141,7 @@ impl Crashing for SimPmem {
     ghost use Rattle.std.specs.Prelude.{◌≡◌, ◌⊎◌, ◌+◌, true, refl};
     ghost use Rattle.pmem.specs.Device.{moment};
     ghost use Rattle.pmem.specs.Crash.{Keeps};
-    ghost use Rattle.pmem.specs.Sim.{state_of};
+    ghost use Rattle.pmem.specs.Sim.{state_of, LacksCopy};
 
     fn starved(&self) -> bool {
         self.starved
@@ -151,7 +153,8 @@ impl Crashing for SimPmem {
 
     fn keep_at(&mut self, k: u64)
         ensures keeps { Keeps (state_of self.old) (state_of self.new) (moment (state_of self.old) + k) }
-        ensures starves { (state_of self.new).starved ≡ true → ((state_of self.old).starved ≡ true) ⊎ (k ≡ 0) }
+        ensures starves { (state_of self.new).starved ≡ true
+            → ((state_of self.old).starved ≡ true) ⊎ ((k ≡ 0) × LacksCopy self.new) }
     {
         self.keep = Keep::after(k, &self.cells, &self.history);
         self.starved |= self.keep.is_forgotten();

@@ -1,6 +1,7 @@
 // The simulated device against tables written by hand.
 use crate::{
-    Crashing, Fault, Pmem, SimPmem, flush_all, flush_lines, persist, store_all, store_words,
+    Crashing, Fault, History, Pmem, SimPmem, flush_all, flush_lines, persist, store_all,
+    store_words,
 };
 use std::test::Fail;
 
@@ -241,19 +242,24 @@ fn a_failed_fence_drops_nothing(rt: HostRuntime) -> Result<(), Fail> {
     Ok(())
 }
 
+// It begins with the calls of `holds_whichever_allocation_is_refused`, so that sweep-allocations sees where their allocations end.
 #[test]
 fn stays_unstarved_with_ample_memory(rt: HostRuntime) -> Result<(), Fail> {
     let mut device = SimPmem::new(rt.alloc(), 2)?;
+    device.keep_at(4);
+    play_all(&mut device, &SCRIPT);
+    device.crash(&NEWEST);
     assert_eq!(rt; device.lines(), 2);
-    for word in 0..16 {
+    for word in 1..8 {
         assert_eq!(rt; read(&device, word), 0);
+        assert_eq!(rt; read(&device, 8 + word), 0);
     }
     device.keep_at(0);
     device.keep_at(5);
-    play_all(&mut device, &SCRIPT);
-    device.crash(&NEWEST);
-    device.fail_at(3);
+    device.fail_at(2);
     device.fail_at(0);
+    play_all(&mut device, &SCRIPT);
+    device.crash(&OLDEST);
     play_all(&mut device, &SCRIPT);
     assert!(rt; !device.starved());
     assert_eq!(rt; device.failures(), 0);
@@ -322,4 +328,13 @@ fn holds_whichever_allocation_is_refused(rt: HostRuntime) {
         assert_eq!(rt; left, (3, 2), "the moment that was kept");
         assert_eq!(rt; device.fence(), Ok(()));
     }
+}
+
+#[test]
+fn a_fault_has_its_text_and_a_history_begins_with_words(rt: HostRuntime) -> Result<(), Fail> {
+    assert_eq!(rt; Fault.to_string(rt.alloc())?.as_str(), "device fault");
+    let words = vec![in rt.alloc(); 1, 2]?;
+    let mut history = History::opened(&words);
+    history.stored(1, 3);
+    Ok(())
 }

@@ -1,5 +1,5 @@
 -- An answer is a legal entry of the list, whatever became of its item.
-use Rattle.std.proofs.Common.{◌≡◌, ◌≢◌, ℕ, ◌+◌, ◌<◌, ◌≤◌, ◌⊎◌, inl, inr, Bool, true, false, ◌||◌, IsTrue, List, [], ◌∷◌, ◌++◌, length, map, get_or, slice_set, if◌then◌else◌, codes, Option, Some, None, Result, Ok, Err, OnOk, OnErr, IfOk, IsErrOf, refl, sym, ap, subst, ◌∙◌, arith}
+use Rattle.std.proofs.Common.{◌≡◌, ◌≢◌, ℕ, ◌+◌, ◌<◌, ◌≤◌, inl, inr, Bool, true, false, ◌||◌, IsTrue, List, [], ◌∷◌, length, get_or, slice_set, if◌then◌else◌, codes, Option, Some, None, Result, Ok, Err, OnErr, IfOk, IsErrOf, refl, sym, ap, subst, ◌∙◌, arith}
 use Rattle.kv_types.specs.declared.change.Change.{Change}
 use Rattle.kv_types.specs.declared.change.Change.TheVariants as change
 use Rattle.kv_types.specs.declared.item.Item.{Item}
@@ -13,19 +13,17 @@ use Rattle.kv_types.specs.Changes.{changes_size}
 use Rattle.kv_types.specs.Faults.{fault_message}
 use Rattle.kv_types.specs.Keyspaces.{Keyspace, play_all, value_at}
 use Rattle.kv_types.specs.declared.record_id.RecordId.TheVariants.{Str}
-use Rattle.model.specs.declared.group.PlacedChange.{PlacedChange}
 use Rattle.model.specs.declared.group.PlacedChange.TheVariants as placed
 use Rattle.model.specs.declared.call.TheConstants.{MAX_CHANGE_BYTES}
-use Rattle.model.specs.Calls.{MayReply, is_put, writes, unless_error, changes_of, after_call, is_changing, is_nonempty, memory_reply, full_reply, too_large_reply}
-use Rattle.model.specs.Commands.{Command, Get, Set, Misuse, UnknownName, WrongNumberOfWords, LongKey, misuse_message, Outcome, outcome_of, outcome_of_reading, read_command, bulk_or_null, does, refusing, closes}
-use Rattle.model.specs.Groups.{change_of}
-use Rattle.mv_keyspace.specs.Tables.{Table, records, place_all, puts_of}
+use Rattle.model.specs.Calls.{MayReply, is_put, writes, unless_error, changes_of, is_nonempty, memory_reply, full_reply, too_large_reply}
+use Rattle.model.specs.Commands.{Command, Get, Set, Misuse, UnknownName, WrongNumberOfWords, LongKey, misuse_message, outcome_of, outcome_of_reading, read_command, bulk_or_null, does, closes}
+use Rattle.mv_keyspace.specs.Tables.{records}
 use Rattle.mv_keyspace.proofs.TableLemmas.{records-place_all}
 use Rattle.extent_heap.specs.Room.{Room}
 use Rattle.redis_core.specs.Places.{HasRoomFor}
 use Rattle.redis_core.specs.Sequencing.{Sequencing}
 use Rattle.redis_core.specs.Serving.{outcome_at, Serves, IsTooFull, refusal_reply, reply_of}
-use Rattle.redis_core.specs.Turns.{call_of, Performs, AddsPart, Stays, Moves, Answers}
+use Rattle.redis_core.specs.Turns.{call_of, AddsPart, Moves, Answers}
 
 -- ---- what a command answers and what it changes
 

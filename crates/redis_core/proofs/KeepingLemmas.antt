@@ -1,18 +1,24 @@
 -- A table and a heap stay beside each other where changes take places from the heap.
-use Rattle.std.proofs.Common.{◌≡◌, ℕ, List, Some, None, IsTrue, sym, subst}
-use Rattle.std.specs.List.{AllByRecursion}
-use Rattle.model.specs.declared.group.Put.{Put}
+use Rattle.std.proofs.Common.{◌≡◌, ℕ, List, [], None, refl}
 use Rattle.model.specs.declared.group.PlacedChange.{PlacedChange}
-use Rattle.model.specs.Groups.{changes_versions}
+use Rattle.model.specs.Groups.{Contents, changes_versions}
 use Rattle.model.proofs.GroupsLemmas.{changes_versions-none}
-use Rattle.extent_heap.specs.Room.{Room, is_free_entry}
+use Rattle.extent_heap.specs.Room.{Room}
 use Rattle.mv_keyspace.specs.Tables.{Table, IsLawful, AreFresh, puts_of, place_all}
 use Rattle.mv_keyspace.proofs.VersionTables.{AreEmpty}
-use Rattle.mv_keyspace.proofs.PartTables.{AreDistinct, IsTable-changes, lawful-from_table, fresh-from_table}
+use Rattle.mv_keyspace.proofs.PartTables.{AreDistinct, IsTable-changes, lawful-from_table, fresh-from_table, table-none}
 use Rattle.redis_core.specs.Keeping.{IsBeside}
 use Rattle.redis_core.specs.Places.{TakesPlaces}
-use Rattle.redis_core.specs.Sequencing.{IsTaken}
+use Rattle.redis_core.specs.Sequencing.{Underlies}
 use Rattle.redis_core.proofs.TakenLemmas.{All-map, IsFree, places_within, places_free, places_taken, places_apart, not_put_at, AreDistinct-from_apart}
+
+-- an empty table is beside any heap
+pub beside_none : (room : Room) → IsBeside [] room
+beside_none room = record { versions = λ i. None; table_is = table-none (λ i. None) (λ i. refl); empty = λ i free. refl }
+
+-- and so is the table of an engine's contents
+pub beside_under : (contents : Contents) (table : Table) (room : Room) (position : ℕ) → Underlies contents table room position → IsBeside table room
+beside_under contents table room position under = record { versions = contents.versions; table_is = under.table_is; empty = λ i free. (under.left.entries i free).2 }
 
 pub beside_lawful : (table : Table) (room : Room) → IsBeside table room → IsLawful table
 beside_lawful table room is = lawful-from_table is.versions table is.table_is

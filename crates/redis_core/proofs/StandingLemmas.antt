@@ -1,7 +1,7 @@
 -- A sequencer goes on standing for the contents of an engine: where a part begins to wait, and where the oldest leaves as a group.
-use Rattle.std.proofs.Common.{◌≡◌, ℕ, zero, suc, ◌+◌, ◌-◌, ◌<◌, ◌≤◌, ◌⊎◌, inl, inr, Bool, true, false, not, ◌&&◌, ◌||◌, cond, IsTrue, List, [], ◌∷◌, ◌++◌, length, map, nat_eq, Option, Some, None, refl, sym, ap, subst, ◌∙◌, arith, append-nil, ne_eqb, eqb-true}
+use Rattle.std.proofs.Common.{◌≡◌, ℕ, ◌+◌, ◌-◌, ◌<◌, ◌≤◌, inl, inr, Bool, true, false, not, ◌&&◌, ◌||◌, cond, IsTrue, List, [], ◌∷◌, ◌++◌, length, nat_eq, Option, Some, None, refl, sym, ap, subst, ◌∙◌, arith, append-nil, ne_eqb}
 use Rattle.std.proofs.lemmas.Grind.{flat_map-append}
-use Rattle.std.specs.List.{flat_map, AllByRecursion}
+use Rattle.std.specs.List.{AllByRecursion}
 use Rattle.kv_types.specs.declared.change.Change.{Change}
 use Rattle.model.specs.declared.group.Group.{Group}
 use Rattle.model.specs.declared.group.Part.{Part}
@@ -10,16 +10,16 @@ use Rattle.model.specs.declared.group.PlacedChange.{PlacedChange}
 use Rattle.model.specs.declared.group.PlacedChange.TheVariants as placed
 use Rattle.model.specs.declared.group.TheConstants.{MAX_PARTS}
 use Rattle.model.specs.declared.image.TheConstants.{STAMP_WINDOW}
-use Rattle.model.specs.Images.{Version, entries_of_lines, first_extent_line}
-use Rattle.model.specs.Groups.{Contents, Versions, IsGroup, after_group, next_record, change_of, put_of, puts_of_part, puts_of_group, change_versions, changes_versions, part_versions, parts_versions, ended_where_begun, ended_by, version_of_put, AreParts, NamesEnded, last_position, IsPlaced, IsApartFrom, IsUnused, AreApart, AreAllApart, HasItsLines, is_put_at}
-use Rattle.model.proofs.GroupsLemmas.{parts_versions-none, changes_versions-none, AreAllApart-front, AreAllApart-rest, is_put_at-append}
-use Rattle.extent_heap.specs.Room.{Room, is_free_line, is_free_entry, IsFreeRun}
+use Rattle.model.specs.Images.{Version}
+use Rattle.model.specs.Groups.{Contents, Versions, IsGroup, after_group, change_of, put_of, puts_of_part, change_versions, changes_versions, part_versions, parts_versions, ended_where_begun, version_of_put, AreParts, NamesEnded, last_position, IsPlaced, IsApartFrom, IsUnused, AreApart, AreAllApart, HasItsLines, is_put_at}
+use Rattle.model.proofs.GroupsLemmas.{parts_versions-none, changes_versions-none, AreAllApart-front, AreAllApart-rest}
+use Rattle.extent_heap.specs.Room.{Room}
 use Rattle.mv_keyspace.specs.Tables.{Table, IsTable, AreEnded, puts_of, place_all}
 use Rattle.mv_keyspace.proofs.VersionTables.{AreEmpty}
 use Rattle.mv_keyspace.proofs.PartTables.{AreDistinct, IsTable-changes, names-ended}
 use Rattle.redis_core.specs.Places.{TakesPlaces}
 use Rattle.redis_core.specs.Sequencing.{Sequencing, puts_of_parts, HasNoFreeLine, IsTaken, IsLeftOf, StandsFor, Underlies, HandsOut, starts}
-use Rattle.redis_core.specs.Turns.{Performs, AddsPart, Stays, Moves}
+use Rattle.redis_core.specs.Turns.{Moves}
 use Rattle.redis_core.proofs.TakenLemmas.{All-map, All-both, All-front, All-rest, All-append, IsFree, IsWithin, lines_within, lines_apart, taken_within, places_within, places_free, places_taken, places_fitting, places_apart, AreAllApart-append, not_put_at, AreDistinct-from_apart}
 
 -- ---- one part more

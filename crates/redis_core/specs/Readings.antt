@@ -1,5 +1,5 @@
 -- What the table of commands made of the words of a request, as the meaning of commands has it.
-use Rattle.std.specs.Prelude.{◌≡◌, ℕ, ◌≤◌, List, length, Result, Ok, Err, Option, Some, None}
+use Rattle.std.specs.Prelude.{◌≡◌, ◌≤◌, length, Result, Ok, Err}
 use Rattle.kv_types.specs.declared.limits.TheConstants.{MAX_KEY_BYTES, MAX_VALUE_BYTES}
 use Rattle.model.specs.Commands as meaning
 use Rattle.redis_core.specs.declared.command.Command.{Command}

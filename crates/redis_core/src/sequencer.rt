@@ -6,6 +6,7 @@ ghost use Rattle.model.specs.declared.group.Group.{Group};
 ghost use Rattle.model.specs.Commands.{closes};
 ghost use Rattle.model.specs.Groups.{Contents, IsGroup, after_group};
 ghost use Rattle.redis_core.specs.Sequencing.{StandsFor, HandsOut, Underlies, is_closed, starts};
+ghost use Rattle.redis_core.specs.Keeping.{IsBeside};
 ghost use Rattle.redis_core.specs.Places.{HasRoomFor};
 ghost use Rattle.redis_core.specs.Serving.{Serves, IsTooFull};
 ghost use Rattle.redis_core.specs.Serving as replies;
@@ -53,8 +54,7 @@ impl<K: Keyspace> Model for Sequencer<K> {
 }
 
 impl<K: Keyspace + Drop> Sequencer<K> {
-    /// A sequencer over a keyspace at this position of the list, with a heap of what is free beside it, both as the contents of an engine have
-    /// them. No seat is closed and nothing waits.
+    /// A sequencer over a keyspace at this position of the list, with a heap of what is free beside it. No seat is closed and nothing waits.
     ///
     /// # Errors
     ///
@@ -65,7 +65,7 @@ impl<K: Keyspace + Drop> Sequencer<K> {
         heap: ExtentHeap,
         position: u64,
     ) -> Result<Sequencer<K>, Refusal>
-        requires { (contents : Contents) × Underlies contents (K.table keyspace) heap position }
+        requires { IsBeside (K.table keyspace) heap }
         ensures ok { IfOk result (λ s. s ≡ starts (K.table keyspace) heap position (replicate MAX_SEATS false)) }
         ensures stands { IfOk result (λ s. (contents : Contents) → Underlies contents (K.table keyspace) heap position → StandsFor s contents) }
         ensures err { IfErr result (λ refusal. refusal ≡ Refusal.Memory) }

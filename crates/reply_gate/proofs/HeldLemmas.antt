@@ -22,6 +22,7 @@ pub held_more : (p : ℕ) (old text new : List ℕ) (held held' : List HeldText)
     → p ≤ length old → length (drop p old) ≡ held_bytes held
     → (p ≤ length new) × (length (drop p new) ≡ held_bytes held')
 held_more p old text new held held' position bytes is_new is_held is_bytes within all =
-    rw (is_new, is_held)
-    ( omega (arith, length-append old text)
-    , omega (arith, length-append old text, length-drop p (old ++ text), length-drop p old, held_bytes-append held (record { position = position; bytes = bytes } ∷ [])) )
+    rw (is_new, is_held) (
+      omega (arith, length-append old text),
+      omega (arith, length-append old text, length-drop p (old ++ text), length-drop p old, held_bytes-append held (record { position = position; bytes = bytes } ∷ [])),
+    )

@@ -119,3 +119,61 @@ fn take_covered(held: &mut VecDeque<HeldText>, seen: &Seen, most: usize) -> usiz
     }
     bytes
 }
+
+#[cfg(test)]
+mod tests {
+    use super::*;
+    use bytes::Bytes;
+    use std::test::Fail;
+
+    fn ok() -> Reply {
+        Reply::Simple(Bytes::from_static(b"OK"))
+    }
+
+    // A reply goes out once both nodes hold its position, and not before.
+    #[test]
+    fn both_marks_cover(rt: HostRuntime) -> Result<(), Fail> {
+        let mut gate = Gate::new(rt.alloc());
+        gate.hold(&ok(), 1)?;
+        for (local, remote) in [(0, 0), (1, 0), (0, 1)] {
+            let seen = Seen { local, remote };
+            assert!(rt; !gate.can_release(&seen));
+            gate.release(&seen);
+            assert_eq!(rt; gate.pending(), b"".as_slice());
+        }
+        let seen = Seen {
+            local: 1,
+            remote: 1,
+        };
+        assert!(rt; gate.can_release(&seen));
+        gate.release(&seen);
+        assert_eq!(rt; gate.pending(), b"+OK\r\n".as_slice());
+        Ok(())
+    }
+
+    // The longest covered front goes out, and nothing behind the first reply that is not covered.
+    #[test]
+    fn replies_keep_their_order(rt: HostRuntime) -> Result<(), Fail> {
+        let mut gate = Gate::new(rt.alloc());
+        gate.hold(&ok(), 1)?;
+        gate.hold(&Reply::NullBulk, 1)?;
+        gate.hold(&ok(), 2)?;
+        gate.hold(&Reply::Int(7), 2)?;
+        let seen = Seen {
+            local: 2,
+            remote: 1,
+        };
+        gate.release(&seen);
+        assert_eq!(rt; gate.pending(), b"+OK\r\n$-1\r\n".as_slice());
+        assert!(rt; !gate.can_release(&seen));
+        assert_eq!(rt; gate.pending().len(), 10);
+        gate.sent(4);
+        assert_eq!(rt; gate.pending(), b"\n$-1\r\n".as_slice());
+        gate.release(&Seen {
+            local: 2,
+            remote: 2,
+        });
+        assert_eq!(rt; gate.pending(), b"\n$-1\r\n+OK\r\n:7\r\n".as_slice());
+        Ok(())
+    }
+}

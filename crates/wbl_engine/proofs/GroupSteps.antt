@@ -52,7 +52,7 @@ pub among-back : (a b : List Put) (put : Put) → IsAmong put b → IsAmong put 
 among-back [] b put among = among
 among-back (first ∷ a) b put among = inr (among-back a b put among)
 
-all-from : (P : Put → Type 0) (puts : List Put) → ((put : Put) → IsAmong put puts → P put) → AllByRecursion P puts
+pub all-from : (P : Put → Type 0) (puts : List Put) → ((put : Put) → IsAmong put puts → P put) → AllByRecursion P puts
 all-from P [] each = tt
 all-from P (put ∷ puts) each = (each put (inl refl), all-from P puts (λ q among. each q (inr among)))
 

@@ -1,4 +1,11 @@
+pub mod AfterStage
+pub mod Beginning
+pub mod CommitSteps
+pub mod Committing
 pub mod CountLemmas
+pub mod Covering
+pub mod Ending
+pub mod EndsWithin
 pub mod GroupSteps
 pub mod LayoutRuns
 pub mod Mixing
@@ -11,7 +18,9 @@ pub mod ReadBack
 pub mod RecordLemmas
 pub mod RecordWords
 pub mod Results
+pub mod StageImages
 pub mod Staged
 pub mod StagingLemmas
 pub mod StoredBy
+pub mod SuccessorLemmas
 pub mod VersionLemmas

@@ -8,6 +8,7 @@ use Rattle.model.specs.declared.group.Part.{Part}
 use Rattle.model.specs.declared.group.Put.{Put}
 use Rattle.model.specs.Images.{Image, Version, entry_word, entry_bytes, entries_of_lines, first_extent_line, version_at, version_in, counts, is_in_gap}
 use Rattle.model.specs.Groups.{Versions, IsPlaced, HasItsLines, AreApart, IsApartFrom, AreAllApart, NamesEnded, is_put_at, is_live_version, is_ended_version, puts_of_part, part_versions, version_of_put}
+use Rattle.wbl_engine.specs.AtRest.{IsInPlace}
 use Rattle.wbl_engine.specs.Entries.{version_bytes, IsStorable}
 use Rattle.wbl_engine.specs.Stages.{part_pairs}
 use Rattle.wbl_engine.proofs.CountLemmas.{with_cp, counts-zero, counts-above, counts-below, counts-later, counts-new}
@@ -16,12 +17,6 @@ use Rattle.wbl_engine.proofs.PartWords.{named_or_not, contains-named, named-cont
 use Rattle.wbl_engine.proofs.PutPairs.{IsOfExtent, IsNamed, among-all}
 use Rattle.wbl_engine.proofs.ReadBack.{HasPut, version_in_entry-put, entry_bytes-put, put_enough}
 use Rattle.wbl_engine.proofs.VersionLemmas.{SameEntry, version_in_entry, version_in_entry-same}
-
--- the extent of entry i lies behind the directory and holds its bytes
-pub record IsInPlace (lines : ℕ) (image : Image) (i : ℕ) : Type 0 where
-  pub above : first_extent_line lines ≤ image (entry_word i 3)
-  pub within : image (entry_word i 3) + image (entry_word i 4) ≤ lines
-  pub enough : entry_bytes image i ≤ 64 * image (entry_word i 4)
 
 -- the image has these versions, and no stamp that was not given out yet
 pub record Fits (r : Record) (lines : ℕ) (image : Image) (versions : Versions) : Type 0 where
@@ -310,7 +305,7 @@ entry_bytes-same base image i same =
     let at7 = same.words 7 (omega arith) (omega arith) in
     cc
 
-in_place-same : (lines : ℕ) (base image : Image) (i : ℕ) → SameEntry base image i → IsInPlace lines base i → IsInPlace lines image i
+pub in_place-same : (lines : ℕ) (base image : Image) (i : ℕ) → SameEntry base image i → IsInPlace lines base i → IsInPlace lines image i
 in_place-same lines base image i same at =
     let at3 = same.words 3 (omega arith) (omega arith) in
     let at4 = same.words 4 (omega arith) (omega arith) in

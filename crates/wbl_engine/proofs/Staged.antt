@@ -7,11 +7,11 @@ use Rattle.model.specs.declared.record.Record.{Record}
 use Rattle.model.specs.declared.group.Put.{Put}
 use Rattle.model.specs.Images.{Image, Version, entry_word, entry_bytes, entries_of_lines, first_extent_line, version_at, version_in, counts}
 use Rattle.model.specs.Groups.{Versions, IsPlaced, AreApart, is_put_at, is_live_version}
-use Rattle.wbl_engine.specs.Contents.{Matters, IsInExtent}
+use Rattle.wbl_engine.specs.AtRest.{Matters, IsInExtent, IsInPlace}
 use Rattle.wbl_engine.specs.Entries.{entry_words}
 use Rattle.wbl_engine.proofs.CountLemmas.{counts-zero, counts-above, counts-below}
 use Rattle.wbl_engine.proofs.PartEffects.{IsAmong, is_put_at-among}
-use Rattle.wbl_engine.proofs.PartSteps.{Fits, IsReady, AreStored, IsInPlace}
+use Rattle.wbl_engine.proofs.PartSteps.{Fits, IsReady, AreStored}
 use Rattle.wbl_engine.proofs.PutPairs.{IsOfEntry, IsOfExtent, among-all}
 use Rattle.wbl_engine.proofs.StoredBy.{IsStoredBy, ByExtent, ByEntry, ByEnd}
 use Rattle.wbl_engine.proofs.VersionLemmas.{SameEntry, version_in_entry, version_in_entry-same}
@@ -88,7 +88,7 @@ directory_matters : (r : Record) (lines : ℕ) (base : Image) (i k : ℕ) → i 
 directory_matters r lines base i k within below = inr (inl (omega arith, omega (arith, within)))
 
 -- the begin of an entry is as before, or that of a put at a free entry
-staged_begin : {r : Record} {lines count : ℕ} {base image : Image} {versions : Versions} {puts : List Put} {pairs : List (ℕ × ℕ)}
+pub staged_begin : {r : Record} {lines count : ℕ} {base image : Image} {versions : Versions} {puts : List Put} {pairs : List (ℕ × ℕ)}
     → IsStaging r lines count base versions puts pairs → IsStagedOver r lines base pairs image → (i : ℕ) → i < entries_of_lines lines
     → (image (entry_word i 0) ≡ base (entry_word i 0))
         ⊎ ((base (entry_word i 0) ≡ 0) × (r.cp < image (entry_word i 0)) × (image (entry_word i 0) ≤ r.cp + count))

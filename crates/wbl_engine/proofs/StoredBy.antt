@@ -85,7 +85,7 @@ live_before test (Some v) live = not_or v.is_ended test live
     not_or false b e = refl
 
 -- what is live after a part was so before it, or the part made it
-live_then : (versions : Versions) (part : Part) (rest : List Put) (i : ℕ)
+pub live_then : (versions : Versions) (part : Part) (rest : List Put) (i : ℕ)
     → IsTrue (is_live_version (part_versions versions part i) || is_put_at i rest)
     → IsTrue (is_live_version (versions i) || is_put_at i (puts_of_part part ++ rest))
 live_then versions part rest i live =
@@ -103,7 +103,7 @@ live_then versions part rest i live =
         or_right (is_live_version (versions i)) (is_put_at i (puts_of_part part ++ rest)) (is_put_at-back i (puts_of_part part) rest later)
     ]
 
-live_front : (versions : Versions) (part : Part) (rest : List Put) (i : ℕ)
+pub live_front : (versions : Versions) (part : Part) (rest : List Put) (i : ℕ)
     → IsTrue (is_live_version (versions i) || is_put_at i (puts_of_part part))
     → IsTrue (is_live_version (versions i) || is_put_at i (puts_of_part part ++ rest))
 live_front versions part rest i live =

@@ -1,12 +1,12 @@
 -- What an engine holds and what its device holds.
-use Rattle.std.specs.Prelude.{◌≡◌, ℕ, ◌+◌, ◌*◌, ◌<◌, ◌≤◌, ◌⊎◌, List, [], None, true, IsTrue}
+use Rattle.std.specs.Prelude.{◌≡◌, ℕ, ◌+◌, ◌<◌, ◌≤◌, ◌⊎◌, List, [], None, true}
 use Rattle.pmem.specs.Device.{State}
 use Rattle.pmem.specs.Crash.{IsImage, image_of}
 use Rattle.model.specs.declared.group.Group.{Group}
 use Rattle.model.specs.declared.image.TheConstants.{COUNTER_LIMIT, STAMP_WINDOW}
 use Rattle.model.specs.declared.record.Record.{Record}
 use Rattle.model.specs.declared.record.Role.{Role}
-use Rattle.model.specs.Images.{Image, HasSuperblock, HasRecord, root_word, entries_of_lines, first_extent_line, entry_word, version_at, counts}
+use Rattle.model.specs.Images.{Image, HasSuperblock, HasRecord, entries_of_lines, entry_word, version_at}
 use Rattle.model.specs.Groups.{Contents, next_record}
 
 -- The image holds these contents: its record is the current one, and each entry holds the version that it should. Every stamp in it is below
@@ -47,17 +47,3 @@ pub record IsNew (lines : ℕ) (role : Role) (contents : Contents) : Type 0 wher
   pub line_count : contents.lines ≡ lines
   pub versions : (i : ℕ) → contents.versions i ≡ None
   pub is_free : (i : ℕ) → i < entries_of_lines lines → contents.is_free i ≡ true
-
--- ---- what an engine at rest keeps
-
--- the word is of the extent that entry i names
-pub record IsInExtent (image : Image) (i word : ℕ) : Type 0 where
-  pub low : 8 * image (entry_word i 3) ≤ word
-  pub high : word < 8 * (image (entry_word i 3) + image (entry_word i 4))
-
--- The map depends on this word: it is of the superblock's front, of the directory, or of the extent of an entry whose begin counts.
-abbrev pub Matters : Record → ℕ → Image → ℕ → Type 0
-Matters r lines image word =
-    (word < root_word)
-      ⊎ ((8 * 8 ≤ word) × (word < 8 * first_extent_line lines))
-      ⊎ ((i : ℕ) × (i < entries_of_lines lines) × IsTrue (counts r (image (entry_word i 0))) × IsInExtent image i word)

@@ -1,3 +1,4 @@
+pub mod AtRest
 pub mod Contents
 pub mod Entries
 pub mod Records

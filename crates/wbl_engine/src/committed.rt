@@ -1,4 +1,6 @@
 //! The word of a commit.
+ghost use Rattle.std.specs.Prelude.{◌≡◌};
+
 use std::marker::Model;
 
 /// The position up to which everything is durable on this node, as a commit has shown it. A clause sees the number.
@@ -15,4 +17,13 @@ impl Model for Committed {
     ghost view = { λ c. c.position };
 
     ghost inverse = { λ n. record { position = n } };
+}
+
+impl Committed {
+    /// The word that this position is durable.
+    pub(crate) fn at(position: u64) -> Committed
+        ensures { result ≡ position }
+    {
+        Committed { position }
+    }
 }

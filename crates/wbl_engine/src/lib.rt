@@ -1,14 +1,18 @@
 //! Write-behind logging on persistent memory: an image that is formatted, and commits that move its map whole or not at all.
 #![tactic(auto)]
 
+mod commit;
 mod committed;
 mod durable;
+mod engine;
 mod layout;
 mod record;
 mod staging;
+mod successor;
 
 pub use committed::Committed;
 pub use durable::Durable;
+pub use engine::WblEngine;
 pub use layout::{flush_entry, lines_for, write_entry};
 pub use model::{Gap, Record, Role};
 pub use record::write_next;

@@ -1,7 +1,7 @@
 //! What a commit stores before the record: the puts of each part, and the ends of what it ended.
-ghost use Rattle.std.specs.Prelude.{◌+◌, ◌^◌, ◌<◌, length};
+ghost use Rattle.std.specs.Prelude.{◌+◌, ◌^◌, ◌<◌, length, OnOk, OnErr};
 ghost use Rattle.std.specs.List.{AllByRecursion};
-ghost use Rattle.pmem.specs.Runs.{Runs, stores, flushes};
+ghost use Rattle.pmem.specs.Runs.{Runs, Staged, StageFailed, stores, flushes};
 ghost use Rattle.model.specs.Groups.{IsPlaced, HasItsLines, put_of, puts_of_part};
 ghost use Rattle.wbl_engine.specs.Entries.{IsStorable, put_lines};
 ghost use Rattle.wbl_engine.specs.Stages.{puts_of_changes, puts_of_parts, puts_pairs, end_pairs, part_pairs, parts_pairs, puts_lines, end_lines, part_lines, parts_lines, AreWithin, AreEndsWithin};
@@ -9,10 +9,27 @@ ghost use Rattle.wbl_engine.specs.Stages.{puts_of_changes, puts_of_parts, puts_p
 use crate::layout::{entry_word, flush_entry, write_entry};
 use kv_types::EntryNo;
 use model::{Part, PlacedChange};
-use pmem::Pmem;
+use pmem::{Fault, Pmem};
 
-/// Stores the puts and the ends of all parts. The first part takes this stamp, each other the next one. Nothing is flushed.
-pub fn store_parts<P: Pmem>(device: &mut P, parts: &[Part], stamp: u64)
+/// Stores the puts and the ends of all parts, flushes their lines, and fences. The first part takes this stamp, each other the next one.
+///
+/// Nothing of it counts before the record does. After an `Err` a fence has failed, and each word may be lost by itself.
+pub fn stage_parts<P: Pmem>(device: &mut P, parts: &[Part], stamp: u64) -> Result<(), Fault>
+    requires placed { AllByRecursion (IsPlaced (P.state device.old).lines) (puts_of_parts parts.now) }
+    requires fitting { AllByRecursion HasItsLines (puts_of_parts parts.now) }
+    requires ends { AreEndsWithin (P.state device.old).lines parts.now }
+    requires room { stamp + length parts.now < 2 ^ 64 }
+    ensures ok { OnOk result (Staged (P.state device.old) (P.state device.new) (parts_pairs stamp parts.now) (parts_lines parts.now)) }
+    ensures err { OnErr result (StageFailed (P.state device.old) (P.state device.new) (parts_pairs stamp parts.now)) }
+    ensures storable { AllByRecursion IsStorable (puts_of_parts parts.now) }
+{
+    store_parts(device, parts, stamp);
+    flush_parts(device, parts);
+    device.fence()
+}
+
+/// Stores the puts and the ends of all parts.
+fn store_parts<P: Pmem>(device: &mut P, parts: &[Part], stamp: u64)
     requires placed { AllByRecursion (IsPlaced (P.state device.old).lines) (puts_of_parts parts.now) }
     requires fitting { AllByRecursion HasItsLines (puts_of_parts parts.now) }
     requires ends { AreEndsWithin (P.state device.old).lines parts.now }
@@ -72,7 +89,7 @@ fn store_ends<P: Pmem>(device: &mut P, ended: &[EntryNo], stamp: u64)
 }
 
 /// Flushes all lines that `store_parts` stored to.
-pub fn flush_parts<P: Pmem>(device: &mut P, parts: &[Part])
+fn flush_parts<P: Pmem>(device: &mut P, parts: &[Part])
     requires placed { AllByRecursion (IsPlaced (P.state device.old).lines) (puts_of_parts parts.now) }
     requires ends { AreEndsWithin (P.state device.old).lines parts.now }
     ensures { Runs (P.state device.old) (P.state device.new) (flushes (parts_lines parts.now) (P.state device.old).words) }

@@ -87,9 +87,9 @@ fed-stands old new machine piece parser stands is_open took more_asked drained l
     let open_before : list_any closes items ≡ false = sym stands.closed ∙ is_open in
     let now : items_at SERVED_LIMITS (machine.fed ++ piece) ≡ items ++ ahead parser = stands.parsed.later piece ∙ ap (λ p. items ++ ahead p) (sym took) in
     let asks : asked (machine.fed ++ piece) ≡ asked machine.fed ++ ahead parser =
-        ap up_to_closing now ∙ up_to_closing-open items (ahead parser) open_before
-        ∙ ap (λ xs. xs ++ up_to_closing (ahead parser)) (sym (up_to_closing-items_at SERVED_LIMITS machine.fed))
-        ∙ ap (λ xs. asked machine.fed ++ xs) (up_to_closing-ahead parser) in
+    ap up_to_closing now ∙ up_to_closing-open items (ahead parser) open_before
+    ∙ ap (λ xs. xs ++ up_to_closing (ahead parser)) (sym (up_to_closing-items_at SERVED_LIMITS machine.fed))
+    ∙ ap (λ xs. asked machine.fed ++ xs) (up_to_closing-ahead parser) in
     let enough : length machine.waiting ≤ length old.asked.items = length-take-all (length machine.waiting) old.asked.items (ap length stands.first) in
     record {
       parsed = record {

@@ -83,3 +83,40 @@ impl Outbound {
         Ok(true)
     }
 }
+
+#[cfg(test)]
+mod tests {
+    use super::*;
+    use bytes::Bytes;
+    use kv_types::{Item, ProtocolFault, Reply};
+    use pipes::Outlet;
+    use std::test::Fail;
+
+    #[test]
+    fn a_reply_goes_out_once_it_is_covered(rt: HostRuntime) -> Result<(), Fail> {
+        let mut outbound = Outbound::new(rt.alloc())?;
+        let call = Call {
+            connection: 0,
+            item: Item::Fault(ProtocolFault::ExpectedArray),
+            reply: Reply::Simple(Bytes::from_static(b"OK")),
+        };
+        let calls = vec![in rt.alloc(); call]?;
+        assert!(rt; !outbound.hold(calls.as_slice())?);
+        let made = Made {
+            call: 0,
+            position: 1,
+        };
+        assert!(rt; outbound.made.offer(made).is_ok());
+        assert!(rt; outbound.hold(calls.as_slice())?);
+        outbound.seen.local = 1;
+        assert!(rt; !outbound.release());
+        assert!(rt; !outbound.write(1)?);
+        outbound.seen.remote = 1;
+        assert!(rt; outbound.release());
+        assert!(rt; outbound.write(3)?);
+        assert!(rt; outbound.write(2)?);
+        assert!(rt; !outbound.write(1)?);
+        assert_eq!(rt; outbound.released.as_slice(), b"+OK\r\n".as_slice());
+        Ok(())
+    }
+}

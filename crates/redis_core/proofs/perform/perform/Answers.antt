@@ -1,5 +1,4 @@
 use Rattle.std.proofs.Common.{◌≡◌, refl, sym, subst}
-use Rattle.extent_heap.specs.Room.{Room}
 use Rattle.mv_keyspace.specs.Tables.{AreEnded, AreFresh, place_all, puts_of}
 use Rattle.redis_core.specs.Keeping.{IsBeside}
 use Rattle.redis_core.proofs.KeepingLemmas.{beside_lawful, beside_fresh, beside_after}

@@ -1,7 +1,7 @@
 use Rattle.std.proofs.Common.{sym, subst}
 use Rattle.extent_heap.specs.Room.{Room, TakesEntry}
 use Rattle.model.specs.Groups.{put_of}
-use Rattle.redis_core.specs.Places.{TakesPlace, TakesPlaces}
+use Rattle.redis_core.specs.Places.{TakesPlaces}
 use Rattle.redis_core.proofs.PlacesLemmas.{one_place}
 use Rattle.redis_core.proofs.places.give_place_back.Goals as goal
 use Rattle.redis_core.proofs.places.give_place_back.Goals.{After-give}

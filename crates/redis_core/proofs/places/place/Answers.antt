@@ -1,4 +1,4 @@
-use Rattle.std.proofs.Common.{sym, ◌∙◌}
+use Rattle.std.proofs.Common.{◌∙◌}
 use Rattle.std.proofs.lemmas.Result.{err_from_is_err_and}
 use Rattle.redis_core.proofs.PlacesLemmas.{no_places}
 use Rattle.redis_core.proofs.places.place.Goals as goal

@@ -1,10 +1,10 @@
-use Rattle.std.proofs.Common.{ℕ, ◌||◌, Bool, vec_len, sym, subst}
+use Rattle.std.proofs.Common.{◌≡◌, ℕ, ◌||◌, Bool, vec_len, vec_capacity, ◌≤◌, true, sym, subst}
 use Rattle.std.proofs.lemmas.Result.{on_ok_weaker, on_err_weaker}
 use Rattle.pmem.specs.Device.{Word, store_at}
 use Rattle.pmem.specs.Cells.{Holds}
-use Rattle.pmem.specs.Keep.{HoldsKept}
+use Rattle.pmem.specs.Keep.{HoldsKept, is_forgotten}
 use Rattle.pmem.specs.History.{words_of}
-use Rattle.pmem.specs.Sim.{IsFull, AwaitsCopy}
+use Rattle.pmem.specs.declared.keep.Keep.TheVariants.{Awaited}
 use Rattle.pmem.proofs.Keeping.{HoldsIn-weaken, HoldsKept-weaken}
 use Rattle.pmem.proofs.Simulating.{Holds-stored, starves_cases, store_starves, err-refused}
 use Rattle.pmem.proofs.sim.SimPmemPmem.store.Goals as goal
@@ -34,7 +34,9 @@ invariant_of-self-clause-kept c =
 pub returns-clause-starves : goal.returns-clause-starves
 returns-clause-starves c =
     let device = c.args.self.now in
-    store_starves device.starved c.is_err-refused.result c.advance.result (IsFull device) (AwaitsCopy device)
-    (err-refused c.store.result c.is_err-refused.result c.is_err-refused.ensures.value c.store.ensures.full)
+    store_starves device.starved c.is_err-refused.result c.advance.result
+    ((vec_capacity device.cells.pool ≤ vec_len device.cells.pool) × (vec_len c.store.new.self.pool ≡ vec_len device.cells.pool))
+    ((device.keep ≡ Awaited 0) × (is_forgotten c.advance.new.self ≡ true))
+    (err-refused c.store.result c.is_err-refused.result c.is_err-refused.ensures.value c.store.ensures.refused)
     (starves_cases device.starved c.advance.result device.keep c.advance.new.self (vec_len device.cells.heads) device.history device.kept
     c.advance.ensures.answer c.advance.ensures.forgets)

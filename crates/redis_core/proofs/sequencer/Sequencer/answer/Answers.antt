@@ -1,4 +1,4 @@
-use Rattle.std.proofs.Common.{◌≡◌, ℕ, Bool, sym, subst, ap, ap₂, ◌∙◌, slice_set}
+use Rattle.std.proofs.Common.{ℕ, Bool, sym, subst, ap, ap₂, ◌∙◌, slice_set}
 use Rattle.model.specs.Calls.{changes_of}
 use Rattle.mv_keyspace.specs.Tables.{records}
 use Rattle.redis_core.specs.Sequencing.{Sequencing}

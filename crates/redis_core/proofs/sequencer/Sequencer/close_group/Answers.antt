@@ -1,4 +1,4 @@
-use Rattle.std.proofs.Common.{◌≡◌, [], ◌∷◌, ◌++◌, sym, subst, ap, ◌∙◌}
+use Rattle.std.proofs.Common.{[], ◌∷◌, ◌++◌, sym, ap, ◌∙◌}
 use Rattle.model.specs.declared.group.Group.{Group}
 use Rattle.redis_core.specs.Sequencing.{Sequencing, HandsOut}
 use Rattle.redis_core.proofs.StandingLemmas.{StandsFor-group}

@@ -11,9 +11,10 @@ invariant_of-self c =
     let n = c.take_covered.result in
     let split = held_bytes-split c.args.seen.now.local c.args.seen.now.remote c.self.inside.held.items in
     let left : held_bytes c.take_covered.new.held.items + n ≡ held_bytes c.self.inside.held.items =
-        omega (arith, split, c.take_covered.ensures.bytes, ap held_bytes c.take_covered.ensures.rest) in
-    ( omega (arith, c.take_covered.ensures.within, c.self.invariant.0, c.self.invariant.1, length-drop p text, left)
-    , omega (arith, c.self.invariant.0, c.self.invariant.1, length-drop p text, length-drop (p + n) text, left) )
+    omega (arith, split, c.take_covered.ensures.bytes, ap held_bytes c.take_covered.ensures.rest) in (
+      omega (arith, c.take_covered.ensures.within, c.self.invariant.0, c.self.invariant.1, length-drop p text, left),
+      omega (arith, c.self.invariant.0, c.self.invariant.1, length-drop p text, length-drop (p + n) text, left),
+    )
 
 pub returns-clause-pending : goal.returns-clause-pending
 returns-clause-pending c =

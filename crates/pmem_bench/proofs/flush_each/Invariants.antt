@@ -1,0 +1,5 @@
+use Rattle.std.proofs.Common.{◌≡◌}
+use Rattle.pmem_bench.proofs.flush_each.Given as goal
+
+abbrev pub invariant-loop-line : goal.invariant-loop-line
+invariant-loop-line g l = (g.P.Pmem.state l.device).lines ≡ (g.P.Pmem.state l.fn.device).lines

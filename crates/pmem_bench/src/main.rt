@@ -1,0 +1,113 @@
+//! What stores, flushes and a fence of a simulated device cost. Without an argument it makes a few calls and prints how many; with the
+//! argument `large` it makes those of a commit of 64 values of 65,536 bytes, on a small and on a large device, and prints the times too.
+#![tactic(auto)]
+
+ghost use Rattle.std.specs.Prelude.{◌≡◌, ◌≤◌, ◌<◌, ◌^◌, ◌*◌};
+
+use pmem::{Pmem, SimPmem, store_words};
+use std::alloc::Global;
+use std::rt::Clock;
+use std::time::Instant;
+use std::{env, io};
+
+const WORDS_A_LINE: u64 = 8;
+
+/// Values to store, each of so many lines, on a device of so many lines.
+#[derive(Clone, Copy)]
+struct Load {
+    values: u32,
+    lines_a_value: u32,
+    device_lines: u32,
+}
+
+const SMALL: Load = Load {
+    values: 2,
+    lines_a_value: 3,
+    device_lines: 8,
+};
+
+const LARGE: [Load; 2] = [
+    Load {
+        values: 64,
+        lines_a_value: 1_024,
+        device_lines: 65_536,
+    },
+    Load {
+        values: 64,
+        lines_a_value: 1_024,
+        device_lines: 1_048_576,
+    },
+];
+
+/// Stores eight words in each of the first lines.
+fn store_lines<P: Pmem>(device: &mut P, count: u64, value: u64)
+    requires { count ≤ (P.state device.old).lines }
+    ensures { (P.state device.new).lines ≡ (P.state device.old).lines }
+{
+    for line in 0..count {
+        store_words(device, WORDS_A_LINE * line, &[value; 8]);
+    }
+}
+
+/// Flushes each of the first lines by a call of its own.
+fn flush_each<P: Pmem>(device: &mut P, count: u64)
+    requires { count ≤ (P.state device.old).lines }
+    ensures { (P.state device.new).lines ≡ (P.state device.old).lines }
+{
+    for line in 0..count {
+        device.flush(line);
+    }
+}
+
+/// Stores to the first lines, flushes each of them and fences.
+fn run_round<P: Pmem>(
+    rt: &(impl Print + Clock),
+    device: &mut P,
+    count: u64,
+    round: u64,
+    timed: bool,
+) -> io::Result<()>
+    requires { count ≤ (P.state device.old).lines }
+    ensures { (P.state device.new).lines ≡ (P.state device.old).lines }
+{
+    let start = Instant::now(rt)?;
+    store_lines(device, count, round);
+    let stored = start.elapsed(rt)?;
+    flush_each(device, count);
+    let flushed = start.elapsed(rt)?;
+    let fenced = device.fence().is_ok();
+    let done = start.elapsed(rt)?;
+    println!(rt; "round {round}: fence succeeded: {fenced}")?;
+    if timed {
+        println!(rt; "stored after {stored:?}, flushed after {flushed:?}, fenced after {done:?}")?;
+    }
+    Ok(())
+}
+
+/// Makes the calls twice, so that the second stores go over those of the first.
+fn run(rt: &(impl Print + Clock), alloc: Global, load: Load, timed: bool) -> io::Result<()> {
+    let count = u64::from(load.values) * u64::from(load.lines_a_value);
+    let mut device = SimPmem::new(alloc, u64::from(load.device_lines))?;
+    if count > device.lines() {
+        return Ok(());
+    }
+    println!(rt;
+        "device of {} lines: {} stores, {count} flushes, 1 fence",
+        load.device_lines,
+        WORDS_A_LINE * count
+    )?;
+    run_round(rt, &mut device, count, 1, timed)?;
+    run_round(rt, &mut device, count, 2, timed)
+}
+
+fn main(rt: HostRuntime) -> io::Result<()> {
+    let large = env::args(&rt)?.skip(1).any(|word| word.as_str() == "large");
+    if large {
+        for load in LARGE {
+            run(&rt, rt.alloc(), load, true)?;
+        }
+        Ok(())
+    } else {
+        run(&rt, rt.alloc(), SMALL, false)
+    }
+}

@@ -1,0 +1,176 @@
+-- The two halves of a commit make one step, at every crash.
+use Rattle.std.proofs.Common.{◌≡◌, ◌≢◌, ℕ, zero, suc, ◌+◌, ◌-◌, ◌*◌, ◌%◌, ◌<◌, ◌≤◌, Bool, true, false, not, cond, ◌&&◌, ◌||◌, ◌==◌, IsTrue, List, [], ◌∷◌, ◌++◌, ◌⊎◌, inl, inr, Option, None, Some, length, refl, sym, ap, subst, ◌∙◌, arith}
+use Rattle.std.specs.Prelude.{nat_lt}
+use Rattle.std.specs.List.{AllByRecursion}
+use Rattle.std.proofs.lemmas.Bool.{cases_lt, cases_Bool, and_left, and_right, le-ltb, lt-ltb, eq-eqb, ne_eqb, or_from, or_left, or_right}
+use Rattle.pmem.specs.Device.{Word, State, MayBe, Only}
+use Rattle.pmem.specs.Crash.{IsImage, image_of}
+use Rattle.pmem.specs.Runs.{LeavesOnly, Staged, StageFailed, Stays, IsPartlyStored, IsStored, written}
+use Rattle.pmem.proofs.Chaining.{Stays-then}
+use Rattle.pmem.proofs.Leaving.{LeavesOnly-then, LeavesOnly-weaken}
+use Rattle.pmem.proofs.Staging.{written-cases, written-outside, stored_or_outside}
+use Rattle.model.specs.declared.record.Record.{Record}
+use Rattle.model.specs.declared.group.Group.{Group}
+use Rattle.model.specs.declared.group.Put.{Put}
+use Rattle.model.specs.Images.{Image, HasSuperblock, HasRecord, root_word, entry_word, entries_of_lines, first_extent_line, version_at, counts}
+use Rattle.model.specs.Groups.{Contents, Versions, IsGroup, IsPlaced, is_put_at, next_record, after_group, parts_versions}
+use Rattle.wbl_engine.specs.AtRest.{contents_of, IsSound, IsWhole, IsInPlace, IsAtRest, IsInExtent, Matters}
+use Rattle.wbl_engine.specs.Contents.{Keeps, Same}
+use Rattle.wbl_engine.specs.Entries.{IsStorable}
+use Rattle.wbl_engine.specs.Records.{IsRecordWord, IsRecorded, IsRecordFault, IsSucceeded, IsEitherRecord}
+use Rattle.wbl_engine.specs.Stages.{puts_of_parts, parts_pairs, parts_lines}
+use Rattle.wbl_engine.proofs.AfterStage.{after_fits, stage_certain}
+use Rattle.wbl_engine.proofs.Beginning.{versions-within, versions-beyond, rest_fits, group_stored, group_staging}
+use Rattle.wbl_engine.proofs.Mixing.{IsMixed, mixed}
+use Rattle.wbl_engine.proofs.PartSteps.{Fits, AreStored}
+use Rattle.wbl_engine.proofs.RecordWords.{HasRecord-same}
+use Rattle.wbl_engine.proofs.StageImages.{HasSuperblock-same, keeps_old, stage_keeps}
+use Rattle.wbl_engine.proofs.Staged.{IsStaging, IsStagedOver, staging_before, staged_same, staged_begins, staged_ends}
+
+-- nothing is being stored
+pub at_rest_staging : {r : Record} {lines : ℕ} {image : Image} {versions : Versions} → Fits r lines image versions → IsStaging r lines 0 image versions [] []
+at_rest_staging {r} {lines} {image} {versions} fits =
+    record {
+      fits = fits;
+      stored = record { placed = tt; fitting = tt; storable = tt; ready = tt; apart = tt };
+      by = λ word x stored. absurd stored;
+    }
+
+-- a word that matters is of no record
+pub no_record_word : (r : Record) (lines n : ℕ) (image : Image) (versions : Versions) → Fits r lines image versions → (word : ℕ)
+    → Matters r lines image word → IsRecordWord n word → ⊥
+no_record_word r lines n image versions fits word (inl before) (inl root) = omega (arith, before, root)
+no_record_word r lines n image versions fits word (inl before) (inr slot) = omega (arith, before, slot.0)
+no_record_word r lines n image versions fits word (inr (inl directory)) (inl root) = omega (arith, directory.0, root)
+no_record_word r lines n image versions fits word (inr (inl directory)) (inr slot) = omega (arith, directory.0, slot.1)
+no_record_word r lines n image versions fits word (inr (inr (i, within, begun, at))) (inl root) =
+    omega (arith, at.low, (fits.in_place i within begun).above, root)
+no_record_word r lines n image versions fits word (inr (inr (i, within, begun, at))) (inr slot) =
+    omega (arith, at.low, (fits.in_place i within begun).above, slot.1)
+
+-- once the group is stored, an image that agrees outside of the next record's words and has the old record keeps the old contents
+late_keeps : (r : Record) (d b : State) (group : Group) (image : Image) → IsAtRest r d → IsGroup (contents_of r d) group
+    → AllByRecursion IsStorable (puts_of_parts group.parts.items)
+    → Staged d b (parts_pairs (r.cp + 1) group.parts.items) (parts_lines group.parts.items)
+    → ((word : ℕ) → (IsRecordWord (r.number + 1) word → ⊥) → MayBe (b.words word) (image word)) → HasRecord r image
+    → Keeps (contents_of r d) image
+late_keeps r d b group image rest asked storable staged elsewhere recorded =
+    let parts = group.parts.items in
+    let pairs : List (ℕ × ℕ) = parts_pairs (r.cp + 1) parts in
+    let over : IsStagedOver r d.lines (image_of d.words) pairs image =
+        λ word matters.
+          let is : image word ≡ written pairs (image_of d.words) word =
+              (stage_certain r d b group rest asked storable staged word (inl matters)).only (image word)
+                  (elsewhere word
+                      (no_record_word r d.lines (r.number + 1) (image_of d.words) (contents_of r d).versions (rest_fits r d rest) word matters)) in
+          elim (written-cases pairs (image_of d.words) word) [
+            inl out ↦ inl (is ∙ out.1)
+          | inr stored ↦ inr (subst (λ (x : ℕ). IsStored pairs word x) (sym is) stored)
+          ] in
+    keeps_old r d (length parts) (puts_of_parts parts) pairs image rest (group_staging r d group rest asked storable) asked.few over recorded
+
+-- and one that has the next record keeps the contents after the group
+new_keeps : (r : Record) (d b : State) (group : Group) (image : Image) → IsAtRest r d → IsGroup (contents_of r d) group
+    → AllByRecursion IsStorable (puts_of_parts group.parts.items)
+    → Staged d b (parts_pairs (r.cp + 1) group.parts.items) (parts_lines group.parts.items)
+    → ((word : ℕ) → (IsRecordWord (r.number + 1) word → ⊥) → MayBe (b.words word) (image word)) → HasRecord (next_record r group) image
+    → Keeps (after_group (contents_of r d) group) image
+new_keeps r d b group image rest asked storable staged elsewhere recorded =
+    let parts = group.parts.items in
+    let pairs : List (ℕ × ℕ) = parts_pairs (r.cp + 1) parts in
+    let new : Image = written pairs (image_of d.words) in
+    let next : Record = next_record r group in
+    let versions : Versions = parts_versions (contents_of r d).versions parts in
+    let fits : Fits next d.lines new versions = after_fits r d group rest asked storable in
+    let staging : IsStaging next d.lines 0 new versions [] [] = at_rest_staging fits in
+    let over : IsStagedOver next d.lines new [] image =
+        λ word matters.
+          inl ((stage_certain r d b group rest asked storable staged word (inr matters)).only (image word)
+            (elsewhere word (no_record_word next d.lines (r.number + 1) new versions fits word matters))) in
+    record {
+      superblock = HasSuperblock-same d.lines (image_of d.words) image
+        (λ word before.
+          (stage_certain r d b group rest asked storable staged word (inl (inl before))).only (image word)
+              (elsewhere word (no_record_word r d.lines (r.number + 1) (image_of d.words) (contents_of r d).versions (rest_fits r d rest) word (inl before)))
+            ∙ before_new r d group rest asked storable word (omega (arith, before)))
+        rest.whole.superblock;
+      has_record = recorded;
+      versions = λ i within. staged_same staging over i within ∙ fits.same i within;
+      begins = λ i within. omega (arith, staged_begins staging over i within);
+      ends = λ i within. omega (arith, staged_ends staging over i within);
+    }
+  where
+    before_new : (r : Record) (d : State) (group : Group) → IsAtRest r d → IsGroup (contents_of r d) group
+        → AllByRecursion IsStorable (puts_of_parts group.parts.items) → (word : ℕ) → word < 64
+        → written (parts_pairs (r.cp + 1) group.parts.items) (image_of d.words) word ≡ image_of d.words word
+    before_new r d group rest asked storable word before =
+        written-outside (parts_pairs (r.cp + 1) group.parts.items) (image_of d.words) word
+            (λ x stored. staging_before (group_staging r d group rest asked storable) word x before stored)
+
+-- While the record is written, each crash leaves the old contents or the new ones.
+pub record_keeps : (r : Record) (d b : State) (group : Group) (image : Image) → IsAtRest r d → IsGroup (contents_of r d) group
+    → AllByRecursion IsStorable (puts_of_parts group.parts.items)
+    → Staged d b (parts_pairs (r.cp + 1) group.parts.items) (parts_lines group.parts.items)
+    → IsEitherRecord b.words r (next_record r group) image → Keeps (contents_of r d) image ⊎ Keeps (after_group (contents_of r d) group) image
+record_keeps r d b group image rest asked storable staged recorded =
+    elim recorded.either [
+      inl old ↦ inl (late_keeps r d b group image rest asked storable staged recorded.elsewhere old)
+    | inr new ↦ inr (new_keeps r d b group image rest asked storable staged recorded.elsewhere new)
+    ]
+
+-- the record stands when the group is stored
+pub stage_succeeded : (r : Record) (d b : State) (group : Group) → IsAtRest r d → IsGroup (contents_of r d) group
+    → AllByRecursion IsStorable (puts_of_parts group.parts.items)
+    → Staged d b (parts_pairs (r.cp + 1) group.parts.items) (parts_lines group.parts.items) → IsSucceeded b.words r (next_record r group)
+stage_succeeded r d b group rest asked storable staged =
+    let pairs : List (ℕ × ℕ) = parts_pairs (r.cp + 1) group.parts.items in
+    let staging = group_staging r d group rest asked storable in
+    let Q : ℕ → Type 0 = λ word. (x : ℕ) × IsStored pairs word x in
+    record {
+      number = refl;
+      durable = λ image is.
+        let mix : IsMixed d.words Q image =
+            mixed d.words Q image
+              (λ word.
+                elim (stored_or_outside pairs word) [
+                  inl stored ↦ inr stored
+                | inr out ↦ inl (staged.elsewhere word (image word) out (is word))
+                ]) in
+        let same : (word : ℕ) → word < 64 → image word ≡ mix.base word =
+            λ word before.
+              elim (mix.same word) [ inl e ↦ e | inr stored ↦ absurd (staging_before staging word stored.0 before stored.1) ] in
+        HasRecord-same r mix.base image (same root_word (omega arith)) (λ word low high. same word (omega (arith, high)))
+          (rest.recorded mix.base mix.is);
+    }
+
+-- ---- the moments of a commit
+
+-- what a crash may leave at any moment of a commit
+abbrev pub IsBeforeOrAfter : Record → State → Group → Image → Type 0
+IsBeforeOrAfter r d group image = Keeps (contents_of r d) image ⊎ Keeps (after_group (contents_of r d) group) image
+
+-- until the first fence
+pub stage_moments : (r : Record) (d b : State) (group : Group) → IsAtRest r d → IsGroup (contents_of r d) group
+    → AllByRecursion IsStorable (puts_of_parts group.parts.items)
+    → LeavesOnly d b (IsPartlyStored (parts_pairs (r.cp + 1) group.parts.items) d.words) → LeavesOnly d b (IsBeforeOrAfter r d group)
+stage_moments r d b group rest asked storable moments =
+    LeavesOnly-weaken (IsBeforeOrAfter r d group)
+        (λ image partly.
+          inl (stage_keeps r d (length group.parts.items) (puts_of_parts group.parts.items) (parts_pairs (r.cp + 1) group.parts.items) image rest
+            (group_staging r d group rest asked storable) asked.few partly))
+        moments
+
+-- from then on
+pub commit_moments : (r : Record) (d b c : State) (group : Group) → IsAtRest r d → IsGroup (contents_of r d) group
+    → AllByRecursion IsStorable (puts_of_parts group.parts.items)
+    → Staged d b (parts_pairs (r.cp + 1) group.parts.items) (parts_lines group.parts.items)
+    → LeavesOnly b c (IsEitherRecord b.words r (next_record r group)) → LeavesOnly d c (IsBeforeOrAfter r d group)
+commit_moments r d b c group rest asked storable staged moments =
+    LeavesOnly-then (stage_moments r d b group rest asked storable staged.moments)
+        (LeavesOnly-weaken (IsBeforeOrAfter r d group) (λ image recorded. record_keeps r d b group image rest asked storable staged recorded) moments)
+
+-- At rest each crash leaves the contents.
+pub rest_keeps : (r : Record) (d : State) → IsAtRest r d → (image : Image) → IsImage d.words image → Keeps (contents_of r d) image
+rest_keeps r d rest image is =
+    keeps_old r d 0 [] [] image rest (at_rest_staging (rest_fits r d rest)) (omega arith)
+        (λ word matters. inl ((rest.certain word matters).only (image word) (is word))) (rest.recorded image is)

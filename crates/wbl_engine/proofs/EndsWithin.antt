@@ -1,0 +1,51 @@
+-- What a group ends is of the directory.
+use Rattle.std.proofs.Common.{◌≡◌, ℕ, ◌+◌, ◌<◌, ◌≤◌, Bool, true, false, ◌||◌, IsTrue, List, [], ◌∷◌, ◌++◌, ◌⊎◌, inl, inr, Option, None, Some, refl, sym, ap, arith}
+use Rattle.std.specs.List.{AllByRecursion}
+use Rattle.std.proofs.lemmas.Bool.{cases_lt, or_cases, both_ways}
+use Rattle.kv_types.specs.declared.place.EntryNo.{EntryNo}
+use Rattle.pmem.specs.Device.{State}
+use Rattle.model.specs.declared.record.Record.{Record}
+use Rattle.model.specs.declared.group.Group.{Group}
+use Rattle.model.specs.declared.group.Part.{Part}
+use Rattle.model.specs.Images.{entries_of_lines}
+use Rattle.model.specs.Groups.{Versions, IsGroup, IsPlaced, AreParts, is_put_at, is_live_version, puts_of_part, part_versions}
+use Rattle.wbl_engine.specs.AtRest.{contents_of, IsAtRest}
+use Rattle.wbl_engine.specs.Stages.{puts_of_parts, AreEndsWithin}
+use Rattle.wbl_engine.proofs.Beginning.{versions-beyond}
+use Rattle.wbl_engine.proofs.PartEffects.{is_put_at-among}
+use Rattle.wbl_engine.proofs.PartWords.{named-contains}
+use Rattle.wbl_engine.proofs.PutPairs.{IsNamed, among-all}
+use Rattle.wbl_engine.proofs.StoredBy.{live_then, live_front}
+
+each_named : (P : ℕ → Type 0) (ended : List EntryNo) → ((i : ℕ) → IsNamed i ended → P i) → AllByRecursion (λ (entry : EntryNo). P entry.0) ended
+each_named P [] each = tt
+each_named P (entry ∷ ended) each = (each entry.0 (inl refl), each_named P ended (λ i named. each i (inr named)))
+
+-- what holds of each live entry and of each put holds of all that is ended
+each_ended : (P : ℕ → Type 0) (parts : List Part) (before : ℕ) (versions : Versions)
+    → ((i : ℕ) → IsTrue (is_live_version (versions i) || is_put_at i (puts_of_parts parts)) → P i) → AreParts before versions parts
+    → AllByRecursion (λ (part : Part). AllByRecursion (λ (entry : EntryNo). P entry.0) part.ended.items) parts
+each_ended P [] before versions each follow = tt
+each_ended P (part ∷ parts) before versions each follow =
+    (each_named P part.ended.items
+        (λ i named.
+          each i (live_front versions part (puts_of_parts parts) i ((follow.1 i).0 (named-contains i part.ended.items named)).0)),
+      each_ended P parts part.position (part_versions versions part)
+        (λ i live. each i (live_then versions part (puts_of_parts parts) i live)) follow.2)
+
+pub ends_within : (r : Record) (d : State) (group : Group) → IsAtRest r d → IsGroup (contents_of r d) group → AreEndsWithin d.lines group.parts.items
+ends_within r d group rest asked =
+    each_ended (λ i. 8 + i < d.lines) group.parts.items group.before (contents_of r d).versions
+        (λ i live.
+          elim (or_cases (is_live_version ((contents_of r d).versions i)) (is_put_at i (puts_of_parts group.parts.items)) live) [
+            inl now ↦
+              elim (cases_lt i (entries_of_lines d.lines)) [
+                inl within ↦ omega (arith, within, rest.many)
+              | inr beyond ↦
+                absurd (both_ways (is_live_version ((contents_of r d).versions i)) (ap is_live_version (versions-beyond r d i beyond)) now)
+              ]
+          | inr put ↦
+              let at = is_put_at-among i (puts_of_parts group.parts.items) put in
+              omega (arith, at.2, (among-all (IsPlaced d.lines) (puts_of_parts group.parts.items) at.0 at.1 asked.placed).entry, rest.many)
+          ])
+        asked.parts

@@ -1,0 +1,75 @@
+-- What a crash leaves while a group is stored before the record.
+use Rattle.std.proofs.Common.{◌≡◌, ◌≢◌, ℕ, zero, suc, ◌+◌, ◌-◌, ◌*◌, ◌%◌, ◌<◌, ◌≤◌, Bool, true, false, List, [], ◌∷◌, ◌++◌, ◌⊎◌, inl, inr, Option, None, Some, length, refl, sym, ap, subst, ◌∙◌, arith}
+use Rattle.pmem.specs.Device.{Word, State, MayBe, Only}
+use Rattle.pmem.specs.Crash.{IsImage, image_of}
+use Rattle.pmem.specs.Runs.{IsStored, IsPartlyStored}
+use Rattle.model.specs.declared.record.Record.{Record}
+use Rattle.model.specs.declared.group.Group.{Group}
+use Rattle.model.specs.declared.group.Put.{Put}
+use Rattle.model.specs.Images.{Image, HasSuperblock, HasRecord, root_word, record_word, entry_word, entries_of_lines, version_at}
+use Rattle.model.specs.Groups.{Contents, Versions}
+use Rattle.wbl_engine.specs.AtRest.{contents_of, IsSound, IsWhole, IsAtRest, Matters}
+use Rattle.wbl_engine.specs.Contents.{Keeps}
+use Rattle.wbl_engine.proofs.Beginning.{versions-within}
+use Rattle.wbl_engine.proofs.Mixing.{IsMixed, mixed}
+use Rattle.wbl_engine.proofs.RecordWords.{HasRecord-same}
+use Rattle.wbl_engine.proofs.Staged.{IsStaging, IsStagedOver, staging_before, staged_same, staged_begins, staged_ends}
+
+pub HasSuperblock-same : (lines : ℕ) (base image : Image) → ((word : ℕ) → word < root_word → image word ≡ base word) → HasSuperblock lines base
+    → HasSuperblock lines image
+HasSuperblock-same lines base image same has =
+    record {
+      magic = same 0 (omega arith) ∙ has.magic;
+      version = same 1 (omega arith) ∙ has.version;
+      line_count = same 2 (omega arith) ∙ has.line_count;
+      entry_count = same 3 (omega arith) ∙ has.entry_count;
+    }
+
+-- the old versions stand wherever each word that matters is as before or as the group stores it
+pub keeps_old : (r : Record) (d : State) (count : ℕ) (puts : List Put) (pairs : List (ℕ × ℕ)) (image : Image) → IsAtRest r d
+    → IsStaging r d.lines count (image_of d.words) (contents_of r d).versions puts pairs → count ≤ 64
+    → IsStagedOver r d.lines (image_of d.words) pairs image → HasRecord r image → Keeps (contents_of r d) image
+keeps_old r d count puts pairs image rest staging few over recorded =
+    record {
+      superblock = HasSuperblock-same d.lines (image_of d.words) image
+        (λ word before.
+          elim (over word (inl before)) [
+            inl same ↦ same
+          | inr stored ↦ absurd (staging_before staging word (image word) (omega (arith, before)) stored)
+          ])
+        rest.whole.superblock;
+      has_record = recorded;
+      versions = λ i within. staged_same staging over i within ∙ sym (versions-within r d i within);
+      begins = λ i within. omega (arith, staged_begins staging over i within, rest.sound.limit);
+      ends = λ i within. omega (arith, staged_ends staging over i within, rest.sound.limit);
+    }
+
+-- where a crash leaves old words or the group's, those that matter are as loads gave them or the group's
+pub staged_over : (r : Record) (d : State) (pairs : List (ℕ × ℕ)) (image : Image) → IsAtRest r d → IsPartlyStored pairs d.words image
+    → IsStagedOver r d.lines (image_of d.words) pairs image
+staged_over r d pairs image rest partly word matters =
+    elim (partly word) [
+      inl may ↦ inl ((rest.certain word matters).only (image word) may)
+    | inr stored ↦ inr stored
+    ]
+
+-- and the record stands
+staged_record : (r : Record) (d : State) (count : ℕ) (puts : List Put) (pairs : List (ℕ × ℕ)) (image : Image) → IsAtRest r d
+    → IsStaging r d.lines count (image_of d.words) (contents_of r d).versions puts pairs → IsPartlyStored pairs d.words image → HasRecord r image
+staged_record r d count puts pairs image rest staging partly =
+    let mix : IsMixed d.words (λ word. IsStored pairs word (image word)) image = mixed d.words (λ word. IsStored pairs word (image word)) image partly in
+    let same : (word : ℕ) → word < 64 → image word ≡ mix.base word =
+        λ word before.
+          elim (mix.same word) [
+            inl e ↦ e
+          | inr stored ↦ absurd (staging_before staging word (image word) before stored)
+          ] in
+    HasRecord-same r mix.base image (same root_word (omega arith)) (λ word low high. same word (omega (arith, high))) (rest.recorded mix.base mix.is)
+
+-- Until the record is written, each crash leaves the old contents.
+pub stage_keeps : (r : Record) (d : State) (count : ℕ) (puts : List Put) (pairs : List (ℕ × ℕ)) (image : Image) → IsAtRest r d
+    → IsStaging r d.lines count (image_of d.words) (contents_of r d).versions puts pairs → count ≤ 64 → IsPartlyStored pairs d.words image
+    → Keeps (contents_of r d) image
+stage_keeps r d count puts pairs image rest staging few partly =
+    keeps_old r d count puts pairs image rest staging few (staged_over r d pairs image rest partly)
+        (staged_record r d count puts pairs image rest staging partly)

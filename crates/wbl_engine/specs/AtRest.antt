@@ -1,0 +1,76 @@
+-- What an engine that has met no fault keeps of its device.
+use Rattle.std.specs.Prelude.{◌≡◌, ℕ, ◌+◌, ◌*◌, ◌<◌, ◌≤◌, ◌⊎◌, ◌&&◌, ◌||◌, ◌==◌, Bool, false, nat_lt, if◌then◌else◌, None, IsTrue, List, [], ◌∷◌}
+use Rattle.std.specs.List.{list_any}
+use Rattle.std.proofs.Props.{props}
+use Rattle.pmem.specs.Device.{State, Only}
+use Rattle.pmem.specs.Crash.{IsImage, image_of}
+use Rattle.model.specs.declared.image.TheConstants.{MIN_LINES, MAX_LINES, COUNTER_LIMIT, STAMP_WINDOW}
+use Rattle.model.specs.declared.record.Record.{Record}
+use Rattle.model.specs.Images.{Image, HasSuperblock, HasWords, HasRecord, root_word, entries_of_lines, first_extent_line, entry_word, entry_bytes, version_at, counts, is_in_gap}
+use Rattle.model.specs.Groups.{Contents}
+
+-- what an engine with this record holds over this device. Begins above the record's last stamp are of no version: a commit that failed left them.
+abbrev pub contents_of : Record → State → Contents
+contents_of r d =
+    record {
+      current = r;
+      lines = d.lines;
+      versions = λ i. if nat_lt i (entries_of_lines d.lines) then version_at r (image_of d.words) i else None;
+      is_free = λ i.
+        nat_lt i (entries_of_lines d.lines)
+          && (image_of d.words (entry_word i 0) == 0 || nat_lt r.cp (image_of d.words (entry_word i 0)));
+    }
+
+-- the record obeys its rules
+pub record IsSound (r : Record) : Type 0 where
+  pub limit : r.cd ≡ r.cp + 1 + STAMP_WINDOW
+  pub number : r.number < COUNTER_LIMIT
+  pub position : r.position < COUNTER_LIMIT
+  pub room : r.cd < COUNTER_LIMIT
+  -- no gap reaches the stamps to come
+  pub no_gap : (stamp : ℕ) → r.cp < stamp → list_any (is_in_gap stamp) r.gaps.items ≡ false
+
+-- the extent of entry i lies behind the directory and holds its bytes
+pub record IsInPlace (lines : ℕ) (image : Image) (i : ℕ) : Type 0 where
+  pub above : first_extent_line lines ≤ image (entry_word i 3)
+  pub within : image (entry_word i 3) + image (entry_word i 4) ≤ lines
+  pub enough : entry_bytes image i ≤ 64 * image (entry_word i 4)
+
+-- the directory has no stamp that was not given out, and each version that was begun has its lines
+pub record IsWhole (r : Record) (lines : ℕ) (image : Image) : Type 0 where
+  pub superblock : HasSuperblock lines image
+  pub begins : (i : ℕ) → i < entries_of_lines lines → image (entry_word i 0) ≤ r.cp
+  pub ends : (i : ℕ) → i < entries_of_lines lines → image (entry_word i 1) ≤ r.cp
+  pub in_place : (i : ℕ) → i < entries_of_lines lines → IsTrue (counts r (image (entry_word i 0))) → IsInPlace lines image i
+
+-- the word is of the extent that entry i names
+pub record IsInExtent (image : Image) (i word : ℕ) : Type 0 where
+  pub low : 8 * image (entry_word i 3) ≤ word
+  pub high : word < 8 * (image (entry_word i 3) + image (entry_word i 4))
+
+-- The map depends on this word: it is of the superblock's front, of the directory, or of the extent of an entry whose begin counts.
+abbrev pub Matters : Record → ℕ → Image → ℕ → Type 0
+Matters r lines image word =
+    (word < root_word)
+      ⊎ ((8 * 8 ≤ word) × (word < 8 * first_extent_line lines))
+      ⊎ ((i : ℕ) × (i < entries_of_lines lines) × IsTrue (counts r (image (entry_word i 0))) × IsInExtent image i word)
+
+-- Each crash leaves the record, and each word on which the map depends as loads give it.
+pub record IsAtRest (r : Record) (d : State) : Type 0 where
+  pub many : MIN_LINES ≤ d.lines
+  pub few : d.lines ≤ MAX_LINES
+  pub sound : IsSound r
+  pub whole : IsWhole r d.lines (image_of d.words)
+  pub recorded : (image : Image) → IsImage d.words image → HasRecord r image
+  pub certain : (word : ℕ) → Matters r d.lines (image_of d.words) word → Only (d.words word) (image_of d.words word)
+
+HasWords-prop : (image : Image) (first : ℕ) (values : List ℕ) → IsProp (HasWords image first values)
+HasWords-prop image first [] = hlevel props
+HasWords-prop image first (value ∷ values) = hlevel (props, HasWords-prop image (first + 1) values)
+
+HasRecord-prop : (r : Record) (image : Image) → IsProp (HasRecord r image)
+HasRecord-prop r image = hlevel (props, HasWords-prop)
+
+-- there is one proof at most
+pub at_rest_prop : (faulted : Bool) (r : Record) (d : State) → IsProp (faulted ≡ false → IsAtRest r d)
+at_rest_prop faulted r d = hlevel (props, HasRecord-prop)

@@ -1,0 +1,31 @@
+//! A group is stored, and then the record that makes it count.
+ghost use Rattle.std.specs.Prelude.{◌≡◌, ◌⊎◌, ◌<◌, OnOk, OnErr};
+ghost use Rattle.pmem.specs.Runs.{LeavesOnly};
+ghost use Rattle.model.specs.Groups.{IsGroup, next_record, after_group};
+ghost use Rattle.wbl_engine.specs.AtRest.{IsAtRest, IsSound, contents_of};
+ghost use Rattle.wbl_engine.specs.Contents.{Keeps, Same};
+
+use crate::record::write_next;
+use crate::staging::stage_parts;
+use model::{Group, Record};
+use pmem::{Fault, Pmem};
+
+/// Stores a group and the record after it. At any moment a crash leaves the contents before the group or those after it.
+pub fn commit_group<P: Pmem>(device: &mut P, group: &Group, current: &Record, next: &Record) -> Result<(), Fault>
+    requires rest { IsAtRest current.now (P.state device.old) }
+    requires asked { IsGroup (contents_of current.now (P.state device.old)) group.now }
+    requires after { next.now ≡ next_record current.now group.now }
+    requires sound { IsSound next.now }
+    ensures rest { OnOk result (IsAtRest next.now (P.state device.new)) }
+    ensures moved { OnOk result (Same (after_group (contents_of current.now (P.state device.old)) group.now)
+        (contents_of next.now (P.state device.new))) }
+    ensures sound { OnOk result ((P.state device.new).failures ≡ (P.state device.old).failures) }
+    ensures stays { OnErr result (Same (contents_of current.now (P.state device.old)) (contents_of current.now (P.state device.new))) }
+    ensures fault { OnErr result ((P.state device.old).failures < (P.state device.new).failures) }
+    ensures moments { LeavesOnly (P.state device.old) (P.state device.new) (λ image.
+        Keeps (contents_of current.now (P.state device.old)) image
+            ⊎ Keeps (after_group (contents_of current.now (P.state device.old)) group.now) image) }
+{
+    stage_parts(device, group.parts.as_slice(), current.cp + 1)?;
+    write_next(device, next)
+}

@@ -1,0 +1,57 @@
+//! The record after a group.
+ghost use Rattle.std.specs.Prelude.{◌≡◌, ◌⊎◌, ◌≤◌, length, IfSome, IfNone};
+ghost use Rattle.model.specs.declared.group.TheConstants.{MAX_PARTS};
+ghost use Rattle.model.specs.Groups.{next_record, last_position};
+ghost use Rattle.wbl_engine.specs.AtRest.{IsSound};
+
+use arrayvec::ArrayVec;
+use model::{COUNTER_LIMIT, Gap, Group, Part, Record, STAMP_WINDOW};
+
+/// The record after a group, or `None` where one of its counters would reach 2^62.
+pub fn next_record(current: &Record, group: &Group) -> Option<Record>
+    requires sound { IsSound current.now }
+    requires few { length group.now.parts.items ≤ MAX_PARTS }
+    ensures next { IfSome result (λ next. next ≡ next_record current.now group.now) }
+    ensures sound { IfSome result IsSound }
+    ensures exhausted { IfNone result (let next = next_record current.now group.now in
+        (COUNTER_LIMIT ≤ next.cd) ⊎ (COUNTER_LIMIT ≤ next.position) ⊎ (COUNTER_LIMIT ≤ next.number)) }
+{
+    let number = current.number + 1;
+    let position = last_position(current.position, group.parts.as_slice());
+    let cp = current.cp + group.parts.len() as u64;
+    let cd = cp + 1 + STAMP_WINDOW;
+    if cd < COUNTER_LIMIT && position < COUNTER_LIMIT && number < COUNTER_LIMIT {
+        Some(Record {
+            number,
+            position,
+            cp,
+            cd,
+            epoch: current.epoch,
+            role: current.role,
+            gaps: copy_gaps(&current.gaps),
+        })
+    } else {
+        None
+    }
+}
+
+/// The position of the last part, or that before where there is none.
+fn last_position(before: u64, parts: &[Part]) -> u64
+    ensures { result ≡ last_position before parts.now }
+{
+    match parts.last() {
+        Some(part) => part.position,
+        None => before,
+    }
+}
+
+/// The same gaps.
+fn copy_gaps(gaps: &ArrayVec<Gap, 8>) -> ArrayVec<Gap, 8>
+    ensures { result ≡ gaps.now }
+{
+    let mut copy = ArrayVec::new();
+    for gap in gaps.as_slice() {
+        copy.push(*gap);
+    }
+    copy
+}
