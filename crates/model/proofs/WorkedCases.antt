@@ -1,16 +1,15 @@
 -- The worked cases of SET and GET and of lists of calls, computed from the definitions.
-use Rattle.std.proofs.Common.{◌≡◌, ℕ, List, [], ◌∷◌, ◌++◌, codes, replicate, inl, inr, refl, lit≤}
+use Rattle.std.proofs.Common.{◌≡◌, ℕ, List, [], ◌∷◌, codes, replicate, inl, inr, refl, lit≤}
 use Rattle.std.specs.Fmt.{digits}
 use Rattle.kv_types.specs.declared.change.Change.TheVariants.{Put}
-use Rattle.kv_types.specs.declared.item.Item.{Item}
 use Rattle.kv_types.specs.declared.item.Item.TheVariants.{Request, Fault}
 use Rattle.kv_types.specs.declared.item.ProtocolFault.TheVariants.{ExpectedBulk}
 use Rattle.kv_types.specs.declared.record_id.RecordId.TheVariants.{Str}
-use Rattle.kv_types.specs.declared.reply.Reply.{Reply, Simple, Error, Bulk, NullBulk}
+use Rattle.kv_types.specs.declared.reply.Reply.{Reply, Simple, Bulk, NullBulk}
 use Rattle.kv_types.specs.Keyspaces.{Keyspace}
 use Rattle.model.specs.declared.call.Call.{Call}
 use Rattle.model.specs.Commands.{outcome_of, refusing}
-use Rattle.model.specs.Calls.{memory_reply, full_reply, IsLegal, keyspace_after, position_of, cut_at, items_of, replies_to, up_to_closing}
+use Rattle.model.specs.Calls.{memory_reply, full_reply, IsLegal, keyspace_after, position_of, cut_at, replies_to, up_to_closing}
 use Rattle.model.specs.Positions.{changes_at}
 
 -- ---- what a command answers and changes

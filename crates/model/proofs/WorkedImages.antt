@@ -1,6 +1,6 @@
 -- The worked images, computed from the definitions: a new primary image of 4,096 lines, after the group of `SET a 1` or of `HSET h f 1`, and the
 -- first where the root of the commit was lost.
-use Rattle.std.proofs.Common.{◌≡◌, ℕ, zero, suc, ◌<◌, ◌≤◌, Bool, true, false, ◌*◌, cond, ◌||◌, ◌&&◌, nat_eq, if◌then◌else◌, List, [], ◌∷◌, codes, Some, None, Option, is_none, ⊎_elim, refl, sym, subst, ◌∙◌, arith, eqb-true, lit≤}
+use Rattle.std.proofs.Common.{◌≡◌, ℕ, zero, suc, ◌<◌, ◌≤◌, Bool, true, false, ◌*◌, ◌||◌, ◌&&◌, nat_eq, if◌then◌else◌, List, [], ◌∷◌, codes, Some, None, Option, is_none, ⊎_elim, refl, sym, subst, ◌∙◌, arith, eqb-true}
 use Rattle.std.proofs.lemmas.Bool.{cases_lt}
 use Rattle.kv_types.specs.declared.item.Item.TheVariants.{Request}
 use Rattle.kv_types.specs.declared.record_id.RecordId.{RecordId}
@@ -11,7 +11,7 @@ use Rattle.model.specs.declared.call.Call.{Call}
 use Rattle.model.specs.declared.image.TheConstants.{MAGIC}
 use Rattle.model.specs.declared.record.Record.{Record}
 use Rattle.model.specs.declared.record.Role.TheVariants.{Primary}
-use Rattle.model.specs.Images.{Image, Version, HasSuperblock, HasRecord, IsLive, IsMapOf, counts, version_at, map_below, Holds}
+use Rattle.model.specs.Images.{Image, Version, IsLive, IsMapOf, counts, version_at, map_below, Holds}
 use Rattle.model.specs.Standing.{StandsAt}
 use Rattle.model.proofs.MapLemmas.{OnceBelow, IsMapOf-map_below, not_live}
 
@@ -82,7 +82,7 @@ set_holds : Holds 4096 record_two ((Str (codes "a"), codes "1") ∷ []) set_imag
 set_holds = record {
   superblock = record { magic = refl; version = refl; line_count = refl; entry_count = refl };
   has_record = record { root = refl; words = (refl, (refl, (refl, (refl, (refl, (refl, (refl, (refl, (refl, (refl, (refl, (refl, (refl, (refl, (refl, (refl, (refl, (refl, (refl, (refl, (refl, (refl, (refl, (refl, tt)))))))))))))))))))))))) };
-  map = map_of_first (version_at record_two set_image) 512 ((Str (codes "a"), codes "1") ∷ []) refl set_map
+  map = map_of_first (version_at record_two set_image) 512 ((Str (codes "a"), codes "1") ∷ []) refl set_map;
 }
 
 -- the image stands at position 1 of the list of that one call
@@ -105,7 +105,7 @@ lost_holds : Holds 4096 record_one [] lost_image
 lost_holds = record {
   superblock = record { magic = refl; version = refl; line_count = refl; entry_count = refl };
   has_record = record { root = refl; words = (refl, (refl, (refl, (refl, (refl, (refl, (refl, (refl, (refl, (refl, (refl, (refl, (refl, (refl, (refl, (refl, (refl, (refl, (refl, (refl, (refl, (refl, (refl, (refl, tt)))))))))))))))))))))))) };
-  map = map_of_first (version_at record_one lost_image) 512 [] refl lost_map
+  map = map_of_first (version_at record_one lost_image) 512 [] refl lost_map;
 }
 
 -- it stands at the position before

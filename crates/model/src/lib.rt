@@ -23,3 +23,6 @@ pub use laws::{
 };
 pub use record::{Gap, MAX_GAPS, Record, Role};
 pub use redis::Redis;
+
+#[cfg(test)]
+mod tests;
