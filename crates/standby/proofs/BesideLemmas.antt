@@ -1,17 +1,13 @@
--- A table and a heap stay beside each other where changes take places from the heap.
-use Rattle.std.proofs.Common.{◌≡◌, ℕ, List, Some, None, IsTrue, sym, subst}
-use Rattle.std.specs.List.{AllByRecursion}
-use Rattle.model.specs.declared.group.Put.{Put}
+-- Puts that took their places from a heap are new to the table beside it.
+use Rattle.std.proofs.Common.{◌≡◌, List, None}
 use Rattle.model.specs.declared.group.PlacedChange.{PlacedChange}
-use Rattle.model.specs.Groups.{changes_versions}
-use Rattle.model.proofs.GroupsLemmas.{changes_versions-none}
-use Rattle.extent_heap.specs.Room.{Room, is_free_entry}
-use Rattle.mv_keyspace.specs.Tables.{Table, IsLawful, AreFresh, puts_of, place_all}
+use Rattle.extent_heap.specs.Room.{Room}
+use Rattle.mv_keyspace.specs.Tables.{Table, IsLawful, AreFresh, puts_of}
 use Rattle.mv_keyspace.proofs.VersionTables.{AreEmpty}
-use Rattle.mv_keyspace.proofs.PartTables.{AreDistinct, IsTable-changes, lawful-from_table, fresh-from_table}
-use Rattle.standby.specs.Following.{IsBeside, IsTaken}
+use Rattle.mv_keyspace.proofs.PartTables.{AreDistinct, lawful-from_table, fresh-from_table}
+use Rattle.standby.specs.Following.{IsBeside}
 use Rattle.standby.specs.Places.{TakesPlaces}
-use Rattle.standby.proofs.TakenLemmas.{All-map, IsFree, places_within, places_free, places_taken, places_apart, not_put_at, AreDistinct-from_apart}
+use Rattle.standby.proofs.TakenLemmas.{All-map, IsFree, places_free, places_apart, AreDistinct-from_apart}
 
 pub beside_lawful : (table : Table) (room : Room) → IsBeside table room → IsLawful table
 beside_lawful table room is = lawful-from_table is.versions table is.table_is
@@ -25,12 +21,3 @@ module _ (table : Table) (room : Room) (is : IsBeside table room) (changes : Lis
 
   pub beside_fresh : AreFresh table (puts_of changes)
   beside_fresh = fresh-from_table is.versions table (puts_of changes) is.table_is puts_empty puts_distinct
-
-  pub beside_after : IsBeside (place_all table changes) left
-  beside_after = record {
-    versions = changes_versions 0 is.versions changes;
-    table_is = IsTable-changes 0 is.versions table changes puts_empty puts_distinct is.table_is;
-    empty = λ i free.
-        changes_versions-none 0 is.versions changes i (is.empty i ((places_within room (puts_of changes) left takes).entries i free))
-        (not_put_at left (puts_of changes) i (places_taken room (puts_of changes) left takes) free);
-  }

@@ -1,7 +1,6 @@
 -- A standby that has taken a frame whole goes on following, and its engine was asked for a lawful commit.
-use Rattle.std.proofs.Common.{◌≡◌, ℕ, ◌+◌, ◌-◌, ◌<◌, ◌≤◌, ◌⊎◌, inl, inr, Bool, true, false, not, ◌&&◌, ◌||◌, cond, IsTrue, List, [], ◌∷◌, ◌++◌, length, map, nat_eq, Option, Some, None, refl, sym, ap, subst, ◌∙◌, arith, append-nil}
+use Rattle.std.proofs.Common.{◌≡◌, ℕ, ◌+◌, ◌-◌, ◌<◌, ◌≤◌, ◌⊎◌, inl, inr, Bool, true, false, not, ◌&&◌, cond, IsTrue, List, [], ◌∷◌, ◌++◌, length, map, nat_eq, Option, Some, None, refl, sym, ap, subst, ◌∙◌, arith, append-nil}
 use Rattle.std.specs.List.{flat_map, AllByRecursion}
-use Rattle.kv_types.specs.declared.change.Change.{Change}
 use Rattle.kv_types.specs.Keyspaces.{play_all}
 use Rattle.pmem.specs.Device.{State}
 use Rattle.pmem.specs.Runs.{LeavesOnly}
@@ -16,23 +15,20 @@ use Rattle.model.specs.declared.image.TheConstants.{STAMP_WINDOW}
 use Rattle.model.specs.declared.record.Record.{Record}
 use Rattle.kv_types.specs.declared.record_id.RecordId.{RecordId}
 use Rattle.model.specs.Images.{Image, IsLive, IsMapOf, Version, entries_of_lines, first_extent_line}
-use Rattle.model.specs.Groups.{Contents, Versions, IsConsistent, IsGroup, after_group, change_of, put_of, puts_of_part, puts_of_group, change_versions, changes_versions, part_versions, parts_versions, ended_where_begun, version_of_put, AreParts, NamesEnded, last_position, IsPlaced, IsUnused, AreApart, AreAllApart, HasItsLines, is_put_at}
+use Rattle.model.specs.Groups.{Contents, Versions, IsGroup, after_group, change_of, put_of, puts_of_part, change_versions, changes_versions, parts_versions, ended_where_begun, version_of_put, AreParts, last_position, IsPlaced, IsUnused, AreApart, AreAllApart, HasItsLines, is_put_at}
 use Rattle.model.proofs.GroupsLemmas.{changes_versions-none, IsConsistent-after_group}
-use Rattle.extent_heap.specs.Room.{Room, is_free_line, is_free_entry, IsFreeRun}
-use Rattle.mv_keyspace.specs.Tables.{Cell, Table, IsTable, AreEnded, puts_of, place_all, records, cell_at}
+use Rattle.extent_heap.specs.Room.{Room}
+use Rattle.mv_keyspace.specs.Tables.{Table, IsTable, AreEnded, puts_of, place_all, records}
 use Rattle.mv_keyspace.proofs.TableLemmas.{records-place_all}
 use Rattle.mv_keyspace.proofs.VersionTables.{AreEmpty}
 use Rattle.mv_keyspace.proofs.PartTables.{AreDistinct, IsTable-changes, names-ended, map-from_table}
 use Rattle.wbl_engine.specs.Contents.{Keeps, Same}
 use Rattle.standby.specs.declared.frame.Frame.{Frame}
 use Rattle.standby.specs.Places.{TakesPlaces}
-use Rattle.standby.specs.Following.{HasNoFreeLine, IsTaken, IsLeftOf, IsBeside, Follows, HasTaken, IsWhole, IsBeforeOrWhole}
+use Rattle.standby.specs.Following.{HasNoFreeLine, IsTaken, IsLeftOf, Follows, HasTaken, IsWhole, IsBeforeOrWhole}
 use Rattle.standby.proofs.TakenLemmas.{All-map, All-front, All-rest, IsFree, IsWithin, lines_within, lines_apart, places_within, places_free, places_taken, places_fitting, places_apart, not_put_at, AreDistinct-from_apart}
 
 -- ---- what is free of the heap is free in the contents
-
-pub beside_from : (contents : Contents) (table : Table) (room : Room) → Follows contents table room → IsBeside table room
-beside_from contents table room follows = record { versions = contents.versions; table_is = follows.table_is; empty = λ i free. (follows.left.entries i free).2 }
 
 placed_of_free : (contents : Contents) (room : Room) (put : Put) → IsLeftOf contents room → IsFree room put → IsPlaced contents.lines put
 placed_of_free contents room put left free =

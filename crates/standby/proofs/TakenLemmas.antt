@@ -1,5 +1,5 @@
 -- What was taken from a heap was free before and is taken afterwards, and no two places have anything in common.
-use Rattle.std.proofs.Common.{◌≡◌, ℕ, ◌+◌, ◌-◌, ◌<◌, ◌≤◌, ◌⊎◌, inl, inr, Bool, true, false, ◌||◌, IsTrue, List, [], ◌∷◌, ◌++◌, nat_eq, refl, sym, ap, subst, ◌∙◌, arith, ne_eqb}
+use Rattle.std.proofs.Common.{◌≡◌, ℕ, ◌+◌, ◌<◌, ◌≤◌, Bool, false, ◌||◌, IsTrue, List, [], ◌∷◌, ◌++◌, refl, sym, ap, subst, ◌∙◌, arith, ne_eqb}
 use Rattle.std.proofs.lemmas.Bool.{false≢true, false_from_ne_true}
 use Rattle.std.specs.List.{AllByRecursion}
 use Rattle.model.specs.declared.group.Put.{Put}
@@ -17,10 +17,6 @@ pub All-map : {X : Type 0} (P Q : X → Type 0) → ((x : X) → P x → Q x) �
 All-map P Q f [] h = tt
 All-map P Q f (x ∷ xs) h = (f x h.0, All-map P Q f xs h.1)
 
-pub All-both : {X : Type 0} (P Q R : X → Type 0) → ((x : X) → P x → Q x → R x) → (xs : List X) → AllByRecursion P xs → AllByRecursion Q xs → AllByRecursion R xs
-All-both P Q R f [] h k = tt
-All-both P Q R f (x ∷ xs) h k = (f x h.0 k.0, All-both P Q R f xs h.1 k.1)
-
 pub All-front : {X : Type 0} (P : X → Type 0) (xs ys : List X) → AllByRecursion P (xs ++ ys) → AllByRecursion P xs
 All-front P [] ys h = tt
 All-front P (x ∷ xs) ys h = (h.0, All-front P xs ys h.1)
@@ -28,10 +24,6 @@ All-front P (x ∷ xs) ys h = (h.0, All-front P xs ys h.1)
 pub All-rest : {X : Type 0} (P : X → Type 0) (xs ys : List X) → AllByRecursion P (xs ++ ys) → AllByRecursion P ys
 All-rest P [] ys h = h
 All-rest P (x ∷ xs) ys h = All-rest P xs ys h.1
-
-pub All-append : {X : Type 0} (P : X → Type 0) (xs ys : List X) → AllByRecursion P xs → AllByRecursion P ys → AllByRecursion P (xs ++ ys)
-All-append P [] ys h k = k
-All-append P (x ∷ xs) ys h k = (h.0, All-append P xs ys h.1 k)
 
 -- ---- one place
 
@@ -132,14 +124,6 @@ pub places_apart : (old : Room) (puts : List Put) (new : Room) → TakesPlaces o
 places_apart old [] new takes = tt
 places_apart old (put ∷ puts) new takes =
     (All-map (IsFree takes.0) (IsApartFrom put) (λ other. apart_from takes.0 put other (place_taken old put takes.0 takes.1)) puts (places_free takes.0 puts new takes.2), places_apart takes.0 puts new takes.2)
-
--- puts of a larger room's time, and later ones
-pub AreAllApart-append : (room : Room) (xs ys : List Put) → AreAllApart xs → AreAllApart ys → AllByRecursion (IsTaken room) xs → AllByRecursion (IsFree room) ys → AreAllApart (xs ++ ys)
-AreAllApart-append room [] ys apart apart' taken free = apart'
-AreAllApart-append room (x ∷ xs) ys apart apart' taken free = (
-  All-append (IsApartFrom x) xs ys apart.0 (All-map (IsFree room) (IsApartFrom x) (λ other. apart_from room x other taken.0) ys free),
-  AreAllApart-append room xs ys apart.1 apart' taken.1 free,
-)
 
 -- an entry that is free is none of those that are taken
 pub not_put_at : (room : Room) (puts : List Put) (i : ℕ) → AllByRecursion (IsTaken room) puts → IsTrue (is_free_entry room i) → is_put_at i puts ≡ false

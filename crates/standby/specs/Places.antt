@@ -1,5 +1,5 @@
 -- The places of puts, taken from a heap one after another.
-use Rattle.std.specs.Prelude.{◌≡◌, ℕ, List, [], ◌∷◌, map}
+use Rattle.std.specs.Prelude.{◌≡◌, List, [], ◌∷◌, map}
 use Rattle.kv_types.specs.declared.change.Change.{Change}
 use Rattle.model.specs.declared.group.Put.{Put}
 use Rattle.model.specs.declared.group.PlacedChange.{PlacedChange}

@@ -111,3 +111,68 @@ fn lines_for(id: &RecordId, value: &Value) -> u64
     let bytes = name + value.len();
     bytes.div_ceil(LINE_BYTES).max(1) as u64
 }
+
+#[cfg(test)]
+mod tests {
+    use super::*;
+    use kv_types::{EntryNo, Extent, Key, write_int};
+    use std::test::Fail;
+
+    // Sets the string of this number to the same number.
+    fn put(alloc: Global, number: i64) -> Result<Change, Refusal> {
+        match (
+            Key::new(write_int(alloc, number)?),
+            Value::new(write_int(alloc, number)?),
+        ) {
+            (Some(key), Some(value)) => Ok(Change::Put(RecordId::Str(key), value)),
+            _ => Err(Refusal::Memory),
+        }
+    }
+
+    #[test]
+    fn each_put_takes_the_lowest_place(rt: HostRuntime) -> Result<(), Fail> {
+        let alloc = rt.alloc();
+        let mut heap = ExtentHeap::new(520, 4_096, 512);
+        let changes = vec![in alloc; put(alloc, 1)?, Change::Clear, put(alloc, 2)?]?;
+        let placed = place_all(alloc, &mut heap, &changes)?;
+        match placed.as_slice() {
+            [
+                PlacedChange::Put(first),
+                PlacedChange::Clear,
+                PlacedChange::Put(second),
+            ] => {
+                assert_eq!(rt; first.entry, EntryNo(0));
+                assert_eq!(rt;
+                    first.extent,
+                    Extent {
+                        first_line: 520,
+                        lines: 1
+                    }
+                );
+                assert_eq!(rt; second.entry, EntryNo(1));
+                assert_eq!(rt;
+                    second.extent,
+                    Extent {
+                        first_line: 521,
+                        lines: 1
+                    }
+                );
+            }
+            _ => panic!(rt; "other changes"),
+        }
+        assert_eq!(rt; heap.free_lines(), 3_574);
+        Ok(())
+    }
+
+    #[test]
+    fn refused_puts_give_all_places_back(rt: HostRuntime) -> Result<(), Fail> {
+        let alloc = rt.alloc();
+        // The first put takes the only line.
+        let mut heap = ExtentHeap::new(520, 521, 3);
+        let changes = vec![in alloc; put(alloc, 1)?, put(alloc, 2)?]?;
+        assert!(rt; matches!(place_all(alloc, &mut heap, &changes), Err(Refusal::Full)));
+        assert_eq!(rt; heap.free_lines(), 1);
+        assert_eq!(rt; heap.take_entry()?, EntryNo(0));
+        Ok(())
+    }
+}

@@ -106,12 +106,9 @@ impl<E: Durable, K: Keyspace> Standby<E, K> {
         if frame.epoch != self.epoch {
             return Err(Refusal::WrongEpoch);
         }
-        let position = self.engine.position();
+        let position = self.position();
         if frame.after <= position {
-            return Ok(Ack {
-                epoch: self.epoch,
-                position,
-            });
+            return Ok(self.ack());
         }
         if frame.before != position {
             return Err(Refusal::PositionGap);
@@ -157,5 +154,12 @@ impl<E: Durable, K: Keyspace> Standby<E, K> {
             epoch: self.epoch,
             position: frame.after,
         })
+    }
+}
+
+impl<E: Durable, K: Keyspace + Drop> Standby<E, K> {
+    /// The engine's device, as it is.
+    pub fn into_device(self) -> E::Device {
+        self.engine.into_device()
     }
 }

@@ -1,7 +1,7 @@
 use Rattle.std.proofs.Common.{sym, subst}
 use Rattle.extent_heap.specs.Room.{Room, TakesEntry}
 use Rattle.model.specs.Groups.{put_of}
-use Rattle.standby.specs.Places.{TakesPlace, TakesPlaces}
+use Rattle.standby.specs.Places.{TakesPlaces}
 use Rattle.standby.proofs.PlacesLemmas.{one_place}
 use Rattle.standby.proofs.places.give_place_back.Goals as goal
 use Rattle.standby.proofs.places.give_place_back.Goals.{After-give}

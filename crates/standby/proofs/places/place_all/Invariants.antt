@@ -1,4 +1,4 @@
-use Rattle.std.proofs.Common.{◌≡◌, ◌+◌, ◌-◌, ◌≤◌, take, map, length, vec_len}
+use Rattle.std.proofs.Common.{◌≡◌, ◌≤◌, take, map, length, vec_len}
 use Rattle.std.specs.Vec.{vec_capacity}
 use Rattle.model.specs.Groups.{change_of}
 use Rattle.mv_keyspace.specs.Tables.{puts_of}

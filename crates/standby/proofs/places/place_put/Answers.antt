@@ -1,4 +1,4 @@
-use Rattle.std.proofs.Common.{◌≡◌, ◌+◌, length, sym, ap, ◌∙◌}
+use Rattle.std.proofs.Common.{◌≡◌, ◌+◌, length, ap, ◌∙◌}
 use Rattle.model.specs.Images.{lines_of_bytes}
 use Rattle.model.specs.Groups.{bytes_of_id}
 use Rattle.standby.proofs.PlacesLemmas.{no_place}

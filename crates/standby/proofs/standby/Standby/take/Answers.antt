@@ -1,11 +1,10 @@
 use Rattle.std.proofs.Common.{◌≡◌, ◌<◌, [], ◌∷◌, ◌++◌, List, inl, sym, ap, subst, ◌∙◌}
-use Rattle.pmem.specs.Runs.{LeavesOnly}
 use Rattle.pmem.proofs.Leaving.{none_leaves}
 use Rattle.model.specs.declared.group.Group.{Group}
 use Rattle.model.specs.declared.group.Part.{Part}
 use Rattle.model.specs.Groups.{IsGroup, after_group}
 use Rattle.mv_keyspace.specs.Tables.{place_all}
-use Rattle.standby.specs.Following.{Follows, IsBeforeOrWhole}
+use Rattle.standby.specs.Following.{Follows}
 use Rattle.standby.proofs.FollowingLemmas.{IsGroup-one, Follows-after, Follows-same, HasTaken-group, LeavesOnly-group}
 use Rattle.standby.proofs.standby.Standby.take.Given.{Over}
 use Rattle.standby.proofs.standby.Standby.take.Goals as goal
