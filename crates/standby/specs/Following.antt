@@ -1,34 +1,48 @@
 -- What a standby holds, and what a frame does to it.
-use Rattle.std.specs.Prelude.{◌≡◌, ℕ, ◌+◌, ◌<◌, ◌≤◌, List, [], ◌∷◌, length, Some, IsTrue, false, ◌⊎◌}
-use Rattle.pmem.specs.Device.{State}
-use Rattle.extent_heap.specs.Room.{Room, is_free_line, is_free_entry, TakesExtent, TakesEntry}
-use Rattle.kv_types.specs.declared.change.Change.{Change}
-use Rattle.kv_types.specs.declared.change.Change.TheVariants.{Put, Drop, DropKey, Clear}
-use Rattle.kv_types.specs.declared.place.EntryNo.{EntryNo}
-use Rattle.kv_types.specs.declared.place.Extent.{Extent}
+use Rattle.std.specs.Prelude.{◌≡◌, ℕ, ◌+◌, ◌<◌, ◌≤◌, ◌⊎◌, false, None, Some, IsTrue}
 use Rattle.kv_types.specs.Keyspaces.{play_all}
-use Rattle.model.specs.Images.{Image, IsMapOf, Version, entries_of_lines, first_extent_line, lines_of_bytes}
-use Rattle.model.specs.Groups.{Contents, IsConsistent, bytes_of_id}
+use Rattle.extent_heap.specs.Room.{Room, is_free_entry, is_free_line}
+use Rattle.model.specs.declared.image.TheConstants.{COUNTER_LIMIT, STAMP_WINDOW}
+use Rattle.model.specs.declared.group.Put.{Put}
+use Rattle.model.specs.Images.{Image, IsMapOf, Version, entries_of_lines, first_extent_line}
+use Rattle.model.specs.Groups.{Contents, IsConsistent, Versions}
 use Rattle.mv_keyspace.specs.Tables.{Table, IsTable, records}
 use Rattle.wbl_engine.specs.Contents.{Keeps}
 use Rattle.standby.specs.declared.frame.Frame.{Frame}
 
--- What a heap may still hand out is unused in these contents: its entries are free, and its lines are behind the directory and of no version.
-pub record IsSpare (room : Room) (contents : Contents) : Type 0 where
-  pub entries : (i : ℕ) → IsTrue (is_free_entry room i) → IsTrue (contents.is_free i)
-  pub within_directory : (i : ℕ) → IsTrue (is_free_entry room i) → i < entries_of_lines contents.lines
-  pub behind : (line : ℕ) → IsTrue (is_free_line room line) → first_extent_line contents.lines ≤ line
-  pub within : (line : ℕ) → IsTrue (is_free_line room line) → line < contents.lines
-  pub unused : (i : ℕ) (version : Version) (line : ℕ) → contents.versions i ≡ Some version → version.first_line ≤ line → line < version.first_line + version.lines
-    → is_free_line room line ≡ false
+-- ---- what it keeps true
+
+-- there are lines, and none of them is free
+pub record HasNoFreeLine (room : Room) (first lines : ℕ) : Type 0 where
+  pub some : 0 < lines
+  pub none : (line : ℕ) → first ≤ line → line < first + lines → is_free_line room line ≡ false
+
+-- neither the entry nor a line of the put is free
+pub record IsTaken (room : Room) (put : Put) : Type 0 where
+  pub entry : is_free_entry room put.entry.0 ≡ false
+  pub lines : HasNoFreeLine room put.extent.first_line put.extent.lines
+
+-- What the heap has left is free in the contents.
+pub record IsLeftOf (contents : Contents) (room : Room) : Type 0 where
+  pub entries : (i : ℕ) → IsTrue (is_free_entry room i) → (i < entries_of_lines contents.lines) × IsTrue (contents.is_free i) × (contents.versions i ≡ None)
+  pub lines : (line : ℕ) → IsTrue (is_free_line room line) → (first_extent_line contents.lines ≤ line) × (line < contents.lines)
+  pub apart : (i : ℕ) (version : Version) → contents.versions i ≡ Some version → HasNoFreeLine room version.first_line version.lines
+
+-- the table is that of some versions, and no free entry has one
+pub record IsBeside (table : Table) (room : Room) : Type 0 where
+  pub versions : Versions
+  pub table_is : IsTable versions table
+  pub empty : (i : ℕ) → IsTrue (is_free_entry room i) → versions i ≡ None
 
 -- The keyspace and the heap of a node are those of the contents of its engine.
 pub record Follows (contents : Contents) (table : Table) (room : Room) : Type 0 where
   pub consistent : IsConsistent contents
+  pub left : IsLeftOf contents room
   pub table_is : IsTable contents.versions table
-  pub spare : IsSpare room contents
 
--- the frame is the one that comes next
+-- ---- frames
+
+-- the frame is the one that comes next at this position
 pub record IsNext (position : ℕ) (frame : Frame) : Type 0 where
   pub later : position < frame.after
   pub joined : frame.before ≡ position
@@ -38,35 +52,22 @@ pub record HasTaken (frame : Frame) (before after : Contents) (old new : Table) 
   pub position : after.current.position ≡ frame.after
   pub keyspace : records new ≡ play_all (records old) frame.changes.items
   pub lines : after.lines ≡ before.lines
+  pub role : after.current.role ≡ before.current.role
+  pub epoch : after.current.epoch ≡ before.current.epoch
 
--- an entry and lines for a record of so many bytes are taken of the heap
-pub record TakesPlace (old : Room) (bytes : ℕ) (new : Room) : Type 0 where
-  pub extent : Extent
-  pub entry : EntryNo
-  pub between : Room
-  pub lines : extent.lines ≡ lines_of_bytes bytes
-  pub takes_extent : TakesExtent old extent between
-  pub takes_entry : TakesEntry between entry new
-
--- the heap has room for the puts among the changes, one after another
-abbrev pub HasRoomFor : Room → List Change → Type 0
-HasRoomFor room [] = Unit {0}
-HasRoomFor room (Put id value ∷ changes) = (next : Room) × TakesPlace room (bytes_of_id id + length value) next × HasRoomFor next changes
-HasRoomFor room (Drop id ∷ changes) = HasRoomFor room changes
-HasRoomFor room (DropKey key ∷ changes) = HasRoomFor room changes
-HasRoomFor room (Clear ∷ changes) = HasRoomFor room changes
-
--- nothing of the node changed
-pub record IsUntouched (device device' : State) (contents contents' : Contents) (table table' : Table) (heap heap' : Room) : Type 0 where
-  pub device_same : device' ≡ device
-  pub contents_same : contents' ≡ contents
-  pub table_same : table' ≡ table
-  pub heap_same : heap' ≡ heap
+-- the limit of the stamps, the position or the number of the record would reach the limit of counters
+abbrev pub WouldExhaust : Contents → Frame → Type 0
+WouldExhaust contents frame =
+    (COUNTER_LIMIT ≤ contents.current.cp + 1 + 1 + STAMP_WINDOW)
+    ⊎ (COUNTER_LIMIT ≤ frame.after)
+    ⊎ (COUNTER_LIMIT ≤ contents.current.number + 1)
 
 -- the contents of a node that has taken the frame whole
 pub record IsWhole (frame : Frame) (before : Contents) (table : Table) (after : Contents) : Type 0 where
   pub position : after.current.position ≡ frame.after
   pub line_count : after.lines ≡ before.lines
+  pub role : after.current.role ≡ before.current.role
+  pub epoch : after.current.epoch ≡ before.current.epoch
   pub consistent : IsConsistent after
   pub map : IsMapOf after.versions (entries_of_lines after.lines) (play_all (records table) frame.changes.items)
 

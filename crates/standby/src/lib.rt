@@ -2,5 +2,9 @@
 #![tactic(auto)]
 
 mod frame;
+mod part;
+mod places;
+mod standby;
 
 pub use frame::{Ack, Frame};
+pub use standby::Standby;

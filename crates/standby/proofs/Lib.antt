@@ -1,0 +1,4 @@
+pub mod PlacesLemmas
+pub mod TakenLemmas
+pub mod BesideLemmas
+pub mod FollowingLemmas
