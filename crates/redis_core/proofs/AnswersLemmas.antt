@@ -147,7 +147,7 @@ pub serves_outcome : (old : Sequencing) (item : Item) (reply : Reply) (changes :
 serves_outcome old item reply changes new reply_is changes_are fits moves before closed =
     let s = records old.table in
     let made : changes_of s (call_of 0 item reply) ≡ changes =
-        ap (λ r. unless_error r (outcome_at old item).changes) reply_is ∙ unless_error-outcome s item ∙ sym changes_are in
+    ap (λ r. unless_error r (outcome_at old item).changes) reply_is ∙ unless_error-outcome s item ∙ sym changes_are in
     record {
       legal = inr (inr (inl (subst (λ cs. changes_size cs ≤ MAX_CHANGE_BYTES) changes_are fits, reply_is)));
       not_full = λ e. outcome_not_full s item (sym reply_is ∙ e);
@@ -186,9 +186,13 @@ module _ (old : Sequencing) (seat : ℕ) (item : Item) where
 
   answers_error : (text : List ℕ) → MayReply (outcome_at old item) (Error text) → (Error text ≡ full_reply → ¬ HasRoomFor old.room (outcome_at old item).changes) → Answers old seat item (Error text) (after_seat old)
   answers_error text legal full_only = record {
-    legal = legal; full_only = full_only; keyspace = refl; position = omega arith;
+    legal = legal;
+    full_only = full_only;
+    keyspace = refl;
+    position = omega arith;
     moves = record { table = refl; room = refl; position = refl; waiting = refl };
-    before = refl; closed = refl;
+    before = refl;
+    closed = refl;
   }
 
   answers_memory : Answers old seat item memory_reply (after_seat old)

@@ -116,13 +116,31 @@ module _ (s : Sequencing) (contents : Contents) (stands : StandsFor s contents) 
 -- the seats tell nothing of the contents
 pub StandsFor-closed : (s : Sequencing) (closed : List Bool) (contents : Contents) → StandsFor s contents → StandsFor (record s { closed = closed }) contents
 StandsFor-closed s closed contents stands = record {
-  before = stands.before; last = stands.last; parts = stands.parts; placed = stands.placed; fitting = stands.fitting; unused = stands.unused; apart = stands.apart; taken = stands.taken; left = stands.left; table = stands.table;
+  before = stands.before;
+  last = stands.last;
+  parts = stands.parts;
+  placed = stands.placed;
+  fitting = stands.fitting;
+  unused = stands.unused;
+  apart = stands.apart;
+  taken = stands.taken;
+  left = stands.left;
+  table = stands.table;
 }
 
 -- a new sequencer stands for the contents that its tables are of
 pub StandsFor-starts : (table : Table) (room : Room) (position : ℕ) (closed : List Bool) (contents : Contents) → Underlies contents table room position → StandsFor (starts table room position closed) contents
 StandsFor-starts table room position closed contents under = record {
-  before = under.position_is; last = refl; parts = tt; placed = tt; fitting = tt; unused = tt; apart = tt; taken = tt; left = under.left; table = under.table_is;
+  before = under.position_is;
+  last = refl;
+  parts = tt;
+  placed = tt;
+  fitting = tt;
+  unused = tt;
+  apart = tt;
+  taken = tt;
+  left = under.left;
+  table = under.table_is;
 }
 
 -- ---- the lines of versions
@@ -184,8 +202,13 @@ abbrev after_parts : Contents → List Part → Contents
 after_parts contents parts =
     record {
       current = record {
-        number = contents.current.number + 1; position = last_position contents.current.position parts; cp = contents.current.cp + length parts;
-        cd = contents.current.cp + length parts + 1 + STAMP_WINDOW; epoch = contents.current.epoch; role = contents.current.role; gaps = contents.current.gaps;
+        number = contents.current.number + 1;
+        position = last_position contents.current.position parts;
+        cp = contents.current.cp + length parts;
+        cd = contents.current.cp + length parts + 1 + STAMP_WINDOW;
+        epoch = contents.current.epoch;
+        role = contents.current.role;
+        gaps = contents.current.gaps;
       };
       lines = contents.lines;
       versions = parts_versions contents.versions parts;

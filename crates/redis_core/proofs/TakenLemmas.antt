@@ -114,7 +114,7 @@ places_fitting old (put ∷ puts) new takes = (takes.1.fitting, places_fitting t
 pub lines_apart : (room : Room) (first lines first' lines' : ℕ) → HasNoFreeLine room first lines → 0 < lines' → IsFreeRun room first' lines' → AreApart first lines first' lines'
 lines_apart room first lines first' lines' none some free =
     let here = λ (line : ℕ) (low : first ≤ line) (high : line < first + lines) (low' : first' ≤ line) (high' : line < first' + lines').
-        false≢true (sym (none.none line low high) ∙ free line low' high') in
+    false≢true (sym (none.none line low high) ∙ free line low' high') in
     decide first lines first' lines' none.some some (here first) (here first')
   where
     decide : (first lines first' lines' : ℕ) → 0 < lines → 0 < lines'
@@ -136,9 +136,10 @@ places_apart old (put ∷ puts) new takes =
 -- puts of a larger room's time, and later ones
 pub AreAllApart-append : (room : Room) (xs ys : List Put) → AreAllApart xs → AreAllApart ys → AllByRecursion (IsTaken room) xs → AllByRecursion (IsFree room) ys → AreAllApart (xs ++ ys)
 AreAllApart-append room [] ys apart apart' taken free = apart'
-AreAllApart-append room (x ∷ xs) ys apart apart' taken free =
-    ( All-append (IsApartFrom x) xs ys apart.0 (All-map (IsFree room) (IsApartFrom x) (λ other. apart_from room x other taken.0) ys free)
-    , AreAllApart-append room xs ys apart.1 apart' taken.1 free )
+AreAllApart-append room (x ∷ xs) ys apart apart' taken free = (
+  All-append (IsApartFrom x) xs ys apart.0 (All-map (IsFree room) (IsApartFrom x) (λ other. apart_from room x other taken.0) ys free),
+  AreAllApart-append room xs ys apart.1 apart' taken.1 free,
+)
 
 -- an entry that is free is none of those that are taken
 pub not_put_at : (room : Room) (puts : List Put) (i : ℕ) → AllByRecursion (IsTaken room) puts → IsTrue (is_free_entry room i) → is_put_at i puts ≡ false

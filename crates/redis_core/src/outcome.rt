@@ -45,7 +45,11 @@ fn refusing(alloc: Global, message: Bytes) -> Outcome
     }
 }
 
-fn run<K: Keyspace>(alloc: Global, keyspace: &K, command: Command<'_>) -> Result<Outcome, AllocError>
+fn run<K: Keyspace>(
+    alloc: Global,
+    keyspace: &K,
+    command: Command<'_>,
+) -> Result<Outcome, AllocError>
     requires { Fits command }
     ensures { IfOk result (λ outcome. IsOutcome outcome (meaning.does (records (K.table keyspace.now)) (command_of command.entry))) }
 {
@@ -110,9 +114,7 @@ fn misuse_message(alloc: Global, misuse: Misuse) -> Result<Bytes, AllocError>
     match misuse {
         Misuse::UnknownName => Ok(Bytes::from_static(b"ERR unknown command")),
         Misuse::WrongNumberOfWords(name) => wrong_number_of_words(alloc, name),
-        Misuse::LongKey => Ok(Bytes::from_static(
-            b"ERR key or field is longer than 512 bytes",
-        )),
+        Misuse::LongKey => Ok(Bytes::from_static(b"ERR key or field is longer than 512 bytes")),
     }
 }
 

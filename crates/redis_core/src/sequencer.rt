@@ -47,7 +47,12 @@ impl<K: Keyspace> Model for Sequencer<K> {
     ghost Value = { Sequencing };
 
     ghost view = { λ s. record {
-        table = K.table s.keyspace; room = s.heap; position = s.position; before = s.before; waiting = s.waiting.items; closed = s.closed.items
+      table = K.table s.keyspace;
+      room = s.heap;
+      position = s.position;
+      before = s.before;
+      waiting = s.waiting.items;
+      closed = s.closed.items;
     } };
 
     ghost invariant = { λ s. IsReady (K.table s.keyspace) s.heap s.waiting.items s.waiting.cap s.closed.items };

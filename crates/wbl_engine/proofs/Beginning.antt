@@ -35,15 +35,15 @@ pub contents_consistent : (r : Record) (d : State) → IsConsistent (contents_of
 contents_consistent r d =
     record {
       free = λ i free.
-        let begin : ℕ = image_of d.words (entry_word i 0) in
-        let parts = and_parts (nat_lt i (entries_of_lines d.lines)) (begin == 0 || nat_lt r.cp begin) free in
-        let within : i < entries_of_lines d.lines = ltb-true i (entries_of_lines d.lines) parts.0 in
-        let uncounted : counts r begin ≡ false =
-            elim (or_cases (begin == 0) (nat_lt r.cp begin) parts.1) [
-              inl none ↦ ap (counts r) (eqb-true begin 0 none) ∙ counts-zero r
+          let begin : ℕ = image_of d.words (entry_word i 0) in
+          let parts = and_parts (nat_lt i (entries_of_lines d.lines)) (begin == 0 || nat_lt r.cp begin) free in
+          let within : i < entries_of_lines d.lines = ltb-true i (entries_of_lines d.lines) parts.0 in
+          let uncounted : counts r begin ≡ false =
+          elim (or_cases (begin == 0) (nat_lt r.cp begin) parts.1) [
+            | inl none ↦ ap (counts r) (eqb-true begin 0 none) ∙ counts-zero r
             | inr above ↦ counts-above r begin (ltb-true r.cp begin above)
-            ] in
-        versions-within r d i within ∙ cond-false (counts r begin) _ _ uncounted;
+          ] in
+          versions-within r d i within ∙ cond-false (counts r begin) _ _ uncounted;
       beyond = versions-beyond r d;
     }
 
@@ -66,8 +66,8 @@ free_begin r d rest i free =
     let parts = and_parts (nat_lt i (entries_of_lines d.lines)) (begin == 0 || nat_lt r.cp begin) free in
     let within : i < entries_of_lines d.lines = ltb-true i (entries_of_lines d.lines) parts.0 in
     elim (or_cases (begin == 0) (nat_lt r.cp begin) parts.1) [
-      inl none ↦ eqb-true begin 0 none
-    | inr above ↦ absurd (omega (arith, ltb-true r.cp begin above, rest.whole.begins i within))
+      | inl none ↦ eqb-true begin 0 none
+      | inr above ↦ absurd (omega (arith, ltb-true r.cp begin above, rest.whole.begins i within))
     ]
 
 -- a group's puts may be stored
@@ -82,9 +82,9 @@ group_stored r d group rest asked storable =
       fitting = asked.fitting;
       storable = storable;
       ready = all-from (IsReady contents.versions (image_of d.words)) puts
-        (λ put among.
+          (λ put among.
           let unused : IsUnused contents.versions contents.is_free put =
-              among-all (IsUnused contents.versions contents.is_free) puts put among asked.unused in
+          among-all (IsUnused contents.versions contents.is_free) puts put among asked.unused in
           record { free = free_begin r d rest put.entry.0 unused.entry; lines = unused.lines });
       apart = asked.apart;
     }
@@ -93,11 +93,11 @@ group_stored r d group rest asked storable =
 pub group_staging : (r : Record) (d : State) (group : Group) → IsAtRest r d → IsGroup (contents_of r d) group
     → AllByRecursion IsStorable (puts_of_parts group.parts.items)
     → IsStaging r d.lines (length group.parts.items) (image_of d.words) (contents_of r d).versions (puts_of_parts group.parts.items)
-        (parts_pairs (r.cp + 1) group.parts.items)
+    (parts_pairs (r.cp + 1) group.parts.items)
 group_staging r d group rest asked storable =
     record {
       fits = rest_fits r d rest;
       stored = group_stored r d group rest asked storable;
       by = λ word x stored.
-        parts_by group.parts.items group.before (contents_of r d).versions (r.cp + 1) word x asked.parts stored;
+          parts_by group.parts.items group.before (contents_of r d).versions (r.cp + 1) word x asked.parts stored;
     }

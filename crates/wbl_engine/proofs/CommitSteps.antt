@@ -27,7 +27,8 @@ pub committing : (r : Record) (d : State) (group : Group) (parts : List Part) �
     → parts ≡ group.parts.items → AllByRecursion IsStorable (puts_of_parts parts) → IsCommitting r d group
 committing r d group parts rest asked is storable =
     record {
-      rest = rest; asked = asked;
+      rest = rest;
+      asked = asked;
       storable = subst (λ (ps : List Part). AllByRecursion IsStorable (puts_of_parts ps)) is storable;
     }
 
@@ -45,8 +46,8 @@ pub first_fault : {d b : State} (r : Record) (group : Group) → IsCommitting r 
     → Same (contents_of r d) (contents_of r b)
 first_fault {d} {b} r group begun failed =
     contents_moved (contents_of r d) r d b failed.stays.lines
-        (fault_same r d group (image_of b.words) begun.rest begun.asked begun.storable
-            (stage_made d b (parts_pairs (r.cp + 1) group.parts.items) failed.newest))
+    (fault_same r d group (image_of b.words) begun.rest begun.asked begun.storable
+    (stage_made d b (parts_pairs (r.cp + 1) group.parts.items) failed.newest))
 
 pub first_fault_moments : {d b : State} (r : Record) (group : Group) → IsCommitting r d group
     → StageFailed d b (parts_pairs (r.cp + 1) group.parts.items) → LeavesOnly d b (IsBeforeOrAfter r d group)
@@ -59,25 +60,25 @@ pub later_fault : {d b c : State} (r next : Record) (group : Group) → next ≡
     → Same (contents_of r d) (contents_of r c)
 later_fault {d} {b} {c} r next group is begun staged fault =
     contents_moved (contents_of r d) r d c (fault.stays.lines ∙ staged.stays.lines)
-        (fault_same r d group (image_of c.words) begun.rest begun.asked begun.storable
-            (recorded_made d b c next (parts_pairs (r.cp + 1) group.parts.items) staged.newest fault.newest))
+    (fault_same r d group (image_of c.words) begun.rest begun.asked begun.storable
+    (recorded_made d b c next (parts_pairs (r.cp + 1) group.parts.items) staged.newest fault.newest))
 
 -- once all is done
 pub done_rest : {d b c : State} (r next : Record) (group : Group) → next ≡ next_record r group → IsSound next → IsCommitting r d group
     → Staged d b (parts_pairs (r.cp + 1) group.parts.items) (parts_lines group.parts.items) → IsRecorded b c next → IsAtRest next c
 done_rest {d} {b} {c} r next group is sound begun staged recorded =
     subst (λ (q : Record). IsAtRest q c) (sym is)
-        (commit_rest r d b c group begun.rest begun.asked begun.storable (subst IsSound is sound) staged
-            (subst (λ (q : Record). IsRecorded b c q) is recorded))
+    (commit_rest r d b c group begun.rest begun.asked begun.storable (subst IsSound is sound) staged
+    (subst (λ (q : Record). IsRecorded b c q) is recorded))
 
 pub done_same : {d b c : State} (r next : Record) (group : Group) → next ≡ next_record r group → IsCommitting r d group
     → Staged d b (parts_pairs (r.cp + 1) group.parts.items) (parts_lines group.parts.items) → IsRecorded b c next
     → Same (after_group (contents_of r d) group) (contents_of next c)
 done_same {d} {b} {c} r next group is begun staged recorded =
     subst (λ (q : Record). Same (after_group (contents_of r d) group) (contents_of q c)) (sym is)
-        (contents_moved (after_group (contents_of r d) group) (next_record r group) d c (recorded.stays.lines ∙ staged.stays.lines)
-            (commit_same r d group (image_of c.words) begun.rest begun.asked begun.storable
-                (recorded_made d b c next (parts_pairs (r.cp + 1) group.parts.items) staged.newest recorded.newest)))
+    (contents_moved (after_group (contents_of r d) group) (next_record r group) d c (recorded.stays.lines ∙ staged.stays.lines)
+    (commit_same r d group (image_of c.words) begun.rest begun.asked begun.storable
+    (recorded_made d b c next (parts_pairs (r.cp + 1) group.parts.items) staged.newest recorded.newest)))
 
 -- each crash of the whole call
 pub done_moments : {d b c : State} (r next : Record) (group : Group) → next ≡ next_record r group → IsCommitting r d group
@@ -86,6 +87,6 @@ pub done_moments : {d b c : State} (r next : Record) (group : Group) → next �
     → LeavesOnly d c (IsBeforeOrAfter r d group)
 done_moments {d} {b} {c} r next group is begun staged moments =
     commit_moments r d b c group begun.rest begun.asked begun.storable staged
-        (subst (λ (q : Record). LeavesOnly b c (IsEitherRecord b.words r q)) is
-            (moments r (subst (λ (q : Record). IsSucceeded b.words r q) (sym is)
-              (stage_succeeded r d b group begun.rest begun.asked begun.storable staged))))
+    (subst (λ (q : Record). LeavesOnly b c (IsEitherRecord b.words r q)) is
+    (moments r (subst (λ (q : Record). IsSucceeded b.words r q) (sym is)
+    (stage_succeeded r d b group begun.rest begun.asked begun.storable staged))))

@@ -58,15 +58,15 @@ late_keeps r d b group image rest asked storable staged elsewhere recorded =
     let parts = group.parts.items in
     let pairs : List (ℕ × ℕ) = parts_pairs (r.cp + 1) parts in
     let over : IsStagedOver r d.lines (image_of d.words) pairs image =
-        λ word matters.
-          let is : image word ≡ written pairs (image_of d.words) word =
-              (stage_certain r d b group rest asked storable staged word (inl matters)).only (image word)
-                  (elsewhere word
-                      (no_record_word r d.lines (r.number + 1) (image_of d.words) (contents_of r d).versions (rest_fits r d rest) word matters)) in
-          elim (written-cases pairs (image_of d.words) word) [
-            inl out ↦ inl (is ∙ out.1)
-          | inr stored ↦ inr (subst (λ (x : ℕ). IsStored pairs word x) (sym is) stored)
-          ] in
+    λ word matters.
+    let is : image word ≡ written pairs (image_of d.words) word =
+    (stage_certain r d b group rest asked storable staged word (inl matters)).only (image word)
+    (elsewhere word
+    (no_record_word r d.lines (r.number + 1) (image_of d.words) (contents_of r d).versions (rest_fits r d rest) word matters)) in
+    elim (written-cases pairs (image_of d.words) word) [
+      | inl out ↦ inl (is ∙ out.1)
+      | inr stored ↦ inr (subst (λ (x : ℕ). IsStored pairs word x) (sym is) stored)
+    ] in
     keeps_old r d (length parts) (puts_of_parts parts) pairs image rest (group_staging r d group rest asked storable) asked.few over recorded
 
 -- and one that has the next record keeps the contents after the group
@@ -84,16 +84,16 @@ new_keeps r d b group image rest asked storable staged elsewhere recorded =
     let fits : Fits next d.lines new versions = after_fits r d group rest asked storable in
     let staging : IsStaging next d.lines 0 new versions [] [] = at_rest_staging fits in
     let over : IsStagedOver next d.lines new [] image =
-        λ word matters.
-          inl ((stage_certain r d b group rest asked storable staged word (inr matters)).only (image word)
-            (elsewhere word (no_record_word next d.lines (r.number + 1) new versions fits word matters))) in
+    λ word matters.
+    inl ((stage_certain r d b group rest asked storable staged word (inr matters)).only (image word)
+    (elsewhere word (no_record_word next d.lines (r.number + 1) new versions fits word matters))) in
     record {
       superblock = HasSuperblock-same d.lines (image_of d.words) image
-        (λ word before.
+          (λ word before.
           (stage_certain r d b group rest asked storable staged word (inl (inl before))).only (image word)
-              (elsewhere word (no_record_word r d.lines (r.number + 1) (image_of d.words) (contents_of r d).versions (rest_fits r d rest) word (inl before)))
-            ∙ before_new r d group rest asked storable word (omega (arith, before)))
-        rest.whole.superblock;
+          (elsewhere word (no_record_word r d.lines (r.number + 1) (image_of d.words) (contents_of r d).versions (rest_fits r d rest) word (inl before)))
+          ∙ before_new r d group rest asked storable word (omega (arith, before)))
+          rest.whole.superblock;
       has_record = recorded;
       versions = λ i within. staged_same staging over i within ∙ fits.same i within;
       begins = λ i within. omega (arith, staged_begins staging over i within);
@@ -105,7 +105,7 @@ new_keeps r d b group image rest asked storable staged elsewhere recorded =
         → written (parts_pairs (r.cp + 1) group.parts.items) (image_of d.words) word ≡ image_of d.words word
     before_new r d group rest asked storable word before =
         written-outside (parts_pairs (r.cp + 1) group.parts.items) (image_of d.words) word
-            (λ x stored. staging_before (group_staging r d group rest asked storable) word x before stored)
+        (λ x stored. staging_before (group_staging r d group rest asked storable) word x before stored)
 
 -- While the record is written, each crash leaves the old contents or the new ones.
 pub record_keeps : (r : Record) (d b : State) (group : Group) (image : Image) → IsAtRest r d → IsGroup (contents_of r d) group
@@ -114,8 +114,8 @@ pub record_keeps : (r : Record) (d b : State) (group : Group) (image : Image) �
     → IsEitherRecord b.words r (next_record r group) image → Keeps (contents_of r d) image ⊎ Keeps (after_group (contents_of r d) group) image
 record_keeps r d b group image rest asked storable staged recorded =
     elim recorded.either [
-      inl old ↦ inl (late_keeps r d b group image rest asked storable staged recorded.elsewhere old)
-    | inr new ↦ inr (new_keeps r d b group image rest asked storable staged recorded.elsewhere new)
+      | inl old ↦ inl (late_keeps r d b group image rest asked storable staged recorded.elsewhere old)
+      | inr new ↦ inr (new_keeps r d b group image rest asked storable staged recorded.elsewhere new)
     ]
 
 -- the record stands when the group is stored
@@ -129,17 +129,17 @@ stage_succeeded r d b group rest asked storable staged =
     record {
       number = refl;
       durable = λ image is.
-        let mix : IsMixed d.words Q image =
-            mixed d.words Q image
-              (λ word.
-                elim (stored_or_outside pairs word) [
-                  inl stored ↦ inr stored
-                | inr out ↦ inl (staged.elsewhere word (image word) out (is word))
-                ]) in
-        let same : (word : ℕ) → word < 64 → image word ≡ mix.base word =
-            λ word before.
-              elim (mix.same word) [ inl e ↦ e | inr stored ↦ absurd (staging_before staging word stored.0 before stored.1) ] in
-        HasRecord-same r mix.base image (same root_word (omega arith)) (λ word low high. same word (omega (arith, high)))
+          let mix : IsMixed d.words Q image =
+          mixed d.words Q image
+          (λ word.
+          elim (stored_or_outside pairs word) [
+            | inl stored ↦ inr stored
+            | inr out ↦ inl (staged.elsewhere word (image word) out (is word))
+          ]) in
+          let same : (word : ℕ) → word < 64 → image word ≡ mix.base word =
+          λ word before.
+          elim (mix.same word) [ inl e ↦ e | inr stored ↦ absurd (staging_before staging word stored.0 before stored.1) ] in
+          HasRecord-same r mix.base image (same root_word (omega arith)) (λ word low high. same word (omega (arith, high)))
           (rest.recorded mix.base mix.is);
     }
 
@@ -155,10 +155,10 @@ pub stage_moments : (r : Record) (d b : State) (group : Group) → IsAtRest r d 
     → LeavesOnly d b (IsPartlyStored (parts_pairs (r.cp + 1) group.parts.items) d.words) → LeavesOnly d b (IsBeforeOrAfter r d group)
 stage_moments r d b group rest asked storable moments =
     LeavesOnly-weaken (IsBeforeOrAfter r d group)
-        (λ image partly.
-          inl (stage_keeps r d (length group.parts.items) (puts_of_parts group.parts.items) (parts_pairs (r.cp + 1) group.parts.items) image rest
-            (group_staging r d group rest asked storable) asked.few partly))
-        moments
+    (λ image partly.
+    inl (stage_keeps r d (length group.parts.items) (puts_of_parts group.parts.items) (parts_pairs (r.cp + 1) group.parts.items) image rest
+    (group_staging r d group rest asked storable) asked.few partly))
+    moments
 
 -- from then on
 pub commit_moments : (r : Record) (d b c : State) (group : Group) → IsAtRest r d → IsGroup (contents_of r d) group
@@ -167,10 +167,10 @@ pub commit_moments : (r : Record) (d b c : State) (group : Group) → IsAtRest r
     → LeavesOnly b c (IsEitherRecord b.words r (next_record r group)) → LeavesOnly d c (IsBeforeOrAfter r d group)
 commit_moments r d b c group rest asked storable staged moments =
     LeavesOnly-then (stage_moments r d b group rest asked storable staged.moments)
-        (LeavesOnly-weaken (IsBeforeOrAfter r d group) (λ image recorded. record_keeps r d b group image rest asked storable staged recorded) moments)
+    (LeavesOnly-weaken (IsBeforeOrAfter r d group) (λ image recorded. record_keeps r d b group image rest asked storable staged recorded) moments)
 
 -- At rest each crash leaves the contents.
 pub rest_keeps : (r : Record) (d : State) → IsAtRest r d → (image : Image) → IsImage d.words image → Keeps (contents_of r d) image
 rest_keeps r d rest image is =
     keeps_old r d 0 [] [] image rest (at_rest_staging (rest_fits r d rest)) (omega arith)
-        (λ word matters. inl ((rest.certain word matters).only (image word) (is word))) (rest.recorded image is)
+    (λ word matters. inl ((rest.certain word matters).only (image word) (is word))) (rest.recorded image is)

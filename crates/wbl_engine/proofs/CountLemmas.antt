@@ -40,4 +40,4 @@ pub counts-new : (r : Record) (c stamp : ℕ) → 0 < stamp → stamp ≤ c → 
     → counts (with_cp r c) stamp ≡ true
 counts-new r c stamp some low free =
     and_from (nat_lt 0 stamp && nat_le stamp c) (is_gap_free r stamp)
-        (and_from (nat_lt 0 stamp) (nat_le stamp c) (lt-ltb 0 stamp some) (le-leb stamp c low)) (ap not free)
+    (and_from (nat_lt 0 stamp) (nat_le stamp c) (lt-ltb 0 stamp some) (le-leb stamp c low)) (ap not free)

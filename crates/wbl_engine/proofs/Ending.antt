@@ -63,8 +63,12 @@ made_matters r lines new image made word (inr (inr (i, within, begun, at))) =
     let begin = made (entry_word i 0) (inr (omega arith)) in
     let first = made (entry_word i 3) (inr (omega arith)) in
     let count = made (entry_word i 4) (inr (omega arith)) in
-    inr (inr (i, within, sym (ap (counts r) begin) ∙ begun,
-      record { low = omega (arith, at.low, first); high = omega (arith, at.high, first, count) }))
+    inr (inr (
+      i,
+      within,
+      sym (ap (counts r) begin) ∙ begun,
+      record { low = omega (arith, at.low, first); high = omega (arith, at.high, first, count) },
+    ))
 
 -- such an image is as whole as the one that the group made
 made_whole : (r : Record) (lines : ℕ) (base new image : Image) (versions : Versions) → Fits r lines new versions → IsMade new image
@@ -77,9 +81,9 @@ made_whole r lines base new image versions fits made before superblock =
       begins = λ i within. omega (arith, staged_begins staging over i within);
       ends = λ i within. omega (arith, staged_ends staging over i within);
       in_place = λ i within begun.
-        let was : IsTrue (counts r (new (entry_word i 0))) = sym (ap (counts r) (made (entry_word i 0) (inr (omega arith)))) ∙ begun in
-        let place : IsInPlace lines new i = fits.in_place i within was in
-        in_place-same lines new image i (made_entry lines new image i made place) place;
+          let was : IsTrue (counts r (new (entry_word i 0))) = sym (ap (counts r) (made (entry_word i 0) (inr (omega arith)))) ∙ begun in
+          let place : IsInPlace lines new i = fits.in_place i within was in
+          in_place-same lines new image i (made_entry lines new image i made place) place;
     }
 
 -- ---- after a commit
@@ -90,12 +94,12 @@ pub recorded_made : (d b c : State) (next : Record) (pairs : List (ℕ × ℕ)) 
     → IsMade (written pairs (image_of d.words)) (image_of c.words)
 recorded_made d b c next pairs staged recorded word which =
     recorded word
-        (λ of.
-          elim which [
-            inl before ↦ elim of [ inl root ↦ omega (arith, before, root) | inr slot ↦ omega (arith, before, slot.0) ]
-          | inr behind ↦ elim of [ inl root ↦ omega (arith, behind, root) | inr slot ↦ omega (arith, behind, slot.1) ]
-          ])
-        ∙ staged word
+    (λ of.
+    elim which [
+      | inl before ↦ elim of [ inl root ↦ omega (arith, before, root) | inr slot ↦ omega (arith, before, slot.0) ]
+      | inr behind ↦ elim of [ inl root ↦ omega (arith, behind, root) | inr slot ↦ omega (arith, behind, slot.1) ]
+    ])
+    ∙ staged word
 
 -- no store is before the directory
 before_written : (r : Record) (d : State) (group : Group) → IsAtRest r d → IsGroup (contents_of r d) group
@@ -103,7 +107,7 @@ before_written : (r : Record) (d : State) (group : Group) → IsAtRest r d → I
     → written (parts_pairs (r.cp + 1) group.parts.items) (image_of d.words) word ≡ image_of d.words word
 before_written r d group rest asked storable word before =
     written-outside (parts_pairs (r.cp + 1) group.parts.items) (image_of d.words) word
-        (λ x stored. staging_before (group_staging r d group rest asked storable) word x (omega (arith, before)) stored)
+    (λ x stored. staging_before (group_staging r d group rest asked storable) word x (omega (arith, before)) stored)
 
 -- The device is at rest with the next record.
 pub commit_rest : (r : Record) (d b c : State) (group : Group) → IsAtRest r d → IsGroup (contents_of r d) group
@@ -123,19 +127,19 @@ commit_rest r d b c group rest asked storable sound staged recorded =
       few = omega (arith, lines, rest.few);
       sound = sound;
       whole = subst (λ (n : ℕ). IsWhole next n (image_of c.words)) (sym lines)
-        (made_whole next d.lines (image_of d.words) new (image_of c.words) versions fits made (before_written r d group rest asked storable)
+          (made_whole next d.lines (image_of d.words) new (image_of c.words) versions fits made (before_written r d group rest asked storable)
           rest.whole.superblock);
       recorded = recorded.durable;
       certain = λ word matters.
-        let now : Matters next d.lines (image_of c.words) word =
-            subst (λ (n : ℕ). Matters next n (image_of c.words) word) lines matters in
-        let was : Matters next d.lines new word = made_matters next d.lines new (image_of c.words) made word now in
-        let other = no_record_word next d.lines next.number new versions fits word was in
-        record {
-          only = λ y may.
-            (stage_certain r d b group rest asked storable staged word (inr was)).only y (recorded.elsewhere word y other may)
-              ∙ sym (staged.newest word) ∙ sym (recorded.newest word other);
-        };
+          let now : Matters next d.lines (image_of c.words) word =
+          subst (λ (n : ℕ). Matters next n (image_of c.words) word) lines matters in
+          let was : Matters next d.lines new word = made_matters next d.lines new (image_of c.words) made word now in
+          let other = no_record_word next d.lines next.number new versions fits word was in
+          record {
+            only = λ y may.
+                (stage_certain r d b group rest asked storable staged word (inr was)).only y (recorded.elsewhere word y other may)
+                ∙ sym (staged.newest word) ∙ sym (recorded.newest word other);
+          };
     }
 
 -- an entry is free after the group if it was and the group puts nothing there
@@ -152,21 +156,21 @@ stamp_begin r d group rest asked storable i within put =
     let at = is_put_at-among i puts put in
     let place : IsStoredPut pairs at.0 = parts_stored_put (r.cp + 1) parts at.0 at.1 in
     elim (written-cases pairs base (entry_word i 0)) [
-      inl out ↦
-        absurd (out.0 (get_or (entry_words place.stamp place.position at.0) 0 0)
-            (subst (λ (n : ℕ). IsStored pairs (entry_word n 0) (get_or (entry_words place.stamp place.position at.0) 0 0)) (sym at.2)
-                (entry_stored pairs at.0 place 0 (omega arith))))
-    | inr stored ↦
-      elim (staging.by (entry_word i 0) (written pairs base (entry_word i 0)) stored) [
-        inl extent ↦
-          absurd (omega (arith, extent.of.low, within, (among-all (IsPlaced d.lines) puts extent.put extent.among staging.stored.placed).above))
-      | inr (inl entry) ↦
-          let first : entry_word i 0 - entry_word entry.put.entry.0 0 ≡ 0 = omega (arith, entry.of.low, entry.of.high) in
-          let begin : entry.begin ≡ written pairs base (entry_word i 0) =
-              ap (λ (n : ℕ). get_or (entry_words entry.begin entry.position entry.put) n 0) (sym first) ∙ entry.value in
-          omega (arith, entry.low, begin)
-      | inr (inr end) ↦ absurd (omega (arith, end.word_is))
-      ]
+      | inl out ↦
+          absurd (out.0 (get_or (entry_words place.stamp place.position at.0) 0 0)
+          (subst (λ (n : ℕ). IsStored pairs (entry_word n 0) (get_or (entry_words place.stamp place.position at.0) 0 0)) (sym at.2)
+          (entry_stored pairs at.0 place 0 (omega arith))))
+      | inr stored ↦
+          elim (staging.by (entry_word i 0) (written pairs base (entry_word i 0)) stored) [
+            | inl extent ↦
+                absurd (omega (arith, extent.of.low, within, (among-all (IsPlaced d.lines) puts extent.put extent.among staging.stored.placed).above))
+            | inr (inl entry) ↦
+                let first : entry_word i 0 - entry_word entry.put.entry.0 0 ≡ 0 = omega (arith, entry.of.low, entry.of.high) in
+                let begin : entry.begin ≡ written pairs base (entry_word i 0) =
+                ap (λ (n : ℕ). get_or (entry_words entry.begin entry.position entry.put) n 0) (sym first) ∙ entry.value in
+                omega (arith, entry.low, begin)
+            | inr (inr end) ↦ absurd (omega (arith, end.word_is))
+          ]
     ]
 
 free_after : (b : ℕ) (cp cp' : ℕ) → b ≤ cp → cp ≤ cp' → (b == 0 || nat_lt cp' b) ≡ (b == 0 || nat_lt cp b)
@@ -201,23 +205,23 @@ commit_same r d group image rest asked storable made =
       current = refl;
       lines = refl;
       versions = λ i.
-        elim (cases_lt i (entries_of_lines d.lines)) [
-          inl within ↦
-            cond-true (nat_lt i (entries_of_lines d.lines)) _ _ (lt-ltb i (entries_of_lines d.lines) within)
-              ∙ staged_same staging over i within ∙ fits.same i within
-        | inr beyond ↦
-            cond-false (nat_lt i (entries_of_lines d.lines)) _ _ (le-ltb i (entries_of_lines d.lines) beyond) ∙ sym (fits.beyond i beyond)
-        ];
+          elim (cases_lt i (entries_of_lines d.lines)) [
+            | inl within ↦
+                cond-true (nat_lt i (entries_of_lines d.lines)) _ _ (lt-ltb i (entries_of_lines d.lines) within)
+                ∙ staged_same staging over i within ∙ fits.same i within
+            | inr beyond ↦
+                cond-false (nat_lt i (entries_of_lines d.lines)) _ _ (le-ltb i (entries_of_lines d.lines) beyond) ∙ sym (fits.beyond i beyond)
+          ];
       is_free = λ i.
-        elim (cases_lt i (entries_of_lines d.lines)) [
-          inl within ↦ free_within r d group image rest asked storable made i within
-        | inr beyond ↦
-            let out : nat_lt i (entries_of_lines d.lines) ≡ false = le-ltb i (entries_of_lines d.lines) beyond in
-            and_left (nat_lt i (entries_of_lines d.lines)) (image (entry_word i 0) == 0 || nat_lt next.cp (image (entry_word i 0))) out
-              ∙ sym (and_left (nat_lt i (entries_of_lines d.lines) && (base (entry_word i 0) == 0 || nat_lt r.cp (base (entry_word i 0))))
+          elim (cases_lt i (entries_of_lines d.lines)) [
+            | inl within ↦ free_within r d group image rest asked storable made i within
+            | inr beyond ↦
+                let out : nat_lt i (entries_of_lines d.lines) ≡ false = le-ltb i (entries_of_lines d.lines) beyond in
+                and_left (nat_lt i (entries_of_lines d.lines)) (image (entry_word i 0) == 0 || nat_lt next.cp (image (entry_word i 0))) out
+                ∙ sym (and_left (nat_lt i (entries_of_lines d.lines) && (base (entry_word i 0) == 0 || nat_lt r.cp (base (entry_word i 0))))
                 (not (is_put_at i puts))
                 (and_left (nat_lt i (entries_of_lines d.lines)) (base (entry_word i 0) == 0 || nat_lt r.cp (base (entry_word i 0))) out))
-        ];
+          ];
     }
   where
     free_within : (r : Record) (d : State) (group : Group) (image : Image) → IsAtRest r d → IsGroup (contents_of r d) group
@@ -232,21 +236,21 @@ commit_same r d group image rest asked storable made =
         let is : image (entry_word i 0) ≡ written pairs base (entry_word i 0) = made (entry_word i 0) (inr (omega arith)) in
         let fits = after_fits r d group rest asked storable in
         elim (cases_Bool (is_put_at i puts)) [
-          inl put ↦
-            let above = stamp_begin r d group rest asked storable i within put in
-            let taken : (image (entry_word i 0) == 0 || nat_lt next.cp (image (entry_word i 0))) ≡ false =
-                or_from (image (entry_word i 0) == 0) (nat_lt next.cp (image (entry_word i 0)))
-                    (ne_eqb (image (entry_word i 0)) 0 (λ e. omega (arith, e, is, above)))
-                    (le-ltb next.cp (image (entry_word i 0)) (omega (arith, is, fits.begins i within))) in
-            and_right (nat_lt i (entries_of_lines d.lines)) (image (entry_word i 0) == 0 || nat_lt next.cp (image (entry_word i 0))) taken
-                ∙ and_not_true ((contents_of r d).is_free i) ∙ ap (λ (b : Bool). (contents_of r d).is_free i && not b) (sym put)
-        | inr none ↦
-            let kept : image (entry_word i 0) ≡ base (entry_word i 0) =
-                is ∙ kept_word (group_staging r d group rest asked storable) i 0 within (omega arith) (omega arith) none in
-            ap (λ (b : ℕ). nat_lt i (entries_of_lines d.lines) && (b == 0 || nat_lt next.cp b)) kept
-                ∙ ap (λ (t : Bool). nat_lt i (entries_of_lines d.lines) && t)
-                    (free_after (base (entry_word i 0)) r.cp next.cp (rest.whole.begins i within) (omega arith))
-                ∙ and_not_false ((contents_of r d).is_free i) ∙ ap (λ (b : Bool). (contents_of r d).is_free i && not b) (sym none)
+          | inl put ↦
+              let above = stamp_begin r d group rest asked storable i within put in
+              let taken : (image (entry_word i 0) == 0 || nat_lt next.cp (image (entry_word i 0))) ≡ false =
+              or_from (image (entry_word i 0) == 0) (nat_lt next.cp (image (entry_word i 0)))
+              (ne_eqb (image (entry_word i 0)) 0 (λ e. omega (arith, e, is, above)))
+              (le-ltb next.cp (image (entry_word i 0)) (omega (arith, is, fits.begins i within))) in
+              and_right (nat_lt i (entries_of_lines d.lines)) (image (entry_word i 0) == 0 || nat_lt next.cp (image (entry_word i 0))) taken
+              ∙ and_not_true ((contents_of r d).is_free i) ∙ ap (λ (b : Bool). (contents_of r d).is_free i && not b) (sym put)
+          | inr none ↦
+              let kept : image (entry_word i 0) ≡ base (entry_word i 0) =
+              is ∙ kept_word (group_staging r d group rest asked storable) i 0 within (omega arith) (omega arith) none in
+              ap (λ (b : ℕ). nat_lt i (entries_of_lines d.lines) && (b == 0 || nat_lt next.cp b)) kept
+              ∙ ap (λ (t : Bool). nat_lt i (entries_of_lines d.lines) && t)
+              (free_after (base (entry_word i 0)) r.cp next.cp (rest.whole.begins i within) (omega arith))
+              ∙ and_not_false ((contents_of r d).is_free i) ∙ ap (λ (b : Bool). (contents_of r d).is_free i && not b) (sym none)
         ]
 
 -- ---- after a fault
@@ -267,22 +271,22 @@ fault_same r d group image rest asked storable made =
       current = refl;
       lines = refl;
       versions = λ i.
-        elim (cases_lt i (entries_of_lines d.lines)) [
-          inl within ↦
-            cond-true (nat_lt i (entries_of_lines d.lines)) _ _ (lt-ltb i (entries_of_lines d.lines) within)
-              ∙ staged_same staging over i within ∙ sym (versions-within r d i within)
-        | inr beyond ↦
-            cond-false (nat_lt i (entries_of_lines d.lines)) _ _ (le-ltb i (entries_of_lines d.lines) beyond) ∙ sym (versions-beyond r d i beyond)
-        ];
+          elim (cases_lt i (entries_of_lines d.lines)) [
+            | inl within ↦
+                cond-true (nat_lt i (entries_of_lines d.lines)) _ _ (lt-ltb i (entries_of_lines d.lines) within)
+                ∙ staged_same staging over i within ∙ sym (versions-within r d i within)
+            | inr beyond ↦
+                cond-false (nat_lt i (entries_of_lines d.lines)) _ _ (le-ltb i (entries_of_lines d.lines) beyond) ∙ sym (versions-beyond r d i beyond)
+          ];
       is_free = λ i.
-        elim (cases_lt i (entries_of_lines d.lines)) [
-          inl within ↦
-            ap (λ (t : Bool). nat_lt i (entries_of_lines d.lines) && t) (free_stays r.cp (base (entry_word i 0)) (image (entry_word i 0)) (begins staging over i within))
-        | inr beyond ↦
-            let out : nat_lt i (entries_of_lines d.lines) ≡ false = le-ltb i (entries_of_lines d.lines) beyond in
-            and_left (nat_lt i (entries_of_lines d.lines)) (image (entry_word i 0) == 0 || nat_lt r.cp (image (entry_word i 0))) out
-              ∙ sym (and_left (nat_lt i (entries_of_lines d.lines)) (base (entry_word i 0) == 0 || nat_lt r.cp (base (entry_word i 0))) out)
-        ];
+          elim (cases_lt i (entries_of_lines d.lines)) [
+            | inl within ↦
+                ap (λ (t : Bool). nat_lt i (entries_of_lines d.lines) && t) (free_stays r.cp (base (entry_word i 0)) (image (entry_word i 0)) (begins staging over i within))
+            | inr beyond ↦
+                let out : nat_lt i (entries_of_lines d.lines) ≡ false = le-ltb i (entries_of_lines d.lines) beyond in
+                and_left (nat_lt i (entries_of_lines d.lines)) (image (entry_word i 0) == 0 || nat_lt r.cp (image (entry_word i 0))) out
+                ∙ sym (and_left (nat_lt i (entries_of_lines d.lines)) (base (entry_word i 0) == 0 || nat_lt r.cp (base (entry_word i 0))) out)
+          ];
     }
   where
     fault_over : (r : Record) (d : State) (group : Group) (image : Image) → IsAtRest r d
@@ -291,15 +295,15 @@ fault_same r d group image rest asked storable made =
     fault_over r d group image rest made word matters =
         let pairs : List (ℕ × ℕ) = parts_pairs (r.cp + 1) group.parts.items in
         let which : (word < root_word) ⊎ (64 ≤ word) =
-            elim matters [
-              inl before ↦ inl before
-            | inr (inl directory) ↦ inr directory.0
-            | inr (inr (i, within, begun, at)) ↦ inr (omega (arith, at.low, (rest.whole.in_place i within begun).above))
-            ] in
+        elim matters [
+          | inl before ↦ inl before
+          | inr (inl directory) ↦ inr directory.0
+          | inr (inr (i, within, begun, at)) ↦ inr (omega (arith, at.low, (rest.whole.in_place i within begun).above))
+        ] in
         let is : image word ≡ written pairs (image_of d.words) word = made word which in
         elim (written-cases pairs (image_of d.words) word) [
-          inl out ↦ inl (is ∙ out.1)
-        | inr stored ↦ inr (subst (λ (x : ℕ). IsStored pairs word x) (sym is) stored)
+          | inl out ↦ inl (is ∙ out.1)
+          | inr stored ↦ inr (subst (λ (x : ℕ). IsStored pairs word x) (sym is) stored)
         ]
 
     begins : {r : Record} {lines count : ℕ} {base image : Image} {versions : Versions} {puts : List Put} {pairs : List (ℕ × ℕ)}

@@ -26,26 +26,27 @@ each_ended : (P : ℕ → Type 0) (parts : List Part) (before : ℕ) (versions :
     → ((i : ℕ) → IsTrue (is_live_version (versions i) || is_put_at i (puts_of_parts parts)) → P i) → AreParts before versions parts
     → AllByRecursion (λ (part : Part). AllByRecursion (λ (entry : EntryNo). P entry.0) part.ended.items) parts
 each_ended P [] before versions each follow = tt
-each_ended P (part ∷ parts) before versions each follow =
-    (each_named P part.ended.items
-        (λ i named.
-          each i (live_front versions part (puts_of_parts parts) i ((follow.1 i).0 (named-contains i part.ended.items named)).0)),
-      each_ended P parts part.position (part_versions versions part)
-        (λ i live. each i (live_then versions part (puts_of_parts parts) i live)) follow.2)
+each_ended P (part ∷ parts) before versions each follow = (
+  each_named P part.ended.items
+      (λ i named.
+      each i (live_front versions part (puts_of_parts parts) i ((follow.1 i).0 (named-contains i part.ended.items named)).0)),
+  each_ended P parts part.position (part_versions versions part)
+      (λ i live. each i (live_then versions part (puts_of_parts parts) i live)) follow.2,
+)
 
 pub ends_within : (r : Record) (d : State) (group : Group) → IsAtRest r d → IsGroup (contents_of r d) group → AreEndsWithin d.lines group.parts.items
 ends_within r d group rest asked =
     each_ended (λ i. 8 + i < d.lines) group.parts.items group.before (contents_of r d).versions
-        (λ i live.
-          elim (or_cases (is_live_version ((contents_of r d).versions i)) (is_put_at i (puts_of_parts group.parts.items)) live) [
-            inl now ↦
-              elim (cases_lt i (entries_of_lines d.lines)) [
-                inl within ↦ omega (arith, within, rest.many)
-              | inr beyond ↦
+    (λ i live.
+    elim (or_cases (is_live_version ((contents_of r d).versions i)) (is_put_at i (puts_of_parts group.parts.items)) live) [
+      | inl now ↦
+          elim (cases_lt i (entries_of_lines d.lines)) [
+            | inl within ↦ omega (arith, within, rest.many)
+            | inr beyond ↦
                 absurd (both_ways (is_live_version ((contents_of r d).versions i)) (ap is_live_version (versions-beyond r d i beyond)) now)
-              ]
-          | inr put ↦
-              let at = is_put_at-among i (puts_of_parts group.parts.items) put in
-              omega (arith, at.2, (among-all (IsPlaced d.lines) (puts_of_parts group.parts.items) at.0 at.1 asked.placed).entry, rest.many)
-          ])
-        asked.parts
+          ]
+      | inr put ↦
+          let at = is_put_at-among i (puts_of_parts group.parts.items) put in
+          omega (arith, at.2, (among-all (IsPlaced d.lines) (puts_of_parts group.parts.items) at.0 at.1 asked.placed).entry, rest.many)
+    ])
+    asked.parts

@@ -59,8 +59,8 @@ all-from P (put ∷ puts) each = (each put (inl refl), all-from P puts (λ q amo
 none-from : (i : ℕ) (puts : List Put) → ((put : Put) → IsAmong put puts → i ≡ put.entry.0 → ⊥) → is_put_at i puts ≡ false
 none-from i puts none =
     elim (cases_Bool (is_put_at i puts)) [
-      inl put ↦ let at = is_put_at-among i puts put in absurd (none at.0 at.1 at.2)
-    | inr no_put ↦ no_put
+      | inl put ↦ let at = is_put_at-among i puts put in absurd (none at.0 at.1 at.2)
+      | inr no_put ↦ no_put
     ]
 
 flip_apart : (a b c d : ℕ) → AreApart a b c d → AreApart c d a b
@@ -91,26 +91,26 @@ still_ready lines stamp versions image part parts stored put among =
     let was : IsReady versions image put = among-all (IsReady versions image) (a ++ b) put (among-back a b put among) stored.ready in
     let placed : IsPlaced lines put = among-all (IsPlaced lines) (a ++ b) put (among-back a b put among) stored.placed in
     let none : is_put_at put.entry.0 a ≡ false =
-        none-from put.entry.0 a (λ other there e. (apart-across a b stored.apart other put there among).entries (sym e)) in
+    none-from put.entry.0 a (λ other there e. (apart-across a b stored.apart other put there among).entries (sym e)) in
     record {
       free =
-        part_word-kept lines stamp part image put.entry.0 0 placed.entry (omega arith) (omega arith) none (all-front (IsPlaced lines) a b stored.placed)
+          part_word-kept lines stamp part image put.entry.0 0 placed.entry (omega arith) (omega arith) none (all-front (IsPlaced lines) a b stored.placed)
           ∙ was.free;
       lines = λ i version is.
-        elim (cases_Bool (is_put_at i a)) [
-          inl there ↦
-            let at = is_put_at-among i a there in
-            let made = changes_made part.position versions part.changes.items at.0 at.1 (apart-front a b stored.apart) in
-            let same : Some version ≡ Some (end_if made.test (version_of_put part.position at.0)) =
+          elim (cases_Bool (is_put_at i a)) [
+            | inl there ↦
+                let at = is_put_at-among i a there in
+                let made = changes_made part.position versions part.changes.items at.0 at.1 (apart-front a b stored.apart) in
+                let same : Some version ≡ Some (end_if made.test (version_of_put part.position at.0)) =
                 sym is ∙ ap (part_versions versions part) at.2 ∙ made.is in
-            let version_is : version ≡ end_if made.test (version_of_put part.position at.0) = cc in
-            subst (λ (v : Version). AreApart put.extent.first_line put.extent.lines v.first_line v.lines) (sym version_is)
-              (flip_apart at.0.extent.first_line at.0.extent.lines put.extent.first_line put.extent.lines
+                let version_is : version ≡ end_if made.test (version_of_put part.position at.0) = cc in
+                subst (λ (v : Version). AreApart put.extent.first_line put.extent.lines v.first_line v.lines) (sym version_is)
+                (flip_apart at.0.extent.first_line at.0.extent.lines put.extent.first_line put.extent.lines
                 (apart-across a b stored.apart at.0 put at.1 among).lines)
-        | inr none_there ↦
-            let kept = changes_kept part.position versions part.changes.items i none_there in
-            apart_where_kept put kept.test (versions i) version (was.lines i) (sym kept.is ∙ is)
-        ];
+            | inr none_there ↦
+                let kept = changes_kept part.position versions part.changes.items i none_there in
+                apart_where_kept put kept.test (versions i) version (was.lines i) (sym kept.is ∙ is)
+          ];
     }
   where
     apart_where_kept : (put : Put) (test : Bool) (old : Option Version) (version : Version)
@@ -132,7 +132,7 @@ rest_stored lines stamp versions image part parts stored =
       fitting = all-back HasItsLines a b stored.fitting;
       storable = all-back IsStorable a b stored.storable;
       ready = all-from (IsReady (part_versions versions part) (written (part_pairs stamp part) image)) b
-        (λ put among. still_ready lines stamp versions image part parts stored put among);
+          (λ put among. still_ready lines stamp versions image part parts stored put among);
       apart = apart-back a b stored.apart;
     }
 
@@ -147,11 +147,11 @@ parts_fit lines (part ∷ parts) before r image versions fits stored follow =
     let r' : Record = with_cp r (r.cp + 1) in
     let image' : Image = written (part_pairs (r.cp + 1) part) image in
     let first : Fits r' lines image' (part_versions versions part) =
-        part_fits part fits (part_stored lines versions image part parts stored) follow.1 in
+    part_fits part fits (part_stored lines versions image part parts stored) follow.1 in
     let rest : Fits (with_cp r ((r.cp + 1) + length parts)) lines (written (parts_pairs ((r.cp + 1) + 1) parts) image') (parts_versions versions (part ∷ parts)) =
-        parts_fit lines parts part.position r' image' (part_versions versions part) first
-            (rest_stored lines (r.cp + 1) versions image part parts stored) follow.2 in
+    parts_fit lines parts part.position r' image' (part_versions versions part) first
+    (rest_stored lines (r.cp + 1) versions image part parts stored) follow.2 in
     let e : (r.cp + 1) + length parts ≡ r.cp + suc (length parts) = omega arith in
     subst (λ (n : ℕ). Fits (with_cp r n) lines (written (parts_pairs (r.cp + 1) (part ∷ parts)) image) (parts_versions versions (part ∷ parts))) e
-        (subst (λ (f : ℕ → ℕ). Fits (with_cp r ((r.cp + 1) + length parts)) lines f (parts_versions versions (part ∷ parts)))
-            (sym (written-append (part_pairs (r.cp + 1) part) (parts_pairs ((r.cp + 1) + 1) parts) image)) rest)
+    (subst (λ (f : ℕ → ℕ). Fits (with_cp r ((r.cp + 1) + length parts)) lines f (parts_versions versions (part ∷ parts)))
+    (sym (written-append (part_pairs (r.cp + 1) part) (parts_pairs ((r.cp + 1) + 1) parts) image)) rest)

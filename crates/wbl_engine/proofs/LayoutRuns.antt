@@ -34,7 +34,7 @@ get_or-extent_pairs : (line : ℕ) (bytes : List ℕ) (count i : ℕ) → i < co
 get_or-extent_pairs line bytes count i below =
     let e : 0 + 8 * i ≡ 8 * i = omega arith in
     get_or-pairs_from (8 * line) (packed bytes 0 count) i (omega (arith, below, length-packed bytes 0 count))
-        ∙ ap (λ (x : ℕ). (8 * line + i, x)) (get_or-packed bytes 0 count i below ∙ ap (word_of_bytes bytes) e)
+    ∙ ap (λ (x : ℕ). (8 * line + i, x)) (get_or-packed bytes 0 count i below ∙ ap (word_of_bytes bytes) e)
 
 pub extent_pair : (line : ℕ) (bytes : List ℕ) (count i x : ℕ) → i < count → x ≡ word_of_bytes bytes (8 * i)
     → (8 * line + i, x) ≡ get_or (pairs_from (8 * line) (packed bytes 0 count)) i (0, 0)
@@ -48,11 +48,11 @@ pub put_runs : {a b c : State} (begin position : ℕ) (put : Put) (bytes words :
     → Runs b c (stores (pairs_from first words) b.words) → Runs a c (stores (put_pairs begin position put) a.words)
 put_runs {a} {b} {c} begin position put bytes words first is_bytes is_words is_first extent entry =
     Runs-more_stores (pairs_from (8 * put.extent.first_line) (packed (version_bytes put) 0 (8 * put.extent.lines)))
-        (pairs_from (entry_word put.entry.0 0) (entry_words begin position put))
-        (subst (λ (bs : List ℕ). Runs a b (stores (pairs_from (8 * put.extent.first_line) (packed bs 0 (8 * put.extent.lines))) a.words))
-            is_bytes extent)
-        (subst (λ (n : ℕ). Runs b c (stores (pairs_from n (entry_words begin position put)) b.words)) is_first
-            (subst (λ (ws : List ℕ). Runs b c (stores (pairs_from first ws) b.words)) is_words entry))
+    (pairs_from (entry_word put.entry.0 0) (entry_words begin position put))
+    (subst (λ (bs : List ℕ). Runs a b (stores (pairs_from (8 * put.extent.first_line) (packed bs 0 (8 * put.extent.lines))) a.words))
+    is_bytes extent)
+    (subst (λ (n : ℕ). Runs b c (stores (pairs_from n (entry_words begin position put)) b.words)) is_first
+    (subst (λ (ws : List ℕ). Runs b c (stores (pairs_from first ws) b.words)) is_words entry))
 
 -- how long a name is
 pub length-name : (key field : List ℕ) (id : RecordId) → key ++ field ≡ name_bytes id → length key + length field ≡ bytes_of_id id

@@ -6,9 +6,12 @@ pub mod CountLemmas
 pub mod Covering
 pub mod Ending
 pub mod EndsWithin
+pub mod FormatLemmas
+pub mod FormatRuns
 pub mod GroupSteps
 pub mod LayoutRuns
 pub mod Mixing
+pub mod NewImage
 pub mod Packing
 pub mod PartEffects
 pub mod PartSteps

@@ -29,25 +29,25 @@ bytes_from-same bytes at at' count e = ap (λ (a : ℕ). bytes_from bytes a coun
 -- the eight bytes of a word
 to_le_bytes-word_of_bytes : (bytes : List ℕ) (at : ℕ) → ((i : ℕ) → get_or bytes i 0 < 256) → to_le_bytes w64 (word_of_bytes bytes at)
     ≡ get_or bytes at 0 ∷ get_or bytes (at + 1) 0 ∷ get_or bytes (at + 2) 0 ∷ get_or bytes (at + 3) 0
-        ∷ get_or bytes (at + 4) 0 ∷ get_or bytes (at + 5) 0 ∷ get_or bytes (at + 6) 0 ∷ get_or bytes (at + 7) 0 ∷ []
+    ∷ get_or bytes (at + 4) 0 ∷ get_or bytes (at + 5) 0 ∷ get_or bytes (at + 6) 0 ∷ get_or bytes (at + 7) 0 ∷ []
 to_le_bytes-word_of_bytes bytes at small =
     le_bytes_8 _ _ refl
-        (elim [
-          zero ↦ small at
-        | suc zero ↦ small (at + 1)
-        | suc (suc zero) ↦ small (at + 2)
-        | suc (suc (suc zero)) ↦ small (at + 3)
-        | suc (suc (suc (suc zero))) ↦ small (at + 4)
-        | suc (suc (suc (suc (suc zero)))) ↦ small (at + 5)
-        | suc (suc (suc (suc (suc (suc zero))))) ↦ small (at + 6)
-        | suc (suc (suc (suc (suc (suc (suc zero)))))) ↦ small (at + 7)
-        | suc (suc (suc (suc (suc (suc (suc (suc i))))))) ↦ omega arith
-        ])
-        refl
+    (elim [
+      | zero ↦ small at
+      | suc zero ↦ small (at + 1)
+      | suc (suc zero) ↦ small (at + 2)
+      | suc (suc (suc zero)) ↦ small (at + 3)
+      | suc (suc (suc (suc zero))) ↦ small (at + 4)
+      | suc (suc (suc (suc (suc zero)))) ↦ small (at + 5)
+      | suc (suc (suc (suc (suc (suc zero))))) ↦ small (at + 6)
+      | suc (suc (suc (suc (suc (suc (suc zero)))))) ↦ small (at + 7)
+      | suc (suc (suc (suc (suc (suc (suc (suc i))))))) ↦ omega arith
+    ])
+    refl
 
 bytes_from-eight : (bytes : List ℕ) (at : ℕ) → bytes_from bytes at 8
     ≡ get_or bytes at 0 ∷ get_or bytes (at + 1) 0 ∷ get_or bytes (at + 2) 0 ∷ get_or bytes (at + 3) 0
-        ∷ get_or bytes (at + 4) 0 ∷ get_or bytes (at + 5) 0 ∷ get_or bytes (at + 6) 0 ∷ get_or bytes (at + 7) 0 ∷ []
+    ∷ get_or bytes (at + 4) 0 ∷ get_or bytes (at + 5) 0 ∷ get_or bytes (at + 6) 0 ∷ get_or bytes (at + 7) 0 ∷ []
 bytes_from-eight bytes at =
     let two : at + 1 + 1 ≡ at + 2 = omega arith in
     let three : at + 1 + 1 + 1 ≡ at + 3 = omega arith in
@@ -66,9 +66,9 @@ bytes_from-append bytes at (suc a) b =
     let e : at + suc a ≡ (at + 1) + a = omega arith in
     let f : suc (a + b) ≡ suc a + b = omega arith in
     ap (λ (rest : List ℕ). get_or bytes at 0 ∷ rest)
-        (ap (λ (rest : List ℕ). bytes_from bytes (at + 1) a ++ rest) (bytes_from-same bytes (at + suc a) ((at + 1) + a) b e)
-            ∙ bytes_from-append bytes (at + 1) a b)
-        ∙ ap (bytes_from bytes at) f
+    (ap (λ (rest : List ℕ). bytes_from bytes (at + 1) a ++ rest) (bytes_from-same bytes (at + suc a) ((at + 1) + a) b e)
+    ∙ bytes_from-append bytes (at + 1) a b)
+    ∙ ap (bytes_from bytes at) f
 
 -- the bytes of packed words
 flat_map-packed : (bytes : List ℕ) (at count : ℕ) → ((i : ℕ) → get_or bytes i 0 < 256)
@@ -77,9 +77,9 @@ flat_map-packed bytes at zero small = let e : 0 ≡ 8 * 0 = omega arith in ap (b
 flat_map-packed bytes at (suc count) small =
     let e : 8 + 8 * count ≡ 8 * suc count = omega arith in
     ap (λ (front : List ℕ). front ++ flat_map (to_le_bytes w64) (packed bytes (at + 8) count))
-        (to_le_bytes-word_of_bytes bytes at small ∙ sym (bytes_from-eight bytes at))
-        ∙ ap (λ (rest : List ℕ). bytes_from bytes at 8 ++ rest) (flat_map-packed bytes (at + 8) count small)
-        ∙ bytes_from-append bytes at 8 (8 * count) ∙ ap (bytes_from bytes at) e
+    (to_le_bytes-word_of_bytes bytes at small ∙ sym (bytes_from-eight bytes at))
+    ∙ ap (λ (rest : List ℕ). bytes_from bytes at 8 ++ rest) (flat_map-packed bytes (at + 8) count small)
+    ∙ bytes_from-append bytes at 8 (8 * count) ∙ ap (bytes_from bytes at) e
 
 drop_to_end : (bytes : List ℕ) → drop (length bytes) bytes ≡ []
 drop_to_end [] = refl
@@ -95,8 +95,8 @@ take-bytes_from bytes at (suc count) (suc room) e fits =
     let below : at < length bytes = omega arith in
     let one : at + 1 ≡ suc at = omega arith in
     ap (λ (rest : List ℕ). get_or bytes at 0 ∷ rest)
-        (take-bytes_from bytes (at + 1) count room (omega arith) (omega arith) ∙ ap (λ (n : ℕ). drop n bytes) one)
-        ∙ sym (drop-cons bytes at 0 below)
+    (take-bytes_from bytes (at + 1) count room (omega arith) (omega arith) ∙ ap (λ (n : ℕ). drop n bytes) one)
+    ∙ sym (drop-cons bytes at 0 below)
 
 -- words that are the packed ones
 words_from-packed : (image : Image) (first : ℕ) (bytes : List ℕ) (at count : ℕ)
@@ -107,11 +107,11 @@ words_from-packed image first bytes at (suc count) same =
     let f : at + 8 * 0 ≡ at = omega arith in
     let head : image first ≡ word_of_bytes bytes at = sym (ap image e) ∙ same 0 (omega arith) ∙ ap (word_of_bytes bytes) f in
     let rest : words_from image (first + 1) count ≡ packed bytes (at + 8) count =
-        words_from-packed image (first + 1) bytes (at + 8) count
-            (λ j below.
-              let g : (first + 1) + j ≡ first + suc j = omega arith in
-              let h : at + 8 * suc j ≡ (at + 8) + 8 * j = omega arith in
-              ap image g ∙ same (suc j) (omega arith) ∙ ap (word_of_bytes bytes) h) in
+    words_from-packed image (first + 1) bytes (at + 8) count
+    (λ j below.
+    let g : (first + 1) + j ≡ first + suc j = omega arith in
+    let h : at + 8 * suc j ≡ (at + 8) + 8 * j = omega arith in
+    ap image g ∙ same (suc j) (omega arith) ∙ ap (word_of_bytes bytes) h) in
     cc
 
 -- What was packed is read back.
@@ -120,7 +120,7 @@ pub bytes_at-packed : (image : Image) (line : ℕ) (bytes : List ℕ) → ((i : 
 bytes_at-packed image line bytes small same =
     let count : ℕ = (length bytes + 7) / 8 in
     ap (λ (words : List ℕ). take (length bytes) (flat_map (to_le_bytes w64) words))
-        (words_from-packed image (8 * line) bytes 0 count
-            (λ j below. let e : 8 * j ≡ 0 + 8 * j = omega arith in same j below ∙ ap (word_of_bytes bytes) e))
-        ∙ ap (take (length bytes)) (flat_map-packed bytes 0 count small)
-        ∙ take-bytes_from bytes 0 (length bytes) (8 * count) (omega arith) (omega arith)
+    (words_from-packed image (8 * line) bytes 0 count
+    (λ j below. let e : 8 * j ≡ 0 + 8 * j = omega arith in same j below ∙ ap (word_of_bytes bytes) e))
+    ∙ ap (take (length bytes)) (flat_map-packed bytes 0 count small)
+    ∙ take-bytes_from bytes 0 (length bytes) (8 * count) (omega arith) (omega arith)

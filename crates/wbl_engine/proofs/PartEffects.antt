@@ -15,7 +15,12 @@ use Rattle.model.specs.Groups.{Versions, change_of, put_of, ends_record, ended_b
 abbrev pub end_if : Bool → Version → Version
 end_if b v =
     record {
-      id = v.id; value = v.value; position = v.position; first_line = v.first_line; lines = v.lines; is_ended = v.is_ended || b;
+      id = v.id;
+      value = v.value;
+      position = v.position;
+      first_line = v.first_line;
+      lines = v.lines;
+      is_ended = v.is_ended || b;
     }
 
 abbrev pub end_if_begun : Bool → Option Version → Option Version
@@ -66,7 +71,7 @@ change_kept : (position : ℕ) (versions : Versions) (change : PlacedChange) (i 
 change_kept position versions (placed.Put put) i none =
     let other = (is_put_at-other i put [] none).0 in
     let e : change_versions position versions (placed.Put put) i ≡ ended_where_begun (change_of (placed.Put put)) (versions i) =
-        cond-false (nat_eq i put.entry.0) _ _ other in
+    cond-false (nat_eq i put.entry.0) _ _ other in
     subst (λ (o : Option Version). IsKeptOrEnded (versions i) o) (sym e) (ended_where_begun-kept (change_of (placed.Put put)) (versions i))
 change_kept position versions (placed.Drop id) i none = ended_where_begun-kept (change_of (placed.Drop id)) (versions i)
 change_kept position versions (placed.DropKey key) i none = ended_where_begun-kept (change_of (placed.DropKey key)) (versions i)
@@ -86,7 +91,7 @@ changes_kept position versions [] i none = kept (versions i)
 changes_kept position versions (change ∷ changes) i none =
     let parts = is_put_at-append i (put_of change) (flat_map put_of changes) none in
     kept_then (change_kept position versions change i parts.0)
-        (changes_kept position (change_versions position versions change) changes i parts.1)
+    (changes_kept position (change_versions position versions change) changes i parts.1)
 
 -- a put is one of these
 abbrev pub IsAmong : Put → List Put → Type 0
@@ -98,8 +103,8 @@ pub is_put_at-among : (i : ℕ) (puts : List Put) → is_put_at i puts ≡ true 
 is_put_at-among i [] e = absurd (cc)
 is_put_at-among i (put ∷ puts) e =
     elim (or_cases (nat_eq i put.entry.0) (is_put_at i puts) e) [
-      inl here ↦ (put, inl refl, eqb-true i put.entry.0 here)
-    | inr later ↦ let more = is_put_at-among i puts later in (more.0, inr more.1, more.2)
+      | inl here ↦ (put, inl refl, eqb-true i put.entry.0 here)
+      | inr later ↦ let more = is_put_at-among i puts later in (more.0, inr more.1, more.2)
     ]
 
 pub among-is_put_at : (put : Put) (puts : List Put) → IsAmong put puts → is_put_at put.entry.0 puts ≡ true
@@ -119,7 +124,7 @@ pub apart-is_put_at : (put : Put) (puts : List Put) → AllByRecursion (IsApartF
 apart-is_put_at put [] apart = refl
 apart-is_put_at put (other ∷ puts) apart =
     or_from (nat_eq put.entry.0 other.entry.0) (is_put_at put.entry.0 puts) (ne_eqb put.entry.0 other.entry.0 apart.0.entries)
-        (apart-is_put_at put puts apart.1)
+    (apart-is_put_at put puts apart.1)
 
 -- the entry of a put has the version that it makes, and this may have been ended by a later change
 pub record IsMade (position : ℕ) (put : Put) (new : Option Version) : Type 0 where
@@ -131,7 +136,7 @@ made_then {position} {put} {old} {new} first second =
     record {
       test = first.test || second.test;
       is = second.is ∙ ap (end_if_begun second.test) first.is
-        ∙ end_if_begun-twice first.test second.test (Some (version_of_put position put));
+          ∙ end_if_begun-twice first.test second.test (Some (version_of_put position put));
     }
 
 change_made : (position : ℕ) (versions : Versions) (put : Put) → IsMade position put (change_versions position versions (placed.Put put) put.entry.0)
@@ -148,8 +153,8 @@ changes_made position versions [] put among apart = absurd among
 changes_made position versions (placed.Put other ∷ changes) put (inl here) apart =
     let after : Versions = change_versions position versions (placed.Put other) in
     let other_made : IsMade position other (changes_versions position after changes other.entry.0) =
-        made_then (change_made position versions other)
-            (changes_kept position after changes other.entry.0 (apart-is_put_at other (flat_map put_of changes) apart.0)) in
+    made_then (change_made position versions other)
+    (changes_kept position after changes other.entry.0 (apart-is_put_at other (flat_map put_of changes) apart.0)) in
     subst (λ (p : Put). IsMade position p (changes_versions position after changes p.entry.0)) (sym here) other_made
 changes_made position versions (placed.Put other ∷ changes) put (inr later) apart =
     changes_made position (change_versions position versions (placed.Put other)) changes put later apart.1

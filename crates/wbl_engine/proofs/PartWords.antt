@@ -20,12 +20,12 @@ pub named_or_not : (i : ℕ) (ended : List EntryNo) → IsNamed i ended ⊎ (IsN
 named_or_not i [] = inr (λ h. h)
 named_or_not i (entry ∷ ended) =
     elim (same_or_other entry.0 i) [
-      inl e ↦ inl (inl e)
-    | inr n ↦
-      elim (named_or_not i ended) [
-        inl h ↦ inl (inr h)
-      | inr none ↦ inr (λ h. elim h [ inl e ↦ n e | inr later ↦ none later ])
-      ]
+      | inl e ↦ inl (inl e)
+      | inr n ↦
+          elim (named_or_not i ended) [
+            | inl h ↦ inl (inr h)
+            | inr none ↦ inr (λ h. elim h [ inl e ↦ n e | inr later ↦ none later ])
+          ]
     ]
 
 pub contains-named : (i : ℕ) (ended : List EntryNo) → Contains (map (λ (entry : EntryNo). entry.0) ended) i → IsNamed i ended
@@ -41,7 +41,7 @@ named-contains i (entry ∷ ended) (inr later) =
 
 part_word : (stamp : ℕ) (part : Part) (image : Image) (word : ℕ)
     → written (part_pairs stamp part) image word
-        ≡ written (end_pairs stamp part.ended.items) (written (puts_pairs stamp part.position (puts_of_part part)) image) word
+    ≡ written (end_pairs stamp part.ended.items) (written (puts_pairs stamp part.position (puts_of_part part)) image) word
 part_word stamp part image word =
     ap (λ (f : ℕ → ℕ). f word) (written-append (puts_pairs stamp part.position (puts_of_part part)) (end_pairs stamp part.ended.items) image)
 
@@ -50,8 +50,8 @@ part_word-other : (stamp : ℕ) (part : Part) (image : Image) (word : ℕ) → (
     → written (part_pairs stamp part) image word ≡ written (puts_pairs stamp part.position (puts_of_part part)) image word
 part_word-other stamp part image word other =
     part_word stamp part image word
-        ∙ written-outside (end_pairs stamp part.ended.items) (written (puts_pairs stamp part.position (puts_of_part part)) image) word
-            (end_pairs-outside stamp part.ended.items word other)
+    ∙ written-outside (end_pairs stamp part.ended.items) (written (puts_pairs stamp part.position (puts_of_part part)) image) word
+    (end_pairs-outside stamp part.ended.items word other)
 
 -- the entry of a put, but for its end word
 part_word-entry : (lines stamp : ℕ) (part : Part) (image : Image) (put : Put) (k : ℕ) → k < 8 → k ≢ 1 → IsAmong put (puts_of_part part)
@@ -59,7 +59,7 @@ part_word-entry : (lines stamp : ℕ) (part : Part) (image : Image) (put : Put) 
     → written (part_pairs stamp part) image (entry_word put.entry.0 k) ≡ get_or (entry_words stamp part.position put) k 0
 part_word-entry lines stamp part image put k below other among placed apart =
     part_word-other stamp part image (entry_word put.entry.0 k) (λ i named e. other (omega (arith, e)))
-        ∙ puts_pairs-entry lines stamp part.position (puts_of_part part) put image k below among placed apart
+    ∙ puts_pairs-entry lines stamp part.position (puts_of_part part) put image k below among placed apart
 
 -- the end word of a put that the part itself did not end
 pub part_word-end_of_put : (lines stamp : ℕ) (part : Part) (image : Image) (put : Put) → (IsNamed put.entry.0 part.ended.items → ⊥)
@@ -67,15 +67,15 @@ pub part_word-end_of_put : (lines stamp : ℕ) (part : Part) (image : Image) (pu
     → written (part_pairs stamp part) image (entry_word put.entry.0 1) ≡ 0
 part_word-end_of_put lines stamp part image put none among placed apart =
     part_word-other stamp part image (entry_word put.entry.0 1)
-        (λ i named e. let same : i ≡ put.entry.0 = omega (arith, e) in none (subst (λ (n : ℕ). IsNamed n part.ended.items) same named))
-        ∙ puts_pairs-entry lines stamp part.position (puts_of_part part) put image 1 (omega arith) among placed apart
+    (λ i named e. let same : i ≡ put.entry.0 = omega (arith, e) in none (subst (λ (n : ℕ). IsNamed n part.ended.items) same named))
+    ∙ puts_pairs-entry lines stamp part.position (puts_of_part part) put image 1 (omega arith) among placed apart
 
 -- the end word of what the part ended
 pub part_word-named : (stamp : ℕ) (part : Part) (image : Image) (i : ℕ) → IsNamed i part.ended.items
     → written (part_pairs stamp part) image (entry_word i 1) ≡ stamp
 part_word-named stamp part image i named =
     part_word stamp part image (entry_word i 1)
-        ∙ end_pairs-named stamp part.ended.items (written (puts_pairs stamp part.position (puts_of_part part)) image) i named
+    ∙ end_pairs-named stamp part.ended.items (written (puts_pairs stamp part.position (puts_of_part part)) image) i named
 
 -- the extent of a put
 part_word-extent : (lines stamp : ℕ) (part : Part) (image : Image) (put : Put) (j : ℕ) → j < 8 * put.extent.lines
@@ -85,7 +85,7 @@ part_word-extent : (lines stamp : ℕ) (part : Part) (image : Image) (put : Put)
 part_word-extent lines stamp part image put j below within among placed apart =
     let at : IsPlaced lines put = among-all (IsPlaced lines) (puts_of_part part) put among placed in
     part_word-other stamp part image (8 * put.extent.first_line + j) (λ i named e. omega (arith, e, within i named, at.above))
-        ∙ puts_pairs-extent lines stamp part.position (puts_of_part part) put image j below among placed apart
+    ∙ puts_pairs-extent lines stamp part.position (puts_of_part part) put image j below among placed apart
 
 -- all of a put
 pub part_words-put : (lines stamp : ℕ) (part : Part) (image : Image) (put : Put) → ((i : ℕ) → IsNamed i part.ended.items → i < entries_of_lines lines)
@@ -93,7 +93,7 @@ pub part_words-put : (lines stamp : ℕ) (part : Part) (image : Image) (put : Pu
     → HasPut (written (part_pairs stamp part) image) stamp part.position put
 part_words-put lines stamp part image put within among placed apart =
     let at : (k : ℕ) → k < 8 → k ≢ 1 → written (part_pairs stamp part) image (entry_word put.entry.0 k) ≡ get_or (entry_words stamp part.position put) k 0 =
-        λ k below other. part_word-entry lines stamp part image put k below other among placed apart in
+    λ k below other. part_word-entry lines stamp part image put k below other among placed apart in
     record {
       begin = at 0 (omega arith) (omega arith);
       position_is = at 2 (omega arith) (omega arith);
@@ -110,10 +110,10 @@ entry_outside : (lines stamp position : ℕ) (puts : List Put) (i k : ℕ) → i
     → AllByRecursion (IsPlaced lines) puts → IsOutside (puts_pairs stamp position puts) (entry_word i k)
 entry_outside lines stamp position puts i k within below none placed =
     puts_pairs-outside stamp position puts (entry_word i k)
-        (λ put among of. omega (arith, of.low, within, (among-all (IsPlaced lines) puts put among placed).above))
-        (λ put among of.
-          let same : put.entry.0 ≡ i = omega (arith, of.low, of.high) in
-          both_ways (is_put_at put.entry.0 puts) (ap (λ (n : ℕ). is_put_at n puts) same ∙ none) (among-is_put_at put puts among))
+    (λ put among of. omega (arith, of.low, within, (among-all (IsPlaced lines) puts put among placed).above))
+    (λ put among of.
+    let same : put.entry.0 ≡ i = omega (arith, of.low, of.high) in
+    both_ways (is_put_at put.entry.0 puts) (ap (λ (n : ℕ). is_put_at n puts) same ∙ none) (among-is_put_at put puts among))
 
 -- an entry where the part puts nothing: all but the end word stays
 pub part_word-kept : (lines stamp : ℕ) (part : Part) (image : Image) (i k : ℕ) → i < entries_of_lines lines → k < 8 → k ≢ 1
@@ -121,8 +121,8 @@ pub part_word-kept : (lines stamp : ℕ) (part : Part) (image : Image) (i k : �
     → written (part_pairs stamp part) image (entry_word i k) ≡ image (entry_word i k)
 part_word-kept lines stamp part image i k within below other none placed =
     part_word-other stamp part image (entry_word i k) (λ n named e. other (omega (arith, e)))
-        ∙ written-outside (puts_pairs stamp part.position (puts_of_part part)) image (entry_word i k)
-            (entry_outside lines stamp part.position (puts_of_part part) i k within below none placed)
+    ∙ written-outside (puts_pairs stamp part.position (puts_of_part part)) image (entry_word i k)
+    (entry_outside lines stamp part.position (puts_of_part part) i k within below none placed)
 
 -- and the end word where the part did not end it
 pub part_word-kept_end : (lines stamp : ℕ) (part : Part) (image : Image) (i : ℕ) → i < entries_of_lines lines → (IsNamed i part.ended.items → ⊥)
@@ -130,9 +130,9 @@ pub part_word-kept_end : (lines stamp : ℕ) (part : Part) (image : Image) (i : 
     → written (part_pairs stamp part) image (entry_word i 1) ≡ image (entry_word i 1)
 part_word-kept_end lines stamp part image i within unnamed none placed =
     part_word-other stamp part image (entry_word i 1)
-        (λ n named e. let same : n ≡ i = omega (arith, e) in unnamed (subst (λ (m : ℕ). IsNamed m part.ended.items) same named))
-        ∙ written-outside (puts_pairs stamp part.position (puts_of_part part)) image (entry_word i 1)
-            (entry_outside lines stamp part.position (puts_of_part part) i 1 within (omega arith) none placed)
+    (λ n named e. let same : n ≡ i = omega (arith, e) in unnamed (subst (λ (m : ℕ). IsNamed m part.ended.items) same named))
+    ∙ written-outside (puts_pairs stamp part.position (puts_of_part part)) image (entry_word i 1)
+    (entry_outside lines stamp part.position (puts_of_part part) i 1 within (omega arith) none placed)
 
 -- a word behind the directory that is of no put's extent
 pub part_word-behind : (lines stamp : ℕ) (part : Part) (image : Image) (word : ℕ) → 8 * first_extent_line lines ≤ word
@@ -141,16 +141,16 @@ pub part_word-behind : (lines stamp : ℕ) (part : Part) (image : Image) (word :
     → written (part_pairs stamp part) image word ≡ image word
 part_word-behind lines stamp part image word behind within other placed =
     part_word-other stamp part image word (λ i named e. omega (arith, e, within i named, behind))
-        ∙ written-outside (puts_pairs stamp part.position (puts_of_part part)) image word
-            (puts_pairs-outside stamp part.position (puts_of_part part) word other
-                (λ put among of. omega (arith, of.high, behind, (among-all (IsPlaced lines) (puts_of_part part) put among placed).entry)))
+    ∙ written-outside (puts_pairs stamp part.position (puts_of_part part)) image word
+    (puts_pairs-outside stamp part.position (puts_of_part part) word other
+    (λ put among of. omega (arith, of.high, behind, (among-all (IsPlaced lines) (puts_of_part part) put among placed).entry)))
 
 -- a word before the directory
 pub part_word-before : (lines stamp : ℕ) (part : Part) (image : Image) (word : ℕ) → word < 64 → AllByRecursion (IsPlaced lines) (puts_of_part part)
     → written (part_pairs stamp part) image word ≡ image word
 part_word-before lines stamp part image word before placed =
     part_word-other stamp part image word (λ i named e. omega (arith, e))
-        ∙ written-outside (puts_pairs stamp part.position (puts_of_part part)) image word
-            (puts_pairs-outside stamp part.position (puts_of_part part) word
-                (λ put among of. omega (arith, of.low, (among-all (IsPlaced lines) (puts_of_part part) put among placed).above))
-                (λ put among of. omega (arith, of.low)))
+    ∙ written-outside (puts_pairs stamp part.position (puts_of_part part)) image word
+    (puts_pairs-outside stamp part.position (puts_of_part part) word
+    (λ put among of. omega (arith, of.low, (among-all (IsPlaced lines) (puts_of_part part) put among placed).above))
+    (λ put among of. omega (arith, of.low)))

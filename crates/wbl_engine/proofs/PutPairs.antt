@@ -27,12 +27,12 @@ pub put_pairs-where : (stamp position : ℕ) (put : Put) (word x : ℕ) → IsSt
     → (IsOfExtent put word) ⊎ (IsOfEntry put word × (get_or (entry_words stamp position put) (word - entry_word put.entry.0 0) 0 ≡ x))
 put_pairs-where stamp position put word x stored =
     elim (IsStored-append (pairs_from (8 * put.extent.first_line) (extent_words put)) (pairs_from (entry_word put.entry.0 0) (entry_words stamp position put)) word x stored) [
-      inl extent ↦
-        let at = IsStored-pairs_from (8 * put.extent.first_line) (extent_words put) word x extent in
-        inl (record { low = at.0; high = omega (arith, at.1, length-packed (version_bytes put) 0 (8 * put.extent.lines)) })
-    | inr entry ↦
-        let at = IsStored-pairs_from (entry_word put.entry.0 0) (entry_words stamp position put) word x entry in
-        inr (record { low = at.0; high = at.1 }, at.2)
+      | inl extent ↦
+          let at = IsStored-pairs_from (8 * put.extent.first_line) (extent_words put) word x extent in
+          inl (record { low = at.0; high = omega (arith, at.1, length-packed (version_bytes put) 0 (8 * put.extent.lines)) })
+      | inr entry ↦
+          let at = IsStored-pairs_from (entry_word put.entry.0 0) (entry_words stamp position put) word x entry in
+          inr (record { low = at.0; high = at.1 }, at.2)
     ]
 
 -- elsewhere it stores nothing
@@ -49,8 +49,8 @@ put_pairs-entry lines stamp position put image k below =
     let entry : List (ℕ × ℕ) = pairs_from (entry_word put.entry.0 0) (entry_words stamp position put) in
     let e : entry_word put.entry.0 0 + k ≡ entry_word put.entry.0 k = omega arith in
     ap (λ (f : ℕ → ℕ). f (entry_word put.entry.0 k)) (written-append extent entry image)
-        ∙ ap (written entry (written extent image)) (sym e)
-        ∙ written-pairs_from (entry_word put.entry.0 0) (entry_words stamp position put) (written extent image) k below
+    ∙ ap (written entry (written extent image)) (sym e)
+    ∙ written-pairs_from (entry_word put.entry.0 0) (entry_words stamp position put) (written extent image) k below
 
 -- its extent
 put_pairs-extent : (lines stamp position : ℕ) (put : Put) (image : Image) (j : ℕ) → IsPlaced lines put → j < 8 * put.extent.lines
@@ -60,12 +60,12 @@ put_pairs-extent lines stamp position put image j at below =
     let entry : List (ℕ × ℕ) = pairs_from (entry_word put.entry.0 0) (entry_words stamp position put) in
     let e : 0 + 8 * j ≡ 8 * j = omega arith in
     ap (λ (f : ℕ → ℕ). f (8 * put.extent.first_line + j)) (written-append extent entry image)
-        ∙ written-outside entry (written extent image) (8 * put.extent.first_line + j)
-            (pairs_from-outside (entry_word put.entry.0 0) (entry_words stamp position put) (8 * put.extent.first_line + j)
-                (inr (omega (arith, at.entry, at.above))))
-        ∙ written-pairs_from (8 * put.extent.first_line) (extent_words put) image j (omega (arith, length-packed (version_bytes put) 0 (8 * put.extent.lines)))
-        ∙ get_or-packed (version_bytes put) 0 (8 * put.extent.lines) j below
-        ∙ ap (word_of_bytes (version_bytes put)) e
+    ∙ written-outside entry (written extent image) (8 * put.extent.first_line + j)
+    (pairs_from-outside (entry_word put.entry.0 0) (entry_words stamp position put) (8 * put.extent.first_line + j)
+    (inr (omega (arith, at.entry, at.above))))
+    ∙ written-pairs_from (8 * put.extent.first_line) (extent_words put) image j (omega (arith, length-packed (version_bytes put) 0 (8 * put.extent.lines)))
+    ∙ get_or-packed (version_bytes put) 0 (8 * put.extent.lines) j below
+    ∙ ap (word_of_bytes (version_bytes put)) e
 
 pub among-all : (P : Put → Type 0) (puts : List Put) (put : Put) → IsAmong put puts → AllByRecursion P puts → P put
 among-all P [] put among all = absurd among
@@ -78,9 +78,9 @@ pub puts_pairs-outside : (stamp position : ℕ) (puts : List Put) (word : ℕ) �
 puts_pairs-outside stamp position [] word extents entries x stored = stored
 puts_pairs-outside stamp position (put ∷ puts) word extents entries x stored =
     elim (IsStored-append (put_pairs stamp position put) (puts_pairs stamp position puts) word x stored) [
-      inl here ↦ put_pairs-outside stamp position put word (extents put (inl refl)) (entries put (inl refl)) x here
-    | inr later ↦
-      puts_pairs-outside stamp position puts word (λ q among. extents q (inr among)) (λ q among. entries q (inr among)) x later
+      | inl here ↦ put_pairs-outside stamp position put word (extents put (inl refl)) (entries put (inl refl)) x here
+      | inr later ↦
+          puts_pairs-outside stamp position puts word (λ q among. extents q (inr among)) (λ q among. entries q (inr among)) x later
     ]
 
 entries_apart : (lines : ℕ) (put other : Put) (k : ℕ) → k < 8 → IsApartFrom put other → IsOfEntry other (entry_word put.entry.0 k) → ⊥
@@ -98,17 +98,17 @@ puts_pairs-entry lines stamp position [] put image k below among placed apart = 
 puts_pairs-entry lines stamp position (other ∷ puts) put image k below (inl here) placed apart =
     let word : ℕ = entry_word other.entry.0 k in
     let head : written (puts_pairs stamp position (other ∷ puts)) image word ≡ get_or (entry_words stamp position other) k 0 =
-        ap (λ (f : ℕ → ℕ). f word) (written-append (put_pairs stamp position other) (puts_pairs stamp position puts) image)
-            ∙ written-outside (puts_pairs stamp position puts) (written (put_pairs stamp position other) image) word
-                (puts_pairs-outside stamp position puts word
-                    (λ q among. entry_below lines other q k below placed.0 (among-all (IsPlaced lines) puts q among placed.1))
-                    (λ q among. entries_apart lines other q k below (among-all (IsApartFrom other) puts q among apart.0)))
-            ∙ put_pairs-entry lines stamp position other image k below in
+    ap (λ (f : ℕ → ℕ). f word) (written-append (put_pairs stamp position other) (puts_pairs stamp position puts) image)
+    ∙ written-outside (puts_pairs stamp position puts) (written (put_pairs stamp position other) image) word
+    (puts_pairs-outside stamp position puts word
+    (λ q among. entry_below lines other q k below placed.0 (among-all (IsPlaced lines) puts q among placed.1))
+    (λ q among. entries_apart lines other q k below (among-all (IsApartFrom other) puts q among apart.0)))
+    ∙ put_pairs-entry lines stamp position other image k below in
     subst (λ (p : Put). written (puts_pairs stamp position (other ∷ puts)) image (entry_word p.entry.0 k) ≡ get_or (entry_words stamp position p) k 0)
-        (sym here) head
+    (sym here) head
 puts_pairs-entry lines stamp position (other ∷ puts) put image k below (inr later) placed apart =
     ap (λ (f : ℕ → ℕ). f (entry_word put.entry.0 k)) (written-append (put_pairs stamp position other) (puts_pairs stamp position puts) image)
-        ∙ puts_pairs-entry lines stamp position puts put (written (put_pairs stamp position other) image) k below later placed.1 apart.1
+    ∙ puts_pairs-entry lines stamp position puts put (written (put_pairs stamp position other) image) k below later placed.1 apart.1
 
 extents_apart : (put other : Put) (j : ℕ) → j < 8 * put.extent.lines → IsApartFrom put other → IsOfExtent other (8 * put.extent.first_line + j) → ⊥
 extents_apart put other j below apart of =
@@ -126,17 +126,17 @@ puts_pairs-extent lines stamp position (other ∷ puts) put image j below (inl h
     let there : j < 8 * other.extent.lines = subst (λ (p : Put). j < 8 * p.extent.lines) here below in
     let word : ℕ = 8 * other.extent.first_line + j in
     let head : written (puts_pairs stamp position (other ∷ puts)) image word ≡ word_of_bytes (version_bytes other) (8 * j) =
-        ap (λ (f : ℕ → ℕ). f word) (written-append (put_pairs stamp position other) (puts_pairs stamp position puts) image)
-            ∙ written-outside (puts_pairs stamp position puts) (written (put_pairs stamp position other) image) word
-                (puts_pairs-outside stamp position puts word
-                    (λ q among. extents_apart other q j there (among-all (IsApartFrom other) puts q among apart.0))
-                    (λ q among. extent_above lines other q j placed.0 (among-all (IsPlaced lines) puts q among placed.1)))
-            ∙ put_pairs-extent lines stamp position other image j placed.0 there in
+    ap (λ (f : ℕ → ℕ). f word) (written-append (put_pairs stamp position other) (puts_pairs stamp position puts) image)
+    ∙ written-outside (puts_pairs stamp position puts) (written (put_pairs stamp position other) image) word
+    (puts_pairs-outside stamp position puts word
+    (λ q among. extents_apart other q j there (among-all (IsApartFrom other) puts q among apart.0))
+    (λ q among. extent_above lines other q j placed.0 (among-all (IsPlaced lines) puts q among placed.1)))
+    ∙ put_pairs-extent lines stamp position other image j placed.0 there in
     subst (λ (p : Put). written (puts_pairs stamp position (other ∷ puts)) image (8 * p.extent.first_line + j) ≡ word_of_bytes (version_bytes p) (8 * j))
-        (sym here) head
+    (sym here) head
 puts_pairs-extent lines stamp position (other ∷ puts) put image j below (inr later) placed apart =
     ap (λ (f : ℕ → ℕ). f (8 * put.extent.first_line + j)) (written-append (put_pairs stamp position other) (puts_pairs stamp position puts) image)
-        ∙ puts_pairs-extent lines stamp position puts put (written (put_pairs stamp position other) image) j below later placed.1 apart.1
+    ∙ puts_pairs-extent lines stamp position puts put (written (put_pairs stamp position other) image) j below later placed.1 apart.1
 
 -- the entry is one of these
 abbrev pub IsNamed : ℕ → List EntryNo → Type 0
@@ -160,7 +160,7 @@ pub end_pairs-named : (stamp : ℕ) (ended : List EntryNo) (image : Image) (i : 
     → written (end_pairs stamp ended) image (entry_word i 1) ≡ stamp
 end_pairs-named stamp ended image i named =
     written-stored (end_pairs stamp ended) image (entry_word i 1) stamp (named-stored stamp ended i named)
-        (λ y stored. (end_pairs-where stamp ended (entry_word i 1) y stored).3)
+    (λ y stored. (end_pairs-where stamp ended (entry_word i 1) y stored).3)
 
 -- every other word stays
 pub end_pairs-outside : (stamp : ℕ) (ended : List EntryNo) (word : ℕ) → ((i : ℕ) → IsNamed i ended → word ≡ entry_word i 1 → ⊥)

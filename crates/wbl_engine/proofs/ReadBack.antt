@@ -48,11 +48,11 @@ id_of-name (Field key field) value fits =
     let high : lengths_word (Field key field) / 65536 ≡ length field = omega (arith, low, both_lengths (Field key field) fits, length-append key field) in
     let bytes : (key ++ field) ++ value ≡ key ++ (field ++ value) = append_assoc key field value in
     ap (λ (n : ℕ). Field (take n ((key ++ field) ++ value)) (take (lengths_word (Field key field) / 65536) (drop n ((key ++ field) ++ value)))) low
-        ∙ ap (λ (n : ℕ). Field (take (length key) ((key ++ field) ++ value)) (take n (drop (length key) ((key ++ field) ++ value)))) high
-        ∙ ap (λ (b : List ℕ). Field (take (length key) b) (take (length field) (drop (length key) b))) bytes
-        ∙ ap (λ (k : List ℕ). Field k (take (length field) (drop (length key) (key ++ (field ++ value))))) (take-append_seam key (field ++ value))
-        ∙ ap (λ (b : List ℕ). Field key (take (length field) b)) (drop-append_seam key (field ++ value))
-        ∙ ap (Field key) (take-append_seam field value)
+    ∙ ap (λ (n : ℕ). Field (take (length key) ((key ++ field) ++ value)) (take n (drop (length key) ((key ++ field) ++ value)))) high
+    ∙ ap (λ (b : List ℕ). Field (take (length key) b) (take (length field) (drop (length key) b))) bytes
+    ∙ ap (λ (k : List ℕ). Field k (take (length field) (drop (length key) (key ++ (field ++ value))))) (take-append_seam key (field ++ value))
+    ∙ ap (λ (b : List ℕ). Field key (take (length field) b)) (drop-append_seam key (field ++ value))
+    ∙ ap (Field key) (take-append_seam field value)
 
 -- the value
 drop-name : (id : RecordId) (value : List ℕ) → length (key_of id) < 65536
@@ -65,9 +65,9 @@ pub entry_bytes-put : (image : Image) (stamp position : ℕ) (put : Put) → IsS
     → entry_bytes image put.entry.0 ≡ length (version_bytes put)
 entry_bytes-put image stamp position put storable has =
     ap (λ (n : ℕ). n % 65536 + n / 65536 + image (entry_word put.entry.0 7)) has.lengths
-        ∙ ap (λ (n : ℕ). lengths_word put.id % 65536 + lengths_word put.id / 65536 + n) has.value_length
-        ∙ ap (λ (n : ℕ). n + length put.value) (both_lengths put.id storable.key)
-        ∙ sym (length-append (name_bytes put.id) put.value)
+    ∙ ap (λ (n : ℕ). lengths_word put.id % 65536 + lengths_word put.id / 65536 + n) has.value_length
+    ∙ ap (λ (n : ℕ). n + length put.value) (both_lengths put.id storable.key)
+    ∙ sym (length-append (name_bytes put.id) put.value)
 
 lines_enough : (bytes : ℕ) → bytes ≤ 64 * lines_of_bytes bytes
 lines_enough bytes =
@@ -77,7 +77,7 @@ lines_enough bytes =
 pub put_enough : (put : Put) → HasItsLines put → length (version_bytes put) ≤ 64 * put.extent.lines
 put_enough put fits =
     let bytes : length (version_bytes put) ≡ bytes_of_id put.id + length put.value =
-        length-append (name_bytes put.id) put.value ∙ ap (λ (n : ℕ). n + length put.value) (length-name_bytes put.id) in
+    length-append (name_bytes put.id) put.value ∙ ap (λ (n : ℕ). n + length put.value) (length-name_bytes put.id) in
     omega (arith, lines_enough (bytes_of_id put.id + length put.value), fits)
 
 -- the extent is read back
@@ -85,13 +85,13 @@ bytes_at-put : (image : Image) (stamp position : ℕ) (put : Put) → IsStorable
     → bytes_at image (image (entry_word put.entry.0 3)) (entry_bytes image put.entry.0) ≡ version_bytes put
 bytes_at-put image stamp position put storable fits has =
     ap (λ (line : ℕ). bytes_at image line (entry_bytes image put.entry.0)) has.first_line
-        ∙ ap (bytes_at image put.extent.first_line) (entry_bytes-put image stamp position put storable has)
-        ∙ bytes_at-packed image put.extent.first_line (version_bytes put) storable.bytes
-            (λ j below. has.extent j (omega (arith, put_enough put fits)))
+    ∙ ap (bytes_at image put.extent.first_line) (entry_bytes-put image stamp position put storable has)
+    ∙ bytes_at-packed image put.extent.first_line (version_bytes put) storable.bytes
+    (λ j below. has.extent j (omega (arith, put_enough put fits)))
 
 version_of-name : (position first_line lines : ℕ) (id : RecordId) (value : List ℕ) (ended : Bool) → length (key_of id) < 65536
     → version_of position first_line lines (kind_number id) (lengths_word id) (length value) (name_bytes id ++ value) ended
-        ≡ record { id = id; value = value; position = position; first_line = first_line; lines = lines; is_ended = ended }
+    ≡ record { id = id; value = value; position = position; first_line = first_line; lines = lines; is_ended = ended }
 version_of-name position first_line lines id value ended fits =
     let named = id_of-name id value fits in
     let rest = drop-name id value fits in
@@ -109,5 +109,5 @@ version_in_entry-put image stamp position put ended storable fits has =
     let at6 = has.lengths in
     let at7 = has.value_length in
     let same : version_in_entry image put.entry.0 ended
-        ≡ version_of position put.extent.first_line put.extent.lines (kind_number put.id) (lengths_word put.id) (length put.value) (version_bytes put) ended = cc in
+    ≡ version_of position put.extent.first_line put.extent.lines (kind_number put.id) (lengths_word put.id) (length put.value) (version_bytes put) ended = cc in
     same ∙ version_of-name position put.extent.first_line put.extent.lines put.id put.value ended storable.key

@@ -35,13 +35,13 @@ slot_word : (next : Record) (word : ℕ) → record_word next.number 0 ≤ word 
 slot_word next word low e = omega (arith, low, e)
 
 -- where a record's body was stored
-record_is : (r : Record) (image : Image) → image root_word ≡ r.number
+pub record_is : (r : Record) (image : Image) → image root_word ≡ r.number
     → ((k : ℕ) → k < 24 → image (8 * slot_line r.number + k) ≡ get_or (record_words r) k 0) → HasRecord r image
 record_is r image root each =
     record {
       root = root;
       words = HasWords-at image (record_word r.number 0) (record_words r)
-        (λ k below.
+          (λ k below.
           let e : record_word r.number 0 + k ≡ 8 * slot_line r.number + k = omega arith in
           ap image e ∙ each k (omega (arith, below, length-record_words r)));
     }
@@ -53,24 +53,24 @@ body_certain {a} {b} next body k below y may =
     let word : ℕ = 8 * slot_line next.number + k in
     let line : IsLine (body_lines next) (word / 8) = IsLine-lines_from (slot_line next.number) 3 (word / 8) (omega arith) (omega arith) in
     (body.certain word line).only y may
-        ∙ written-pairs_from (8 * slot_line next.number) (record_words next) (image_of a.words) k (omega (arith, below, length-record_words next))
+    ∙ written-pairs_from (8 * slot_line next.number) (record_words next) (image_of a.words) k (omega (arith, below, length-record_words next))
 
 -- after the second the record stands
 root_durable : {a b c : State} (next : Record) → Staged a b (body_pairs next) (body_lines next) → Staged b c (root_pairs next) (0 ∷ [])
     → (image : Image) → IsImage c.words image → HasRecord next image
 root_durable {a} {b} {c} next body root image is =
     record_is next image
-        ((root.certain root_word (inl refl)).only (image root_word) (is root_word))
-        (λ k below.
-          let word : ℕ = 8 * slot_line next.number + k in
-          body_certain next body k below (image word)
-            (root.elsewhere word (image word) (root_outside next word (λ e. omega (arith, e))) (is word)))
+    ((root.certain root_word (inl refl)).only (image root_word) (is root_word))
+    (λ k below.
+    let word : ℕ = 8 * slot_line next.number + k in
+    body_certain next body k below (image word)
+    (root.elsewhere word (image word) (root_outside next word (λ e. omega (arith, e))) (is word)))
 
 elsewhere_kept : {a b c : State} (next : Record) → Staged a b (body_pairs next) (body_lines next) → Staged b c (root_pairs next) (0 ∷ [])
     → (word y : ℕ) → (IsRecordWord next.number word → ⊥) → MayBe (c.words word) y → MayBe (a.words word) y
 elsewhere_kept {a} {b} {c} next body root word y other may =
     body.elsewhere word y (body_outside next word other)
-        (root.elsewhere word y (root_outside next word (λ e. other (inl e))) may)
+    (root.elsewhere word y (root_outside next word (λ e. other (inl e))) may)
 
 newest_kept : (a b c : State) (next : Record) (word : ℕ)
     → ((w : ℕ) → image_of b.words w ≡ written (body_pairs next) (image_of a.words) w)
@@ -78,7 +78,7 @@ newest_kept : (a b c : State) (next : Record) (word : ℕ)
     → (IsRecordWord next.number word → ⊥) → image_of c.words word ≡ image_of a.words word
 newest_kept a b c next word body root other =
     root word ∙ written-outside (root_pairs next) (image_of b.words) word (root_outside next word (λ e. other (inl e)))
-        ∙ body word ∙ written-outside (body_pairs next) (image_of a.words) word (body_outside next word other)
+    ∙ body word ∙ written-outside (body_pairs next) (image_of a.words) word (body_outside next word other)
 
 pub recorded : {a b c : State} (next : Record) → Staged a b (body_pairs next) (body_lines next) → Staged b c (root_pairs next) (0 ∷ [])
     → IsRecorded a c next
@@ -96,7 +96,7 @@ pub body_fault : {a b : State} (next : Record) → StageFailed a b (body_pairs n
 body_fault {a} {b} next body =
     record {
       newest = λ word other.
-        body.newest word ∙ written-outside (body_pairs next) (image_of a.words) word (body_outside next word other);
+          body.newest word ∙ written-outside (body_pairs next) (image_of a.words) word (body_outside next word other);
       failures = omega (arith, body.failures);
       stays = body.stays;
     }
@@ -116,10 +116,10 @@ current_outside : (current next : Record) (word : ℕ) → next.number ≡ curre
     → word < record_word current.number 24 → IsOutside (body_pairs next) word
 current_outside current next word e low high =
     elim (cases_lt word (8 * slot_line next.number)) [
-      inl before ↦ pairs_from-outside (8 * slot_line next.number) (record_words next) word (inl before)
-    | inr behind ↦
-      pairs_from-outside (8 * slot_line next.number) (record_words next) word
-        (inr (omega (arith, e, low, high, behind, length-record_words next)))
+      | inl before ↦ pairs_from-outside (8 * slot_line next.number) (record_words next) word (inl before)
+      | inr behind ↦
+          pairs_from-outside (8 * slot_line next.number) (record_words next) word
+          (inr (omega (arith, e, low, high, behind, length-record_words next)))
     ]
 
 -- a base that has the current record, and an image that agrees with it on the words of the record
@@ -133,17 +133,17 @@ body_leaves : (words : ℕ → Word) (current next : Record) (image : Image) →
     → IsPartlyStored (body_pairs next) words image → IsEitherRecord words current next image
 body_leaves words current next image succeeded partly =
     let mix : IsMixed words (λ word. IsStored (body_pairs next) word (image word)) image =
-        mixed words (λ word. IsStored (body_pairs next) word (image word)) image partly in
+    mixed words (λ word. IsStored (body_pairs next) word (image word)) image partly in
     record {
       either = inl (current_stays words current next mix.base image succeeded mix.is
-        (elim (mix.same root_word) [ inl e ↦ e | inr stored ↦ absurd (root_before next (image root_word) stored) ])
-        (λ word low high.
+          (elim (mix.same root_word) [ inl e ↦ e | inr stored ↦ absurd (root_before next (image root_word) stored) ])
+          (λ word low high.
           elim (mix.same word) [
-            inl e ↦ e
-          | inr stored ↦ absurd (current_outside current next word succeeded.number low high (image word) stored)
+            | inl e ↦ e
+            | inr stored ↦ absurd (current_outside current next word succeeded.number low high (image word) stored)
           ]));
       elsewhere = λ word other.
-        elim (partly word) [ inl may ↦ may | inr stored ↦ absurd (body_outside next word other (image word) stored) ];
+          elim (partly word) [ inl may ↦ may | inr stored ↦ absurd (body_outside next word other (image word) stored) ];
     }
 
 -- while the root is stored, the body is certain
@@ -151,21 +151,21 @@ root_leaves : {a b : State} (current next : Record) (image : Image) → IsSuccee
     → Staged a b (body_pairs next) (body_lines next) → IsPartlyStored (root_pairs next) b.words image → IsEitherRecord a.words current next image
 root_leaves {a} {b} current next image succeeded body partly =
     let may_b : (word : ℕ) → word ≢ root_word → MayBe (b.words word) (image word) =
-        λ word other. elim (partly word) [ inl may ↦ may | inr stored ↦ absurd (other (root_stored next word (image word) stored).0) ] in
+    λ word other. elim (partly word) [ inl may ↦ may | inr stored ↦ absurd (other (root_stored next word (image word) stored).0) ] in
     let may_a : (word : ℕ) → word ≢ root_word → IsOutside (body_pairs next) word → MayBe (a.words word) (image word) =
-        λ word other out. body.elsewhere word (image word) out (may_b word other) in
+    λ word other out. body.elsewhere word (image word) out (may_b word other) in
     record {
       either =
-        elim (partly root_word) [
-          inl may ↦
-            inl (root_current current next image succeeded body
-              (body.elsewhere root_word (image root_word) (root_before next) may) may_a)
-        | inr stored ↦
-            inr (record_is next image (root_stored next root_word (image root_word) stored).1
-              (λ k below.
+          elim (partly root_word) [
+            | inl may ↦
+                inl (root_current current next image succeeded body
+                (body.elsewhere root_word (image root_word) (root_before next) may) may_a)
+            | inr stored ↦
+                inr (record_is next image (root_stored next root_word (image root_word) stored).1
+                (λ k below.
                 body_certain next body k below (image (8 * slot_line next.number + k))
-                  (may_b (8 * slot_line next.number + k) (λ e. omega (arith, e)))))
-        ];
+                (may_b (8 * slot_line next.number + k) (λ e. omega (arith, e)))))
+          ];
       elsewhere = λ word other. may_a word (λ e. other (inl e)) (body_outside next word other);
     }
   where
@@ -175,23 +175,23 @@ root_leaves {a} {b} current next image succeeded body partly =
     root_current {a} {b} current next image succeeded body root may_a =
         let Q : ℕ → Type 0 = λ word. (x : ℕ) × IsStored (body_pairs next) word x in
         let which : (word : ℕ) → MayBe (a.words word) (image word) ⊎ Q word =
-            λ word.
-              elim (stored_or_outside (body_pairs next) word) [
-                inl stored ↦ inr stored
-              | inr out ↦
-                elim (same_or_other word root_word) [
-                  inl e ↦ inl (subst (λ (w : ℕ). MayBe (a.words w) (image w)) (sym e) root)
+        λ word.
+        elim (stored_or_outside (body_pairs next) word) [
+          | inl stored ↦ inr stored
+          | inr out ↦
+              elim (same_or_other word root_word) [
+                | inl e ↦ inl (subst (λ (w : ℕ). MayBe (a.words w) (image w)) (sym e) root)
                 | inr other ↦ inl (may_a word other out)
-                ]
-              ] in
+              ]
+        ] in
         let mix : IsMixed a.words Q image = mixed a.words Q image which in
         current_stays a.words current next mix.base image succeeded mix.is
-            (elim (mix.same root_word) [ inl e ↦ e | inr stored ↦ absurd (root_before next stored.0 stored.1) ])
-            (λ word low high.
-              elim (mix.same word) [
-                inl e ↦ e
-              | inr stored ↦ absurd (current_outside current next word succeeded.number low high stored.0 stored.1)
-              ])
+        (elim (mix.same root_word) [ inl e ↦ e | inr stored ↦ absurd (root_before next stored.0 stored.1) ])
+        (λ word low high.
+        elim (mix.same word) [
+          | inl e ↦ e
+          | inr stored ↦ absurd (current_outside current next word succeeded.number low high stored.0 stored.1)
+        ])
 
 -- Until the first fence.
 pub body_moments : {a b : State} (current next : Record) → IsSucceeded a.words current next → LeavesOnly a b (IsPartlyStored (body_pairs next) a.words)
@@ -204,7 +204,7 @@ pub root_moments : {a b c : State} (current next : Record) → IsSucceeded a.wor
     → LeavesOnly b c (IsPartlyStored (root_pairs next) b.words) → LeavesOnly a c (IsEitherRecord a.words current next)
 root_moments {a} {b} {c} current next succeeded body moments =
     LeavesOnly-then (body_moments current next succeeded body.moments)
-        (LeavesOnly-weaken (IsEitherRecord a.words current next) (λ image partly. root_leaves current next image succeeded body partly) moments)
+    (LeavesOnly-weaken (IsEitherRecord a.words current next) (λ image partly. root_leaves current next image succeeded body partly) moments)
 
 -- the words that were stored are those of the record
 pub staged_body : {a b : State} (next : Record) (words : List ℕ) → words ≡ record_words next

@@ -32,12 +32,12 @@ pub keeps_old : (r : Record) (d : State) (count : ℕ) (puts : List Put) (pairs 
 keeps_old r d count puts pairs image rest staging few over recorded =
     record {
       superblock = HasSuperblock-same d.lines (image_of d.words) image
-        (λ word before.
+          (λ word before.
           elim (over word (inl before)) [
-            inl same ↦ same
-          | inr stored ↦ absurd (staging_before staging word (image word) (omega (arith, before)) stored)
+            | inl same ↦ same
+            | inr stored ↦ absurd (staging_before staging word (image word) (omega (arith, before)) stored)
           ])
-        rest.whole.superblock;
+          rest.whole.superblock;
       has_record = recorded;
       versions = λ i within. staged_same staging over i within ∙ sym (versions-within r d i within);
       begins = λ i within. omega (arith, staged_begins staging over i within, rest.sound.limit);
@@ -49,8 +49,8 @@ pub staged_over : (r : Record) (d : State) (pairs : List (ℕ × ℕ)) (image : 
     → IsStagedOver r d.lines (image_of d.words) pairs image
 staged_over r d pairs image rest partly word matters =
     elim (partly word) [
-      inl may ↦ inl ((rest.certain word matters).only (image word) may)
-    | inr stored ↦ inr stored
+      | inl may ↦ inl ((rest.certain word matters).only (image word) may)
+      | inr stored ↦ inr stored
     ]
 
 -- and the record stands
@@ -59,11 +59,11 @@ staged_record : (r : Record) (d : State) (count : ℕ) (puts : List Put) (pairs 
 staged_record r d count puts pairs image rest staging partly =
     let mix : IsMixed d.words (λ word. IsStored pairs word (image word)) image = mixed d.words (λ word. IsStored pairs word (image word)) image partly in
     let same : (word : ℕ) → word < 64 → image word ≡ mix.base word =
-        λ word before.
-          elim (mix.same word) [
-            inl e ↦ e
-          | inr stored ↦ absurd (staging_before staging word (image word) before stored)
-          ] in
+    λ word before.
+    elim (mix.same word) [
+      | inl e ↦ e
+      | inr stored ↦ absurd (staging_before staging word (image word) before stored)
+    ] in
     HasRecord-same r mix.base image (same root_word (omega arith)) (λ word low high. same word (omega (arith, high))) (rest.recorded mix.base mix.is)
 
 -- Until the record is written, each crash leaves the old contents.
@@ -72,4 +72,4 @@ pub stage_keeps : (r : Record) (d : State) (count : ℕ) (puts : List Put) (pair
     → Keeps (contents_of r d) image
 stage_keeps r d count puts pairs image rest staging few partly =
     keeps_old r d count puts pairs image rest staging few (staged_over r d pairs image rest partly)
-        (staged_record r d count puts pairs image rest staging partly)
+    (staged_record r d count puts pairs image rest staging partly)

@@ -31,9 +31,9 @@ pub staging_before : {r : Record} {lines count : ℕ} {base : Image} {versions :
     → IsStaging r lines count base versions puts pairs → (word x : ℕ) → word < 64 → IsStored pairs word x → ⊥
 staging_before {r} {lines} {count} {base} {versions} {puts} {pairs} staging word x before stored =
     elim (staging.by word x stored) [
-      inl extent ↦ omega (arith, extent.of.low, (among-all (IsPlaced lines) puts extent.put extent.among staging.stored.placed).above)
-    | inr (inl entry) ↦ omega (arith, entry.of.low)
-    | inr (inr end) ↦ omega (arith, end.word_is)
+      | inl extent ↦ omega (arith, extent.of.low, (among-all (IsPlaced lines) puts extent.put extent.among staging.stored.placed).above)
+      | inr (inl entry) ↦ omega (arith, entry.of.low)
+      | inr (inr end) ↦ omega (arith, end.word_is)
     ]
 
 -- what is stored at a word of entry i
@@ -53,35 +53,35 @@ stored_at : {r : Record} {lines count : ℕ} {base : Image} {versions : Versions
     → IsStoredAt r count base versions puts i k x
 stored_at {r} {lines} {count} {base} {versions} {puts} {pairs} staging i k x within below stored =
     elim (staging.by (entry_word i k) x stored) [
-      inl extent ↦
-        absurd (omega (arith, extent.of.low, within, below, (among-all (IsPlaced lines) puts extent.put extent.among staging.stored.placed).above))
-    | inr (inl entry) ↦
-        let same : entry.put.entry.0 ≡ i = omega (arith, entry.of.low, entry.of.high, below) in
-        let place : entry_word i k - entry_word entry.put.entry.0 0 ≡ k = omega (arith, same) in
-        let value : get_or (entry_words entry.begin entry.position entry.put) k 0 ≡ x =
-            ap (λ (n : ℕ). get_or (entry_words entry.begin entry.position entry.put) n 0) (sym place) ∙ entry.value in
-        record {
-          of_put = true;
-          free = λ e. ap (λ (n : ℕ). base (entry_word n 0)) (sym same) ∙ (among-all (IsReady versions base) puts entry.put entry.among staging.stored.ready).free;
-          begin = λ e zeroth.
-            let is : entry.begin ≡ x = ap (λ (n : ℕ). get_or (entry_words entry.begin entry.position entry.put) n 0) (sym zeroth) ∙ value in
-            (omega (arith, is, entry.low), omega (arith, is, entry.high));
-          end = λ e first. sym (ap (λ (n : ℕ). get_or (entry_words entry.begin entry.position entry.put) n 0) (sym first) ∙ value);
-          only_end = λ e. absurd (cc);
-          stamp = λ e. absurd (cc);
-          live = λ e. absurd (cc);
-        }
-    | inr (inr end) ↦
-        let same : end.entry ≡ i = omega (arith, end.word_is, below) in
-        record {
-          of_put = false;
-          free = λ e. absurd (cc);
-          begin = λ e. absurd (cc);
-          end = λ e. absurd (cc);
-          only_end = λ e. omega (arith, end.word_is, below);
-          stamp = λ e. (omega (arith, end.low), omega (arith, end.high));
-          live = λ e. subst (λ (n : ℕ). IsTrue (is_live_version (versions n) || is_put_at n puts)) same end.live;
-        }
+      | inl extent ↦
+          absurd (omega (arith, extent.of.low, within, below, (among-all (IsPlaced lines) puts extent.put extent.among staging.stored.placed).above))
+      | inr (inl entry) ↦
+          let same : entry.put.entry.0 ≡ i = omega (arith, entry.of.low, entry.of.high, below) in
+          let place : entry_word i k - entry_word entry.put.entry.0 0 ≡ k = omega (arith, same) in
+          let value : get_or (entry_words entry.begin entry.position entry.put) k 0 ≡ x =
+          ap (λ (n : ℕ). get_or (entry_words entry.begin entry.position entry.put) n 0) (sym place) ∙ entry.value in
+          record {
+            of_put = true;
+            free = λ e. ap (λ (n : ℕ). base (entry_word n 0)) (sym same) ∙ (among-all (IsReady versions base) puts entry.put entry.among staging.stored.ready).free;
+            begin = λ e zeroth.
+                let is : entry.begin ≡ x = ap (λ (n : ℕ). get_or (entry_words entry.begin entry.position entry.put) n 0) (sym zeroth) ∙ value in
+                (omega (arith, is, entry.low), omega (arith, is, entry.high));
+            end = λ e first. sym (ap (λ (n : ℕ). get_or (entry_words entry.begin entry.position entry.put) n 0) (sym first) ∙ value);
+            only_end = λ e. absurd (cc);
+            stamp = λ e. absurd (cc);
+            live = λ e. absurd (cc);
+          }
+      | inr (inr end) ↦
+          let same : end.entry ≡ i = omega (arith, end.word_is, below) in
+          record {
+            of_put = false;
+            free = λ e. absurd (cc);
+            begin = λ e. absurd (cc);
+            end = λ e. absurd (cc);
+            only_end = λ e. omega (arith, end.word_is, below);
+            stamp = λ e. (omega (arith, end.low), omega (arith, end.high));
+            live = λ e. subst (λ (n : ℕ). IsTrue (is_live_version (versions n) || is_put_at n puts)) same end.live;
+          }
     ]
 
 directory_matters : (r : Record) (lines : ℕ) (base : Image) (i k : ℕ) → i < entries_of_lines lines → k < 8 → Matters r lines base (entry_word i k)
@@ -91,16 +91,16 @@ directory_matters r lines base i k within below = inr (inl (omega arith, omega (
 pub staged_begin : {r : Record} {lines count : ℕ} {base image : Image} {versions : Versions} {puts : List Put} {pairs : List (ℕ × ℕ)}
     → IsStaging r lines count base versions puts pairs → IsStagedOver r lines base pairs image → (i : ℕ) → i < entries_of_lines lines
     → (image (entry_word i 0) ≡ base (entry_word i 0))
-        ⊎ ((base (entry_word i 0) ≡ 0) × (r.cp < image (entry_word i 0)) × (image (entry_word i 0) ≤ r.cp + count))
+    ⊎ ((base (entry_word i 0) ≡ 0) × (r.cp < image (entry_word i 0)) × (image (entry_word i 0) ≤ r.cp + count))
 staged_begin {r} {lines} {count} {base} {image} {versions} {puts} {pairs} staging over i within =
     elim (over (entry_word i 0) (directory_matters r lines base i 0 within (omega arith))) [
-      inl same ↦ inl same
-    | inr stored ↦
-      let at = stored_at staging i 0 (image (entry_word i 0)) within (omega arith) stored in
-      elim (cases_Bool at.of_put) [
-        inl put ↦ inr (at.free put, (at.begin put refl).0, (at.begin put refl).1)
-      | inr end ↦ absurd (omega (arith, at.only_end end))
-      ]
+      | inl same ↦ inl same
+      | inr stored ↦
+          let at = stored_at staging i 0 (image (entry_word i 0)) within (omega arith) stored in
+          elim (cases_Bool at.of_put) [
+            | inl put ↦ inr (at.free put, (at.begin put refl).0, (at.begin put refl).1)
+            | inr end ↦ absurd (omega (arith, at.only_end end))
+          ]
     ]
 
 -- a begun entry is not that of a put
@@ -108,12 +108,12 @@ begun_no_put : {r : Record} {lines count : ℕ} {base : Image} {versions : Versi
     → IsStaging r lines count base versions puts pairs → (i : ℕ) → counts r (base (entry_word i 0)) ≡ true → is_put_at i puts ≡ false
 begun_no_put {r} {lines} {count} {base} {versions} {puts} {pairs} staging i begun =
     elim (cases_Bool (is_put_at i puts)) [
-      inl put ↦
-        let at = is_put_at-among i puts put in
-        let free : base (entry_word i 0) ≡ 0 =
-            ap (λ (n : ℕ). base (entry_word n 0)) at.2 ∙ (among-all (IsReady versions base) puts at.0 at.1 staging.stored.ready).free in
-        absurd (omega (arith, free, (counts-below r (base (entry_word i 0)) begun).0))
-    | inr none ↦ none
+      | inl put ↦
+          let at = is_put_at-among i puts put in
+          let free : base (entry_word i 0) ≡ 0 =
+          ap (λ (n : ℕ). base (entry_word n 0)) at.2 ∙ (among-all (IsReady versions base) puts at.0 at.1 staging.stored.ready).free in
+          absurd (omega (arith, free, (counts-below r (base (entry_word i 0)) begun).0))
+      | inr none ↦ none
     ]
 
 -- what else a begun entry says stays, but for the end
@@ -122,13 +122,13 @@ staged_word : {r : Record} {lines count : ℕ} {base image : Image} {versions : 
     → k < 8 → k ≢ 1 → counts r (base (entry_word i 0)) ≡ true → image (entry_word i k) ≡ base (entry_word i k)
 staged_word {r} {lines} {count} {base} {image} {versions} {puts} {pairs} staging over i k within below other begun =
     elim (over (entry_word i k) (directory_matters r lines base i k within below)) [
-      inl same ↦ same
-    | inr stored ↦
-      let at = stored_at staging i k (image (entry_word i k)) within below stored in
-      elim (cases_Bool at.of_put) [
-        inl put ↦ absurd (omega (arith, at.free put, (counts-below r (base (entry_word i 0)) begun).0))
-      | inr end ↦ absurd (other (at.only_end end))
-      ]
+      | inl same ↦ same
+      | inr stored ↦
+          let at = stored_at staging i k (image (entry_word i k)) within below stored in
+          elim (cases_Bool at.of_put) [
+            | inl put ↦ absurd (omega (arith, at.free put, (counts-below r (base (entry_word i 0)) begun).0))
+            | inr end ↦ absurd (other (at.only_end end))
+          ]
     ]
 
 version_begun : {r : Record} {lines : ℕ} {base : Image} {versions : Versions} → Fits r lines base versions → (i : ℕ) → i < entries_of_lines lines
@@ -142,19 +142,19 @@ staged_end : {r : Record} {lines count : ℕ} {base image : Image} {versions : V
     → counts r (base (entry_word i 0)) ≡ true → counts r (image (entry_word i 1)) ≡ counts r (base (entry_word i 1))
 staged_end {r} {lines} {count} {base} {image} {versions} {puts} {pairs} staging over i within begun =
     elim (over (entry_word i 1) (directory_matters r lines base i 1 within (omega arith))) [
-      inl same ↦ ap (counts r) same
-    | inr stored ↦
-      let at = stored_at staging i 1 (image (entry_word i 1)) within (omega arith) stored in
-      elim (cases_Bool at.of_put) [
-        inl put ↦ absurd (omega (arith, at.free put, (counts-below r (base (entry_word i 0)) begun).0))
-      | inr end ↦
-        let live : not (counts r (base (entry_word i 1))) ≡ true =
-            elim (or_cases (is_live_version (versions i)) (is_put_at i puts) (at.live end)) [
-              inl now ↦ sym (ap is_live_version (version_begun staging.fits i within begun)) ∙ now
-            | inr put ↦ absurd (both_ways (is_put_at i puts) (begun_no_put staging i begun) put)
-            ] in
-        counts-above r (image (entry_word i 1)) (at.stamp end).0 ∙ sym (not-true (counts r (base (entry_word i 1))) live)
-      ]
+      | inl same ↦ ap (counts r) same
+      | inr stored ↦
+          let at = stored_at staging i 1 (image (entry_word i 1)) within (omega arith) stored in
+          elim (cases_Bool at.of_put) [
+            | inl put ↦ absurd (omega (arith, at.free put, (counts-below r (base (entry_word i 0)) begun).0))
+            | inr end ↦
+                let live : not (counts r (base (entry_word i 1))) ≡ true =
+                elim (or_cases (is_live_version (versions i)) (is_put_at i puts) (at.live end)) [
+                  | inl now ↦ sym (ap is_live_version (version_begun staging.fits i within begun)) ∙ now
+                  | inr put ↦ absurd (both_ways (is_put_at i puts) (begun_no_put staging i begun) put)
+                ] in
+                counts-above r (image (entry_word i 1)) (at.stamp end).0 ∙ sym (not-true (counts r (base (entry_word i 1))) live)
+          ]
     ]
 
 -- nor is the extent touched
@@ -164,20 +164,20 @@ staged_extent : {r : Record} {lines count : ℕ} {base image : Image} {versions 
 staged_extent {r} {lines} {count} {base} {image} {versions} {puts} {pairs} staging over i within begun word at =
     let place : IsInPlace lines base i = staging.fits.in_place i within begun in
     elim (over word (inr (inr (i, within, begun, at)))) [
-      inl same ↦ same
-    | inr stored ↦
-      elim (staging.by word (image word) stored) [
-        inl extent ↦
-          elim ((among-all (IsReady versions base) puts extent.put extent.among staging.stored.ready).lines i (version_in r base i)
-              (version_begun staging.fits i within begun)) [
-            inl first ↦ absurd (omega (arith, first, extent.of.high, at.low))
-          | inr second ↦ absurd (omega (arith, second, extent.of.low, at.high))
+      | inl same ↦ same
+      | inr stored ↦
+          elim (staging.by word (image word) stored) [
+            | inl extent ↦
+                elim ((among-all (IsReady versions base) puts extent.put extent.among staging.stored.ready).lines i (version_in r base i)
+                (version_begun staging.fits i within begun)) [
+                  | inl first ↦ absurd (omega (arith, first, extent.of.high, at.low))
+                  | inr second ↦ absurd (omega (arith, second, extent.of.low, at.high))
+                ]
+            | inr (inl entry) ↦
+                absurd (omega (arith, entry.of.high, at.low, place.above, (among-all (IsPlaced lines) puts entry.put entry.among staging.stored.placed).entry))
+            | inr (inr end) ↦
+                absurd (omega (arith, end.word_is, at.low, place.above, live_within staging end.entry end.live))
           ]
-      | inr (inl entry) ↦
-          absurd (omega (arith, entry.of.high, at.low, place.above, (among-all (IsPlaced lines) puts entry.put entry.among staging.stored.placed).entry))
-      | inr (inr end) ↦
-          absurd (omega (arith, end.word_is, at.low, place.above, live_within staging end.entry end.live))
-      ]
     ]
   where
     live_within : {r : Record} {lines count : ℕ} {base : Image} {versions : Versions} {puts : List Put} {pairs : List (ℕ × ℕ)}
@@ -185,16 +185,16 @@ staged_extent {r} {lines} {count} {base} {image} {versions} {puts} {pairs} stagi
         → i < entries_of_lines lines
     live_within {r} {lines} {count} {base} {versions} {puts} {pairs} staging i live =
         elim (or_cases (is_live_version (versions i)) (is_put_at i puts) live) [
-          inl now ↦
-            elim (cases_lt i (entries_of_lines lines)) [
-              inl below ↦ below
-            | inr beyond ↦
-              let none : is_live_version (versions i) ≡ false = ap is_live_version (staging.fits.beyond i beyond) in
-              absurd (both_ways (is_live_version (versions i)) none now)
-            ]
-        | inr put ↦
-            let at = is_put_at-among i puts put in
-            omega (arith, at.2, (among-all (IsPlaced lines) puts at.0 at.1 staging.stored.placed).entry)
+          | inl now ↦
+              elim (cases_lt i (entries_of_lines lines)) [
+                | inl below ↦ below
+                | inr beyond ↦
+                    let none : is_live_version (versions i) ≡ false = ap is_live_version (staging.fits.beyond i beyond) in
+                    absurd (both_ways (is_live_version (versions i)) none now)
+              ]
+          | inr put ↦
+              let at = is_put_at-among i puts put in
+              omega (arith, at.2, (among-all (IsPlaced lines) puts at.0 at.1 staging.stored.placed).entry)
         ]
 
 staged_entry : {r : Record} {lines count : ℕ} {base image : Image} {versions : Versions} {puts : List Put} {pairs : List (ℕ × ℕ)}
@@ -205,7 +205,7 @@ staged_entry {r} {lines} {count} {base} {image} {versions} {puts} {pairs} stagin
     record {
       words = λ k low high. staged_word staging over i k within high (omega (arith, low)) begun;
       extent = λ j below.
-        staged_extent staging over i within begun (8 * base (entry_word i 3) + j)
+          staged_extent staging over i within begun (8 * base (entry_word i 3) + j)
           (record { low = omega arith; high = omega (arith, below, place.enough) });
     }
 
@@ -215,20 +215,20 @@ pub staged_same : {r : Record} {lines count : ℕ} {base image : Image} {version
     → version_at r image i ≡ version_at r base i
 staged_same {r} {lines} {count} {base} {image} {versions} {puts} {pairs} staging over i within =
     elim (cases_Bool (counts r (base (entry_word i 0)))) [
-      inl begun ↦
-        let begin : counts r (image (entry_word i 0)) ≡ true =
-            ap (counts r) (staged_word staging over i 0 within (omega arith) (omega arith) begun) ∙ begun in
-        let now : version_in r image i ≡ version_in r base i =
-            version_in_entry-same base image i (counts r (image (entry_word i 1))) (staged_entry staging over i within begun)
-                ∙ ap (version_in_entry base i) (staged_end staging over i within begun) in
-        cond-true _ _ _ begin ∙ ap Some now ∙ sym (cond-true _ _ _ begun)
-    | inr none ↦
-        let begin : counts r (image (entry_word i 0)) ≡ false =
-            elim (staged_begin staging over i within) [
-              inl same ↦ ap (counts r) same ∙ none
+      | inl begun ↦
+          let begin : counts r (image (entry_word i 0)) ≡ true =
+          ap (counts r) (staged_word staging over i 0 within (omega arith) (omega arith) begun) ∙ begun in
+          let now : version_in r image i ≡ version_in r base i =
+          version_in_entry-same base image i (counts r (image (entry_word i 1))) (staged_entry staging over i within begun)
+          ∙ ap (version_in_entry base i) (staged_end staging over i within begun) in
+          cond-true _ _ _ begin ∙ ap Some now ∙ sym (cond-true _ _ _ begun)
+      | inr none ↦
+          let begin : counts r (image (entry_word i 0)) ≡ false =
+          elim (staged_begin staging over i within) [
+            | inl same ↦ ap (counts r) same ∙ none
             | inr put ↦ counts-above r (image (entry_word i 0)) put.1
-            ] in
-        cond-false _ _ _ begin ∙ sym (cond-false _ _ _ none)
+          ] in
+          cond-false _ _ _ begin ∙ sym (cond-false _ _ _ none)
     ]
 
 -- The stamps that were stored are new ones.
@@ -237,8 +237,8 @@ pub staged_begins : {r : Record} {lines count : ℕ} {base image : Image} {versi
     → image (entry_word i 0) ≤ r.cp + count
 staged_begins {r} {lines} {count} {base} {image} {versions} {puts} {pairs} staging over i within =
     elim (staged_begin staging over i within) [
-      inl same ↦ omega (arith, same, staging.fits.begins i within)
-    | inr put ↦ put.2
+      | inl same ↦ omega (arith, same, staging.fits.begins i within)
+      | inr put ↦ put.2
     ]
 
 pub staged_ends : {r : Record} {lines count : ℕ} {base image : Image} {versions : Versions} {puts : List Put} {pairs : List (ℕ × ℕ)}
@@ -246,11 +246,11 @@ pub staged_ends : {r : Record} {lines count : ℕ} {base image : Image} {version
     → image (entry_word i 1) ≤ r.cp + count
 staged_ends {r} {lines} {count} {base} {image} {versions} {puts} {pairs} staging over i within =
     elim (over (entry_word i 1) (directory_matters r lines base i 1 within (omega arith))) [
-      inl same ↦ omega (arith, same, staging.fits.ends i within)
-    | inr stored ↦
-      let at = stored_at staging i 1 (image (entry_word i 1)) within (omega arith) stored in
-      elim (cases_Bool at.of_put) [
-        inl put ↦ omega (arith, at.end put refl)
-      | inr end ↦ (at.stamp end).1
-      ]
+      | inl same ↦ omega (arith, same, staging.fits.ends i within)
+      | inr stored ↦
+          let at = stored_at staging i 1 (image (entry_word i 1)) within (omega arith) stored in
+          elim (cases_Bool at.of_put) [
+            | inl put ↦ omega (arith, at.end put refl)
+            | inr end ↦ (at.stamp end).1
+          ]
     ]

@@ -85,10 +85,10 @@ pub changes_stored : {a b c : State} (stamp position : ℕ) (changes : List Plac
     → Runs a c (stores (puts_pairs stamp position (puts_of_changes (take (i + 1) changes))) a.words)
 changes_stored {a} {b} {c} stamp position changes i change below is run more =
     stores_more (puts_pairs stamp position (puts_of_changes (take (i + 1) changes))) (puts_pairs stamp position (puts_of_changes (take i changes)))
-        (puts_pairs stamp position (put_of change))
-        (ap (puts_pairs stamp position) (flat_map-item put_of changes i change below is)
-            ∙ flat_map-append (put_pairs stamp position) (puts_of_changes (take i changes)) (put_of change))
-        run more
+    (puts_pairs stamp position (put_of change))
+    (ap (puts_pairs stamp position) (flat_map-item put_of changes i change below is)
+    ∙ flat_map-append (put_pairs stamp position) (puts_of_changes (take i changes)) (put_of change))
+    run more
 
 pub changes_flushed : {a b c : State} (changes : List PlacedChange) (i : ℕ) (change : PlacedChange) → i < length changes
     → change ≡ get_or changes i change → Runs a b (flushes (puts_lines (puts_of_changes (take i changes))) a.words)
@@ -96,8 +96,8 @@ pub changes_flushed : {a b c : State} (changes : List PlacedChange) (i : ℕ) (c
     → Runs a c (flushes (puts_lines (puts_of_changes (take (i + 1) changes))) a.words)
 changes_flushed {a} {b} {c} changes i change below is run more =
     flushes_more (puts_lines (puts_of_changes (take (i + 1) changes))) (puts_lines (puts_of_changes (take i changes))) (puts_lines (put_of change))
-        (ap puts_lines (flat_map-item put_of changes i change below is) ∙ flat_map-append put_lines (puts_of_changes (take i changes)) (put_of change))
-        run more
+    (ap puts_lines (flat_map-item put_of changes i change below is) ∙ flat_map-append put_lines (puts_of_changes (take i changes)) (put_of change))
+    run more
 
 -- the loop over the entries that a part ended
 pub ends_stored : {a b c : State} (stamp : ℕ) (ended : List EntryNo) (i : ℕ) (d : EntryNo) → i < length ended
@@ -105,25 +105,25 @@ pub ends_stored : {a b c : State} (stamp : ℕ) (ended : List EntryNo) (i : ℕ)
     → Runs a c (stores (end_pairs stamp (take (i + 1) ended)) a.words)
 ends_stored {a} {b} {c} stamp ended i d below run more =
     stores_more (end_pairs stamp (take (i + 1) ended)) (end_pairs stamp (take i ended)) ((entry_word (get_or ended i d).0 1, stamp) ∷ [])
-        (ap (end_pairs stamp) (take_more ended i d below)
-            ∙ map-append (λ (e : EntryNo). (entry_word e.0 1, stamp)) (take i ended) (get_or ended i d ∷ []))
-        run more
+    (ap (end_pairs stamp) (take_more ended i d below)
+    ∙ map-append (λ (e : EntryNo). (entry_word e.0 1, stamp)) (take i ended) (get_or ended i d ∷ []))
+    run more
 
 pub ends_flushed : {a b c : State} (ended : List EntryNo) (i : ℕ) (d : EntryNo) → i < length ended
     → Runs a b (flushes (end_lines (take i ended)) a.words) → Runs b c (flushes ((8 + (get_or ended i d).0) ∷ []) b.words)
     → Runs a c (flushes (end_lines (take (i + 1) ended)) a.words)
 ends_flushed {a} {b} {c} ended i d below run more =
     flushes_more (end_lines (take (i + 1) ended)) (end_lines (take i ended)) ((8 + (get_or ended i d).0) ∷ [])
-        (ap end_lines (take_more ended i d below) ∙ map-append (λ (e : EntryNo). 8 + e.0) (take i ended) (get_or ended i d ∷ []))
-        run more
+    (ap end_lines (take_more ended i d below) ∙ map-append (λ (e : EntryNo). 8 + e.0) (take i ended) (get_or ended i d ∷ []))
+    run more
 
 parts_pairs-append : (stamp : ℕ) (a b : List Part) → parts_pairs stamp (a ++ b) ≡ parts_pairs stamp a ++ parts_pairs (stamp + length a) b
 parts_pairs-append stamp [] b = let e : stamp ≡ stamp + 0 = omega arith in ap (λ (n : ℕ). parts_pairs n b) e
 parts_pairs-append stamp (part ∷ a) b =
     let e : (stamp + 1) + length a ≡ stamp + suc (length a) = omega arith in
     ap (λ (rest : List (ℕ × ℕ)). part_pairs stamp part ++ rest)
-        (parts_pairs-append (stamp + 1) a b ∙ ap (λ (n : ℕ). parts_pairs (stamp + 1) a ++ parts_pairs n b) e)
-        ∙ sym (append_assoc (part_pairs stamp part) (parts_pairs (stamp + 1) a) (parts_pairs (stamp + suc (length a)) b))
+    (parts_pairs-append (stamp + 1) a b ∙ ap (λ (n : ℕ). parts_pairs (stamp + 1) a ++ parts_pairs n b) e)
+    ∙ sym (append_assoc (part_pairs stamp part) (parts_pairs (stamp + 1) a) (parts_pairs (stamp + suc (length a)) b))
 
 length-take_below : {X : Type 0} (xs : List X) (i : ℕ) → i < length xs → length (take i xs) ≡ i
 length-take_below [] i below = absurd (omega arith)
@@ -136,10 +136,10 @@ pub parts_stored : {a b c : State} (stamp : ℕ) (parts : List Part) (i : ℕ) (
     → Runs a c (stores (parts_pairs stamp (take (i + 1) parts)) a.words)
 parts_stored {a} {b} {c} stamp parts i part below is run more =
     stores_more (parts_pairs stamp (take (i + 1) parts)) (parts_pairs stamp (take i parts)) (part_pairs (stamp + i) part)
-        (ap (parts_pairs stamp) (take-item parts i part below is) ∙ parts_pairs-append stamp (take i parts) (part ∷ [])
-            ∙ ap (λ (n : ℕ). parts_pairs stamp (take i parts) ++ (part_pairs (stamp + n) part ++ [])) (length-take_below parts i below)
-            ∙ ap (λ (pairs : List (ℕ × ℕ)). parts_pairs stamp (take i parts) ++ pairs) (append-nil (part_pairs (stamp + i) part)))
-        run more
+    (ap (parts_pairs stamp) (take-item parts i part below is) ∙ parts_pairs-append stamp (take i parts) (part ∷ [])
+    ∙ ap (λ (n : ℕ). parts_pairs stamp (take i parts) ++ (part_pairs (stamp + n) part ++ [])) (length-take_below parts i below)
+    ∙ ap (λ (pairs : List (ℕ × ℕ)). parts_pairs stamp (take i parts) ++ pairs) (append-nil (part_pairs (stamp + i) part)))
+    run more
 
 pub parts_flushed : {a b c : State} (parts : List Part) (i : ℕ) (part : Part) → i < length parts → part ≡ get_or parts i part
     → Runs a b (flushes (parts_lines (take i parts)) a.words) → Runs b c (flushes (part_lines part) b.words)

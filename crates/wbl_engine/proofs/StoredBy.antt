@@ -46,24 +46,36 @@ puts_by : (versions : Versions) (stamp count position : ℕ) (puts : List Put) (
 puts_by versions stamp count position [] word x some stored = absurd stored
 puts_by versions stamp count position (put ∷ puts) word x some stored =
     elim (IsStored-append (put_pairs stamp position put) (puts_pairs stamp position puts) word x stored) [
-      inl here ↦
-        elim (put_pairs-where stamp position put word x here) [
-          inl extent ↦ inl (record { put = put; among = inl refl; of = extent })
-        | inr entry ↦
-            inr (record {
-              put = put; among = inl refl; begin = stamp; position = position; of = entry.0; value = entry.1;
-              low = omega arith; high = omega arith;
-            })
-        ]
-    | inr later ↦
-        elim (puts_by versions stamp count position puts word x some later) [
-          inl extent ↦ inl (record { put = extent.put; among = inr extent.among; of = extent.of })
-        | inr entry ↦
-            inr (record {
-              put = entry.put; among = inr entry.among; begin = entry.begin; position = entry.position; of = entry.of; value = entry.value;
-              low = entry.low; high = entry.high;
-            })
-        ]
+      | inl here ↦
+          elim (put_pairs-where stamp position put word x here) [
+            | inl extent ↦ inl (record { put = put; among = inl refl; of = extent })
+            | inr entry ↦
+                inr (record {
+                  put = put;
+                  among = inl refl;
+                  begin = stamp;
+                  position = position;
+                  of = entry.0;
+                  value = entry.1;
+                  low = omega arith;
+                  high = omega arith;
+                })
+          ]
+      | inr later ↦
+          elim (puts_by versions stamp count position puts word x some later) [
+            | inl extent ↦ inl (record { put = extent.put; among = inr extent.among; of = extent.of })
+            | inr entry ↦
+                inr (record {
+                  put = entry.put;
+                  among = inr entry.among;
+                  begin = entry.begin;
+                  position = entry.position;
+                  of = entry.of;
+                  value = entry.value;
+                  low = entry.low;
+                  high = entry.high;
+                })
+          ]
     ]
 
 is_put_at-front : (i : ℕ) (a b : List Put) → is_put_at i a ≡ true → is_put_at i (a ++ b) ≡ true
@@ -90,17 +102,17 @@ pub live_then : (versions : Versions) (part : Part) (rest : List Put) (i : ℕ)
     → IsTrue (is_live_version (versions i) || is_put_at i (puts_of_part part ++ rest))
 live_then versions part rest i live =
     elim (or_cases (is_live_version (part_versions versions part i)) (is_put_at i rest) live) [
-      inl now ↦
-        elim (cases_Bool (is_put_at i (puts_of_part part))) [
-          inl put ↦
-            or_right (is_live_version (versions i)) (is_put_at i (puts_of_part part ++ rest)) (is_put_at-front i (puts_of_part part) rest put)
-        | inr none ↦
-            let kept = changes_kept part.position versions part.changes.items i none in
-            or_left (is_live_version (versions i)) (is_put_at i (puts_of_part part ++ rest))
+      | inl now ↦
+          elim (cases_Bool (is_put_at i (puts_of_part part))) [
+            | inl put ↦
+                or_right (is_live_version (versions i)) (is_put_at i (puts_of_part part ++ rest)) (is_put_at-front i (puts_of_part part) rest put)
+            | inr none ↦
+                let kept = changes_kept part.position versions part.changes.items i none in
+                or_left (is_live_version (versions i)) (is_put_at i (puts_of_part part ++ rest))
                 (live_before kept.test (versions i) (sym (ap is_live_version kept.is) ∙ now))
-        ]
-    | inr later ↦
-        or_right (is_live_version (versions i)) (is_put_at i (puts_of_part part ++ rest)) (is_put_at-back i (puts_of_part part) rest later)
+          ]
+      | inr later ↦
+          or_right (is_live_version (versions i)) (is_put_at i (puts_of_part part ++ rest)) (is_put_at-back i (puts_of_part part) rest later)
     ]
 
 pub live_front : (versions : Versions) (part : Part) (rest : List Put) (i : ℕ)
@@ -108,8 +120,8 @@ pub live_front : (versions : Versions) (part : Part) (rest : List Put) (i : ℕ)
     → IsTrue (is_live_version (versions i) || is_put_at i (puts_of_part part ++ rest))
 live_front versions part rest i live =
     elim (or_cases (is_live_version (versions i)) (is_put_at i (puts_of_part part)) live) [
-      inl now ↦ or_left (is_live_version (versions i)) (is_put_at i (puts_of_part part ++ rest)) now
-    | inr put ↦ or_right (is_live_version (versions i)) (is_put_at i (puts_of_part part ++ rest)) (is_put_at-front i (puts_of_part part) rest put)
+      | inl now ↦ or_left (is_live_version (versions i)) (is_put_at i (puts_of_part part ++ rest)) now
+      | inr put ↦ or_right (is_live_version (versions i)) (is_put_at i (puts_of_part part ++ rest)) (is_put_at-front i (puts_of_part part) rest put)
     ]
 
 -- a store of one part
@@ -118,21 +130,30 @@ part_by : (versions : Versions) (stamp count : ℕ) (part : Part) (rest : List P
 part_by versions stamp count part rest word x some names stored =
     let a : List Put = puts_of_part part in
     elim (IsStored-append (puts_pairs stamp part.position a) (end_pairs stamp part.ended.items) word x stored) [
-      inl put ↦
-        elim (puts_by versions stamp count part.position a word x some put) [
-          inl extent ↦ inl (record { put = extent.put; among = among-front a rest extent.put extent.among; of = extent.of })
-        | inr entry ↦
-            inr (inl (record {
-              put = entry.put; among = among-front a rest entry.put entry.among; begin = entry.begin; position = entry.position; of = entry.of;
-              value = entry.value; low = entry.low; high = entry.high;
-            }))
-        ]
-    | inr end ↦
-        let at = end_pairs-where stamp part.ended.items word x end in
-        inr (inr (record {
-          entry = at.0; word_is = at.2; low = omega (arith, at.3); high = omega (arith, at.3);
-          live = live_front versions part rest at.0 ((names at.0).0 (named-contains at.0 part.ended.items at.1)).0;
-        }))
+      | inl put ↦
+          elim (puts_by versions stamp count part.position a word x some put) [
+            | inl extent ↦ inl (record { put = extent.put; among = among-front a rest extent.put extent.among; of = extent.of })
+            | inr entry ↦
+                inr (inl (record {
+                  put = entry.put;
+                  among = among-front a rest entry.put entry.among;
+                  begin = entry.begin;
+                  position = entry.position;
+                  of = entry.of;
+                  value = entry.value;
+                  low = entry.low;
+                  high = entry.high;
+                }))
+          ]
+      | inr end ↦
+          let at = end_pairs-where stamp part.ended.items word x end in
+          inr (inr (record {
+            entry = at.0;
+            word_is = at.2;
+            low = omega (arith, at.3);
+            high = omega (arith, at.3);
+            live = live_front versions part rest at.0 ((names at.0).0 (named-contains at.0 part.ended.items at.1)).0;
+          }))
     ]
 
 -- a store of a later part
@@ -142,12 +163,21 @@ later_by versions stamp count part rest word x (inl extent) =
     inl (record { put = extent.put; among = among-back (puts_of_part part) rest extent.put extent.among; of = extent.of })
 later_by versions stamp count part rest word x (inr (inl entry)) =
     inr (inl (record {
-      put = entry.put; among = among-back (puts_of_part part) rest entry.put entry.among; begin = entry.begin; position = entry.position;
-      of = entry.of; value = entry.value; low = omega (arith, entry.low); high = omega (arith, entry.high);
+      put = entry.put;
+      among = among-back (puts_of_part part) rest entry.put entry.among;
+      begin = entry.begin;
+      position = entry.position;
+      of = entry.of;
+      value = entry.value;
+      low = omega (arith, entry.low);
+      high = omega (arith, entry.high);
     }))
 later_by versions stamp count part rest word x (inr (inr end)) =
     inr (inr (record {
-      entry = end.entry; word_is = end.word_is; low = omega (arith, end.low); high = omega (arith, end.high);
+      entry = end.entry;
+      word_is = end.word_is;
+      low = omega (arith, end.low);
+      high = omega (arith, end.high);
       live = live_then versions part rest end.entry end.live;
     }))
 
@@ -157,8 +187,8 @@ pub parts_by : (parts : List Part) (before : ℕ) (versions : Versions) (stamp w
 parts_by [] before versions stamp word x follow stored = absurd stored
 parts_by (part ∷ parts) before versions stamp word x follow stored =
     elim (IsStored-append (part_pairs stamp part) (parts_pairs (stamp + 1) parts) word x stored) [
-      inl here ↦ part_by versions stamp (suc (length parts)) part (puts_of_parts parts) word x (omega arith) follow.1 here
-    | inr later ↦
-        later_by versions stamp (length parts) part (puts_of_parts parts) word x
-            (parts_by parts part.position (part_versions versions part) (stamp + 1) word x follow.2 later)
+      | inl here ↦ part_by versions stamp (suc (length parts)) part (puts_of_parts parts) word x (omega arith) follow.1 here
+      | inr later ↦
+          later_by versions stamp (length parts) part (puts_of_parts parts) word x
+          (parts_by parts part.position (part_versions versions part) (stamp + 1) word x follow.2 later)
     ]

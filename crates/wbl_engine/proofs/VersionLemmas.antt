@@ -14,8 +14,8 @@ words_from-same base image first (suc count) same =
     let e : first + 0 ≡ first = omega arith in
     let head : image first ≡ base first = sym (ap image e) ∙ same 0 (omega arith) ∙ ap base e in
     let rest : words_from image (first + 1) count ≡ words_from base (first + 1) count =
-        words_from-same base image (first + 1) count
-            (λ j below. let f : (first + 1) + j ≡ first + suc j = omega arith in ap image f ∙ same (suc j) (omega arith) ∙ sym (ap base f)) in
+    words_from-same base image (first + 1) count
+    (λ j below. let f : (first + 1) + j ≡ first + suc j = omega arith in ap image f ∙ same (suc j) (omega arith) ∙ sym (ap base f)) in
     cc
 
 pub bytes_at-same : (base image : Image) (line count : ℕ) → ((j : ℕ) → j < (count + 7) / 8 → image (8 * line + j) ≡ base (8 * line + j))
@@ -39,7 +39,7 @@ version_of position first_line lines kind lengths value_length bytes ended =
 abbrev pub version_in_entry : Image → ℕ → Bool → Version
 version_in_entry image i ended =
     version_of (image (entry_word i 2)) (image (entry_word i 3)) (image (entry_word i 4)) (image (entry_word i 5)) (image (entry_word i 6))
-        (image (entry_word i 7)) (bytes_at image (image (entry_word i 3)) (entry_bytes image i)) ended
+    (image (entry_word i 7)) (bytes_at image (image (entry_word i 3)) (entry_bytes image i)) ended
 
 version_in-entry : (r : Record) (image : Image) (i : ℕ) → version_in r image i ≡ version_in_entry image i (counts r (image (entry_word i 1)))
 version_in-entry r image i = refl
@@ -60,7 +60,7 @@ version_in_entry-same base image i ended same =
     let at7 = same.words 7 (omega arith) (omega arith) in
     let bytes : entry_bytes image i ≡ entry_bytes base i = cc in
     let extent : bytes_at image (base (entry_word i 3)) (entry_bytes base i) ≡ bytes_at base (base (entry_word i 3)) (entry_bytes base i) =
-        bytes_at-same base image (base (entry_word i 3)) (entry_bytes base i) same.extent in
+    bytes_at-same base image (base (entry_word i 3)) (entry_bytes base i) same.extent in
     let all : bytes_at image (image (entry_word i 3)) (entry_bytes image i) ≡ bytes_at base (base (entry_word i 3)) (entry_bytes base i) =
-        ap (λ (line : ℕ). bytes_at image line (entry_bytes image i)) at3 ∙ ap (bytes_at image (base (entry_word i 3))) bytes ∙ extent in
+    ap (λ (line : ℕ). bytes_at image line (entry_bytes image i)) at3 ∙ ap (bytes_at image (base (entry_word i 3))) bytes ∙ extent in
     cc

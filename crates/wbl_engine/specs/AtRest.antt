@@ -17,7 +17,7 @@ contents_of r d =
       lines = d.lines;
       versions = λ i. if nat_lt i (entries_of_lines d.lines) then version_at r (image_of d.words) i else None;
       is_free = λ i.
-        nat_lt i (entries_of_lines d.lines)
+          nat_lt i (entries_of_lines d.lines)
           && (image_of d.words (entry_word i 0) == 0 || nat_lt r.cp (image_of d.words (entry_word i 0)));
     }
 
@@ -52,8 +52,8 @@ pub record IsInExtent (image : Image) (i word : ℕ) : Type 0 where
 abbrev pub Matters : Record → ℕ → Image → ℕ → Type 0
 Matters r lines image word =
     (word < root_word)
-      ⊎ ((8 * 8 ≤ word) × (word < 8 * first_extent_line lines))
-      ⊎ ((i : ℕ) × (i < entries_of_lines lines) × IsTrue (counts r (image (entry_word i 0))) × IsInExtent image i word)
+    ⊎ ((8 * 8 ≤ word) × (word < 8 * first_extent_line lines))
+    ⊎ ((i : ℕ) × (i < entries_of_lines lines) × IsTrue (counts r (image (entry_word i 0))) × IsInExtent image i word)
 
 -- Each crash leaves the record, and each word on which the map depends as loads give it.
 pub record IsAtRest (r : Record) (d : State) : Type 0 where

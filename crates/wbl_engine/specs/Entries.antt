@@ -12,7 +12,7 @@ use Rattle.model.specs.Images.{entry_word}
 abbrev pub word_of_bytes : List ℕ → ℕ → ℕ
 word_of_bytes bytes at =
     from_le_bytes w64 (slice_index bytes at ∷ slice_index bytes (at + 1) ∷ slice_index bytes (at + 2) ∷ slice_index bytes (at + 3)
-        ∷ slice_index bytes (at + 4) ∷ slice_index bytes (at + 5) ∷ slice_index bytes (at + 6) ∷ slice_index bytes (at + 7) ∷ [])
+    ∷ slice_index bytes (at + 4) ∷ slice_index bytes (at + 5) ∷ slice_index bytes (at + 6) ∷ slice_index bytes (at + 7) ∷ [])
 
 -- so many words of the bytes, from this byte on
 abbrev pub packed : List ℕ → ℕ → ℕ → List ℕ

@@ -11,7 +11,12 @@ use model::{Group, Record};
 use pmem::{Fault, Pmem};
 
 /// Stores a group and the record after it. At any moment a crash leaves the contents before the group or those after it.
-pub fn commit_group<P: Pmem>(device: &mut P, group: &Group, current: &Record, next: &Record) -> Result<(), Fault>
+pub fn commit_group<P: Pmem>(
+    device: &mut P,
+    group: &Group,
+    current: &Record,
+    next: &Record,
+) -> Result<(), Fault>
     requires rest { IsAtRest current.now (P.state device.old) }
     requires asked { IsGroup (contents_of current.now (P.state device.old)) group.now }
     requires after { next.now ≡ next_record current.now group.now }
@@ -24,7 +29,7 @@ pub fn commit_group<P: Pmem>(device: &mut P, group: &Group, current: &Record, ne
     ensures fault { OnErr result ((P.state device.old).failures < (P.state device.new).failures) }
     ensures moments { LeavesOnly (P.state device.old) (P.state device.new) (λ image.
         Keeps (contents_of current.now (P.state device.old)) image
-            ⊎ Keeps (after_group (contents_of current.now (P.state device.old)) group.now) image) }
+        ⊎ Keeps (after_group (contents_of current.now (P.state device.old)) group.now) image) }
 {
     stage_parts(device, group.parts.as_slice(), current.cp + 1)?;
     write_next(device, next)

@@ -48,5 +48,6 @@ pub trait Durable {
         ensures { result ≡ (contents self.now).current.position };
 
     /// The device, as it is.
-    fn into_device(self) -> Self::Device;
+    fn into_device(self) -> Self::Device
+        ensures { Self.Device.state result ≡ device self };
 }

@@ -5,9 +5,10 @@ ghost use Rattle.wbl_engine.specs.AtRest.{IsAtRest, at_rest_prop};
 use crate::commit::commit_group;
 use crate::committed::Committed;
 use crate::durable::Durable;
+use crate::format::{first_record, format_device};
 use crate::successor::next_record;
 use kv_types::Refusal;
-use model::{Group, Record};
+use model::{Group, MAX_LINES, MIN_LINES, Record, Role};
 use pmem::{Fault, Pmem};
 
 /// An engine over a device. It keeps the current record and no list, and takes no memory.
@@ -18,6 +19,52 @@ pub struct WblEngine<P: Pmem> {
     /// A fence failed: the image has to be reopened.
     faulted: bool,
     ghost at_rest: { faulted ≡ false → IsAtRest current (P.state device) } by { at_rest_prop faulted current (P.state device) },
+}
+
+impl<P: Pmem> WblEngine<P> {
+    ghost use Rattle.std.specs.Prelude.{◌≡◌, ◌⊎◌, ◌<◌, false, IfOk, IfErr, MatchResult};
+    ghost use Rattle.pmem.specs.Runs.{LeavesOnly};
+    ghost use Rattle.model.specs.declared.image.TheConstants.{MIN_LINES, MAX_LINES};
+    ghost use Rattle.wbl_engine.specs.Contents.{IsDurable, IsNew};
+    ghost use Rattle.wbl_engine.specs.Formatting.{IsFormatting};
+
+    /// Formats a device for this role. `WrongSize` where it has fewer than 4,096 lines or more than 2^31, and then nothing changed; `Fault` where a
+    /// fence failed. A refusal hands the device back. It takes no memory.
+    ///
+    /// At any moment a crash leaves an image from before, the new one whole, or one without the magic.
+    pub fn format(device: P, role: Role) -> Result<WblEngine<P>, (Refusal, P)>
+        ensures new { IfOk result (λ engine. IsNew (P.state device).lines role (⟦<WblEngine<P> as Durable>⟧.contents engine)) }
+        ensures durable { IfOk result (λ engine.
+            IsDurable (⟦<WblEngine<P> as Durable>⟧.device engine) (⟦<WblEngine<P> as Durable>⟧.contents engine)) }
+        ensures sound { IfOk result (λ engine. (⟦<WblEngine<P> as Durable>⟧.is_faulted engine ≡ false)
+            × ((⟦<WblEngine<P> as Durable>⟧.device engine).failures ≡ (P.state device).failures)) }
+        ensures causes { IfErr result (λ refused. (refused.0 ≡ Refusal.Fault) ⊎ (refused.0 ≡ Refusal.WrongSize)) }
+        ensures size { IfErr result (λ refused. refused.0 ≡ Refusal.WrongSize → refused.1 ≡ device) }
+        ensures sized { IfErr result (λ refused. refused.0 ≡ Refusal.WrongSize
+            → ((P.state device).lines < MIN_LINES) ⊎ (MAX_LINES < (P.state device).lines)) }
+        ensures wrong { ((P.state device).lines < MIN_LINES) ⊎ (MAX_LINES < (P.state device).lines)
+            → result ≡ Err (Refusal.WrongSize, device) }
+        ensures fault { IfErr result (λ refused. refused.0 ≡ Refusal.Fault → (P.state device).failures < (P.state refused.1).failures) }
+        ensures moments { MatchResult result
+            (λ engine. LeavesOnly (P.state device) (⟦<WblEngine<P> as Durable>⟧.device engine)
+            (IsFormatting (P.state device).words (P.state device).lines role))
+            (λ refused. LeavesOnly (P.state device) (P.state refused.1) (IsFormatting (P.state device).words (P.state device).lines role)) }
+    {
+        let lines = device.lines();
+        if lines < MIN_LINES || MAX_LINES < lines {
+            return Err((Refusal::WrongSize, device));
+        }
+        let mut device = device;
+        let current = first_record(role);
+        match format_device(&mut device, &current) {
+            Ok(()) => Ok(WblEngine {
+                device,
+                current,
+                faulted: false,
+            }),
+            Err(Fault) => Err((Refusal::Fault, device)),
+        }
+    }
 }
 
 impl<P: Pmem> Durable for WblEngine<P> {

@@ -15,7 +15,11 @@ pub fn lines_for(id: &RecordId, value: &Value) -> u64
     ensures { result ≡ lines_of_bytes (bytes_of_id id.now + length value.now) }
 {
     let bytes = name_len(id) + value.len();
-    if bytes == 0 { 1 } else { (bytes as u64 + 63) / 64 }
+    if bytes == 0 {
+        1
+    } else {
+        (bytes as u64 + 63) / 64
+    }
 }
 
 /// Stores the entry and the extent of a put, begun with this stamp at this position of the list. Nothing is flushed.
@@ -110,7 +114,10 @@ fn write_extent<P: Pmem>(device: &mut P, extent: &Extent, key: &[u8], field: &[u
         (stores (pairs_from (8 * extent.now.first_line) (packed (key.now ++ field.now ++ value.now) 0 (8 * extent.now.lines))) (P.state device.old).words) }
 {
     for i in 0..8 * extent.lines {
-        device.store(8 * extent.first_line + i, word_at(key, field, value, 8 * i as usize));
+        device.store(
+            8 * extent.first_line + i,
+            word_at(key, field, value, 8 * i as usize),
+        );
     }
 }
 

@@ -5,6 +5,7 @@ mod commit;
 mod committed;
 mod durable;
 mod engine;
+mod format;
 mod layout;
 mod record;
 mod staging;

@@ -45,7 +45,7 @@ fn persist_words<P: Pmem>(device: &mut P, line: u64, lines: u64, words: &[u64]) 
 }
 
 /// The 24 words of a record.
-fn words_of(r: &Record) -> [u64; 24]
+pub fn words_of(r: &Record) -> [u64; 24]
     ensures { result ≡ record_words r.now }
 {
     let gaps = [

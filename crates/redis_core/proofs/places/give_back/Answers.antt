@@ -21,8 +21,8 @@ give_place_back-requires c =
 pub loop-change-preserved : goal.loop-change-preserved
 loop-change-preserved c =
     let front = λ (before : Room) (takes : TakesPlaces before (puts_of c.loop-change.placed.items) c.loop-change.heap).
-        let split = last (goal.at.loop-change-preserved c).In-Some before takes in
-        subst (TakesPlaces before (puts_of c.pop.new.self.items)) (sym (c.give_place_back.ensures split.0 split.2)) split.1 in
+    let split = last (goal.at.loop-change-preserved c).In-Some before takes in
+    subst (TakesPlaces before (puts_of c.pop.new.self.items)) (sym (c.give_place_back.ensures split.0 split.2)) split.1 in
     record {
       taken = (c.loop-change.invariant.taken.0, front c.loop-change.invariant.taken.0 c.loop-change.invariant.taken.1);
       rest = λ before takes. front before (c.loop-change.invariant.rest before takes);

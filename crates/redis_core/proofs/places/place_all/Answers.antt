@@ -27,5 +27,5 @@ returns-in-Err-clause-full_only c = λ _ has.
     let before = c.loop-change.invariant in
     let rest = into_iter_items c.next.new.self in
     let whole : c.args.changes.items ≡ map change_of c.loop-change.placed.items ++ c.in-Some.change ∷ rest =
-        before.left ∙ ap₂ (λ (xs ys : List Change). xs ++ ys) (sym before.same) c.in-Some.ensures.steps.0 in
+    before.left ∙ ap₂ (λ (xs ys : List Change). xs ++ ys) (sym before.same) c.in-Some.ensures.steps.0 in
     no_room c.in-Some.change rest c.args.heap.now c.loop-change.placed.items c.loop-change.heap before.places c.in-Err.ensures.full_only (subst (HasRoomFor c.args.heap.now) whole has)

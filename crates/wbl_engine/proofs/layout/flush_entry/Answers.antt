@@ -8,4 +8,4 @@ pub returns : goal.returns
 returns g c =
     let put = c.args.put.now in
     Runs-more_flushes (lines_from put.extent.first_line put.extent.lines) ((8 + put.entry.0) ∷ []) c.flush_lines.ensures
-        (Runs-step_flush (8 + put.entry.0) c.flush.ensures)
+    (Runs-step_flush (8 + put.entry.0) c.flush.ensures)

@@ -7,15 +7,15 @@ use Rattle.wbl_engine.proofs.record.persist_words.Goals as goal
 pub returns-clause-ok : goal.returns-clause-ok
 returns-clause-ok g c =
     on_ok_weaker c.fence.result
-        (λ step.
-          stage_ok (pairs_from (8 * c.args.line) c.args.words.now) (lines_from c.args.line c.args.lines)
-            (Runs-flushes (lines_from c.args.line c.args.lines) c.store_words.ensures c.flush_lines.ensures) step)
-        c.fence.ensures.ok
+    (λ step.
+    stage_ok (pairs_from (8 * c.args.line) c.args.words.now) (lines_from c.args.line c.args.lines)
+    (Runs-flushes (lines_from c.args.line c.args.lines) c.store_words.ensures c.flush_lines.ensures) step)
+    c.fence.ensures.ok
 
 pub returns-clause-err : goal.returns-clause-err
 returns-clause-err g c =
     on_err_weaker c.fence.result
-        (λ step.
-          stage_err (pairs_from (8 * c.args.line) c.args.words.now) (lines_from c.args.line c.args.lines)
-            (Runs-flushes (lines_from c.args.line c.args.lines) c.store_words.ensures c.flush_lines.ensures) step)
-        c.fence.ensures.err
+    (λ step.
+    stage_err (pairs_from (8 * c.args.line) c.args.words.now) (lines_from c.args.line c.args.lines)
+    (Runs-flushes (lines_from c.args.line c.args.lines) c.store_words.ensures c.flush_lines.ensures) step)
+    c.fence.ensures.err

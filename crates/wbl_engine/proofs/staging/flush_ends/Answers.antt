@@ -9,11 +9,14 @@ loop-entry-init g c = Runs-none (g.P.Pmem.state c.args.device.now)
 
 pub flush-requires : goal.flush-requires
 flush-requires g c =
-    omega (arith, c.loop-entry.invariant.stays.lines,
-        all_at (λ (entry : EntryNo). 8 + entry.0 < (g.P.Pmem.state c.args.device.now).lines) c.args.ended.now c.loop-entry.entry-index
-            no_entry c.loop-entry-test.true c.requires)
+    omega (
+      arith,
+      c.loop-entry.invariant.stays.lines,
+      all_at (λ (entry : EntryNo). 8 + entry.0 < (g.P.Pmem.state c.args.device.now).lines) c.args.ended.now c.loop-entry.entry-index
+          no_entry c.loop-entry-test.true c.requires,
+    )
 
 pub loop-entry-preserved : goal.loop-entry-preserved
 loop-entry-preserved g c =
     ends_flushed c.args.ended.now c.loop-entry.entry-index no_entry c.loop-entry-test.true c.loop-entry.invariant
-        (Runs-step_flush _ c.flush.ensures)
+    (Runs-step_flush _ c.flush.ensures)

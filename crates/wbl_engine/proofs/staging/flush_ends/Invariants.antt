@@ -6,4 +6,4 @@ use Rattle.wbl_engine.proofs.staging.flush_ends.Given as goal
 abbrev pub invariant-loop-entry : goal.invariant-loop-entry
 invariant-loop-entry g l =
     Runs (g.P.Pmem.state l.fn.device) (g.P.Pmem.state l.device)
-        (flushes (end_lines (take l.entry-index l.ended)) (g.P.Pmem.state l.fn.device).words)
+    (flushes (end_lines (take l.entry-index l.ended)) (g.P.Pmem.state l.fn.device).words)

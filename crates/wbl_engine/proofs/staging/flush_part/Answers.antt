@@ -11,13 +11,13 @@ pub returns : goal.returns
 returns g c =
     let part = c.args.part.now in
     Runs-more_flushes (puts_lines (puts_of_part part)) (end_lines part.ended.items)
-        (subst
-            (λ (changes : List PlacedChange).
-              Runs (g.P.Pmem.state c.args.device.now) (g.P.Pmem.state c.flush_puts.new.device)
-                (flushes (puts_lines (puts_of_changes changes)) (g.P.Pmem.state c.args.device.now).words))
-            c.as_slice.ensures.value c.flush_puts.ensures)
-        (subst
-            (λ (ended : List EntryNo).
-              Runs (g.P.Pmem.state c.flush_puts.new.device) (g.P.Pmem.state c.flush_ends.new.device)
-                (flushes (end_lines ended) (g.P.Pmem.state c.flush_puts.new.device).words))
-            c.as_slice-2.ensures.value c.flush_ends.ensures)
+    (subst
+    (λ (changes : List PlacedChange).
+    Runs (g.P.Pmem.state c.args.device.now) (g.P.Pmem.state c.flush_puts.new.device)
+    (flushes (puts_lines (puts_of_changes changes)) (g.P.Pmem.state c.args.device.now).words))
+    c.as_slice.ensures.value c.flush_puts.ensures)
+    (subst
+    (λ (ended : List EntryNo).
+    Runs (g.P.Pmem.state c.flush_puts.new.device) (g.P.Pmem.state c.flush_ends.new.device)
+    (flushes (end_lines ended) (g.P.Pmem.state c.flush_puts.new.device).words))
+    c.as_slice-2.ensures.value c.flush_ends.ensures)

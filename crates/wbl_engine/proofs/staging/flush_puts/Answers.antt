@@ -11,10 +11,10 @@ loop-change-init g c = Runs-none (g.P.Pmem.state c.args.device.now)
 pub flush_change-requires : goal.flush_change-requires
 flush_change-requires g c =
     subst (λ (lines : ℕ). AllByRecursion (IsPlaced lines) (put_of c.change-item.result)) (sym c.loop-change.invariant.stays.lines)
-        (all_of_item (IsPlaced (g.P.Pmem.state c.args.device.now).lines) put_of c.args.changes.now c.loop-change.change-index c.change-item.result
-            c.loop-change-test.true c.change-item.is c.requires)
+    (all_of_item (IsPlaced (g.P.Pmem.state c.args.device.now).lines) put_of c.args.changes.now c.loop-change.change-index c.change-item.result
+    c.loop-change-test.true c.change-item.is c.requires)
 
 pub loop-change-preserved : goal.loop-change-preserved
 loop-change-preserved g c =
     changes_flushed c.args.changes.now c.loop-change.change-index c.change-item.result c.loop-change-test.true c.change-item.is
-        c.loop-change.invariant c.flush_change.ensures
+    c.loop-change.invariant c.flush_change.ensures

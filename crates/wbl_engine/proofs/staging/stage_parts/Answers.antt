@@ -9,16 +9,16 @@ pub returns-clause-ok : goal.returns-clause-ok
 returns-clause-ok g c =
     let lines = parts_lines c.args.parts.now in
     on_ok_weaker c.fence.result
-        (λ step.
-          stage_ok (parts_pairs c.args.stamp c.args.parts.now) lines
-            (Runs-flushes lines c.store_parts.ensures.stored c.flush_parts.ensures) step)
-        c.fence.ensures.ok
+    (λ step.
+    stage_ok (parts_pairs c.args.stamp c.args.parts.now) lines
+    (Runs-flushes lines c.store_parts.ensures.stored c.flush_parts.ensures) step)
+    c.fence.ensures.ok
 
 pub returns-clause-err : goal.returns-clause-err
 returns-clause-err g c =
     let lines = parts_lines c.args.parts.now in
     on_err_weaker c.fence.result
-        (λ step.
-          stage_err (parts_pairs c.args.stamp c.args.parts.now) lines
-            (Runs-flushes lines c.store_parts.ensures.stored c.flush_parts.ensures) step)
-        c.fence.ensures.err
+    (λ step.
+    stage_err (parts_pairs c.args.stamp c.args.parts.now) lines
+    (Runs-flushes lines c.store_parts.ensures.stored c.flush_parts.ensures) step)
+    c.fence.ensures.err

@@ -11,14 +11,18 @@ loop-entry-init g c = Runs-none (g.P.Pmem.state c.args.device.now)
 
 pub store-requires : goal.store-requires
 store-requires g c =
-    omega (arith, c.entry_word.ensures, c.loop-entry.invariant.stays.lines,
-        all_at (λ (entry : EntryNo). 8 + entry.0 < (g.P.Pmem.state c.args.device.now).lines) c.args.ended.now c.loop-entry.entry-index
-            no_entry c.loop-entry-test.true c.requires)
+    omega (
+      arith,
+      c.entry_word.ensures,
+      c.loop-entry.invariant.stays.lines,
+      all_at (λ (entry : EntryNo). 8 + entry.0 < (g.P.Pmem.state c.args.device.now).lines) c.args.ended.now c.loop-entry.entry-index
+          no_entry c.loop-entry-test.true c.requires,
+    )
 
 pub loop-entry-preserved : goal.loop-entry-preserved
 loop-entry-preserved g c =
     let old = g.P.Pmem.state c.loop-entry.device in
     ends_stored c.args.stamp c.args.ended.now c.loop-entry.entry-index no_entry c.loop-entry-test.true c.loop-entry.invariant
-        (Runs-step_store _ c.args.stamp
-            (subst (λ (word : ℕ). Steps old (g.P.Pmem.state c.store.new.self) (store_at word c.args.stamp old.words) old.failures old.fences)
-                c.entry_word.ensures c.store.ensures))
+    (Runs-step_store _ c.args.stamp
+    (subst (λ (word : ℕ). Steps old (g.P.Pmem.state c.store.new.self) (store_at word c.args.stamp old.words) old.failures old.fences)
+    c.entry_word.ensures c.store.ensures))

@@ -11,13 +11,13 @@ pub returns-clause-stored : goal.returns-clause-stored
 returns-clause-stored g c =
     let part = c.args.part.now in
     Runs-more_stores (puts_pairs c.args.stamp part.position (puts_of_part part)) (end_pairs c.args.stamp part.ended.items)
-        (subst
-            (λ (changes : List PlacedChange).
-              Runs (g.P.Pmem.state c.args.device.now) (g.P.Pmem.state c.store_puts.new.device)
-                (stores (puts_pairs c.args.stamp part.position (puts_of_changes changes)) (g.P.Pmem.state c.args.device.now).words))
-            c.as_slice.ensures.value c.store_puts.ensures.stored)
-        (subst
-            (λ (ended : List EntryNo).
-              Runs (g.P.Pmem.state c.store_puts.new.device) (g.P.Pmem.state c.store_ends.new.device)
-                (stores (end_pairs c.args.stamp ended) (g.P.Pmem.state c.store_puts.new.device).words))
-            c.as_slice-2.ensures.value c.store_ends.ensures)
+    (subst
+    (λ (changes : List PlacedChange).
+    Runs (g.P.Pmem.state c.args.device.now) (g.P.Pmem.state c.store_puts.new.device)
+    (stores (puts_pairs c.args.stamp part.position (puts_of_changes changes)) (g.P.Pmem.state c.args.device.now).words))
+    c.as_slice.ensures.value c.store_puts.ensures.stored)
+    (subst
+    (λ (ended : List EntryNo).
+    Runs (g.P.Pmem.state c.store_puts.new.device) (g.P.Pmem.state c.store_ends.new.device)
+    (stores (end_pairs c.args.stamp ended) (g.P.Pmem.state c.store_puts.new.device).words))
+    c.as_slice-2.ensures.value c.store_ends.ensures)

@@ -12,17 +12,18 @@ loop-change-init g c = (Runs-none (g.P.Pmem.state c.args.device.now), tt)
 pub store_change-requires-clause-placed : goal.store_change-requires-clause-placed
 store_change-requires-clause-placed g c =
     subst (λ (lines : ℕ). AllByRecursion (IsPlaced lines) (put_of c.change-item.result)) (sym c.loop-change.invariant.0.stays.lines)
-        (all_of_item (IsPlaced (g.P.Pmem.state c.args.device.now).lines) put_of c.args.changes.now c.loop-change.change-index c.change-item.result
-            c.loop-change-test.true c.change-item.is c.requires.placed)
+    (all_of_item (IsPlaced (g.P.Pmem.state c.args.device.now).lines) put_of c.args.changes.now c.loop-change.change-index c.change-item.result
+    c.loop-change-test.true c.change-item.is c.requires.placed)
 
 pub store_change-requires-clause-fitting : goal.store_change-requires-clause-fitting
 store_change-requires-clause-fitting g c =
     all_of_item HasItsLines put_of c.args.changes.now c.loop-change.change-index c.change-item.result c.loop-change-test.true c.change-item.is
-        c.requires.fitting
+    c.requires.fitting
 
 pub loop-change-preserved : goal.loop-change-preserved
-loop-change-preserved g c =
-    (changes_stored c.args.stamp c.args.position c.args.changes.now c.loop-change.change-index c.change-item.result c.loop-change-test.true
-        c.change-item.is c.loop-change.invariant.0 c.store_change.ensures.stored,
-      all_more IsStorable put_of c.args.changes.now c.loop-change.change-index c.change-item.result c.loop-change-test.true c.change-item.is
-        c.loop-change.invariant.1 c.store_change.ensures.storable)
+loop-change-preserved g c = (
+  changes_stored c.args.stamp c.args.position c.args.changes.now c.loop-change.change-index c.change-item.result c.loop-change-test.true
+      c.change-item.is c.loop-change.invariant.0 c.store_change.ensures.stored,
+  all_more IsStorable put_of c.args.changes.now c.loop-change.change-index c.change-item.result c.loop-change-test.true c.change-item.is
+      c.loop-change.invariant.1 c.store_change.ensures.storable,
+)

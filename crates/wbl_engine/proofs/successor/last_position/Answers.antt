@@ -8,4 +8,4 @@ pub returns-in-Some : goal.returns-in-Some
 returns-in-Some c =
     let item = c.in-Some.ensures.item in
     ap (λ (part : Part). part.position) item.1
-        ∙ sym (last_position-get c.args.before c.args.parts.now c.in-Some.part.now (ltb-true 0 (length c.args.parts.now) (sym item.0)))
+    ∙ sym (last_position-get c.args.before c.args.parts.now c.in-Some.part.now (ltb-true 0 (length c.args.parts.now) (sym item.0)))

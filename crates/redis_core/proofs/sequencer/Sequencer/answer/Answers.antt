@@ -16,8 +16,13 @@ returns-clause-answers g c =
     let inside = c.self.inside in
     let seated = λ (s : Sequencing) (n : ℕ) (b : Bool). record s { closed = slice_set s.closed n b } in
     let view : Sequencing = record {
-          table = g.K.Keyspace.table inside.keyspace; room = inside.heap; position = inside.position; before = inside.before; waiting = inside.waiting.items; closed = inside.closed.items
-        } in
+      table = g.K.Keyspace.table inside.keyspace;
+      room = inside.heap;
+      position = inside.position;
+      before = inside.before;
+      waiting = inside.waiting.items;
+      closed = inside.closed.items;
+    } in
     let final = seated view c.number.result c.is_fault.result in
     let after = ap₂ (seated mid) (sym c.number.ensures.value) (sym c.is_fault.ensures) ∙ ap (λ (s : Sequencing). seated s c.number.result c.is_fault.result) (sym c.self.view_is) in
     let answers = answers_of old seat item c.serve-served.result mid c.serve-served.ensures.ok c.serve-served.ensures.err c.serve-served.ensures.full_only in

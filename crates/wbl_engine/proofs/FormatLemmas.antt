@@ -1,0 +1,256 @@
+-- The three steps of formatting leave an image from before, the new one, or one without the magic.
+use Rattle.std.proofs.Common.{◌≡◌, ◌≢◌, ℕ, zero, suc, ◌+◌, ◌-◌, ◌*◌, ◌/◌, ◌<◌, ◌≤◌, Bool, true, false, cond, ◌&&◌, ◌||◌, ◌==◌, IsTrue, List, [], ◌∷◌, ◌++◌, ◌⊎◌, inl, inr, Option, None, length, get_or, refl, sym, ap, subst, ◌∙◌, arith}
+use Rattle.std.specs.Prelude.{nat_lt}
+use Rattle.std.proofs.lemmas.Bool.{cond-true, cond-false, cases_lt, lt-ltb, le-ltb, both_ways}
+use Rattle.pmem.specs.Device.{Word, State, MayBe, Only}
+use Rattle.pmem.specs.Crash.{IsImage, image_of}
+use Rattle.pmem.specs.Runs.{LeavesOnly, Staged, StageFailed, IsPartlyStored, IsStored, IsOutside, written, lines_from}
+use Rattle.pmem.proofs.Leaving.{LeavesOnly-then, LeavesOnly-weaken}
+use Rattle.pmem.proofs.Staging.{written-outside, stored_or_outside, same_or_other, IsLine-lines_from}
+use Rattle.model.specs.declared.image.TheConstants.{MAGIC, MIN_LINES, MAX_LINES, COUNTER_LIMIT}
+use Rattle.model.specs.declared.record.Record.{Record}
+use Rattle.model.specs.declared.record.Role.{Role}
+use Rattle.model.specs.Images.{Image, HasSuperblock, HasRecord, root_word, entry_word, entries_of_lines, first_extent_line, record_words, version_at, counts}
+use Rattle.wbl_engine.specs.AtRest.{contents_of, IsSound, IsWhole, IsAtRest, Matters}
+use Rattle.wbl_engine.specs.Contents.{Keeps, IsNew}
+use Rattle.wbl_engine.specs.Formatting.{first_record, superblock_words, new_contents, new_pairs, IsFormatting}
+use Rattle.wbl_engine.proofs.Beginning.{versions-within, versions-beyond}
+use Rattle.wbl_engine.proofs.CountLemmas.{counts-zero}
+use Rattle.wbl_engine.proofs.Mixing.{image_of-is}
+use Rattle.wbl_engine.proofs.NewImage.{magic_outside, new_covered, new_super, new_first, new_entry}
+use Rattle.wbl_engine.proofs.RecordLemmas.{record_is}
+
+abbrev pub magic_pairs : ℕ → List (ℕ × ℕ)
+magic_pairs x = (0, x) ∷ []
+
+magic_stored : (x word y : ℕ) → IsStored (magic_pairs x) word y → (word ≡ 0) × (y ≡ x)
+magic_stored x word y (inl here) = (sym here.0, sym here.1)
+magic_stored x word y (inr none) = absurd none
+
+magic_other : (x word : ℕ) → word ≢ 0 → IsOutside (magic_pairs x) word
+magic_other x word other y stored = other (magic_stored x word y stored).0
+
+no_magic : (image : Image) → image 0 ≡ 0 → image 0 ≢ MAGIC
+no_magic image none is = omega (arith, none, is)
+
+-- the image has all words of a new one but the magic
+record HasNew (lines : ℕ) (role : Role) (image : Image) : Type 0 where
+  super : (k : ℕ) → k < 7 → image (1 + k) ≡ get_or (superblock_words lines) k 0
+  first : (k : ℕ) → k < 24 → image (32 + k) ≡ get_or (record_words (first_record role)) k 0
+  entry : (i k : ℕ) → i < entries_of_lines lines → k < 8 → image (entry_word i k) ≡ 0
+
+new_superblock : (lines : ℕ) (role : Role) (image : Image) → image 0 ≡ MAGIC → HasNew lines role image → HasSuperblock lines image
+new_superblock lines role image magic has =
+    record {
+      magic = magic;
+      version = has.super 0 (omega arith);
+      line_count = has.super 1 (omega arith);
+      entry_count = has.super 2 (omega arith);
+    }
+
+new_record : (lines : ℕ) (role : Role) (image : Image) → HasNew lines role image → HasRecord (first_record role) image
+new_record lines role image has = record_is (first_record role) image (has.super 3 (omega arith)) has.first
+
+no_version : (lines : ℕ) (role : Role) (image : Image) → HasNew lines role image → (i : ℕ) → i < entries_of_lines lines
+    → version_at (first_record role) image i ≡ None
+no_version lines role image has i within =
+    cond-false _ _ _ (ap (counts (first_record role)) (has.entry i 0 within (omega arith)) ∙ counts-zero (first_record role))
+
+-- with the magic it is the new image
+new_keeps : (lines : ℕ) (role : Role) (image : Image) → image 0 ≡ MAGIC → HasNew lines role image → Keeps (new_contents lines role) image
+new_keeps lines role image magic has =
+    record {
+      superblock = new_superblock lines role image magic has;
+      has_record = new_record lines role image has;
+      versions = no_version lines role image has;
+      begins = λ i within. omega (arith, has.entry i 0 within (omega arith));
+      ends = λ i within. omega (arith, has.entry i 1 within (omega arith));
+    }
+
+-- once it is written, all of it is certain
+written_new : {b c : State} (lines : ℕ) (role : Role) (image : Image) → Staged b c (new_pairs lines role) (lines_from 0 (first_extent_line lines))
+    → ((word : ℕ) → word ≢ 0 → word < 8 * first_extent_line lines → MayBe (c.words word) (image word)) → HasNew lines role image
+written_new {b} {c} lines role image staged may =
+    let is : (word : ℕ) → word ≢ 0 → word < 8 * first_extent_line lines → image word ≡ written (new_pairs lines role) (image_of b.words) word =
+    λ word other below.
+    (staged.certain word (IsLine-lines_from 0 (first_extent_line lines) (word / 8) (omega arith) (omega (arith, below)))).only (image word)
+    (may word other below) in
+    record {
+      super = λ k below. is (1 + k) (omega arith) (omega (arith, below)) ∙ new_super lines role (image_of b.words) k below;
+      first = λ k below. is (32 + k) (omega arith) (omega (arith, below)) ∙ new_first lines role (image_of b.words) k below;
+      entry = λ i k within below.
+          is (entry_word i k) (omega arith) (omega (arith, within, below)) ∙ new_entry lines role (image_of b.words) i k within below;
+    }
+
+-- the magic is gone until it comes back
+magic_gone : {a b c : State} (lines : ℕ) (role : Role) → Staged a b (magic_pairs 0) (0 ∷ [])
+    → Staged b c (new_pairs lines role) (lines_from 0 (first_extent_line lines)) → (x : ℕ) → MayBe (c.words 0) x → x ≡ 0
+magic_gone {a} {b} {c} lines role first second x may =
+    (first.certain 0 (inl refl)).only x (second.elsewhere 0 x (magic_outside lines role) may)
+
+-- ---- the moments
+
+pub first_leaves : (lines : ℕ) (role : Role) (words : ℕ → Word) (image : Image) → IsPartlyStored (magic_pairs 0) words image
+    → IsFormatting words lines role image
+first_leaves lines role words image partly =
+    elim (partly 0) [
+      | inl may ↦
+          inl (λ word.
+          elim (partly word) [
+            | inl was ↦ was
+            | inr stored ↦ subst (λ (w : ℕ). MayBe (words w) (image w)) (sym (magic_stored 0 word (image word) stored).0) may
+          ])
+      | inr stored ↦ inr (inr (no_magic image (magic_stored 0 0 (image 0) stored).1))
+    ]
+
+pub second_leaves : {a b : State} (lines : ℕ) (role : Role) (image : Image) → Staged a b (magic_pairs 0) (0 ∷ [])
+    → IsPartlyStored (new_pairs lines role) b.words image → IsFormatting a.words lines role image
+second_leaves {a} {b} lines role image first partly =
+    inr (inr (no_magic image
+    (elim (partly 0) [
+      | inl may ↦ (first.certain 0 (inl refl)).only (image 0) may
+      | inr stored ↦ absurd (magic_outside lines role (image 0) stored)
+    ])))
+
+pub third_leaves : {a b c : State} (lines : ℕ) (role : Role) (image : Image) → Staged a b (magic_pairs 0) (0 ∷ [])
+    → Staged b c (new_pairs lines role) (lines_from 0 (first_extent_line lines)) → IsPartlyStored (magic_pairs MAGIC) c.words image
+    → IsFormatting a.words lines role image
+third_leaves {a} {b} {c} lines role image first second partly =
+    elim (partly 0) [
+      | inl may ↦ inr (inr (no_magic image (magic_gone lines role first second (image 0) may)))
+      | inr stored ↦
+          inr (inl (new_keeps lines role image (magic_stored MAGIC 0 (image 0) stored).1
+          (written_new lines role image second
+          (λ word other below.
+          elim (partly word) [
+            | inl may ↦ may
+            | inr there ↦ absurd (other (magic_stored MAGIC word (image word) there).0)
+          ]))))
+    ]
+
+pub first_moments : {a b : State} (lines : ℕ) (role : Role) → LeavesOnly a b (IsPartlyStored (magic_pairs 0) a.words)
+    → LeavesOnly a b (IsFormatting a.words lines role)
+first_moments {a} {b} lines role moments =
+    LeavesOnly-weaken (IsFormatting a.words lines role) (first_leaves lines role a.words) moments
+
+pub second_moments : {a b c : State} (lines : ℕ) (role : Role) → Staged a b (magic_pairs 0) (0 ∷ [])
+    → LeavesOnly b c (IsPartlyStored (new_pairs lines role) b.words) → LeavesOnly a c (IsFormatting a.words lines role)
+second_moments {a} {b} {c} lines role first moments =
+    LeavesOnly-then (first_moments lines role first.moments)
+    (LeavesOnly-weaken (IsFormatting a.words lines role) (λ image partly. second_leaves lines role image first partly) moments)
+
+pub third_moments : {a b c d : State} (lines : ℕ) (role : Role) → Staged a b (magic_pairs 0) (0 ∷ [])
+    → Staged b c (new_pairs lines role) (lines_from 0 (first_extent_line lines)) → LeavesOnly c d (IsPartlyStored (magic_pairs MAGIC) c.words)
+    → LeavesOnly a d (IsFormatting a.words lines role)
+third_moments {a} {b} {c} {d} lines role first second moments =
+    LeavesOnly-then (second_moments lines role first second.moments)
+    (LeavesOnly-weaken (IsFormatting a.words lines role) (λ image partly. third_leaves lines role image first second partly) moments)
+
+-- ---- the end
+
+-- what a crash leaves of the finished image
+finished : {b c d : State} (lines : ℕ) (role : Role) → Staged b c (new_pairs lines role) (lines_from 0 (first_extent_line lines))
+    → Staged c d (magic_pairs MAGIC) (0 ∷ []) → (image : Image)
+    → ((word : ℕ) → word < 8 * first_extent_line lines → MayBe (d.words word) (image word)) → (image 0 ≡ MAGIC) × HasNew lines role image
+finished {b} {c} {d} lines role second third image may = (
+  (third.certain 0 (inl refl)).only (image 0) (may 0 (omega arith)),
+  written_new lines role image second
+      (λ word other below. third.elsewhere word (image word) (magic_other MAGIC word other) (may word below)),
+)
+
+-- what matters lies before the extents
+matters_below : (lines : ℕ) (role : Role) (image : Image) → HasNew lines role image → (word : ℕ) → Matters (first_record role) lines image word
+    → word < 8 * first_extent_line lines
+matters_below lines role image has word (inl before) = omega (arith, before)
+matters_below lines role image has word (inr (inl directory)) = directory.1
+matters_below lines role image has word (inr (inr (i, within, begun, at))) =
+    absurd (both_ways (counts (first_record role) (image (entry_word i 0)))
+    (ap (counts (first_record role)) (has.entry i 0 within (omega arith)) ∙ counts-zero (first_record role)) begun)
+
+-- a word with one candidate has what loads give
+only_newest : (word : Word) (x : ℕ) → ((y : ℕ) → MayBe word y → y ≡ x) → Only word word.newest
+only_newest word x one = record { only = λ y may. one y may ∙ sym (one word.newest (inl refl)) }
+
+certain_below : {b c d : State} (lines : ℕ) (role : Role) → Staged b c (new_pairs lines role) (lines_from 0 (first_extent_line lines))
+    → Staged c d (magic_pairs MAGIC) (0 ∷ []) → (word : ℕ) → word < 8 * first_extent_line lines → Only (d.words word) (image_of d.words word)
+certain_below {b} {c} {d} lines role second third word below =
+    elim (same_or_other word 0) [
+      | inl zeroth ↦
+          only_newest (d.words word) (written (magic_pairs MAGIC) (image_of c.words) word)
+          (λ y may. (third.certain word (inl (omega (arith, zeroth)))).only y may)
+      | inr other ↦
+          only_newest (d.words word) (written (new_pairs lines role) (image_of b.words) word)
+          (λ y may.
+          (second.certain word (IsLine-lines_from 0 (first_extent_line lines) (word / 8) (omega arith) (omega (arith, below)))).only y
+          (third.elsewhere word y (magic_other MAGIC word other) may))
+    ]
+
+-- The device is at rest with the first record.
+pub format_rest : {a b c d : State} (role : Role) → MIN_LINES ≤ a.lines → a.lines ≤ MAX_LINES → Staged a b (magic_pairs 0) (0 ∷ [])
+    → Staged b c (new_pairs a.lines role) (lines_from 0 (first_extent_line a.lines)) → Staged c d (magic_pairs MAGIC) (0 ∷ [])
+    → IsAtRest (first_record role) d
+format_rest {a} {b} {c} {d} role many few first second third =
+    let lines : d.lines ≡ a.lines = third.stays.lines ∙ second.stays.lines ∙ first.stays.lines in
+    let now = finished a.lines role second third (image_of d.words) (λ word below. image_of-is d.words word) in
+    record {
+      many = omega (arith, lines, many);
+      few = omega (arith, lines, few);
+      sound = record {
+        limit = refl;
+        number = omega arith;
+        position = omega arith;
+        room = omega arith;
+        no_gap = λ stamp above. refl;
+      };
+      whole = subst (λ (n : ℕ). IsWhole (first_record role) n (image_of d.words)) (sym lines)
+          (record {
+            superblock = new_superblock a.lines role (image_of d.words) now.0 now.1;
+            begins = λ i within. omega (arith, now.1.entry i 0 within (omega arith));
+            ends = λ i within. omega (arith, now.1.entry i 1 within (omega arith));
+            in_place = λ i within begun.
+                absurd (both_ways (counts (first_record role) (image_of d.words (entry_word i 0)))
+                (ap (counts (first_record role)) (now.1.entry i 0 within (omega arith)) ∙ counts-zero (first_record role)) begun);
+          });
+      recorded = λ image is. new_record a.lines role image (finished a.lines role second third image (λ word below. is word)).1;
+      certain = λ word matters.
+          certain_below a.lines role second third word
+          (matters_below a.lines role (image_of d.words) now.1 word
+          (subst (λ (n : ℕ). Matters (first_record role) n (image_of d.words) word) lines matters));
+    }
+
+-- Its contents are new.
+pub rest_new : (role : Role) (d : State) → IsAtRest (first_record role) d → IsNew d.lines role (contents_of (first_record role) d)
+rest_new role d rest =
+    let none : (i : ℕ) → i < entries_of_lines d.lines → image_of d.words (entry_word i 0) ≡ 0 =
+    λ i within. omega (arith, rest.whole.begins i within) in
+    record {
+      number = refl;
+      position = refl;
+      cp = refl;
+      cd = refl;
+      epoch = refl;
+      role_is = refl;
+      gaps = refl;
+      line_count = refl;
+      versions = λ i.
+          elim (cases_lt i (entries_of_lines d.lines)) [
+            | inl within ↦
+                versions-within (first_record role) d i within
+                ∙ cond-false _ _ _ (ap (counts (first_record role)) (none i within) ∙ counts-zero (first_record role))
+            | inr beyond ↦ versions-beyond (first_record role) d i beyond
+          ];
+      is_free = λ i within.
+          ap (λ (t : Bool). t && (image_of d.words (entry_word i 0) == 0 || nat_lt 0 (image_of d.words (entry_word i 0))))
+          (lt-ltb i (entries_of_lines d.lines) within)
+          ∙ ap (λ (b : ℕ). b == 0 || nat_lt 0 b) (none i within);
+    }
+
+-- the device has as many lines as before
+pub second_staged : {b c : State} (lines : ℕ) (role : Role) → b.lines ≡ lines
+    → Staged b c (new_pairs b.lines role) (lines_from 0 (first_extent_line b.lines))
+    → Staged b c (new_pairs lines role) (lines_from 0 (first_extent_line lines))
+second_staged {b} {c} lines role is = subst (λ (n : ℕ). Staged b c (new_pairs n role) (lines_from 0 (first_extent_line n))) is
+
+pub second_failed : {b c : State} (lines : ℕ) (role : Role) → b.lines ≡ lines → StageFailed b c (new_pairs b.lines role)
+    → StageFailed b c (new_pairs lines role)
+second_failed {b} {c} lines role is = subst (λ (n : ℕ). StageFailed b c (new_pairs n role)) is

@@ -1,0 +1,44 @@
+use Rattle.std.proofs.Common.{[], ◌∷◌, subst, sym}
+use Rattle.std.proofs.lemmas.Result.{on_ok_weaker, on_err_weaker}
+use Rattle.pmem.specs.Runs.{LeavesOnly, IsPartlyStored}
+use Rattle.model.specs.declared.image.TheConstants.{MAGIC}
+use Rattle.model.specs.declared.record.Record.{Record}
+use Rattle.wbl_engine.specs.AtRest.{IsAtRest}
+use Rattle.wbl_engine.proofs.FormatLemmas.{magic_pairs, first_moments, second_moments, third_moments, second_staged, second_failed, format_rest}
+use Rattle.wbl_engine.proofs.Results.{on_both}
+use Rattle.wbl_engine.proofs.format.format_device.Goals as goal
+
+pub returns-in_err-persist-clause-moments : goal.returns-in_err-persist-clause-moments
+returns-in_err-persist-clause-moments g c =
+    first_moments (g.P.Pmem.state c.args.device.now).lines c.args.first.now.role c.in_err-persist.ensures.err.moments
+
+pub returns-in_err-write_new-clause-moments : goal.returns-in_err-write_new-clause-moments
+returns-in_err-write_new-clause-moments g c =
+    let lines = (g.P.Pmem.state c.args.device.now).lines in
+    let role = c.args.first.now.role in
+    let first = c.in_ok-persist.ensures.ok in
+    second_moments lines role first (second_failed lines role first.stays.lines c.in_err-write_new.ensures.err).moments
+
+pub returns-clause-rest : goal.returns-clause-rest
+returns-clause-rest g c =
+    let d = g.P.Pmem.state c.args.device.now in
+    let role = c.args.first.now.role in
+    let first = c.in_ok-persist.ensures.ok in
+    let second = second_staged d.lines role first.stays.lines c.in_ok-write_new.ensures.ok in
+    on_ok_weaker c.persist-2.result
+    (λ third.
+    subst (λ (r : Record). IsAtRest r (g.P.Pmem.state c.persist-2.new.device)) (sym c.requires.first)
+    (format_rest role c.requires.many c.requires.few first second third))
+    c.persist-2.ensures.ok
+
+pub returns-clause-moments : goal.returns-clause-moments
+returns-clause-moments g c =
+    let lines = (g.P.Pmem.state c.args.device.now).lines in
+    let role = c.args.first.now.role in
+    let first = c.in_ok-persist.ensures.ok in
+    let second = second_staged lines role first.stays.lines c.in_ok-write_new.ensures.ok in
+    let third : LeavesOnly (g.P.Pmem.state c.write_new.new.device) (g.P.Pmem.state c.persist-2.new.device)
+    (IsPartlyStored (magic_pairs MAGIC) (g.P.Pmem.state c.write_new.new.device).words) =
+    on_both c.persist-2.result (on_ok_weaker c.persist-2.result (λ staged. staged.moments) c.persist-2.ensures.ok)
+    (on_err_weaker c.persist-2.result (λ failed. failed.moments) c.persist-2.ensures.err) in
+    third_moments lines role first second third

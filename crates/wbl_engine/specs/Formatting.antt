@@ -1,0 +1,51 @@
+-- A new image, and what a crash leaves while it is made.
+use Rattle.std.specs.Prelude.{◌≡◌, ◌≢◌, ◌⊎◌, ℕ, ◌+◌, ◌*◌, List, [], ◌∷◌, ◌++◌, replicate, nat_lt, None}
+use Rattle.pmem.specs.Device.{Word}
+use Rattle.pmem.specs.Crash.{IsImage}
+use Rattle.pmem.specs.Runs.{pairs_from}
+use Rattle.model.specs.declared.image.TheConstants.{MAGIC, VERSION, STAMP_WINDOW}
+use Rattle.model.specs.declared.record.Record.{Record}
+use Rattle.model.specs.declared.record.Role.{Role}
+use Rattle.model.specs.Images.{Image, entries_of_lines, record_words}
+use Rattle.model.specs.Groups.{Contents}
+use Rattle.wbl_engine.specs.Contents.{Keeps}
+
+-- the record of a new image
+abbrev pub first_record : Role → Record
+first_record role =
+    record {
+      number = 1;
+      position = 0;
+      cp = 0;
+      cd = 1 + STAMP_WINDOW;
+      epoch = 1;
+      role = role;
+      gaps = record { items = [] };
+    }
+
+-- the contents of a new image: no version, and each entry of the directory free
+abbrev pub new_contents : ℕ → Role → Contents
+new_contents lines role =
+    record {
+      current = first_record role;
+      lines = lines;
+      versions = λ i. None;
+      is_free = λ i. nat_lt i (entries_of_lines lines);
+    }
+
+-- the superblock behind the magic
+abbrev pub superblock_words : ℕ → List ℕ
+superblock_words lines = VERSION ∷ lines ∷ entries_of_lines lines ∷ 1 ∷ 0 ∷ 0 ∷ 0 ∷ []
+
+-- these four runs of words, up to the extents
+abbrev pub run_pairs : List ℕ → List ℕ → List ℕ → List ℕ → List (ℕ × ℕ)
+run_pairs super slot first rest = pairs_from 1 super ++ pairs_from 8 slot ++ pairs_from 32 first ++ pairs_from 56 rest
+
+-- all words of a new image but the magic, up to the extents
+unfoldable pub new_pairs : ℕ → Role → List (ℕ × ℕ)
+new_pairs lines role =
+    run_pairs (superblock_words lines) (replicate 24 0) (record_words (first_record role)) (replicate (8 + 8 * entries_of_lines lines) 0)
+
+-- What a crash leaves of a device of these words that is being formatted: an image from before, the new one whole, or one without the magic.
+abbrev pub IsFormatting : (ℕ → Word) → ℕ → Role → Image → Type 0
+IsFormatting words lines role image = IsImage words image ⊎ (Keeps (new_contents lines role) image ⊎ (image 0 ≢ MAGIC))

@@ -1,0 +1,75 @@
+//! A new image: no magic until everything else is durable.
+ghost use Rattle.std.specs.Prelude.{◌≡◌, ◌+◌, ◌*◌, ◌<◌, ◌≤◌, replicate, OnOk, OnErr};
+ghost use Rattle.pmem.specs.Runs.{LeavesOnly, Runs, Staged, StageFailed, stores, pairs_from, lines_from};
+ghost use Rattle.model.specs.declared.image.TheConstants.{MIN_LINES, MAX_LINES};
+ghost use Rattle.model.specs.Images.{entries_of_lines, first_extent_line};
+ghost use Rattle.wbl_engine.specs.AtRest.{IsAtRest};
+ghost use Rattle.wbl_engine.specs.Formatting.{first_record, new_pairs, IsFormatting};
+
+use crate::record::words_of;
+use arrayvec::ArrayVec;
+use model::{MAGIC, Record, Role, STAMP_WINDOW, VERSION};
+use pmem::{Fault, Pmem, flush_lines, persist, store_words};
+
+/// Formats a device: the magic goes first, then everything else is written, then the magic comes.
+///
+/// At any moment a crash leaves an image from before, the new one whole, or one without the magic. After an `Err` a fence has failed.
+pub fn format_device<P: Pmem>(device: &mut P, first: &Record) -> Result<(), Fault>
+    requires many { MIN_LINES ≤ (P.state device.old).lines }
+    requires few { (P.state device.old).lines ≤ MAX_LINES }
+    requires first { first.now ≡ first_record first.now.role }
+    ensures rest { OnOk result (IsAtRest first.now (P.state device.new)) }
+    ensures lines { (P.state device.new).lines ≡ (P.state device.old).lines }
+    ensures sound { OnOk result ((P.state device.new).failures ≡ (P.state device.old).failures) }
+    ensures fault { OnErr result ((P.state device.old).failures < (P.state device.new).failures) }
+    ensures moments { LeavesOnly (P.state device.old) (P.state device.new)
+        (IsFormatting (P.state device.old).words (P.state device.old).lines first.now.role) }
+{
+    persist(device, &[(0, 0)], &[0])?;
+    write_new(device, first)?;
+    persist(device, &[(0, MAGIC)], &[0])
+}
+
+/// Writes everything but the magic: superblock, both slots, the first of which is empty, and an empty directory.
+fn write_new<P: Pmem>(device: &mut P, first: &Record) -> Result<(), Fault>
+    requires many { MIN_LINES ≤ (P.state device.old).lines }
+    requires few { (P.state device.old).lines ≤ MAX_LINES }
+    requires first { first.now ≡ first_record first.now.role }
+    ensures ok { OnOk result (Staged (P.state device.old) (P.state device.new) (new_pairs (P.state device.old).lines first.now.role)
+        (lines_from 0 (first_extent_line (P.state device.old).lines))) }
+    ensures err { OnErr result (StageFailed (P.state device.old) (P.state device.new) (new_pairs (P.state device.old).lines first.now.role)) }
+{
+    let lines = device.lines();
+    let entries = lines / 8;
+    store_words(device, 1, &[VERSION, lines, entries, 1, 0, 0, 0]);
+    clear_words(device, 8, 24);
+    store_words(device, 32, &words_of(first));
+    clear_words(device, 56, 8 + 8 * entries);
+    flush_lines(device, 0, 8 + entries);
+    device.fence()
+}
+
+/// Stores zeros in so many words, from `first` on.
+fn clear_words<P: Pmem>(device: &mut P, first: u64, count: u64)
+    requires { first + count ≤ 8 * (P.state device.old).lines }
+    ensures { Runs (P.state device.old) (P.state device.new) (stores (pairs_from first (replicate count 0)) (P.state device.old).words) }
+{
+    for i in 0..count {
+        device.store(first + i, 0);
+    }
+}
+
+/// The record of a new image.
+pub fn first_record(role: Role) -> Record
+    ensures { result ≡ first_record role }
+{
+    Record {
+        number: 1,
+        position: 0,
+        cp: 0,
+        cd: 1 + STAMP_WINDOW,
+        epoch: 1,
+        role,
+        gaps: ArrayVec::new(),
+    }
+}
