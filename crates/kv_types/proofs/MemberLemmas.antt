@@ -1,5 +1,5 @@
 -- A record stands in a keyspace exactly where the look-up finds it.
-use Rattle.std.proofs.Common.{◌≡◌, ℕ, zero, suc, ◌<◌, List, [], ◌∷◌, length, get_or, Bool, true, false, IsTrue, cond, Option, Some, None, Ordering, Less, Equal, Greater, Contains, refl, sym, ap, ap₂, ◌∙◌, is_eq, is_lt, arith}
+use Rattle.std.proofs.Common.{◌≡◌, ℕ, zero, suc, ◌<◌, List, [], ◌∷◌, length, get_or, Bool, true, false, IsTrue, cond, Some, None, Ordering, Less, Equal, Greater, Contains, refl, sym, ap, ap₂, ◌∙◌, is_eq, is_lt, arith}
 use Rattle.std.proofs.lemmas.Bool.{and_parts}
 use Rattle.std.specs.FinMap.Entries.{is_sorted, below_all}
 use Rattle.kv_types.specs.declared.record_id.RecordId.{RecordId}

@@ -1,5 +1,5 @@
 -- The worked cases of requests, faults, replies, changes and keyspaces, from the definitions by evaluation alone.
-use Rattle.std.proofs.Common.{◌≡◌, ℕ, List, [], ◌∷◌, ◌++◌, pos, negsuc, codes, length, flat_map, Vec, Global, refl, ap, ◌∙◌}
+use Rattle.std.proofs.Common.{◌≡◌, List, [], ◌∷◌, ◌++◌, pos, negsuc, codes, length, flat_map, Vec, Global, refl, ap, ◌∙◌}
 use Rattle.std.specs.Fmt.{digits}
 use Rattle.kv_types.specs.declared.change.Change.TheVariants.{Put, Drop, DropKey, Clear}
 use Rattle.kv_types.specs.declared.item.Item.TheVariants.{Request, Fault}
@@ -9,7 +9,7 @@ use Rattle.kv_types.specs.declared.record_id.RecordId.TheVariants.{Str, Field}
 use Rattle.kv_types.specs.declared.reply.Reply.{Reply, Simple, Error, Int, Bulk, NullBulk, Array, NullArray}
 use Rattle.kv_types.specs.Changes.{change_text, changes_text, changes_size}
 use Rattle.kv_types.specs.Faults.{fault_message}
-use Rattle.kv_types.specs.Keyspaces.{play_all, value_at}
+use Rattle.kv_types.specs.Keyspaces.{play_all}
 use Rattle.kv_types.specs.Reading.{items_at}
 use Rattle.kv_types.specs.Requests.{number_line, spelling}
 use Rattle.kv_types.specs.Replies.{text_of}

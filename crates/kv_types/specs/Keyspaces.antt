@@ -1,6 +1,6 @@
 -- The keyspace: a finite map from keys to a string of bytes or to a nonempty map from fields to bytes (the key and hash pages of the
 -- Redis documentation), kept as the list of its records in order.
-use Rattle.std.specs.Prelude.{◌≡◌, ℕ, Bool, not, ◌&&◌, List, [], ◌∷◌, Option, None, Some, IsTrue, IsSome, nat_eq}
+use Rattle.std.specs.Prelude.{◌≡◌, ℕ, not, List, [], ◌∷◌, Option, None, Some, IsTrue, IsSome, nat_eq}
 use Rattle.std.specs.declared.cmp.Ordering.{Ordering}
 use Rattle.std.specs.Ordering.{nat_cmp, on, then_cmp, eq_by_cmp}
 use Rattle.std.specs.Option.{option_cmp}

@@ -1,6 +1,6 @@
 -- Replies as bytes: the forms of RESP2 (the Redis serialization protocol specification).
-use Rattle.std.specs.Prelude.{ℕ, ◌+◌, List, [], ◌∷◌, ◌++◌, length}
-use Rattle.std.specs.Fmt.{decimal, signed_decimal}
+use Rattle.std.specs.Prelude.{ℕ, ◌+◌, List, [], ◌∷◌, ◌++◌}
+use Rattle.std.specs.Fmt.{signed_decimal}
 use Rattle.kv_types.specs.declared.reply.Reply.{Reply, Simple, Error, Int, Bulk, NullBulk, Array', NullArray, Row_of-Reply, end_of-Reply, more_of-Reply}
 use Rattle.kv_types.specs.Requests.{line_end, number_line, bulk}
 
