@@ -2,3 +2,6 @@ pub mod TableLemmas
 pub mod VersionTables
 pub mod TableMembers
 pub mod PartTables
+pub mod ListLemmas
+pub mod EndedLemmas
+pub mod PlayingLemmas

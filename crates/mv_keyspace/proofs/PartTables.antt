@@ -1,11 +1,10 @@
 -- The table after all changes of a part, and the entries that they ended.
-use Rattle.std.proofs.Common.{◌≡◌, ◌≢◌, ◌↔◌, ℕ, ◌<◌, ◌≤◌, ◌⊎◌, ⊎_elim, inl, inr, Bool, true, false, cond, not, ◌||◌, List, [], ◌∷◌, ◌++◌, map, Option, Some, None, Contains, IsTrue, nat_eq, refl, sym, ap, subst, ◌∙◌, ne_eqb, eq-eqb, eqb-true}
-use Rattle.std.proofs.lemmas.Bool.{false_from_ne_true, cases_lt}
+use Rattle.std.proofs.Common.{◌≡◌, ℕ, ◌<◌, ◌≤◌, ◌⊎◌, ⊎_elim, inl, inr, Bool, true, false, cond, not, ◌||◌, List, [], ◌∷◌, Option, Some, None, Contains, IsTrue, nat_eq, refl, sym, ap, subst, ◌∙◌, ne_eqb, eq-eqb}
+use Rattle.std.proofs.lemmas.Bool.{cases_lt}
 use Rattle.std.specs.Option.{option_map}
-use Rattle.std.specs.List.{flat_map, AllByRecursion}
+use Rattle.std.specs.List.{AllByRecursion}
 use Rattle.kv_types.specs.declared.record_id.RecordId.{RecordId}
 use Rattle.kv_types.specs.declared.change.Change.{Change}
-use Rattle.kv_types.specs.Keyspaces.{IsKeyspace, value_at}
 use Rattle.kv_types.proofs.PlayLemmas.{is_keyspace-empty}
 use Rattle.model.specs.declared.group.Part.{Part}
 use Rattle.model.specs.declared.group.Put.{Put}
@@ -16,7 +15,7 @@ use Rattle.model.specs.Groups.{Versions, change_of, put_of, ended_by, ended_wher
 use Rattle.model.proofs.MapLemmas.{not_live}
 use Rattle.mv_keyspace.specs.Tables.{Cell, Table, records, cell_at, entries_of, place, place_all, puts_of, AreEnded, AreFresh, IsLawful, IsTable}
 use Rattle.mv_keyspace.proofs.TableLemmas.{value_at-records}
-use Rattle.mv_keyspace.proofs.TableMembers.{IsEntryOf, IsSortedTable, entry-from_found, found-from_entry, is_sorted-records}
+use Rattle.mv_keyspace.proofs.TableMembers.{IsSortedTable, entry-from_found, found-from_entry, is_sorted-records}
 use Rattle.mv_keyspace.proofs.VersionTables.{AreEmpty, IsTable-change}
 
 -- no two of the puts have one entry
@@ -121,10 +120,11 @@ lawful-from_table versions table is = record {
 
 pub fresh-from_table : (versions : Versions) (table : Table) (puts : List Put) → IsTable versions table → AreEmpty versions puts → AreDistinct puts → AreFresh table puts
 fresh-from_table versions table [] is empty distinct = tt
-fresh-from_table versions table (put ∷ puts) is empty distinct =
-    ( λ m. let live = live-from_entry versions table put.entry.0 is m in let none = empty.0 in absurd (none_not_live (versions put.entry.0) none live)
-    , λ t. let e = distinct.0 in cc
-    , fresh-from_table versions table puts is empty.1 distinct.1 )
+fresh-from_table versions table (put ∷ puts) is empty distinct = (
+  λ m. let live = live-from_entry versions table put.entry.0 is m in let none = empty.0 in absurd (none_not_live (versions put.entry.0) none live),
+  λ t. let e = distinct.0 in cc,
+  fresh-from_table versions table puts is empty.1 distinct.1,
+)
   where
     none_not_live : (entry : Option Version) → entry ≡ None → IsTrue (is_live_version entry) → ⊥
     none_not_live None e live = cc
@@ -182,7 +182,7 @@ begun-change position versions (placed.DropKey key) i (inr t) = cc
 begun-change position versions placed.Clear i (inl begun) = begun_ended (change_of placed.Clear) (versions i) begun
 begun-change position versions placed.Clear i (inr t) = cc
 
-put_at-split : (c : PlacedChange) (changes : List PlacedChange) (i : ℕ) → IsTrue (is_put_at i (puts_of (c ∷ changes))) → IsTrue (is_put_at i (put_of c)) ⊎ IsTrue (is_put_at i (puts_of changes))
+pub put_at-split : (c : PlacedChange) (changes : List PlacedChange) (i : ℕ) → IsTrue (is_put_at i (puts_of (c ∷ changes))) → IsTrue (is_put_at i (put_of c)) ⊎ IsTrue (is_put_at i (puts_of changes))
 put_at-split (placed.Put put) changes i t = ⊎_elim (λ (h : IsTrue (nat_eq i put.entry.0)). inl (ap (λ b. b || false) h)) (λ (h : IsTrue (is_put_at i (puts_of changes))). inr h) (or_left (nat_eq i put.entry.0) (is_put_at i (puts_of changes)) t)
 put_at-split (placed.Drop id) changes i t = inr t
 put_at-split (placed.DropKey key) changes i t = inr t
@@ -225,9 +225,10 @@ or_from false b (inr h) = h
 -- the entries that the table says were ended are those of the versions that were
 pub names-ended : (versions : Versions) (table : Table) (part : Part) → AreEmpty versions (puts_of part.changes.items) → AreDistinct (puts_of part.changes.items) → IsTable versions table
     → AreEnded table part.changes.items part.ended.items → NamesEnded versions part
-names-ended versions table part empty distinct is ended i =
-    ( λ m. let h = (ended i).0 m in (made h.0, dead h.0 h.1)
-    , λ h. (ended i).1 (before h.0, λ m. not_both (after i) (live-from_entry after (place_all table changes) i is_after m) h.1) )
+names-ended versions table part empty distinct is ended i = (
+  λ m. let h = (ended i).0 m in (made h.0, dead h.0 h.1),
+  λ h. (ended i).1 (before h.0, λ m. not_both (after i) (live-from_entry after (place_all table changes) i is_after m) h.1),
+)
   where
     changes : List PlacedChange
     changes = part.changes.items
@@ -251,4 +252,4 @@ names-ended versions table part empty distinct is ended i =
 
     before : IsTrue (is_live_version (versions i) || is_put_at i (puts_of part.changes.items)) → Contains (entries_of table) i ⊎ IsTrue (is_put_at i (puts_of part.changes.items))
     before t = ⊎_elim (λ (h : IsTrue (is_live_version (versions i))). inl (entry-from_live versions table i is h)) (λ (h : IsTrue (is_put_at i (puts_of part.changes.items))). inr h)
-      (or_left (is_live_version (versions i)) (is_put_at i (puts_of part.changes.items)) t)
+        (or_left (is_live_version (versions i)) (is_put_at i (puts_of part.changes.items)) t)

@@ -1,22 +1,18 @@
 -- A table moves as its keyspace does, and as the versions do.
-use Rattle.std.proofs.Common.{◌≡◌, ℕ, ◌<◌, ◌≤◌, Bool, true, false, cond, not, List, [], ◌∷◌, ◌++◌, map, Option, Some, None, Contains, IsTrue, nat_eq, refl, sym, ap, subst, ◌∙◌}
-use Rattle.std.specs.Prelude.{filter}
+use Rattle.std.proofs.Common.{◌≡◌, ℕ, Bool, true, false, cond, not, List, [], ◌∷◌, map, Some, None, refl, sym, ap, ◌∙◌}
 use Rattle.std.specs.Option.{option_map}
-use Rattle.std.specs.FinMap.Entries.{put, find, where_key, find-put, find-where_key, by_order}
-use Rattle.std.specs.declared.cmp.Ordering.{Ordering}
+use Rattle.std.specs.FinMap.Entries.{put, where_key, find-put, find-where_key, by_order}
 use Rattle.std.specs.declared.cmp.Ordering.TheVariants.{Less, Equal, Greater}
 use Rattle.kv_types.specs.declared.record_id.RecordId.{RecordId}
 use Rattle.kv_types.specs.declared.record_id.RecordId.TheVariants.{Str, Field}
 use Rattle.kv_types.specs.declared.change.Change.TheVariants as change
-use Rattle.kv_types.specs.Keyspaces.{Keyspace, IsKeyspace, key_of, record_cmp, value_at, with_record, without_record, without_key, play, play_all}
+use Rattle.kv_types.specs.Keyspaces.{key_of, record_cmp, value_at, with_record, without_record, without_key, play, play_all}
 use Rattle.kv_types.specs.Orders.{record_cmp_total}
-use Rattle.kv_types.proofs.OrderLemmas.{record_cmp_equal, same_record}
+use Rattle.kv_types.proofs.OrderLemmas.{record_cmp_equal}
 use Rattle.kv_types.proofs.LookUpLemmas.{is_same, is_same_key}
-use Rattle.kv_types.proofs.PlayLemmas.{is_keyspace-play}
-use Rattle.model.specs.declared.group.Put.{Put}
 use Rattle.model.specs.declared.group.PlacedChange.{PlacedChange}
 use Rattle.model.specs.declared.group.PlacedChange.TheVariants as placed
-use Rattle.model.specs.Groups.{change_of, put_of, ends_record}
+use Rattle.model.specs.Groups.{change_of}
 use Rattle.mv_keyspace.specs.Tables.{Cell, Table, records, cell_at, with_cell, without_row, without_rows, cell_of_put, placed_at, place, place_all}
 
 -- ---- the records of a table
@@ -36,7 +32,7 @@ pub records-with_cell : (id : RecordId) (cell : Cell) (table : Table) → record
 records-with_cell id cell [] = refl
 records-with_cell id cell (row ∷ table) =
     elim (record_cmp id row.0) as (λ o. records (by_order o ((id, cell) ∷ row ∷ table) ((row.0, cell) ∷ table) (row ∷ with_cell id cell table))
-      ≡ by_order o ((id, cell.value) ∷ records (row ∷ table)) ((row.0, cell.value) ∷ records table) (row_of row ∷ with_record id cell.value (records table))) [
+    ≡ by_order o ((id, cell.value) ∷ records (row ∷ table)) ((row.0, cell.value) ∷ records table) (row_of row ∷ with_record id cell.value (records table))) [
       | Less ↦ refl
       | Equal ↦ refl
       | Greater ↦ ap (λ rows. row_of row ∷ rows) (records-with_cell id cell table)

@@ -1,5 +1,5 @@
 -- A row stands in a table exactly where the look-up finds it.
-use Rattle.std.proofs.Common.{◌≡◌, ℕ, zero, suc, ◌<◌, List, [], ◌∷◌, length, get_or, map, Bool, true, false, ◌&&◌, IsTrue, cond, Option, Some, None, Contains, refl, sym, ap, ◌∙◌, arith}
+use Rattle.std.proofs.Common.{◌≡◌, ℕ, zero, suc, ◌<◌, [], ◌∷◌, length, get_or, true, false, ◌&&◌, IsTrue, cond, Some, None, Contains, refl, ap, ◌∙◌, arith}
 use Rattle.std.proofs.lemmas.Bool.{and_parts}
 use Rattle.std.specs.FinMap.Entries.{is_sorted, below_all}
 use Rattle.std.specs.declared.cmp.Ordering.{Ordering}
@@ -53,7 +53,9 @@ entry-from_found (row ∷ table) id cell e =
 
 one_later : (row : RecordId × Cell) (table : Table) (i : ℕ) → IsTrue (below_all record_cmp row.0 table) → IsEntryOf table i → IsEntryOf (row ∷ table) i
 one_later row table i below of = record {
-  id = of.id; cell = of.cell; entry = of.entry;
+  id = of.id;
+  cell = of.cell;
+  entry = of.entry;
   found =
       elim (is_same of.id row.0) as (λ b. is_same of.id row.0 ≡ b → cond b (Some row.1) (cell_at table of.id) ≡ Some of.cell) [
         | true ↦ λ t. let missed : cell_at table of.id ≡ None = ap (cell_at table) (same_record of.id row.0 t) ∙ cell_at-below_all row.0 table below in let there = of.found in cc

@@ -1,23 +1,22 @@
 -- The table of the live versions moves as the versions do.
-use Rattle.std.proofs.Common.{◌≡◌, ◌≢◌, ℕ, ◌<◌, ◌≤◌, ◌⊎◌, inl, inr, Bool, true, false, cond, not, ◌||◌, List, [], ◌∷◌, ◌++◌, map, Option, Some, None, Contains, IsTrue, nat_eq, refl, sym, ap, subst, ◌∙◌, ne_eqb, eqb-true}
-use Rattle.std.specs.List.{flat_map, AllByRecursion}
+use Rattle.std.proofs.Common.{◌≡◌, ℕ, Bool, true, false, cond, ◌||◌, List, [], Option, Some, None, nat_eq, refl, sym, ap, subst, ◌∙◌}
+use Rattle.std.specs.List.{AllByRecursion}
 use Rattle.kv_types.specs.declared.record_id.RecordId.{RecordId}
 use Rattle.kv_types.specs.declared.record_id.RecordId.TheVariants.{Str, Field}
 use Rattle.kv_types.specs.declared.change.Change.{Change}
 use Rattle.kv_types.specs.declared.change.Change.TheVariants as change
-use Rattle.kv_types.specs.Keyspaces.{key_of, IsKeyspace, value_at}
-use Rattle.kv_types.proofs.LookUpLemmas.{is_same, is_same_key, is_same_at, is_other}
+use Rattle.kv_types.specs.Keyspaces.{IsKeyspace}
+use Rattle.kv_types.proofs.LookUpLemmas.{is_same, is_same_at, is_other}
 use Rattle.kv_types.proofs.OrderLemmas.{same_record}
-use Rattle.kv_types.proofs.PlayLemmas.{is_keyspace-play, is_keyspace-empty}
+use Rattle.kv_types.proofs.PlayLemmas.{is_keyspace-play}
 use Rattle.model.specs.declared.group.Put.{Put}
 use Rattle.model.specs.declared.group.PlacedChange.{PlacedChange}
 use Rattle.model.specs.declared.group.PlacedChange.TheVariants as placed
-use Rattle.model.specs.Images.{Version, IsLive, IsMapOf}
-use Rattle.model.specs.Groups.{Versions, change_of, put_of, ends_record, ended_where_begun, change_versions, changes_versions, is_put_at}
-use Rattle.model.proofs.MapLemmas.{not_live}
+use Rattle.model.specs.Images.{IsLive}
+use Rattle.model.specs.Groups.{Versions, change_of, put_of, ends_record, ended_where_begun, change_versions}
 use Rattle.model.proofs.VersionsLemmas.{ends_record-own, live_after, live_before, with_put, LiveWithPut, live_with_put, live_put, live_beside, still_empty, own, other}
-use Rattle.mv_keyspace.specs.Tables.{Cell, Table, records, cell_at, with_cell, without_row, without_rows, cell_of_put, placed_at, place, place_all, puts_of, IsTable}
-use Rattle.mv_keyspace.proofs.TableLemmas.{cell_at-with_cell, cell_at-without_row, cell_at-without_rows, records-place, value_at-records}
+use Rattle.mv_keyspace.specs.Tables.{Cell, Table, records, cell_at, without_row, without_rows, cell_of_put, placed_at, place, IsTable}
+use Rattle.mv_keyspace.proofs.TableLemmas.{cell_at-with_cell, cell_at-without_row, cell_at-without_rows, records-place}
 
 -- ---- what a change leaves to be found
 
@@ -29,7 +28,7 @@ cond_or : (a b : Bool) (x y : Option Cell) → cond a x (cond b None y) ≡ cond
 cond_or true b x y = refl
 cond_or false b x y = refl
 
-cell_at-placed_at : (table : Table) (id : RecordId) (cell : Cell) (value : List ℕ) (q : RecordId)
+pub cell_at-placed_at : (table : Table) (id : RecordId) (cell : Cell) (value : List ℕ) (q : RecordId)
     → cell_at (placed_at id cell table) q ≡ cond (is_same q id) (Some cell) (without_ended (change.Put id value) (cell_at table) q)
 cell_at-placed_at table (Str key) cell value q =
     cell_at-with_cell (without_rows key table) (Str key) cell q ∙ ap (cond (is_same q (Str key)) (Some cell)) (cell_at-without_rows table key q)

@@ -1,10 +1,10 @@
 -- The table of a node: each live record with its value and the directory entry that holds it, in the order of records.
-use Rattle.std.specs.Prelude.{◌≡◌, ℕ, Bool, not, ◌⊎◌, ◌↔◌, List, [], ◌∷◌, map, length, Option, Some, None, Contains, IsTrue}
+use Rattle.std.specs.Prelude.{◌≡◌, ℕ, not, ◌⊎◌, ◌↔◌, List, [], ◌∷◌, map, Option, Some, Contains, IsTrue}
 use Rattle.std.specs.List.{flat_map}
 use Rattle.std.specs.Ordering.{eq_by_cmp}
 use Rattle.std.specs.Cmp.Lexicographic.{pointwise}
 use Rattle.std.specs.Prelude.{nat_eq}
-use Rattle.std.specs.FinMap.Entries.{put, find, where_key, is_sorted}
+use Rattle.std.specs.FinMap.Entries.{put, find, where_key}
 use Rattle.kv_types.specs.declared.place.EntryNo.{EntryNo}
 use Rattle.kv_types.specs.declared.record_id.RecordId.{RecordId}
 use Rattle.kv_types.specs.declared.record_id.RecordId.TheVariants.{Str, Field}
@@ -82,7 +82,7 @@ AreFresh table (put ∷ puts) =
 abbrev pub AreEnded : Table → List PlacedChange → List EntryNo → Type 0
 AreEnded table changes ended =
     (i : ℕ) → Contains (map (λ entry. entry.0) ended) i
-      ↔ ((Contains (entries_of table) i ⊎ IsTrue (is_put_at i (puts_of changes))) × (¬ Contains (entries_of (place_all table changes)) i))
+    ↔ ((Contains (entries_of table) i ⊎ IsTrue (is_put_at i (puts_of changes))) × (¬ Contains (entries_of (place_all table changes)) i))
 
 -- The table has just the versions that are live, each with its entry.
 pub record IsTable (versions : Versions) (table : Table) : Type 0 where

@@ -21,7 +21,12 @@ pub trait Keyspace {
 
     /// Makes all changes of a command or of a frame, made at this position of the list, and answers the entries that they ended, each once.
     /// Refused with `Memory` where a growth was refused, and then nothing changed.
-    fn apply(&mut self, alloc: Global, changes: &[PlacedChange], position: u64) -> Result<Vec<EntryNo>, Refusal>
+    fn apply(
+        &mut self,
+        alloc: Global,
+        changes: &[PlacedChange],
+        position: u64,
+    ) -> Result<Vec<EntryNo>, Refusal>
         requires lawful { IsLawful (table self.old) }
         requires fresh { AreFresh (table self.old) (puts_of changes.now) }
         ensures table { OnOk result (table self.new ≡ place_all (table self.old) changes.now) }

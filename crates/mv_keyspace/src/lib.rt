@@ -2,5 +2,7 @@
 #![tactic(auto)]
 
 mod keyspace;
+mod list_keyspace;
 
 pub use keyspace::Keyspace;
+pub use list_keyspace::ListKeyspace;

@@ -1,0 +1,7 @@
+use Rattle.std.proofs.Common.{◌≡◌, ◌++◌, drop}
+use Rattle.mv_keyspace.specs.Tables.{puts_of}
+use Rattle.mv_keyspace.specs.Rows.{table_of, rows_of_puts}
+use Rattle.mv_keyspace.proofs.list_keyspace.stage.Given as goal
+
+abbrev pub invariant-loop-change : goal.invariant-loop-change
+invariant-loop-change l = table_of l.staged.items ++ rows_of_puts (puts_of (drop l.change-index l.changes)) ≡ rows_of_puts (puts_of l.changes)
