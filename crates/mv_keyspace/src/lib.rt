@@ -3,6 +3,8 @@
 
 mod keyspace;
 mod list_keyspace;
+#[cfg(test)]
+mod tests;
 
 pub use keyspace::Keyspace;
 pub use list_keyspace::ListKeyspace;
