@@ -6,6 +6,8 @@ mod outcome;
 mod perform;
 mod places;
 mod sequencer;
+#[cfg(test)]
+mod tests;
 mod turn;
 
 pub use sequencer::Sequencer;

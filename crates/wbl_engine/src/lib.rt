@@ -10,6 +10,8 @@ mod layout;
 mod record;
 mod staging;
 mod successor;
+#[cfg(test)]
+mod tests;
 
 pub use committed::Committed;
 pub use durable::Durable;
