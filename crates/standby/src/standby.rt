@@ -159,7 +159,9 @@ impl<E: Durable, K: Keyspace> Standby<E, K> {
 
 impl<E: Durable, K: Keyspace + Drop> Standby<E, K> {
     /// The engine's device, as it is.
-    pub fn into_device(self) -> E::Device {
+    pub fn into_device(self) -> E::Device
+        ensures { E.Device.state result ≡ E.device self.engine }
+    {
         self.engine.into_device()
     }
 }
