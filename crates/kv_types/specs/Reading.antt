@@ -1,4 +1,4 @@
--- The items of a text, computed. That they are those that the grammar asks for is the contract of `resp_codec::items_are_asked_for`.
+-- The items of a text, computed. That they are those that the grammar asks for is the contract of `kv_types::items_are_asked_for`.
 use Rattle.std.specs.Prelude.{ℕ, zero, suc, ◌+◌, ◌-◌, ◌*◌, List, [], ◌∷◌, ◌++◌, length, take, drop, Bool, ◌&&◌, ◌||◌, ◌==◌, if◌then◌else◌, nat_lt, nat_le, Result, Ok, Err}
 use Rattle.kv_types.specs.declared.limits.Limits.{Limits}
 use Rattle.kv_types.specs.declared.item.ProtocolFault.{ProtocolFault}
