@@ -1,3 +1,15 @@
 pub mod ParserLemmas
 pub mod InboundLemmas
 pub mod OutboundLemmas
+pub mod GroupSpanLemmas
+pub mod EngineLemmas
+pub mod SessionLemmas
+pub mod SequencerLemmas
+pub mod TurnLemmas
+pub mod CommittingLemmas
+pub mod LinkLemmas
+pub mod StandbyLemmas
+pub mod ArrivalLemmas
+pub mod PairLemmas
+pub mod FormLemmas
+pub mod RunningLemmas

@@ -1,9 +1,10 @@
 //! What goes out to a connection, from the sequencer on.
-ghost use Rattle.std.specs.Prelude.{◌≡◌, List, IfOk};
+ghost use Rattle.std.specs.Prelude.{◌≡◌, List, IfOk, OnErr};
 ghost use Rattle.model.specs.declared.call.Call.{Call};
-ghost use Rattle.machine.specs.Events.{Outbound as Machine};
+ghost use Rattle.machine.specs.Events.{Outbound as Machine, World, having_read};
 
 use kv_types::Refusal;
+use machine::Mark;
 use model::Call;
 use pipes::{Inlet, LocalPipe};
 use reply_gate::{Gate, Seen};
@@ -47,7 +48,8 @@ impl Outbound {
 
     /// The gate takes the first reply that waits. Answers whether there was one.
     pub(crate) fn hold(&mut self, calls: &[Call]) -> Result<bool, Refusal>
-        ensures { IfOk result (λ did. (machine : Machine) → OutboundStands calls.now self.old machine → HoldsFirst calls.now self.new did machine) }
+        ensures stands { IfOk result (λ did. (machine : Machine) → OutboundStands calls.now self.old machine → HoldsFirst calls.now self.new did machine) }
+        ensures released { self.new.released ≡ self.old.released }
     {
         let Some(made) = self.made.take() else {
             return Ok(false);
@@ -56,6 +58,18 @@ impl Outbound {
             self.gate.hold(&call.reply, made.position)?;
         }
         Ok(true)
+    }
+
+    /// The gate reads one of the marks, which stand so now.
+    pub(crate) fn read(&mut self, mark: Mark, marks: Seen)
+        ensures stands { (calls : List Call) (w : World) (machine : Machine) → OutboundStands calls self.old machine
+            → marks.local ≡ w.committer.local → marks.remote ≡ w.link.remote → OutboundStands calls self.new (having_read mark w machine) }
+        ensures released { self.new.released ≡ self.old.released }
+    {
+        match mark {
+            Mark::Local => self.seen.local = marks.local,
+            Mark::Remote => self.seen.remote = marks.remote,
+        }
     }
 
     /// Lets out the replies that are covered. Answers whether there were any.
@@ -71,7 +85,8 @@ impl Outbound {
 
     /// Writes so many of the bytes that are out, if there are so many. Answers whether it did.
     pub(crate) fn write(&mut self, n: u64) -> Result<bool, Refusal>
-        ensures { IfOk result (λ did. (calls : List Call) (machine : Machine) → OutboundStands calls self.old machine → Writes n calls self.new did machine) }
+        ensures stands { IfOk result (λ did. (calls : List Call) (machine : Machine) → OutboundStands calls self.old machine → Writes n calls self.new did machine) }
+        ensures released { OnErr result (self.new.released.items ≡ self.old.released.items) }
     {
         let pending = self.gate.pending();
         let count = n as usize;
@@ -81,6 +96,13 @@ impl Outbound {
         self.released.extend_from_slice(&pending[..count])?;
         self.gate.sent(count);
         Ok(true)
+    }
+
+    /// All bytes that were written to the connection.
+    pub(crate) fn into_released(self) -> Vec<u8>
+        ensures { result ≡ self.released }
+    {
+        self.released
     }
 }
 

@@ -1,13 +1,15 @@
 //! What a run leaves to look at.
+use kv_types::Refusal;
 use model::Call;
 
-/// Where a run ended for want of memory.
+/// Where a run ended before its last event, and why: `Memory` where a growth was refused, `Fault` where a fence failed, `Exhausted` where a
+/// counter of an image would reach 2^62.
 #[derive(Clone, Copy, Debug, PartialEq, Eq)]
 pub enum Ended {
-    /// Before the first event, at the making of the nodes.
-    Formatting,
+    /// Before the first event, at the making of the nodes; also `WrongSize`, where a device has fewer than 4,096 lines or more than 2^31.
+    AtFormatting(Refusal),
     /// At the event at this place. All events before it are done.
-    Event(usize),
+    AtEvent(usize, Refusal),
 }
 
 /// What a run did.
@@ -19,7 +21,7 @@ pub struct Trace<P> {
     pub released: Vec<Vec<u8>>,
     /// For each event that was reached, whether it did its step.
     pub done: Vec<bool>,
-    /// Where memory ran out, if it did.
+    /// Where the run ended early, if it did.
     pub ended: Option<Ended>,
     /// The devices, in the order in which they were given.
     pub devices: Vec<P>,

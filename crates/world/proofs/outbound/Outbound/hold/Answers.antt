@@ -1,16 +1,15 @@
-use Rattle.std.proofs.Common.{◌≡◌, ◌<◌, ◌≤◌, List, length, take, drop, refl, sym, ap, subst, ◌∙◌, arith}
+use Rattle.std.proofs.Common.{◌≡◌, ◌<◌, ◌≤◌, List, length, take, drop, sym, ap, subst, ◌∙◌, arith}
 use Rattle.std.proofs.lemmas.Option.{get_or_from_slice_get, slice_get_within}
 use Rattle.kv_types.specs.declared.reply.Held.{Held}
 use Rattle.model.specs.declared.call.Call.{Call}
 use Rattle.model.specs.Calls.{is_nonempty}
-use Rattle.machine.specs.Events.{Outbound as Machine}
 use Rattle.world.specs.declared.outbound.Made.{Made}
-use Rattle.world.specs.Outbounds.{OutboundStands, AreMade}
+use Rattle.world.specs.Outbounds.{AreMade}
 use Rattle.world.proofs.OutboundLemmas.{Takes, takes-first, gate-holds}
 use Rattle.world.proofs.outbound.Outbound.hold.Goals as goal
 
-pub returns-in_ok-hold : goal.returns-in_ok-hold
-returns-in_ok-hold c = λ machine stands.
+pub returns-in_ok-hold-clause-stands : goal.returns-in_ok-hold-clause-stands
+returns-in_ok-hold-clause-stands c = λ machine stands.
     let calls = c.args.calls.now in
     let made = c.in-Some.made in
     let takes : Takes calls made c.take.new.self.items machine.made = takes-first calls made c.take.new.self.items machine.made (subst (λ (xs : List Made). AreMade calls xs machine.made) c.in-Some.ensures stands.made) in
@@ -29,8 +28,8 @@ returns-in_ok-hold c = λ machine stands.
       stays = λ did. cc;
     }
 
-pub returns-in_default-get : goal.returns-in_default-get
-returns-in_default-get c = λ machine stands.
+pub returns-in_default-get-clause-stands : goal.returns-in_default-get-clause-stands
+returns-in_default-get-clause-stands c = λ machine stands.
     let calls = c.args.calls.now in
     let made = c.in-Some.made in
     let takes : Takes calls made c.take.new.self.items machine.made = takes-first calls made c.take.new.self.items machine.made (subst (λ (xs : List Made). AreMade calls xs machine.made) c.in-Some.ensures stands.made) in

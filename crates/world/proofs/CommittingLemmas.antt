@@ -1,0 +1,213 @@
+-- The committer and its engine go on standing for the machine's.
+use Rattle.std.proofs.Common.{◌≡◌, ◌⊎◌, inl, inr, ℕ, ◌+◌, ◌-◌, ◌<◌, ◌++◌, ◌&&◌, Bool, true, false, nat_lt, List, [], ◌∷◌, length, Result, Ok, Err, OnOk, OnErr, refl, sym, ap, subst, ◌∙◌, arith}
+use Rattle.std.proofs.lemmas.Bool.{lt-ltb, le-ltb}
+use Rattle.pmem.specs.Device.{State}
+use Rattle.pmem.specs.Runs.{LeavesOnly}
+use Rattle.model.specs.declared.call.Call.{Call}
+use Rattle.model.specs.declared.group.Group.{Group}
+use Rattle.model.specs.Calls.{is_nonempty, position_of}
+use Rattle.model.specs.Images.{Image}
+use Rattle.model.specs.Groups.{Contents, IsGroup, after_group}
+use Rattle.model.specs.Standing.{StandsAt}
+use Rattle.wbl_engine.specs.Contents.{Keeps, IsDurable, Same}
+use Rattle.pipes.specs.Waiting.{Waiting}
+use Rattle.machine.specs.declared.event.TheConstants.{PIPE_ITEMS}
+use Rattle.machine.specs.declared.event.Event.TheVariants.{Commit, Hand}
+use Rattle.machine.specs.Events.{Committer as Machine, Stage as MachineStage, Span, World, committed_first, handed, has_room, is_enabled, is_ready, is_shown, ready_again}
+use Rattle.machine.specs.Worlds as machine_stage
+use Rattle.machine.specs.Sound.{HasRoomFor, IsChain, Sound}
+use Rattle.world.specs.Committings.{AreContentsAt, AreGroups, CommittingStands, EngineStands, StageStands, StandsNear}
+use Rattle.world.specs.Going.{Goes}
+use Rattle.world.specs.GroupSpans.{AreGroupsOf, IsGroupOf}
+use Rattle.world.specs.declared.committing.Stage.{Stage}
+use Rattle.world.specs.declared.committing.Stage.TheVariants.{Ready, Durable, Shown}
+use Rattle.world.specs.declared.committing.Committing.{Committing}
+use Rattle.world.proofs.EngineLemmas.{AreContentsAt-after_group, keeps-stands}
+use Rattle.world.proofs.GroupSpanLemmas.{AreGroupsOf-grows, IsGroupOf-grows, length-groups}
+
+-- ---- while the list grows
+
+StageStands-grows : (calls more : List Call) (code : Stage) (machine : MachineStage) → StageStands calls code machine → StageStands (calls ++ more) code machine
+StageStands-grows calls more Ready machine_stage.Ready stands = tt
+StageStands-grows calls more Ready (machine_stage.Durable span) stands = absurd stands
+StageStands-grows calls more Ready (machine_stage.Shown span) stands = absurd stands
+StageStands-grows calls more (Durable group) machine_stage.Ready stands = absurd stands
+StageStands-grows calls more (Durable group) (machine_stage.Durable span) stands = IsGroupOf-grows calls more group span stands
+StageStands-grows calls more (Durable group) (machine_stage.Shown span) stands = absurd stands
+StageStands-grows calls more (Shown group) machine_stage.Ready stands = absurd stands
+StageStands-grows calls more (Shown group) (machine_stage.Durable span) stands = absurd stands
+StageStands-grows calls more (Shown group) (machine_stage.Shown span) stands = IsGroupOf-grows calls more group span stands
+
+pub CommittingStands-grows : (calls more : List Call) (code : Committing) (machine : Machine) → CommittingStands calls code machine → CommittingStands (calls ++ more) code machine
+CommittingStands-grows calls more code machine stands = record {
+  groups = AreGroupsOf-grows calls more code.waiting.items machine.waiting stands.groups;
+  stage_is = StageStands-grows calls more code.stage machine.stage stands.stage_is;
+  local_is = stands.local_is;
+}
+
+-- ---- groups that wait
+
+-- the first of the groups that wait, and its span
+pub record FirstGroup (calls : List Call) (group : Group) (rest : List Group) (spans : List Span) : Type 0 where
+  pub first : Span
+  pub others : List Span
+  pub all : spans ≡ first ∷ others
+  pub is : IsGroupOf calls group first
+  pub are : AreGroupsOf calls rest others
+
+pub first-group : (calls : List Call) (group : Group) (rest : List Group) (spans : List Span) → AreGroupsOf calls (group ∷ rest) spans → FirstGroup calls group rest spans
+first-group calls group rest [] are = absurd are
+first-group calls group rest (span ∷ spans) are = record { first = span; others = spans; all = refl; is = are.0; are = are.1 }
+
+-- there is room behind the machine's groups just where there is behind those of the code
+pub has_room-groups : (calls : List Call) (groups : List Group) (spans : List Span) → AreGroupsOf calls groups spans → has_room spans ≡ nat_lt (length groups) PIPE_ITEMS
+has_room-groups calls groups spans are = ap (λ n. nat_lt n PIPE_ITEMS) (sym (length-groups calls groups spans are))
+
+pub AreGroupsOf-push : (calls : List Call) (groups : List Group) (spans : List Span) (group : Group) (span : Span) → AreGroupsOf calls groups spans → IsGroupOf calls group span → AreGroupsOf calls (groups ++ group ∷ []) (spans ++ span ∷ [])
+AreGroupsOf-push calls [] [] group span are is = (is, tt)
+AreGroupsOf-push calls [] (s ∷ spans) group span are is = absurd are
+AreGroupsOf-push calls (g ∷ groups) [] group span are is = absurd are
+AreGroupsOf-push calls (g ∷ groups) (s ∷ spans) group span are is = (are.0, AreGroupsOf-push calls groups spans group span are.1 is)
+
+-- what a commit asks of the first group that waits
+pub first-lawful : (contents : Contents) (groups : List Group) (group : Group) (rest : List Group) → AreGroups contents groups → groups ≡ group ∷ rest → IsGroup contents group
+first-lawful contents groups group rest are waits = let P : List Group → Type 0 = AreGroups contents in (subst P waits are).0
+
+-- ---- the stage
+
+ready-ready : (calls : List Call) (machine : MachineStage) → StageStands calls Ready machine → machine ≡ machine_stage.Ready
+ready-ready calls machine_stage.Ready stands = refl
+ready-ready calls (machine_stage.Durable span) stands = absurd stands
+ready-ready calls (machine_stage.Shown span) stands = absurd stands
+
+-- ---- contents
+
+-- contents that say the same of each entry are one
+pub Same-is : (old new : Contents) → Same old new → new ≡ old
+Same-is old new same = grind arith
+
+-- ---- a commit
+
+-- the first group that waits is the next one of the list: the contents after it are those at the end of its span
+record NextGroup (lines : ℕ) (calls : List Call) (position : ℕ) (contents : Contents) (group : Group) (rest : List Group) (spans : List Span) : Type 0 where
+  pub firsts : FirstGroup calls group rest spans
+  pub begins : firsts.first.before ≡ position
+  pub after : AreContentsAt lines calls firsts.first.after (after_group contents group)
+
+next-group : (lines : ℕ) (calls : List Call) (position : ℕ) (contents : Contents) (group : Group) (rest : List Group) (spans : List Span) → AreContentsAt lines calls position contents → IsGroup contents group
+    → AreGroupsOf calls (group ∷ rest) spans → NextGroup lines calls position contents group rest spans
+next-group lines calls position contents group rest spans at lawful are =
+    let firsts = first-group calls group rest spans are in
+    let begins : firsts.first.before ≡ position = sym firsts.is.before ∙ lawful.before ∙ at.at in
+    record {
+      firsts = firsts;
+      begins = begins;
+      after = AreContentsAt-after_group lines calls contents group firsts.first (subst (λ p. AreContentsAt lines calls p contents) (sym begins) at) lawful firsts.is;
+    }
+
+all_three : (a b c : Bool) → a ≡ true → b ≡ true → c ≡ true → true ≡ (a && b && c)
+all_three true true true x y z = refl
+all_three true true false x y z = cc
+all_three true false c x y z = cc
+all_three false b c x y z = cc
+
+not_third : (a b c : Bool) → c ≡ false → false ≡ (a && b && c)
+not_third true true c z = sym z
+not_third true false c z = refl
+not_third false b c z = refl
+
+-- behind a full link nothing commits
+pub commit-full : (w : World) (link : List Group) → length link ≡ PIPE_ITEMS → AreGroupsOf w.calls link w.link.waiting → false ≡ is_enabled w Commit
+commit-full w link full are =
+    not_third (is_ready w.committer.stage) (is_nonempty w.committer.waiting) (has_room w.link.waiting) (has_room-groups w.calls link w.link.waiting are ∙ le-ltb (length link) PIPE_ITEMS (omega arith))
+
+-- the first group that waits is committed
+pub commit-goes : (lines : ℕ) (w : World) (old new : Committing) (group : Group) (link : List Group) (device device' : State) (contents contents' : Contents) (is_faulted is_faulted' : Bool)
+    → old.stage ≡ Ready → length link < PIPE_ITEMS → old.waiting.items ≡ group ∷ new.waiting.items → new.stage ≡ Durable group → new.local ≡ old.local
+    → IsGroup contents group → Same (after_group contents group) contents' → IsDurable device' contents' → is_faulted' ≡ false
+    → CommittingStands w.calls old w.committer → EngineStands lines w.calls w.committer.position device contents is_faulted → AreGroupsOf w.calls link w.link.waiting
+    → Goes (is_enabled w Commit) true
+    (CommittingStands w.calls new (committed_first w.committer.waiting w.committer) × EngineStands lines w.calls (committed_first w.committer.waiting w.committer).position device' contents' is_faulted')
+    (CommittingStands w.calls new w.committer × EngineStands lines w.calls w.committer.position device' contents' is_faulted')
+commit-goes lines w old new group link device device' contents contents' is_faulted is_faulted' ready room waits durable local lawful moved leaves sound stands engine are =
+    let calls = w.calls in
+    let next = next-group lines calls w.committer.position contents group new.waiting.items w.committer.waiting engine.contents_at lawful
+    (subst (λ groups. AreGroupsOf calls groups w.committer.waiting) waits stands.groups) in
+    let span = next.firsts.first in
+    let is_ready_now : w.committer.stage ≡ machine_stage.Ready = ready-ready calls w.committer.stage (subst (λ stage. StageStands calls stage w.committer.stage) ready stands.stage_is) in
+    record {
+      done = all_three (is_ready w.committer.stage) (is_nonempty w.committer.waiting) (has_room w.link.waiting)
+          (ap is_ready is_ready_now) (ap is_nonempty next.firsts.all) (has_room-groups calls link w.link.waiting are ∙ lt-ltb (length link) PIPE_ITEMS room);
+      goes = λ did. subst (λ spans. CommittingStands calls new (committed_first spans w.committer) × EngineStands lines calls (committed_first spans w.committer).position device' contents' is_faulted') (sym next.firsts.all)
+          (record {
+            groups = next.firsts.are;
+            stage_is = subst (λ stage. StageStands calls stage (machine_stage.Durable span)) (sym durable) next.firsts.is;
+            local_is = local ∙ stands.local_is;
+          }, record {
+            contents_at = subst (AreContentsAt lines calls span.after) (sym (Same-is (after_group contents group) contents' moved)) next.after;
+            sound = sound;
+            durable = leaves;
+          });
+      stays = λ did. cc;
+    }
+
+-- where the engine's call failed, a crash leaves what was before it or what is after it
+pub commit-near : (lines : ℕ) (w : World) (code : Committing) (group : Group) (rest : List Group) (device device' : State) (contents : Contents) (is_faulted : Bool)
+    → code.waiting.items ≡ group ∷ rest → IsGroup contents group
+    → (is_faulted ≡ false → LeavesOnly device device' (λ image. Keeps contents image ⊎ Keeps (after_group contents group) image))
+    → Sound w → CommittingStands w.calls code w.committer → EngineStands lines w.calls w.committer.position device contents is_faulted
+    → StandsNear lines w.calls w.committer.position device'
+commit-near lines w code group rest device device' contents is_faulted waits lawful moments sound stands engine =
+    λ image is. either image ((moments engine.sound).each image (inl is))
+  where
+    next : NextGroup lines w.calls w.committer.position contents group rest w.committer.waiting
+    next = next-group lines w.calls w.committer.position contents group rest w.committer.waiting engine.contents_at lawful (subst (λ groups. AreGroupsOf w.calls groups w.committer.waiting) waits stands.groups)
+    chain : IsChain w.committer.position (next.firsts.first ∷ next.firsts.others) w.committer.closed
+    chain = subst (λ spans. IsChain w.committer.position spans w.committer.closed) next.firsts.all sound.committer.waiting
+    either : (image : Image) → Keeps contents image ⊎ Keeps (after_group contents group) image
+        → StandsAt lines w.calls w.committer.position image ⊎ ((w.committer.position < position_of w.calls) × StandsAt lines w.calls (w.committer.position + 1) image)
+    either image (inl keeps) = inl (keeps-stands lines w.calls w.committer.position contents image engine.contents_at keeps)
+    either image (inr keeps) =
+        inr (omega (arith, chain.1, next.firsts.is.span_within.within),
+        keeps-stands lines w.calls (w.committer.position + 1) (after_group contents group) image (subst (λ p. AreContentsAt lines w.calls p (after_group contents group)) chain.1 next.after) keeps)
+
+-- ---- a group handed on
+
+-- the machine has shown the span of the group in hand
+record ShowsSpan (calls : List Call) (group : Group) (machine : MachineStage) : Type 0 where
+  pub span : Span
+  pub shows : machine ≡ machine_stage.Shown span
+  pub is : IsGroupOf calls group span
+
+shows-span : (calls : List Call) (group : Group) (machine : MachineStage) → StageStands calls (Shown group) machine → ShowsSpan calls group machine
+shows-span calls group machine_stage.Ready stands = absurd stands
+shows-span calls group (machine_stage.Durable span) stands = absurd stands
+shows-span calls group (machine_stage.Shown span) stands = record { span = span; shows = refl; is = stands }
+
+-- where there is room an offered group goes last
+pub offered-last : (result : Result (Unit {0}) Group) (old new : List Group) (group : Group) (room : ℕ) → OnOk result (new ≡ old ++ group ∷ []) → OnErr result ((PIPE_ITEMS - length old ≡ 0) × (room ≡ 0))
+    → length old < PIPE_ITEMS → new ≡ old ++ group ∷ []
+offered-last (Ok done) old new group room last full few = last
+offered-last (Err back) old new group room last full few = absurd (omega (arith, full.0))
+
+-- the group in hand goes to the link, which has room for it
+pub hand-goes : (w : World) (old new : Committing) (group : Group) (link link' : List Group) → old.stage ≡ Shown group → new.waiting ≡ old.waiting → new.stage ≡ Ready → new.local ≡ old.local
+    → (length link < PIPE_ITEMS → link' ≡ link ++ group ∷ []) → Sound w → CommittingStands w.calls old w.committer → AreGroupsOf w.calls link w.link.waiting
+    → Goes (is_enabled w Hand) true
+    (CommittingStands w.calls new (ready_again w.committer) × AreGroupsOf w.calls link' (w.link.waiting ++ handed w.committer.stage))
+    (CommittingStands w.calls new w.committer × AreGroupsOf w.calls link' w.link.waiting)
+hand-goes w old new group link link' shown waiting ready local last sound stands are =
+    let calls = w.calls in
+    let shows = shows-span calls group w.committer.stage (subst (λ stage. StageStands calls stage w.committer.stage) shown stands.stage_is) in
+    let room : length w.link.waiting < PIPE_ITEMS = subst (λ stage. HasRoomFor stage w.link.waiting) shows.shows sound.link.few in
+    let offered : link' ≡ link ++ group ∷ [] = last (omega (arith, room, length-groups calls link w.link.waiting are)) in
+    record {
+      done = sym (ap is_shown shows.shows);
+      goes = λ did. (record {
+        groups = subst (λ (pipe : Waiting Group). AreGroupsOf calls pipe.items w.committer.waiting) (sym waiting) stands.groups;
+        stage_is = subst (λ stage. StageStands calls stage machine_stage.Ready) (sym ready) tt;
+        local_is = local ∙ stands.local_is;
+      }, subst (λ stage. AreGroupsOf calls link' (w.link.waiting ++ handed stage)) (sym shows.shows)
+          (subst (λ groups. AreGroupsOf calls groups (w.link.waiting ++ shows.span ∷ [])) (sym offered) (AreGroupsOf-push calls link w.link.waiting group shows.span are shows.is)));
+      stays = λ did. cc;
+    }

@@ -1,0 +1,71 @@
+-- An engine over the list of calls: what its contents say of images, and how they stay and move with the list.
+use Rattle.std.proofs.Common.{◌≡◌, ℕ, ◌+◌, ◌-◌, ◌≤◌, Bool, List, ◌++◌, sym, ap, subst, ◌∙◌, arith}
+use Rattle.kv_types.specs.Keyspaces.{play_all}
+use Rattle.pmem.specs.Device.{State}
+use Rattle.model.specs.declared.call.Call.{Call}
+use Rattle.model.specs.declared.group.Group.{Group}
+use Rattle.model.specs.Calls.{keyspace_after, cut_at, position_of}
+use Rattle.model.specs.Images.{Image, IsMapOf, Holds, entries_of_lines}
+use Rattle.model.specs.Groups.{Contents, IsGroup, after_group, changes_of_group, last_position}
+use Rattle.model.specs.Standing.{StandsAt}
+use Rattle.model.proofs.CallsLemmas.{keyspace_after-cut_at-append}
+use Rattle.model.proofs.GroupsLemmas.{IsMapOf-after_group, IsConsistent-after_group}
+use Rattle.model.proofs.PositionsLemmas.{keyspace_after-cut_at-since}
+use Rattle.model.proofs.StandingLemmas.{Holds-versions}
+use Rattle.wbl_engine.specs.Contents.{Keeps}
+use Rattle.machine.specs.Events.{Span}
+use Rattle.world.specs.GroupSpans.{IsGroupOf}
+use Rattle.world.specs.Committings.{AreContentsAt, EngineStands, Stands}
+
+-- ---- what a crash leaves
+
+-- an image that holds contents at a position stands at it
+pub keeps-stands : (lines : ℕ) (calls : List Call) (p : ℕ) (contents : Contents) (image : Image) → AreContentsAt lines calls p contents → Keeps contents image → StandsAt lines calls p image
+keeps-stands lines calls p contents image are keeps =
+    let s = keyspace_after (cut_at calls p) in
+    record {
+      current = contents.current;
+      position = are.at;
+      holds = subst (λ n. Holds n contents.current s image) are.lines_are
+          (Holds-versions contents.lines contents.current contents.versions s image keeps.superblock keeps.has_record keeps.versions are.map);
+    }
+
+pub Stands-engine : (lines : ℕ) (calls : List Call) (p : ℕ) (device : State) (contents : Contents) (is_faulted : Bool) → EngineStands lines calls p device contents is_faulted → Stands lines calls p device
+Stands-engine lines calls p device contents is_faulted stands = λ image is. keeps-stands lines calls p contents image stands.contents_at (stands.durable image is)
+
+-- ---- while the list grows
+
+pub AreContentsAt-grows : (lines : ℕ) (calls more : List Call) (p : ℕ) (contents : Contents) → p ≤ position_of calls → AreContentsAt lines calls p contents → AreContentsAt lines (calls ++ more) p contents
+AreContentsAt-grows lines calls more p contents le are = record {
+  at = are.at;
+  lines_are = are.lines_are;
+  consistent = are.consistent;
+  map = subst (IsMapOf contents.versions (entries_of_lines contents.lines)) (sym (keyspace_after-cut_at-append calls more p le)) are.map;
+}
+
+pub EngineStands-grows : (lines : ℕ) (calls more : List Call) (p : ℕ) (device : State) (contents : Contents) (is_faulted : Bool) → p ≤ position_of calls
+    → EngineStands lines calls p device contents is_faulted → EngineStands lines (calls ++ more) p device contents is_faulted
+EngineStands-grows lines calls more p device contents is_faulted le stands = record {
+  contents_at = AreContentsAt-grows lines calls more p contents le stands.contents_at;
+  sound = stands.sound;
+  durable = stands.durable;
+}
+
+-- ---- a group further
+
+-- contents at the beginning of a group's span are, after the group, at its end
+pub AreContentsAt-after_group : (lines : ℕ) (calls : List Call) (contents : Contents) (group : Group) (span : Span) → AreContentsAt lines calls span.before contents → IsGroup contents group
+    → IsGroupOf calls group span → AreContentsAt lines calls span.after (after_group contents group)
+AreContentsAt-after_group lines calls contents group span are lawful is =
+    let count = span.after - span.before in
+    let end : span.before + count ≡ span.after = omega (arith, is.span_within.rising) in
+    let moves : play_all (keyspace_after (cut_at calls span.before)) (changes_of_group group) ≡ keyspace_after (cut_at calls span.after) =
+    ap (play_all (keyspace_after (cut_at calls span.before))) is.changes ∙ sym (keyspace_after-cut_at-since calls span.before count (omega (arith, is.span_within.within)))
+    ∙ ap (λ n. keyspace_after (cut_at calls n)) end in
+    record {
+      at = ap (λ n. last_position n group.parts.items) (sym lawful.before) ∙ is.after;
+      lines_are = are.lines_are;
+      consistent = IsConsistent-after_group contents group are.consistent lawful;
+      map = subst (IsMapOf (after_group contents group).versions (entries_of_lines contents.lines)) moves
+          (IsMapOf-after_group contents group (keyspace_after (cut_at calls span.before)) are.consistent lawful are.map);
+    }

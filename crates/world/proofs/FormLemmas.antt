@@ -1,0 +1,158 @@
+-- New images, and the tables and heaps with which they begin.
+use Rattle.std.proofs.Common.{◌≡◌, ◌≢◌, ℕ, zero, suc, ◌<◌, ◌≤◌, ◌↔◌, Bool, true, false, List, [], ◌∷◌, replicate, slice_index_or, Option, Some, None, IsTrue, refl, sym, ap, subst, ◌∙◌, true≢false}
+use Rattle.std.proofs.lemmas.Option.{none-some}
+use Rattle.model.specs.declared.call.Call.{Call}
+use Rattle.model.specs.Calls.{keyspace_after, position_of}
+use Rattle.model.specs.Images.{IsMapOf, entries_of_lines, first_extent_line}
+use Rattle.model.specs.Groups.{Contents, IsConsistent}
+use Rattle.model.specs.declared.group.Group.{Group}
+use Rattle.model.specs.declared.record.Role.{Role}
+use Rattle.model.proofs.MapLemmas.{IsMapOf-none}
+use Rattle.pmem.specs.Device.{State}
+use Rattle.extent_heap.specs.Room.{Room, is_free_entry, is_free_line}
+use Rattle.mv_keyspace.specs.Tables.{Table, IsTable, records}
+use Rattle.mv_keyspace.proofs.PartTables.{table-none}
+use Rattle.wbl_engine.specs.Contents.{IsNew, IsDurable}
+use Rattle.redis_core.specs.Keeping.{IsBeside}
+use Rattle.redis_core.proofs.KeepingLemmas.{beside_none}
+use Rattle.redis_core.specs.Sequencing as sequencing
+use Rattle.redis_core.specs.Sequencing.{Sequencing, StandsFor, Underlies, is_closed, starts}
+use Rattle.standby.specs.Following as following
+use Rattle.standby.specs.Following.{Follows}
+use Rattle.machine.specs.Events.{start}
+use Rattle.machine.proofs.RunLemmas.{sound-start}
+use Rattle.world.specs.Committings.{AreContentsAt, AreGroups, CommittingStands, EngineStands, Leads, after_groups}
+use Rattle.world.specs.Links.{LinkStands}
+use Rattle.world.specs.Sessions.{SessionsStand, SequencerStands}
+use Rattle.world.specs.Standbys.{Node, StandbyStands, ArrivalsStand}
+use Rattle.world.specs.Pairs.{Pair, PairStands}
+
+-- ---- the sequencer
+
+none_closed : (n c : ℕ) → slice_index_or (replicate n false) c false ≡ false
+none_closed zero c = refl
+none_closed (suc n) zero = refl
+none_closed (suc n) (suc c) = none_closed n c
+
+pub sequencer-starts : (n : ℕ) (s : Sequencing) (table : Table) (room : Room) → table ≡ [] → s ≡ starts table room 0 (replicate n false) → SequencerStands [] 0 s
+sequencer-starts n s table room empty same =
+    subst (SequencerStands [] 0) (sym same)
+    (record {
+      table = ap records empty;
+      position = refl;
+      before = refl;
+      waiting = tt;
+      count = refl;
+      seats = λ c closed. absurd (true≢false (sym closed ∙ none_closed n c));
+    })
+
+pub beside-empty : (table : Table) (room : Room) → table ≡ [] → IsBeside table room
+beside-empty table room empty = subst (λ (t : Table). IsBeside t room) (sym empty) (beside_none room)
+
+-- ---- new contents
+
+-- the heap has all lines and entries of a new image
+pub record HasAll (lines : ℕ) (room : Room) : Type 0 where
+  pub lines_free : (line : ℕ) → IsTrue (is_free_line room line) ↔ ((first_extent_line lines ≤ line) × (line < lines))
+  pub entries_free : (i : ℕ) → IsTrue (is_free_entry room i) ↔ (i < entries_of_lines lines)
+
+new-table : (lines : ℕ) (role : Role) (contents : Contents) (table : Table) → IsNew lines role contents → table ≡ [] → IsTable contents.versions table
+new-table lines role contents table new empty = subst (IsTable contents.versions) (sym empty) (table-none contents.versions new.versions)
+
+entries-left : (lines : ℕ) (role : Role) (contents : Contents) (room : Room) → IsNew lines role contents → HasAll lines room
+    → (i : ℕ) → IsTrue (is_free_entry room i) → (i < entries_of_lines contents.lines) × IsTrue (contents.is_free i) × (contents.versions i ≡ None)
+entries-left lines role contents room new all i free =
+    let within = (all.entries_free i).0 free in
+    (subst (λ n. i < entries_of_lines n) (sym new.line_count) within, new.is_free i within, new.versions i)
+
+lines-left : (lines : ℕ) (role : Role) (contents : Contents) (room : Room) → IsNew lines role contents → HasAll lines room
+    → (line : ℕ) → IsTrue (is_free_line room line) → (first_extent_line contents.lines ≤ line) × (line < contents.lines)
+lines-left lines role contents room new all line free =
+    subst (λ n. (first_extent_line n ≤ line) × (line < n)) (sym new.line_count) ((all.lines_free line).0 free)
+
+pub underlies-new : (lines : ℕ) (role : Role) (contents : Contents) (table : Table) (room : Room) → IsNew lines role contents → HasAll lines room → table ≡ [] → Underlies contents table room 0
+underlies-new lines role contents table room new all empty =
+    record {
+      position_is = sym new.position;
+      left = record {
+        entries = entries-left lines role contents room new all;
+        lines = lines-left lines role contents room new all;
+        apart = λ i version begun. absurd (none-some version (sym (new.versions i) ∙ begun));
+      };
+      table_is = new-table lines role contents table new empty;
+    }
+
+new-consistent : (lines : ℕ) (role : Role) (contents : Contents) → IsNew lines role contents → IsConsistent contents
+new-consistent lines role contents new = record { free = λ i free. new.versions i; beyond = λ i past. new.versions i }
+
+pub follows-new : (lines : ℕ) (role : Role) (contents : Contents) (table : Table) (room : Room) → IsNew lines role contents → HasAll lines room → table ≡ [] → Follows contents table room
+follows-new lines role contents table room new all empty =
+    record {
+      consistent = new-consistent lines role contents new;
+      left = record {
+        entries = entries-left lines role contents room new all;
+        lines = lines-left lines role contents room new all;
+        apart = λ i version begun. absurd (none-some version (sym (new.versions i) ∙ begun));
+      };
+      table_is = new-table lines role contents table new empty;
+    }
+
+pub engine-new : (lines : ℕ) (role : Role) (device : State) (contents : Contents) (is_faulted : Bool) → IsNew lines role contents → IsDurable device contents → is_faulted ≡ false
+    → EngineStands lines [] 0 device contents is_faulted
+engine-new lines role device contents is_faulted new durable sound =
+    record {
+      contents_at = record {
+        at = new.position;
+        lines_are = new.line_count;
+        consistent = new-consistent lines role contents new;
+        map = IsMapOf-none contents.versions (entries_of_lines contents.lines) (λ i within. new.versions i);
+      };
+      sound = sound;
+      durable = durable;
+    }
+
+pub standby-new : (lines epoch : ℕ) (role : Role) (node : Node) → IsNew lines role node.contents → IsDurable node.device node.contents → node.is_faulted ≡ false
+    → HasAll lines node.room → node.table ≡ [] → node.epoch ≡ epoch → StandbyStands lines epoch [] 0 node
+standby-new lines epoch role node new durable sound all empty same =
+    record {
+      engine = engine-new lines role node.device node.contents node.is_faulted new durable sound;
+      follows = follows-new lines role node.contents node.table node.room new all empty;
+      table = ap records empty;
+      epoch_is = same;
+    }
+
+-- contents that are new for a role are new for the role that they say
+pub new-own : (lines lines' : ℕ) (role : Role) (contents : Contents) → lines ≡ lines' → IsNew lines role contents → IsNew lines' contents.current.role contents
+new-own lines lines' role contents same new =
+    subst (λ n. IsNew n contents.current.role contents) same
+    (record {
+      number = new.number;
+      position = new.position;
+      cp = new.cp;
+      cd = new.cd;
+      epoch = new.epoch;
+      role_is = refl;
+      gaps = new.gaps;
+      line_count = new.line_count;
+      versions = new.versions;
+      is_free = new.is_free;
+    })
+
+pub pair-starts : (first second : ℕ) (pair : Pair) → SessionsStand pair.sessions [] [] → SequencerStands [] 0 pair.sequencer
+    → CommittingStands [] pair.committing start.committer → pair.committing.waiting.items ≡ [] → EngineStands first [] 0 pair.device pair.contents pair.is_faulted
+    → StandsFor pair.sequencer pair.contents → LinkStands [] pair.link start.link → pair.link.frames.items ≡ []
+    → ((epoch : ℕ) → ArrivalsStand epoch [] [] pair.arrivals start.standby) → StandbyStands second pair.link.epoch [] 0 pair.standby → PairStands first second pair start
+pair-starts first second pair sessions sequencer committing none engine ahead link no_frame arrivals standby =
+    record {
+      sound = sound-start;
+      parts = record {
+        sessions = sessions;
+        sequencer = sequencer;
+        committing = committing;
+        engine = engine;
+        leads = subst (λ (groups : List Group). Leads pair.contents groups pair.sequencer) (sym none) (record { groups_are = tt; stands = ahead });
+        link = link;
+        arrivals = subst (λ frames. ArrivalsStand pair.link.epoch [] frames pair.arrivals start.standby) (sym no_frame) (arrivals pair.link.epoch);
+        standby = standby;
+      };
+    }

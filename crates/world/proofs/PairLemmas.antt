@@ -1,0 +1,672 @@
+-- What each event does to the pair, of what it does to its parts.
+use Rattle.std.proofs.Common.{◌≡◌, ◌⊎◌, ℕ, ◌+◌, ◌≤◌, Bool, true, false, nat_lt, List, [], ◌∷◌, ◌++◌, map, length, option_map, slice_get, slice_index_or, Option, Some, None, Result, Ok, Err, IfOk, OnOk, OnErr, IsErr, refl, sym, ap, subst, ◌∙◌, arith, inl, inr, true≢false}
+use Rattle.std.proofs.lemmas.Bool.{lt-ltb, le-ltb, ltb-true}
+use Rattle.std.proofs.lemmas.List.{length-map}
+use Rattle.std.proofs.lemmas.Option.{slice_get-get_or, slice_get-map, slice_get_within}
+use Rattle.pmem.specs.Device.{State}
+use Rattle.kv_types.specs.declared.refusal.Refusal.{Refusal}
+use Rattle.pipes.specs.Waiting.{Waiting}
+use Rattle.model.specs.declared.call.Call.{Call}
+use Rattle.model.specs.declared.group.Group.{Group}
+use Rattle.model.specs.Calls.{position_of}
+use Rattle.model.specs.Groups.{Contents}
+use Rattle.redis_core.specs.Sequencing.{Sequencing, StandsFor}
+use Rattle.standby.specs.declared.frame.Frame.{Frame}
+use Rattle.standby.specs.declared.frame.Ack.{Ack}
+use Rattle.machine.specs.declared.event.Event.{Event}
+use Rattle.machine.specs.declared.event.Event.TheVariants as events
+use Rattle.machine.specs.Events.{Connection, World, Committer as MachineCommitter, Link as MachineLink, Standby as MachineStandby, Span, Happens, Step, Turns, is_enabled, called, opened_link, acknowledged, closed_group, committed_first, raised_local, ready_again, handed, handed_to, sent_next, delivered, option_items, knowing, told, raised_remote, with_link, with_standby, with_committer}
+use Rattle.machine.specs.Sound.{Sound}
+use Rattle.machine.proofs.GroupLemmas.{chain-le}
+use Rattle.machine.proofs.SoundEvents.{sound-step}
+use Rattle.world.specs.Going.{Goes}
+use Rattle.world.specs.GroupSpans.{AreGroupsOf}
+use Rattle.world.specs.Committings.{EngineStands, Leads, LeadsOn, Stands, StandsNear, CommittingStands}
+use Rattle.world.specs.Links.{LinkStands, KeepsFrames, AreFramesAt}
+use Rattle.world.specs.Sessions.{SessionsStand, SequencerStands, TakesTurn, TellsTheSame, released_of}
+use Rattle.world.specs.Standbys.{Node, StandbyStands, ArrivalsStand, AppliesFirst}
+use Rattle.world.specs.Pairs.{Pair, PartsStand, PairStands, IsCut, Steps, Does}
+use Rattle.world.specs.declared.arrivals.Arrivals.{Arrivals}
+use Rattle.world.specs.declared.connection.Connection.{Connection as Connection'}
+use Rattle.world.specs.declared.committing.Committing.{Committing}
+use Rattle.world.specs.declared.link.Link.{Link}
+use Rattle.world.specs.declared.sessions.Sessions.{Sessions}
+use Rattle.world.proofs.SessionLemmas.{length-connections, released-told}
+use Rattle.world.proofs.EngineLemmas.{Stands-engine, EngineStands-grows}
+use Rattle.world.proofs.CommittingLemmas.{CommittingStands-grows}
+use Rattle.world.proofs.LinkLemmas.{LinkStands-grows}
+use Rattle.world.proofs.StandbyLemmas.{StandbyStands-grows}
+use Rattle.world.proofs.ArrivalLemmas.{ArrivalsStand-grows, ArrivalsStand-frames}
+
+-- ---- steps
+
+pub goes-map : {A B C D : Type 0} {enabled did : Bool} → Goes enabled did A B → (A → C) → (B → D) → Goes enabled did C D
+goes-map goes moved stayed = record { done = goes.done; goes = λ did. moved (goes.goes did); stays = λ did. stayed (goes.stays did) }
+
+pub goes-steps : (first second : ℕ) (w w' : World) (event : Event) (did : Bool) (pair : Pair) → Sound w → Happens w event w'
+    → Goes (is_enabled w event) did (PartsStand first second pair w') (PartsStand first second pair w) → Steps first second w event did pair
+goes-steps first second w w' event true pair sound happens goes =
+    let step : Step w event true w' = record { done = goes.done; happens = λ did. happens; stands = λ did. absurd (true≢false did) } in
+    record { world = w'; step = step; stands = record { sound = sound-step w event true w' step sound; parts = goes.goes refl } }
+goes-steps first second w w' event false pair sound happens goes =
+    record {
+      world = w;
+      step = record { done = goes.done; happens = λ did. absurd (true≢false (sym did)); stands = λ did. refl };
+      stands = record { sound = sound; parts = goes.stays refl };
+    }
+
+-- ---- cuts
+
+near : (lines : ℕ) (calls : List Call) (p : ℕ) (device : State) → Stands lines calls p device → StandsNear lines calls p device
+near lines calls p device stands = λ image is. inl (stands image is)
+
+pub cut-near : (first second : ℕ) (old new : Pair) (w : World) → PairStands first second old w → TellsTheSame old.sessions new.sessions
+    → StandsNear first w.calls w.committer.position new.device → StandsNear second w.calls w.standby.position new.standby.device → IsCut first second new w
+cut-near first second old new w stands same primary standby =
+    let sessions = stands.parts.sessions in
+    record {
+      calls = same.calls ∙ sessions.calls_are;
+      released = λ c. ap (λ (all : List (List ℕ)). slice_index_or all c []) same.released
+          ∙ released-told w.calls 0 old.sessions.connections.items w.connections sessions.connections_stand c;
+      few = omega (arith, stands.sound.seats, length-connections w.calls 0 old.sessions.connections.items w.connections sessions.connections_stand,
+          ap length same.released, length-map old.sessions.connections.items (λ (k : Connection'). k.outbound.released.items),
+          length-map new.sessions.connections.items (λ (k : Connection'). k.outbound.released.items));
+      primary = primary;
+      standby = standby;
+    }
+
+pub near-primary : (first second : ℕ) (old : Pair) (w : World) → PairStands first second old w → StandsNear first w.calls w.committer.position old.device
+near-primary first second old w stands = near first w.calls w.committer.position old.device (Stands-engine _ _ _ _ _ _ stands.parts.engine)
+
+pub near-standby : (first second : ℕ) (old : Pair) (w : World) → PairStands first second old w → StandsNear second w.calls w.standby.position old.standby.device
+near-standby first second old w stands = near second w.calls w.standby.position old.standby.device (Stands-engine _ _ _ _ _ _ stands.parts.standby.engine)
+
+-- neither device was touched
+pub cut-same : (first second : ℕ) (old new : Pair) (w : World) → new.device ≡ old.device → new.standby.device ≡ old.standby.device → TellsTheSame old.sessions new.sessions
+    → PairStands first second old w → IsCut first second new w
+cut-same first second old new w device device' same stands =
+    cut-near first second old new w stands same
+    (subst (StandsNear first w.calls w.committer.position) (sym device) (near-primary first second old w stands))
+    (subst (StandsNear second w.calls w.standby.position) (sym device') (near-standby first second old w stands))
+
+tells : (sessions : Sessions) → TellsTheSame sessions sessions
+tells sessions = record { calls = refl; released = refl }
+
+-- ---- what the connections do
+
+abbrev pub with_connections : List Connection → World → World
+with_connections connections w = record { connections = connections; calls = w.calls; committer = w.committer; link = w.link; standby = w.standby }
+
+abbrev pub with_sessions : Sessions → Pair → Pair
+with_sessions sessions pair = record pair { sessions = sessions }
+
+sessions-parts : (first second : ℕ) (old : Pair) (sessions : Sessions) (connections : List Connection) (w : World) → PartsStand first second old w
+    → SessionsStand sessions connections w.calls → PartsStand first second (with_sessions sessions old) (with_connections connections w)
+sessions-parts first second old sessions connections w parts stand =
+    record {
+      sessions = stand;
+      sequencer = parts.sequencer;
+      committing = parts.committing;
+      engine = parts.engine;
+      leads = parts.leads;
+      link = parts.link;
+      arrivals = parts.arrivals;
+      standby = parts.standby;
+    }
+
+-- what the sessions did, of each world that they stood for
+abbrev pub SessionsGo : Event → (World → List Connection) → Bool → Sessions → Sessions → Type 0
+SessionsGo event change did old new =
+    (w : World) → SessionsStand old w.connections w.calls
+    → Goes (is_enabled w event) did (SessionsStand new (change w) w.calls) (SessionsStand new w.connections w.calls)
+
+sessions-steps : (event : Event) (change : World → List Connection) → ((w : World) → Happens w event (with_connections (change w) w))
+    → (old : Pair) (sessions : Sessions) (did : Bool) → SessionsGo event change did old.sessions sessions
+    → (first second : ℕ) (w : World) → PairStands first second old w → Steps first second w event did (with_sessions sessions old)
+sessions-steps event change happens old sessions did go first second w stands =
+    goes-steps first second w (with_connections (change w) w) event did (with_sessions sessions old) stands.sound (happens w)
+    (goes-map (go w stands.parts.sessions)
+    (sessions-parts first second old sessions (change w) w stands.parts)
+    (sessions-parts first second old sessions w.connections w stands.parts))
+
+pub sessions-do : (event : Event) (change : World → List Connection) → ((w : World) → Happens w event (with_connections (change w) w))
+    → (old : Pair) (sessions : Sessions) (result : Result Bool Refusal) → IfOk result (λ did. SessionsGo event change did old.sessions sessions)
+    → OnErr result (TellsTheSame old.sessions sessions) → Does old event result (with_sessions sessions old)
+sessions-do event change happens old sessions (Ok did) go same = record { steps = sessions-steps event change happens old sessions did go; cut = tt }
+sessions-do event change happens old sessions (Err refusal) go same =
+    record { steps = tt; cut = λ first second w stands. cut-same first second old (with_sessions sessions old) w refl refl same stands }
+
+-- a read needs the marks, which are the machine's
+pub read-does : (event : Event) (change : World → List Connection) → ((w : World) → Happens w event (with_connections (change w) w))
+    → (old : Pair) (sessions : Sessions) (did : Bool)
+    → ((w : World) → SessionsStand old.sessions w.connections w.calls → old.committing.local ≡ w.committer.local → old.link.remote ≡ w.link.remote
+    → Goes (is_enabled w event) did (SessionsStand sessions (change w) w.calls) (SessionsStand sessions w.connections w.calls))
+    → Does old event (Ok did) (with_sessions sessions old)
+read-does event change happens old sessions did go =
+    record {
+      steps = λ first second w stands.
+          goes-steps first second w (with_connections (change w) w) event did (with_sessions sessions old) stands.sound (happens w)
+          (goes-map (go w stands.parts.sessions stands.parts.committing.local_is stands.parts.link.remote)
+          (sessions-parts first second old sessions (change w) w stands.parts)
+          (sessions-parts first second old sessions w.connections w stands.parts));
+      cut = tt;
+    }
+
+-- ---- the list grows
+
+primary-within : (w : World) → Sound w → w.committer.position ≤ position_of w.calls
+primary-within w s = omega (arith, s.committer.closed, chain-le _ _ _ s.committer.waiting)
+
+standby-within : (w : World) → Sound w → w.standby.position ≤ position_of w.calls
+standby-within w s = omega (arith, s.standby.behind, chain-le _ _ _ s.link.waiting, primary-within w s)
+
+abbrev pub with_turn : Sessions → Sequencing → Pair → Pair
+with_turn sessions sequencer pair = record pair { sessions = sessions; sequencer = sequencer }
+
+called-parts : (first second : ℕ) (old : Pair) (sessions : Sessions) (sequencer : Sequencing) (w : World) (c : ℕ) (call : Call) → PairStands first second old w
+    → SessionsStand sessions (called c call w).connections (w.calls ++ call ∷ []) → SequencerStands (w.calls ++ call ∷ []) w.committer.closed sequencer
+    → ((contents : Contents) → StandsFor old.sequencer contents → StandsFor sequencer contents)
+    → PartsStand first second (with_turn sessions sequencer old) (called c call w)
+called-parts first second old sessions sequencer w c call stands sessions_stand sequencer_stands goes_on =
+    let parts = stands.parts in
+    record {
+      sessions = sessions_stand;
+      sequencer = sequencer_stands;
+      committing = CommittingStands-grows w.calls (call ∷ []) old.committing w.committer parts.committing;
+      engine = EngineStands-grows first w.calls (call ∷ []) w.committer.position old.device old.contents old.is_faulted (primary-within w stands.sound) parts.engine;
+      leads = record { groups_are = parts.leads.groups_are; stands = goes_on _ parts.leads.stands };
+      link = LinkStands-grows w.calls (call ∷ []) old.link w.link parts.link;
+      arrivals = ArrivalsStand-grows old.link.epoch w.calls (call ∷ []) old.link.frames.items old.arrivals w.standby parts.arrivals;
+      standby = StandbyStands-grows second old.link.epoch w.calls (call ∷ []) w.standby.position old.standby (standby-within w stands.sound) parts.standby;
+    }
+
+turn-steps : (first second : ℕ) (old : Pair) (sessions : Sessions) (sequencer : Sequencing) (w : World) (c : ℕ) (did : Bool) → PairStands first second old w
+    → TakesTurn w c did sessions old.sequencer sequencer → ((contents : Contents) → StandsFor old.sequencer contents → StandsFor sequencer contents)
+    → Steps first second w (events.Turn c) did (with_turn sessions sequencer old)
+turn-steps first second old sessions sequencer w c true stands takes goes_on =
+    let moved = takes.goes refl in
+    let turns : Turns w c moved.0 = moved.1 in
+    let w' = called c turns.call w in
+    let step : Step w (events.Turn c) true w' = record { done = takes.done; happens = λ did. subst (Turns w c) turns.now turns; stands = λ did. absurd (true≢false did) } in
+    record {
+      world = w';
+      step = step;
+      stands = record {
+        sound = sound-step w (events.Turn c) true w' step stands.sound;
+        parts = called-parts first second old sessions sequencer w c turns.call stands
+            (subst (λ (x : World). SessionsStand sessions x.connections x.calls) turns.now moved.2)
+            (subst (λ (x : World). SequencerStands x.calls x.committer.closed sequencer) turns.now moved.3) goes_on;
+      };
+    }
+turn-steps first second old sessions sequencer w c false stands takes goes_on =
+    let stayed = takes.stays refl in
+    let parts = stands.parts in
+    record {
+      world = w;
+      step = record { done = takes.done; happens = λ did. absurd (true≢false (sym did)); stands = λ did. refl };
+      stands = record {
+        sound = stands.sound;
+        parts = record {
+          sessions = stayed.0;
+          sequencer = subst (SequencerStands w.calls w.committer.closed) (sym stayed.1) parts.sequencer;
+          committing = parts.committing;
+          engine = parts.engine;
+          leads = record { groups_are = parts.leads.groups_are; stands = goes_on _ parts.leads.stands };
+          link = parts.link;
+          arrivals = parts.arrivals;
+          standby = parts.standby;
+        };
+      };
+    }
+
+pub turn-does : (old : Pair) (sessions : Sessions) (sequencer : Sequencing) (c : ℕ) (result : Result Bool Refusal)
+    → IfOk result (λ did. (w : World) → Sound w → SessionsStand old.sessions w.connections w.calls → SequencerStands w.calls w.committer.closed old.sequencer
+    → TakesTurn w c did sessions old.sequencer sequencer)
+    → ((contents : Contents) → StandsFor old.sequencer contents → StandsFor sequencer contents)
+    → OnErr result (TellsTheSame old.sessions sessions) → Does old (events.Turn c) result (with_turn sessions sequencer old)
+turn-does old sessions sequencer c (Ok did) takes goes_on same =
+    record {
+      steps = λ first second w stands. turn-steps first second old sessions sequencer w c did stands (takes w stands.sound stands.parts.sessions stands.parts.sequencer) goes_on;
+      cut = tt;
+    }
+turn-does old sessions sequencer c (Err refusal) takes goes_on same =
+    record { steps = tt; cut = λ first second w stands. cut-same first second old (with_turn sessions sequencer old) w refl refl same stands }
+
+-- ---- the committer
+
+abbrev pub with_group : Committing → Sequencing → Pair → Pair
+with_group committing sequencer pair = record pair { committing = committing; sequencer = sequencer }
+
+pub close-does : (old : Pair) (committing : Committing) (sequencer : Sequencing) (result : Result Bool Refusal)
+    → IfOk result (λ did. (w : World) → CommittingStands w.calls old.committing w.committer → SequencerStands w.calls w.committer.closed old.sequencer
+    → Goes (is_enabled w events.CloseGroup) did
+    (CommittingStands w.calls committing (closed_group w.committer) × SequencerStands w.calls (closed_group w.committer).closed sequencer)
+    (CommittingStands w.calls committing w.committer × SequencerStands w.calls w.committer.closed sequencer))
+    → ((contents : Contents) → Leads contents old.committing.waiting.items old.sequencer → Leads contents committing.waiting.items sequencer)
+    → Does old events.CloseGroup result (with_group committing sequencer old)
+close-does old committing sequencer (Err refusal) go leads =
+    record { steps = tt; cut = λ first second w stands. cut-same first second old (with_group committing sequencer old) w refl refl (tells old.sessions) stands }
+close-does old committing sequencer (Ok did) go leads =
+    record {
+      steps = λ first second w stands.
+          let parts = stands.parts in
+          goes-steps first second w (with_committer (closed_group w.committer) w) events.CloseGroup did (with_group committing sequencer old) stands.sound refl
+          (goes-map (go w parts.committing parts.sequencer)
+          (λ moved. record {
+            sessions = parts.sessions;
+            sequencer = moved.1;
+            committing = moved.0;
+            engine = parts.engine;
+            leads = leads old.contents parts.leads;
+            link = parts.link;
+            arrivals = parts.arrivals;
+            standby = parts.standby;
+          })
+          (λ stayed. record {
+            sessions = parts.sessions;
+            sequencer = stayed.1;
+            committing = stayed.0;
+            engine = parts.engine;
+            leads = leads old.contents parts.leads;
+            link = parts.link;
+            arrivals = parts.arrivals;
+            standby = parts.standby;
+          }));
+      cut = tt;
+    }
+
+-- the primary's engine, with the groups that wait for it
+abbrev pub with_engine : Committing → State → Contents → Bool → Pair → Pair
+with_engine committing device contents is_faulted pair =
+    record pair { committing = committing; device = device; contents = contents; is_faulted = is_faulted }
+
+leads_on : (old : Contents) (groups : List Group) (new : Contents) (rest : List Group) (sequencer : Sequencing) → LeadsOn old groups new rest → Leads old groups sequencer → Leads new rest sequencer
+leads_on old groups new rest sequencer on leads = record { groups_are = on.groups_are; stands = subst (StandsFor sequencer) (sym on.same) leads.stands }
+
+pub commit-does : (old : Pair) (committing : Committing) (device : State) (contents : Contents) (is_faulted : Bool) (result : Result Bool Refusal)
+    → IfOk result (λ did. (lines : ℕ) (w : World) → CommittingStands w.calls old.committing w.committer
+    → EngineStands lines w.calls w.committer.position old.device old.contents old.is_faulted → AreGroupsOf w.calls old.link.waiting.items w.link.waiting
+    → Goes (is_enabled w events.Commit) did
+    (CommittingStands w.calls committing (committed_first w.committer.waiting w.committer)
+    × EngineStands lines w.calls (committed_first w.committer.waiting w.committer).position device contents is_faulted)
+    (CommittingStands w.calls committing w.committer × EngineStands lines w.calls w.committer.position device contents is_faulted))
+    → IfOk result (λ _. LeadsOn old.contents old.committing.waiting.items contents committing.waiting.items)
+    → OnErr result ((lines : ℕ) (w : World) → Sound w → CommittingStands w.calls old.committing w.committer
+    → EngineStands lines w.calls w.committer.position old.device old.contents old.is_faulted → StandsNear lines w.calls w.committer.position device)
+    → Does old events.Commit result (with_engine committing device contents is_faulted old)
+commit-does old committing device contents is_faulted (Err refusal) go leads cut =
+    record {
+      steps = tt;
+      cut = λ first second w stands.
+          cut-near first second old (with_engine committing device contents is_faulted old) w stands (tells old.sessions)
+          (cut first w stands.sound stands.parts.committing stands.parts.engine) (near-standby first second old w stands);
+    }
+commit-does old committing device contents is_faulted (Ok did) go leads cut =
+    record {
+      steps = λ first second w stands.
+          let parts = stands.parts in
+          let new = with_engine committing device contents is_faulted old in
+          goes-steps first second w (with_committer (committed_first w.committer.waiting w.committer) w) events.Commit did new stands.sound refl
+          (goes-map (go first w parts.committing parts.engine parts.link.waiting)
+          (λ moved. committed-parts first second w (committed_first w.committer.waiting w.committer) parts moved.0 moved.1 (same_closed w.committer.waiting w))
+          (λ stayed. committed-parts first second w w.committer parts stayed.0 stayed.1 refl));
+      cut = tt;
+    }
+  where
+    same_closed : (groups : List Span) (w : World) → (committed_first groups w.committer).closed ≡ w.committer.closed
+    same_closed [] w = refl
+    same_closed (group ∷ groups) w = refl
+
+    committed-parts : (first second : ℕ) (w : World) (committer : MachineCommitter) → PartsStand first second old w
+        → CommittingStands w.calls committing committer → EngineStands first w.calls committer.position device contents is_faulted
+        → committer.closed ≡ w.committer.closed
+        → PartsStand first second (with_engine committing device contents is_faulted old) (with_committer committer w)
+    committed-parts first second w committer parts committing_stands engine_stands closed =
+        record {
+          sessions = parts.sessions;
+          sequencer = subst (λ n. SequencerStands w.calls n old.sequencer) (sym closed) parts.sequencer;
+          committing = committing_stands;
+          engine = engine_stands;
+          leads = leads_on old.contents old.committing.waiting.items contents committing.waiting.items old.sequencer leads parts.leads;
+          link = parts.link;
+          arrivals = parts.arrivals;
+          standby = parts.standby;
+        }
+
+abbrev pub with_committing : Committing → Pair → Pair
+with_committing committing pair = record pair { committing = committing }
+
+shown-parts : (first second : ℕ) (old : Pair) (committing : Committing) (w : World) (committer : MachineCommitter) → PartsStand first second old w → committing.waiting ≡ old.committing.waiting
+    → CommittingStands w.calls committing committer → committer.closed ≡ w.committer.closed → committer.position ≡ w.committer.position
+    → PartsStand first second (with_committing committing old) (with_committer committer w)
+shown-parts first second old committing w committer parts waiting committing_stands closed position =
+    record {
+      sessions = parts.sessions;
+      sequencer = subst (λ n. SequencerStands w.calls n old.sequencer) (sym closed) parts.sequencer;
+      committing = committing_stands;
+      engine = subst (λ p. EngineStands first w.calls p old.device old.contents old.is_faulted) (sym position) parts.engine;
+      leads = subst (λ (waits : Waiting Group). Leads old.contents waits.items old.sequencer) (sym waiting) parts.leads;
+      link = parts.link;
+      arrivals = parts.arrivals;
+      standby = parts.standby;
+    }
+
+pub raise-does : (old : Pair) (committing : Committing) (did : Bool)
+    → ((w : World) → CommittingStands w.calls old.committing w.committer → old.contents.current.position ≡ w.committer.position
+    → Goes (is_enabled w events.RaiseLocal) did (CommittingStands w.calls committing (raised_local w.committer)) (CommittingStands w.calls committing w.committer))
+    → committing.waiting ≡ old.committing.waiting → Does old events.RaiseLocal (Ok did) (with_committing committing old)
+raise-does old committing did go waiting =
+    record {
+      steps = λ first second w stands.
+          let parts = stands.parts in
+          goes-steps first second w (with_committer (raised_local w.committer) w) events.RaiseLocal did (with_committing committing old) stands.sound refl
+          (goes-map (go w parts.committing parts.engine.contents_at.at)
+          (λ moved. shown-parts first second old committing w (raised_local w.committer) parts waiting moved refl refl)
+          (λ stayed. shown-parts first second old committing w w.committer parts waiting stayed refl refl));
+      cut = tt;
+    }
+
+-- ---- the link
+
+-- the link with these groups waiting, and the committer
+abbrev pub with_handed : Committing → Link → Pair → Pair
+with_handed committing link pair = record pair { committing = committing; link = link }
+
+pub hand-does : (old : Pair) (committing : Committing) (waiting : Waiting Group) (did : Bool)
+    → ((w : World) → Sound w → CommittingStands w.calls old.committing w.committer → AreGroupsOf w.calls old.link.waiting.items w.link.waiting
+    → Goes (is_enabled w events.Hand) did
+    (CommittingStands w.calls committing (ready_again w.committer) × AreGroupsOf w.calls waiting.items (w.link.waiting ++ handed w.committer.stage))
+    (CommittingStands w.calls committing w.committer × AreGroupsOf w.calls waiting.items w.link.waiting))
+    → committing.waiting ≡ old.committing.waiting → Does old events.Hand (Ok did) (with_handed committing (record old.link { waiting = waiting }) old)
+hand-does old committing waiting did go same =
+    record {
+      steps = λ first second w stands.
+          let parts = stands.parts in
+          goes-steps first second w (with_link (handed_to (handed w.committer.stage) w.link) (with_committer (ready_again w.committer) w)) events.Hand did
+          (with_handed committing (record old.link { waiting = waiting }) old) stands.sound refl
+          (goes-map (go w stands.sound parts.committing parts.link.waiting)
+          (λ moved.
+              let shown = shown-parts first second old committing w (ready_again w.committer) parts same moved.0 refl refl in
+              record {
+                sessions = shown.sessions;
+                sequencer = shown.sequencer;
+                committing = shown.committing;
+                engine = shown.engine;
+                leads = shown.leads;
+                link = waits (handed_to (handed w.committer.stage) w.link) w parts.link refl moved.1;
+                arrivals = parts.arrivals;
+                standby = parts.standby;
+              })
+          (λ stayed.
+              let shown = shown-parts first second old committing w w.committer parts same stayed.0 refl refl in
+              record {
+                sessions = shown.sessions;
+                sequencer = shown.sequencer;
+                committing = shown.committing;
+                engine = shown.engine;
+                leads = shown.leads;
+                link = waits w.link w parts.link refl stayed.1;
+                arrivals = parts.arrivals;
+                standby = parts.standby;
+              }));
+      cut = tt;
+    }
+  where
+    waits : (link : MachineLink) (w : World) → LinkStands w.calls old.link w.link → record w.link { waiting = link.waiting } ≡ link → AreGroupsOf w.calls waiting.items link.waiting
+        → LinkStands w.calls (record old.link { waiting = waiting }) link
+    waits link w stands same_rest groups =
+        subst (LinkStands w.calls (record old.link { waiting = waiting })) same_rest
+        (record {
+          waiting = groups;
+          spans = stands.spans;
+          frames = stands.frames;
+          kept_within = stands.kept_within;
+          kept = stands.kept;
+          again_within = stands.again_within;
+          again = stands.again;
+          sent = stands.sent;
+          known = stands.known;
+          remote = stands.remote;
+        })
+
+abbrev pub with_frames : Link → Pair → Pair
+with_frames link pair = record pair { link = link }
+
+link-parts : (first second : ℕ) (old : Pair) (link : Link) (w : World) (machine : MachineLink) → PartsStand first second old w → KeepsFrames old.link link → LinkStands w.calls link machine
+    → PartsStand first second (with_frames link old) (with_link machine w)
+link-parts first second old link w machine parts keeps link_stands =
+    record {
+      sessions = parts.sessions;
+      sequencer = parts.sequencer;
+      committing = parts.committing;
+      engine = parts.engine;
+      leads = parts.leads;
+      link = link_stands;
+      arrivals = subst (λ e. ArrivalsStand e w.calls link.frames.items old.arrivals w.standby) (sym keeps.epoch)
+          (subst (λ frames. ArrivalsStand old.link.epoch w.calls frames old.arrivals w.standby) keeps.frames.joined
+          (ArrivalsStand-frames old.link.epoch w.calls old.link.frames.items keeps.frames.rest old.arrivals w.standby parts.arrivals));
+      standby = subst (λ e. StandbyStands second e w.calls w.standby.position old.standby) (sym keeps.epoch) parts.standby;
+    }
+
+-- what the link did, of each sound world that it stood for
+abbrev pub LinkGoes : Event → (World → MachineLink) → Bool → Link → Link → Type 0
+LinkGoes event change did old new =
+    (w : World) → Sound w → LinkStands w.calls old w.link → Goes (is_enabled w event) did (LinkStands w.calls new (change w)) (LinkStands w.calls new w.link)
+
+pub link-does : (event : Event) (change : World → MachineLink) → ((w : World) → Happens w event (with_link (change w) w)) → (old : Pair) (link : Link) (result : Result Bool Refusal)
+    → IfOk result (λ did. LinkGoes event change did old.link link) → OnOk result (KeepsFrames old.link link) → Does old event result (with_frames link old)
+link-does event change happens old link (Ok did) go keeps =
+    record {
+      steps = λ first second w stands.
+          goes-steps first second w (with_link (change w) w) event did (with_frames link old) stands.sound (happens w)
+          (goes-map (go w stands.sound stands.parts.link)
+          (link-parts first second old link w (change w) stands.parts keeps)
+          (link-parts first second old link w w.link stands.parts keeps));
+      cut = tt;
+    }
+link-does event change happens old link (Err refusal) go keeps =
+    record { steps = tt; cut = λ first second w stands. cut-same first second old (with_frames link old) w refl refl (tells old.sessions) stands }
+
+-- ---- the standby
+
+abbrev pub with_arrivals : Arrivals → Pair → Pair
+with_arrivals arrivals pair = record pair { arrivals = arrivals }
+
+abbrev pub with_opened : Arrivals → Link → Pair → Pair
+with_opened arrivals link pair = record pair { arrivals = arrivals; link = link }
+
+arrivals-parts : (first second : ℕ) (old : Pair) (arrivals : Arrivals) (w : World) (machine : MachineStandby) → PartsStand first second old w → machine.position ≡ w.standby.position
+    → ArrivalsStand old.link.epoch w.calls old.link.frames.items arrivals machine → PartsStand first second (with_arrivals arrivals old) (with_standby machine w)
+arrivals-parts first second old arrivals w machine parts position arrivals_stand =
+    record {
+      sessions = parts.sessions;
+      sequencer = parts.sequencer;
+      committing = parts.committing;
+      engine = parts.engine;
+      leads = parts.leads;
+      link = parts.link;
+      arrivals = arrivals_stand;
+      standby = subst (λ p. StandbyStands second old.link.epoch w.calls p old.standby) (sym position) parts.standby;
+    }
+
+-- the standby told its position
+abbrev pub Acknowledges : Ack → Arrivals → Arrivals → Type 0
+Acknowledges ack old new =
+    (epoch : ℕ) (frames : List Frame) (w : World) → ArrivalsStand epoch w.calls frames old w.standby → ack.position ≡ w.standby.position → ArrivalsStand epoch w.calls frames new (acknowledged w.standby)
+
+pub open-does : (old : Pair) (arrivals : Arrivals) (link : Link) (ack : Ack) → ack.position ≡ old.standby.contents.current.position → Acknowledges ack old.arrivals arrivals
+    → ((w : World) → LinkStands w.calls old.link w.link → LinkStands w.calls link (opened_link w.link)) → KeepsFrames old.link link
+    → Does old events.OpenLink (Ok true) (with_opened arrivals link old)
+open-does old arrivals link ack position acknowledges opens keeps =
+    record {
+      steps = λ first second w stands.
+          let parts = stands.parts in
+          let told = acknowledges old.link.epoch old.link.frames.items w parts.arrivals (position ∙ parts.standby.engine.contents_at.at) in
+          let heard = arrivals-parts first second old arrivals w (acknowledged w.standby) parts refl told in
+          let moved = link-parts first second (with_arrivals arrivals old) link (with_standby (acknowledged w.standby) w) (opened_link w.link) heard keeps (opens w parts.link) in
+          goes-steps first second w (with_link (opened_link w.link) (with_standby (acknowledged w.standby) w)) events.OpenLink true (with_opened arrivals link old) stands.sound refl
+          (record { done = refl; goes = λ did. moved; stays = λ did. absurd (true≢false did) });
+      cut = tt;
+    }
+
+pub open-cut : (old : Pair) (arrivals : Arrivals) (result : Result Bool Refusal) → IsErr result → Does old events.OpenLink result (with_arrivals arrivals old)
+open-cut old arrivals (Ok did) is = absurd (true≢false (sym is))
+open-cut old arrivals (Err refusal) is =
+    record { steps = tt; cut = λ first second w stands. cut-same first second old (with_arrivals arrivals old) w refl refl (tells old.sessions) stands }
+
+pub deliver-does : (old : Pair) (arrivals : Arrivals) (sent : List ℕ) (frame : ℕ) (result : Result Bool Refusal) → sent ≡ old.link.sent.items
+    → IfOk result (λ did. (epoch : ℕ) (frames : List Frame) (w : World) → ArrivalsStand epoch w.calls frames old.arrivals w.standby
+    → AreFramesAt epoch w.calls frames sent w.link.frames
+    → Goes (is_enabled w (events.Deliver frame)) did
+    (ArrivalsStand epoch w.calls frames arrivals (delivered (option_items (slice_get w.link.frames frame)) w.standby))
+    (ArrivalsStand epoch w.calls frames arrivals w.standby))
+    → Does old (events.Deliver frame) result (with_arrivals arrivals old)
+deliver-does old arrivals sent frame (Ok did) same go =
+    record {
+      steps = λ first second w stands.
+          let parts = stands.parts in
+          let came = delivered (option_items (slice_get w.link.frames frame)) w.standby in
+          goes-steps first second w (with_standby came w) (events.Deliver frame) did (with_arrivals arrivals old) stands.sound refl
+          (goes-map (go old.link.epoch old.link.frames.items w parts.arrivals
+          (subst (λ (places : List ℕ). AreFramesAt old.link.epoch w.calls old.link.frames.items places w.link.frames) (sym same) parts.link.sent))
+          (arrivals-parts first second old arrivals w came parts refl)
+          (arrivals-parts first second old arrivals w w.standby parts refl));
+      cut = tt;
+    }
+deliver-does old arrivals sent frame (Err refusal) same go =
+    record { steps = tt; cut = λ first second w stands. cut-same first second old (with_arrivals arrivals old) w refl refl (tells old.sessions) stands }
+
+abbrev pub with_node : Arrivals → Node → Pair → Pair
+with_node arrivals node pair = record pair { arrivals = arrivals; standby = node }
+
+apply-steps : (first second : ℕ) (old : Pair) (arrivals : Arrivals) (node : Node) (w : World) (did : Bool) → PairStands first second old w
+    → AppliesFirst second old.link.epoch old.link.frames.items w did arrivals old.standby node → Steps first second w events.Apply did (with_node arrivals node old)
+apply-steps first second old arrivals node w true stands applies =
+    let parts = stands.parts in
+    let moved = applies.goes refl in
+    let applied = moved.1 in
+    let w' = with_standby applied.standby w in
+    let step : Step w events.Apply true w' =
+    record { done = applies.done; happens = λ did. record { frame = applied.frame; first = applied.first; standby = applied.standby; takes = applied.takes; now = refl }; stands = λ did. absurd (true≢false did) } in
+    record {
+      world = w';
+      step = step;
+      stands = record {
+        sound = sound-step w events.Apply true w' step stands.sound;
+        parts = record {
+          sessions = parts.sessions;
+          sequencer = parts.sequencer;
+          committing = parts.committing;
+          engine = parts.engine;
+          leads = parts.leads;
+          link = parts.link;
+          arrivals = subst (λ (x : World). ArrivalsStand old.link.epoch w.calls old.link.frames.items arrivals x.standby) applied.now moved.2;
+          standby = subst (λ (x : World). StandbyStands second old.link.epoch w.calls x.standby.position node) applied.now moved.3;
+        };
+      };
+    }
+apply-steps first second old arrivals node w false stands applies =
+    let parts = stands.parts in
+    let stayed = applies.stays refl in
+    record {
+      world = w;
+      step = record { done = applies.done; happens = λ did. absurd (true≢false (sym did)); stands = λ did. refl };
+      stands = record {
+        sound = stands.sound;
+        parts = record {
+          sessions = parts.sessions;
+          sequencer = parts.sequencer;
+          committing = parts.committing;
+          engine = parts.engine;
+          leads = parts.leads;
+          link = parts.link;
+          arrivals = stayed.0;
+          standby = subst (StandbyStands second old.link.epoch w.calls w.standby.position) (sym stayed.1) parts.standby;
+        };
+      };
+    }
+
+pub apply-does : (old : Pair) (arrivals : Arrivals) (node : Node) (frames : List Frame) (result : Result Bool Refusal) → frames ≡ old.link.frames.items
+    → IfOk result (λ did. (lines : ℕ) (w : World) → Sound w → ArrivalsStand old.standby.epoch w.calls frames old.arrivals w.standby
+    → StandbyStands lines old.standby.epoch w.calls w.standby.position old.standby
+    → AppliesFirst lines old.standby.epoch frames w did arrivals old.standby node)
+    → OnErr result ((lines : ℕ) (w : World) → Sound w → ArrivalsStand old.standby.epoch w.calls frames old.arrivals w.standby
+    → StandbyStands lines old.standby.epoch w.calls w.standby.position old.standby → StandsNear lines w.calls w.standby.position node.device)
+    → Does old events.Apply result (with_node arrivals node old)
+apply-does old arrivals node frames result same applies cut = go result applies cut
+  where
+    arrive : (first second : ℕ) (w : World) → PairStands first second old w → ArrivalsStand old.standby.epoch w.calls frames old.arrivals w.standby
+    arrive first second w stands =
+        subst (λ e. ArrivalsStand e w.calls frames old.arrivals w.standby) (sym stands.parts.standby.epoch_is)
+        (subst (λ (all : List Frame). ArrivalsStand old.link.epoch w.calls all old.arrivals w.standby) (sym same) stands.parts.arrivals)
+
+    stand : (first second : ℕ) (w : World) → PairStands first second old w → StandbyStands second old.standby.epoch w.calls w.standby.position old.standby
+    stand first second w stands =
+        subst (λ e. StandbyStands second e w.calls w.standby.position old.standby) (sym stands.parts.standby.epoch_is) stands.parts.standby
+
+    go : (result : Result Bool Refusal)
+        → IfOk result (λ did. (lines : ℕ) (w : World) → Sound w → ArrivalsStand old.standby.epoch w.calls frames old.arrivals w.standby
+        → StandbyStands lines old.standby.epoch w.calls w.standby.position old.standby
+        → AppliesFirst lines old.standby.epoch frames w did arrivals old.standby node)
+        → OnErr result ((lines : ℕ) (w : World) → Sound w → ArrivalsStand old.standby.epoch w.calls frames old.arrivals w.standby
+        → StandbyStands lines old.standby.epoch w.calls w.standby.position old.standby → StandsNear lines w.calls w.standby.position node.device)
+        → Does old events.Apply result (with_node arrivals node old)
+    go (Ok did) applies cut =
+        record {
+          steps = λ first second w stands.
+              let applied = applies second w stands.sound (arrive first second w stands) (stand first second w stands) in
+              apply-steps first second old arrivals node w did stands
+              (subst (λ (all : List Frame). AppliesFirst second old.link.epoch all w did arrivals old.standby node) same
+              (subst (λ e. AppliesFirst second e frames w did arrivals old.standby node) stands.parts.standby.epoch_is applied));
+          cut = tt;
+        }
+    go (Err refusal) applies cut =
+        record {
+          steps = tt;
+          cut = λ first second w stands.
+              cut-near first second old (with_node arrivals node old) w stands (tells old.sessions) (near-primary first second old w stands)
+              (cut second w stands.sound (arrive first second w stands) (stand first second w stands));
+        }
+
+-- ---- acknowledgements
+
+-- what a look-up found
+pub found-there : (xs ys : List Ack) (n : ℕ) (x : Ack) → xs ≡ ys → true ≡ nat_lt n (length xs) → x ≡ slice_index_or xs n x → slice_get ys n ≡ Some x
+found-there xs ys n x same within is =
+    subst (λ (all : List Ack). slice_get all n ≡ Some x) same (slice_get-get_or xs n x (ltb-true n (length xs) (sym within)) ∙ ap Some (sym is))
+
+pub ack-does : (old : Pair) (n : ℕ) (ack : Ack) (link : Link) → slice_get old.arrivals.acknowledgements.items n ≡ Some ack
+    → ((w : World) → Sound w → LinkStands w.calls old.link w.link → LinkStands w.calls link (knowing ack.position w.link)) → KeepsFrames old.link link
+    → Does old (events.AckDelivered n) (Ok true) (with_frames link old)
+ack-does old n ack link stands_there knows keeps =
+    record {
+      steps = λ first second w stands.
+          let parts = stands.parts in
+          let there : slice_get w.standby.acknowledgements n ≡ Some ack.position =
+          ap (λ (all : List ℕ). slice_get all n) (sym parts.arrivals.acknowledged)
+          ∙ slice_get-map (λ (a : Ack). a.position) old.arrivals.acknowledgements.items n ∙ ap (option_map (λ (a : Ack). a.position)) stands_there in
+          goes-steps first second w (with_link (told (slice_get w.standby.acknowledgements n) w.link) w) (events.AckDelivered n) true (with_frames link old) stands.sound refl
+          (record {
+            done = sym (lt-ltb n (length w.standby.acknowledgements) (slice_get_within w.standby.acknowledgements n ack.position there));
+            goes = λ did. link-parts first second old link w (told (slice_get w.standby.acknowledgements n) w.link) parts keeps
+                (subst (λ (o : Option ℕ). LinkStands w.calls link (told o w.link)) (sym there) (knows w stands.sound parts.link));
+            stays = λ did. absurd (true≢false did);
+          });
+      cut = tt;
+    }
+
+pub no-ack-does : (old : Pair) (n : ℕ) → length old.arrivals.acknowledgements.items ≤ n → Does old (events.AckDelivered n) (Ok false) old
+no-ack-does old n past =
+    record {
+      steps = λ first second w stands.
+          record {
+            world = w;
+            step = record {
+              done = sym (le-ltb n (length w.standby.acknowledgements) (omega (arith, past, ap length stands.parts.arrivals.acknowledged, length-map old.arrivals.acknowledgements.items (λ (a : Ack). a.position))));
+              happens = λ did. absurd (true≢false (sym did));
+              stands = λ did. refl;
+            };
+            stands = stands;
+          };
+      cut = tt;
+    }

@@ -1,0 +1,235 @@
+-- The sequencer goes on standing for the list of calls.
+use Rattle.std.proofs.Common.{◌≡◌, ◌≢◌, ℕ, zero, suc, ◌+◌, ◌-◌, ◌<◌, ◌≤◌, ◌++◌, ◌||◌, Bool, true, false, cond, nat_lt, List, [], ◌∷◌, length, take, slice_index_or, slice_set, refl, sym, ap, ap₂, subst, ◌∙◌, arith, add-zero, length-append, inl, inr, get_or-set_same, get_or-set_other}
+use Rattle.std.proofs.lemmas.Bool.{and_from, cases_eq, cases_lt, false_from_ne_true, lt-ltb, ltb-true, or_left, or_right}
+use Rattle.std.proofs.lemmas.List.{set_past}
+use Rattle.std.proofs.lemmas.List.Folds.{list_any-append}
+use Rattle.std.specs.List.{flat_map, list_any}
+use Rattle.kv_types.specs.declared.change.Change.{Change}
+use Rattle.kv_types.specs.declared.item.Item.{Item}
+use Rattle.kv_types.specs.declared.reply.Reply.{Reply}
+use Rattle.kv_types.specs.Keyspaces.{Keyspace}
+use Rattle.model.specs.declared.call.Call.{Call}
+use Rattle.model.specs.declared.group.Group.{Group}
+use Rattle.model.specs.declared.group.Part.{Part}
+use Rattle.model.specs.Calls.{after_call, changes_of, is_changing, is_nonempty, items_of, keyspace_after, position_of, up_to_closing}
+use Rattle.model.specs.Commands.{closes}
+use Rattle.model.specs.Groups.{Contents, IsGroup, after_group, changes_of_part, last_position}
+use Rattle.model.specs.Positions.{changes_at, changes_since}
+use Rattle.model.proofs.CallsLemmas.{keyspace_after-push, position_of-push}
+use Rattle.model.proofs.PositionsLemmas.{changes_at-append, changes_at-push}
+use Rattle.model.proofs.ServesLemmas.{items_of-push_own, items_of-push_other}
+use Rattle.redis_core.specs.Sequencing.{HandsOut, Sequencing, StandsFor}
+use Rattle.redis_core.specs.Turns.{Answers, Moves, call_of}
+use Rattle.machine.specs.declared.event.Event.TheVariants.{CloseGroup}
+use Rattle.machine.specs.declared.event.TheConstants.{PIPE_ITEMS}
+use Rattle.machine.specs.Events.{Span, World, closed_group, has_room, is_enabled, open_changes}
+use Rattle.machine.proofs.SoundEvents.{both}
+use Rattle.world.specs.declared.committing.Committing.{Committing}
+use Rattle.world.specs.declared.committing.Stage.{Stage}
+use Rattle.world.specs.Committings.{AreGroups, CommittingStands, Leads, StageStands, after_groups}
+use Rattle.world.specs.Going.{Goes}
+use Rattle.world.specs.GroupSpans.{AreGroupsOf, IsGroupOf}
+use Rattle.world.specs.Sessions.{AreOpen, SequencerStands}
+use Rattle.world.proofs.GroupSpanLemmas.{length-groups}
+
+-- ---- the parts that wait
+
+-- they stay while the list grows
+pub AreOpen-grows : (calls more : List Call) (from : ℕ) (parts : List Part) → from + length parts ≤ position_of calls → AreOpen calls from parts → AreOpen (calls ++ more) from parts
+AreOpen-grows calls more from [] le are = tt
+AreOpen-grows calls more from (part ∷ parts) le are =
+    (are.0, are.1 ∙ sym (changes_at-append calls more from (omega arith)), AreOpen-grows calls more (from + 1) parts (omega arith) are.2)
+
+pub AreOpen-push : (calls : List Call) (from : ℕ) (parts : List Part) (part : Part) → AreOpen calls from parts → part.position ≡ from + length parts + 1
+    → changes_of_part part ≡ changes_at calls (from + length parts) → AreOpen calls from (parts ++ part ∷ [])
+AreOpen-push calls from [] part are position changes = (omega arith, changes ∙ ap (changes_at calls) (add-zero from), tt)
+AreOpen-push calls from (first ∷ parts) part are position changes =
+    let same : from + suc (length parts) ≡ from + 1 + length parts = omega arith in
+    (are.0, are.1, AreOpen-push calls (from + 1) parts part are.2 (omega (arith, position, same)) (changes ∙ ap (changes_at calls) same))
+
+-- ---- what a turn does to the parts that wait
+
+-- those that wait are the changes from the closed position to that of the list
+pub record Wait (calls : List Call) (closed : ℕ) (parts : List Part) : Type 0 where
+  pub are : AreOpen calls closed parts
+  pub count : closed + length parts ≡ position_of calls
+
+-- by the changes of the call
+waits-by : (calls : List Call) (call : Call) (closed : ℕ) (old new : Sequencing) (changes : List Change) → changes_of (keyspace_after calls) call ≡ changes → old.position ≡ position_of calls
+    → Moves changes old new → Wait calls closed old.waiting → Wait (calls ++ call ∷ []) closed new.waiting
+waits-by calls call closed old new [] changed position moves wait =
+    let same : position_of (calls ++ call ∷ []) ≡ position_of calls = position_of-push calls call ∙ ap (λ xs. position_of calls + cond (is_nonempty xs) 1 0) changed ∙ add-zero (position_of calls) in
+    subst (λ (parts : List Part). Wait (calls ++ call ∷ []) closed parts) (sym moves.waiting) (record {
+      are = AreOpen-grows calls (call ∷ []) closed old.waiting (omega (arith, wait.count)) wait.are;
+      count = wait.count ∙ sym same;
+    })
+waits-by calls call closed old new (change ∷ changes) changed position moves wait =
+    let part = moves.0 in
+    let calls' = calls ++ call ∷ [] in
+    let changing : is_changing (keyspace_after calls) call ≡ true = ap is_nonempty changed in
+    let next : position_of calls' ≡ position_of calls + 1 = position_of-push calls call ∙ ap (λ b. position_of calls + cond b 1 0) changing in
+    let grown = AreOpen-grows calls (call ∷ []) closed old.waiting (omega (arith, wait.count)) wait.are in
+    subst (λ (parts : List Part). Wait calls' closed parts) (sym moves.1.waiting) (record {
+      are = AreOpen-push calls' closed old.waiting part grown (omega (arith, moves.1.performs.position_is, position, wait.count))
+          (moves.1.performs.changes_are ∙ sym (ap (changes_at calls') wait.count ∙ changes_at-push calls call changing ∙ changed));
+      count = omega (arith, length-append old.waiting (part ∷ []), wait.count, next);
+    })
+
+-- ---- closed seats
+
+-- where a list begins with these items and one more, and goes no further than one that closes, none of these closes
+pub open-before : (n : ℕ) (items xs ys : List Item) (y : Item) → xs ++ y ∷ ys ≡ take n (up_to_closing items) → list_any closes xs ≡ false
+open-before n items [] ys y e = refl
+open-before zero items (x ∷ xs) ys y e = cc
+open-before (suc n) [] (x ∷ xs) ys y e = cc
+open-before (suc n) (item ∷ items) (x ∷ xs) ys y e =
+    elim (closes item) as (λ b. closes item ≡ b → x ∷ (xs ++ y ∷ ys) ≡ take (suc n) (cond b (item ∷ []) (item ∷ up_to_closing items)) → (closes x || list_any closes xs) ≡ false) [
+      | true ↦ λ c h. absurd (no_more n xs ys y (ends x item (xs ++ y ∷ ys) (take n []) h))
+      | false ↦ λ c h.
+          let same : x ≡ item = first x item (xs ++ y ∷ ys) (take n (up_to_closing items)) h in
+          ap₂ (λ a b. a || b) (ap closes same ∙ c) (open-before n items xs ys y (ends x item (xs ++ y ∷ ys) (take n (up_to_closing items)) h))
+    ] refl e
+  where
+    first : (x y : Item) (xs ys : List Item) → x ∷ xs ≡ y ∷ ys → x ≡ y
+    first x y xs ys h = cc
+
+    ends : (x y : Item) (xs ys : List Item) → x ∷ xs ≡ y ∷ ys → xs ≡ ys
+    ends x y xs ys h = cc
+
+    no_more : (n : ℕ) (xs ys : List Item) (y : Item) → xs ++ y ∷ ys ≡ take n [] → ⊥
+    no_more zero [] ys y h = cc
+    no_more (suc n) [] ys y h = cc
+    no_more zero (x ∷ xs) ys y h = cc
+    no_more (suc n) (x ∷ xs) ys y h = cc
+
+-- where a seat is closed after a call, a call of its connection closed it
+pub seats-stand : (closed : List Bool) (calls : List Call) (call : Call) → ((d : ℕ) → slice_index_or closed d false ≡ true → list_any closes (items_of d calls) ≡ true)
+    → (d : ℕ) → slice_index_or (slice_set closed call.connection (closes call.item)) d false ≡ true → list_any closes (items_of d (calls ++ call ∷ [])) ≡ true
+seats-stand closed calls call stands d h =
+    let c = call.connection in
+    elim (cases_eq d c) [
+      | inl same ↦
+          let own : list_any closes (items_of d (calls ++ call ∷ [])) ≡ (list_any closes (items_of d calls) || list_any closes (call.item ∷ [])) =
+          ap (list_any closes) (items_of-push_own d calls call (sym same)) ∙ list_any-append closes (items_of d calls) (call.item ∷ []) in
+          own ∙ elim (cases_lt c (length closed)) [
+            | inl lt ↦
+                let closing : closes call.item ≡ true = sym (get_or-set_same closed c (closes call.item) false lt) ∙ ap (λ n. slice_index_or (slice_set closed c (closes call.item)) n false) (sym same) ∙ h in
+                or_right (list_any closes (items_of d calls)) (list_any closes (call.item ∷ [])) (ap (λ b. b || false) closing)
+            | inr past ↦
+                let before : slice_index_or closed d false ≡ true = ap (λ (xs : List Bool). slice_index_or xs d false) (sym (set_past closed c (closes call.item) past)) ∙ h in
+                or_left (list_any closes (items_of d calls)) (list_any closes (call.item ∷ [])) (stands d before)
+          ]
+      | inr differ ↦
+          let before : slice_index_or closed d false ≡ true = sym (get_or-set_other closed c d (closes call.item) false differ) ∙ h in
+          ap (list_any closes) (items_of-push_other d calls call (λ e. differ (sym e))) ∙ stands d before
+    ]
+
+-- ---- a turn
+
+pub sequencer-answered : (calls : List Call) (closed : ℕ) (old new : Sequencing) (c : ℕ) (item : Item) (reply : Reply) → SequencerStands calls closed old → Answers old c item reply new
+    → SequencerStands (calls ++ call_of c item reply ∷ []) closed new
+sequencer-answered calls closed old new c item reply stands answers =
+    let call = call_of c item reply in
+    let waits = waits-by calls call closed old new (changes_of (keyspace_after calls) call) refl stands.position
+    (subst (λ (s : Keyspace). Moves (changes_of s call) old new) stands.table answers.moves) (record { are = stands.waiting; count = stands.count }) in
+    record {
+      table = answers.keyspace ∙ ap (λ (s : Keyspace). after_call s call) stands.table ∙ sym (keyspace_after-push calls call);
+      position = answers.position ∙ ap₂ (λ p (s : Keyspace). p + cond (is_changing s call) 1 0) stands.position stands.table ∙ sym (position_of-push calls call);
+      before = answers.before ∙ stands.before;
+      waiting = waits.are;
+      count = waits.count;
+      seats = λ d h. seats-stand old.closed calls call stands.seats d (ap (λ (xs : List Bool). slice_index_or xs d false) (sym answers.closed) ∙ h);
+    }
+
+-- ---- a group is closed
+
+-- the oldest part leaves
+pub sequencer-handed : (calls : List Call) (closed : ℕ) (old new : Sequencing) (group : Group) → SequencerStands calls closed old → HandsOut old group new → SequencerStands calls (closed + 1) new
+sequencer-handed calls closed old new group stands hands =
+    let open_parts : AreOpen calls closed (hands.part ∷ hands.rest) = subst (λ (parts : List Part). AreOpen calls closed parts) hands.oldest stands.waiting in
+    subst (SequencerStands calls (closed + 1)) (sym hands.after) (record {
+      table = stands.table;
+      position = stands.position;
+      before = open_parts.0;
+      waiting = open_parts.2;
+      count = omega (arith, stands.count, ap length hands.oldest);
+      seats = stands.seats;
+    })
+
+-- and it is the group of the next position
+pub IsGroupOf-handed : (calls : List Call) (closed : ℕ) (old new : Sequencing) (group : Group) → SequencerStands calls closed old → HandsOut old group new → IsGroupOf calls group (record { before = closed; after = closed + 1 })
+IsGroupOf-handed calls closed old new group stands hands =
+    let open_parts : AreOpen calls closed (hands.part ∷ hands.rest) = subst (λ (parts : List Part). AreOpen calls closed parts) hands.oldest stands.waiting in
+    let one : closed + 1 - closed ≡ 1 = omega arith in
+    record {
+      span_within = record { rising = omega arith; within = omega (arith, stands.count, ap length hands.oldest) };
+      before = hands.before ∙ stands.before;
+      after = ap (last_position group.before) hands.alone ∙ open_parts.0;
+      changes = ap (flat_map changes_of_part) hands.alone ∙ ap (λ changes. changes ++ []) open_parts.1 ∙ sym (ap (changes_since calls closed) one);
+    }
+
+pub AreGroupsOf-push : (calls : List Call) (groups : List Group) (spans : List Span) (group : Group) (span : Span) → AreGroupsOf calls groups spans → IsGroupOf calls group span → AreGroupsOf calls (groups ++ group ∷ []) (spans ++ span ∷ [])
+AreGroupsOf-push calls [] [] group span are is = (is, tt)
+AreGroupsOf-push calls [] (first ∷ spans) group span are is = absurd are
+AreGroupsOf-push calls (first ∷ groups) [] group span are is = absurd are
+AreGroupsOf-push calls (first ∷ groups) (s ∷ spans) group span are is = (are.0, AreGroupsOf-push calls groups spans group span are.1 is)
+
+pub AreGroups-push : (contents : Contents) (groups : List Group) (group : Group) → AreGroups contents groups → IsGroup (after_groups contents groups) group → AreGroups contents (groups ++ group ∷ [])
+AreGroups-push contents [] group are is = (is, tt)
+AreGroups-push contents (first ∷ groups) group are is = (are.0, AreGroups-push (after_group contents first) groups group are.1 is)
+
+pub after_groups-push : (contents : Contents) (groups : List Group) (group : Group) → after_groups contents (groups ++ group ∷ []) ≡ after_group (after_groups contents groups) group
+after_groups-push contents [] group = refl
+after_groups-push contents (first ∷ groups) group = after_groups-push (after_group contents first) groups group
+
+-- what is to be committed leads to the sequencer still
+pub Leads-push : (contents : Contents) (groups groups' : List Group) (group : Group) (old new : Sequencing) → Leads contents groups old → groups' ≡ groups ++ group ∷ []
+    → ((before : Contents) → StandsFor old before → IsGroup before group × StandsFor new (after_group before group)) → Leads contents groups' new
+Leads-push contents groups groups' group old new leads pushed closes_group =
+    let closed = closes_group (after_groups contents groups) leads.stands in
+    subst (λ (xs : List Group). Leads contents xs new) (sym pushed) (record {
+      groups_are = AreGroups-push contents groups group leads.groups_are closed.0;
+      stands = subst (StandsFor new) (sym (after_groups-push contents groups group)) closed.1;
+    })
+
+-- ---- where a group may be closed
+
+no-parts : (parts : List Part) → (parts ≢ [] → ⊥) → length parts ≡ 0
+no-parts [] none = refl
+no-parts (part ∷ parts) none = absurd (none (λ e. cc))
+
+some-parts : (parts : List Part) → parts ≢ [] → 0 < length parts
+some-parts [] some = absurd (some refl)
+some-parts (part ∷ parts) some = omega arith
+
+-- no part waits, or there is no room
+pub closes-nothing : (w : World) (code : Committing) (s : Sequencing) (moved : Type 0) → CommittingStands w.calls code w.committer → SequencerStands w.calls w.committer.closed s
+    → (s.waiting ≢ [] → length code.waiting.items < PIPE_ITEMS → ⊥)
+    → Goes (is_enabled w CloseGroup) false moved (CommittingStands w.calls code w.committer × SequencerStands w.calls w.committer.closed s)
+closes-nothing w code s moved stands sequencer never = record {
+  done = sym (false_from_ne_true (is_enabled w CloseGroup) (λ e.
+      let parts = both (nat_lt 0 (open_changes w)) (has_room w.committer.waiting) e in
+      let some : 0 < open_changes w = ltb-true 0 (open_changes w) parts.0 in
+      let room : length w.committer.waiting < PIPE_ITEMS = ltb-true (length w.committer.waiting) PIPE_ITEMS parts.1 in
+      never (λ none. absurd (omega (arith, some, sequencer.count, ap length none))) (omega (arith, room, length-groups w.calls code.waiting.items w.committer.waiting stands.groups))));
+  goes = λ did. cc;
+  stays = λ did. (stands, sequencer);
+}
+
+pub closes-one : (w : World) (old new : Committing) (s s' : Sequencing) (group : Group) (stayed : Type 0) → CommittingStands w.calls old w.committer → SequencerStands w.calls w.committer.closed s
+    → s.waiting ≢ [] → length old.waiting.items < PIPE_ITEMS → HandsOut s group s' → new.waiting.items ≡ old.waiting.items ++ group ∷ [] → new.stage ≡ old.stage → new.local ≡ old.local
+    → Goes (is_enabled w CloseGroup) true (CommittingStands w.calls new (closed_group w.committer) × SequencerStands w.calls (closed_group w.committer).closed s') stayed
+closes-one w old new s s' group stayed stands sequencer some room hands pushed stage_same local_same = record {
+  done = sym (and_from (nat_lt 0 (open_changes w)) (has_room w.committer.waiting) (lt-ltb 0 (open_changes w) (omega (arith, some-parts s.waiting some, sequencer.count)))
+      (lt-ltb (length w.committer.waiting) PIPE_ITEMS (omega (arith, room, length-groups w.calls old.waiting.items w.committer.waiting stands.groups))));
+  goes = λ did. (
+    record {
+      groups = subst (λ (groups : List Group). AreGroupsOf w.calls groups (closed_group w.committer).waiting) (sym pushed)
+          (AreGroupsOf-push w.calls old.waiting.items w.committer.waiting group _ stands.groups (IsGroupOf-handed w.calls w.committer.closed s s' group sequencer hands));
+      stage_is = subst (λ (stage : Stage). StageStands w.calls stage w.committer.stage) (sym stage_same) stands.stage_is;
+      local_is = local_same ∙ stands.local_is;
+    },
+    sequencer-handed w.calls w.committer.closed s s' group sequencer hands,
+  );
+  stays = λ did. cc;
+}

@@ -1,0 +1,295 @@
+-- Connections and the list of calls go on standing for the machine's.
+use Rattle.std.proofs.Common.{◌≡◌, ℕ, zero, suc, ◌+◌, ◌<◌, ◌≤◌, ◌++◌, Bool, true, false, nat_lt, List, [], ◌∷◌, length, Option, Some, Result, Ok, Err, All, inl, inr, slice_get, refl, sym, ap, subst, ◌∙◌, arith, length-append}
+use Rattle.std.proofs.lemmas.Bool.{lt-ltb, le-ltb, cases_eq, cases_lt}
+use Rattle.std.proofs.lemmas.Option.{slice_get_within, get_or_from_slice_get}
+use Rattle.std.proofs.Math.Seq.{map-set_same}
+use Rattle.std.specs.Prelude.{slice_index_or, slice_set, OnErr}
+use Rattle.std.specs.Vec.{with_item}
+use Rattle.kv_types.specs.declared.reply.Held.{Held}
+use Rattle.pipes.specs.declared.limits.TheConstants.{MAX_SEATS}
+use Rattle.lobby.specs.Book.{Book, Status, Moves, free, taken}
+use Rattle.model.specs.declared.call.Call.{Call}
+use Rattle.machine.specs.declared.event.TheConstants.{SEATS}
+use Rattle.machine.specs.Events.{Inbound as MachineInbound, Outbound as MachineOutbound, Connection as MachineConnection, World, no_connection, is_open, get_connection, changed_at, with_inbound, with_outbound}
+use Rattle.machine.proofs.ConnectionLemmas.{length-changed_at}
+use Rattle.world.specs.declared.inbound.Inbound.{Inbound}
+use Rattle.world.specs.declared.outbound.Made.{Made}
+use Rattle.world.specs.declared.outbound.Outbound.{Outbound}
+use Rattle.world.specs.declared.connection.Connection.{Connection}
+use Rattle.world.specs.declared.sessions.Sessions.{Sessions}
+use Rattle.world.specs.Going.{Goes}
+use Rattle.world.specs.Inbounds.{InboundStands}
+use Rattle.world.specs.Outbounds.{IsMade, AreMade, OutboundStands}
+use Rattle.world.specs.Sessions.{ConnectionStands, ConnectionsStand, SeatsStand, SessionsStand, TellsTheSame, released_of}
+
+-- ---- the list of calls grows
+
+slice_get-grows : (calls more : List Call) (place : ℕ) (call : Call) → slice_get calls place ≡ Some call → slice_get (calls ++ more) place ≡ Some call
+slice_get-grows [] more place call stands = cc
+slice_get-grows (first ∷ calls) more zero call stands = stands
+slice_get-grows (first ∷ calls) more (suc place) call stands = slice_get-grows calls more place call stands
+
+pub IsMade-grows : (calls more : List Call) (made : Made) (held : Held) → IsMade calls made held → IsMade (calls ++ more) made held
+IsMade-grows calls more made held is = record {
+  call = is.call;
+  stands = slice_get-grows calls more made.call is.call is.stands;
+  reply = is.reply;
+  position = is.position;
+}
+
+pub AreMade-grows : (calls more : List Call) (mades : List Made) (helds : List Held) → AreMade calls mades helds → AreMade (calls ++ more) mades helds
+AreMade-grows calls more [] [] are = tt
+AreMade-grows calls more [] (held ∷ helds) are = absurd are
+AreMade-grows calls more (made ∷ mades) [] are = absurd are
+AreMade-grows calls more (made ∷ mades) (held ∷ helds) are = (IsMade-grows calls more made held are.0, AreMade-grows calls more mades helds are.1)
+
+pub OutboundStands-grows : (calls more : List Call) (code : Outbound) (machine : MachineOutbound) → OutboundStands calls code machine → OutboundStands (calls ++ more) code machine
+OutboundStands-grows calls more code machine stands = record {
+  made = AreMade-grows calls more code.made.items machine.made stands.made;
+  gate = stands.gate;
+  released = stands.released;
+  local = stands.local;
+  remote = stands.remote;
+}
+
+pub ConnectionStands-grows : (calls more : List Call) (c : ℕ) (code : Connection) (machine : MachineConnection) → ConnectionStands calls c code machine → ConnectionStands (calls ++ more) c code machine
+ConnectionStands-grows calls more c code machine stands = record {
+  seat = stands.seat;
+  inbound = stands.inbound;
+  outbound = OutboundStands-grows calls more code.outbound machine.outbound stands.outbound;
+}
+
+pub ConnectionsStand-grows : (calls more : List Call) (n : ℕ) (codes : List Connection) (machines : List MachineConnection) → ConnectionsStand calls n codes machines → ConnectionsStand (calls ++ more) n codes machines
+ConnectionsStand-grows calls more n [] [] stand = tt
+ConnectionsStand-grows calls more n [] (machine ∷ machines) stand = absurd stand
+ConnectionsStand-grows calls more n (code ∷ codes) [] stand = absurd stand
+ConnectionsStand-grows calls more n (code ∷ codes) (machine ∷ machines) stand =
+    (ConnectionStands-grows calls more n code machine stand.0, ConnectionsStand-grows calls more (suc n) codes machines stand.1)
+
+-- ---- one of the connections
+
+pub length-connections : (calls : List Call) (n : ℕ) (codes : List Connection) (machines : List MachineConnection) → ConnectionsStand calls n codes machines → length codes ≡ length machines
+length-connections calls n [] [] stand = refl
+length-connections calls n [] (machine ∷ machines) stand = absurd stand
+length-connections calls n (code ∷ codes) [] stand = absurd stand
+length-connections calls n (code ∷ codes) (machine ∷ machines) stand = ap suc (length-connections calls (suc n) codes machines stand.1)
+
+-- connection n + c is at place c, where the first is connection n
+pub ConnectionStands-at : (calls : List Call) (n c seat : ℕ) (codes : List Connection) (machines : List MachineConnection) (default : Connection) → seat ≡ n + c → c < length codes → ConnectionsStand calls n codes machines
+    → ConnectionStands calls seat (slice_index_or codes c default) (get_connection machines c)
+ConnectionStands-at calls n c seat [] machines default is within stand = absurd (omega arith)
+ConnectionStands-at calls n c seat (code ∷ codes) [] default is within stand = absurd stand
+ConnectionStands-at calls n zero seat (code ∷ codes) (machine ∷ machines) default is within stand = subst (λ k. ConnectionStands calls k code machine) (omega arith) stand.0
+ConnectionStands-at calls n (suc c) seat (code ∷ codes) (machine ∷ machines) default is within stand = ConnectionStands-at calls (suc n) c seat codes machines default (omega arith) (omega arith) stand.1
+
+-- another is set in its place, which stands for the machine's changed
+pub ConnectionsStand-changed : (calls : List Call) (n c seat : ℕ) (codes : List Connection) (machines : List MachineConnection) (new : Connection) (change : MachineConnection → MachineConnection) → seat ≡ n + c
+    → ConnectionsStand calls n codes machines → ConnectionStands calls seat new (change (get_connection machines c)) → ConnectionsStand calls n (slice_set codes c new) (changed_at c change machines)
+ConnectionsStand-changed calls n c seat [] [] new change is stand stands = tt
+ConnectionsStand-changed calls n c seat [] (machine ∷ machines) new change is stand stands = absurd stand
+ConnectionsStand-changed calls n c seat (code ∷ codes) [] new change is stand stands = absurd stand
+ConnectionsStand-changed calls n zero seat (code ∷ codes) (machine ∷ machines) new change is stand stands = (subst (λ k. ConnectionStands calls k new (change machine)) (omega arith) stands, stand.1)
+ConnectionsStand-changed calls n (suc c) seat (code ∷ codes) (machine ∷ machines) new change is stand stands =
+    (stand.0, ConnectionsStand-changed calls (suc n) c seat codes machines new change (omega arith) stand.1 stands)
+
+changed_at-itself : (c : ℕ) (machines : List MachineConnection) → changed_at c (λ machine. machine) machines ≡ machines
+changed_at-itself c [] = refl
+changed_at-itself zero (machine ∷ machines) = refl
+changed_at-itself (suc c) (machine ∷ machines) = ap (λ ms. machine ∷ ms) (changed_at-itself c machines)
+
+pub released-told : (calls : List Call) (n : ℕ) (codes : List Connection) (machines : List MachineConnection) → ConnectionsStand calls n codes machines → (c : ℕ)
+    → slice_index_or (released_of codes) c [] ≡ (get_connection machines c).outbound.released
+released-told calls n [] [] stand c = refl
+released-told calls n [] (machine ∷ machines) stand c = absurd stand
+released-told calls n (code ∷ codes) [] stand c = absurd stand
+released-told calls n (code ∷ codes) (machine ∷ machines) stand zero = stand.0.outbound.released
+released-told calls n (code ∷ codes) (machine ∷ machines) stand (suc c) = released-told calls (suc n) codes machines stand.1 c
+
+-- ---- an event at one of the connections
+
+-- the sessions with this connection in place c
+abbrev pub with_connection : Sessions → ℕ → Connection → Sessions
+with_connection sessions c connection = record { lobby = sessions.lobby; connections = with_item sessions.connections c connection; calls = sessions.calls; replies = sessions.replies }
+
+-- The event's test asks first whether the connection is open, which one of the list is. What was done to the connection is done to the sessions.
+pub connection-goes : (test : Bool → Bool) (did : Bool) (w : World) (sessions : Sessions) (c : ℕ) (old new : Connection) (change : MachineConnection → MachineConnection)
+    → c < length sessions.connections.items → old ≡ slice_index_or sessions.connections.items c old → SessionsStand sessions w.connections w.calls
+    → (ConnectionStands w.calls c old (get_connection w.connections c)
+    → Goes (test true) did (ConnectionStands w.calls c new (change (get_connection w.connections c))) (ConnectionStands w.calls c new (get_connection w.connections c)))
+    → Goes (test (is_open w c)) did (SessionsStand (with_connection sessions c new) (changed_at c change w.connections) w.calls) (SessionsStand (with_connection sessions c new) w.connections w.calls)
+connection-goes test did w sessions c old new change within is stand went =
+    let all : ConnectionsStand w.calls 0 sessions.connections.items w.connections = stand.connections_stand in
+    let goes : Goes (test true) did (ConnectionStands w.calls c new (change (get_connection w.connections c))) (ConnectionStands w.calls c new (get_connection w.connections c)) =
+    went (subst (λ code. ConnectionStands w.calls c code (get_connection w.connections c)) (sym is) (ConnectionStands-at w.calls 0 c c sessions.connections.items w.connections old (omega arith) within all)) in
+    let place : c ≡ 0 + c = omega arith in
+    let is_there : is_open w c ≡ true = lt-ltb c (length w.connections) (omega (arith, length-connections w.calls 0 sessions.connections.items w.connections all)) in
+    record {
+      done = goes.done ∙ ap test (sym is_there);
+      goes = λ yes_did. record {
+        seats = subst (SeatsStand sessions.lobby.statuses) (sym (length-changed_at c change w.connections)) stand.seats;
+        connections_stand = ConnectionsStand-changed w.calls 0 c c sessions.connections.items w.connections new change place all (goes.goes yes_did);
+        calls_are = stand.calls_are;
+        no_reply = stand.no_reply;
+      };
+      stays = λ not_did. record {
+        seats = stand.seats;
+        connections_stand = subst (ConnectionsStand w.calls 0 (slice_set sessions.connections.items c new)) (changed_at-itself c w.connections)
+            (ConnectionsStand-changed w.calls 0 c c sessions.connections.items w.connections new (λ machine. machine) place all (goes.stays not_did));
+        calls_are = stand.calls_are;
+        no_reply = stand.no_reply;
+      };
+    }
+
+pub inbound-goes : (test : Bool → Bool) (did : Bool) (w : World) (sessions : Sessions) (c : ℕ) (connection : Connection) (new : Inbound) (change : MachineInbound → MachineInbound)
+    → c < length sessions.connections.items → connection ≡ slice_index_or sessions.connections.items c connection → SessionsStand sessions w.connections w.calls
+    → (let machine = (get_connection w.connections c).inbound in InboundStands connection.inbound machine → Goes (test true) did (InboundStands new (change machine)) (InboundStands new machine))
+    → let now = with_connection sessions c (record { seat = connection.seat; inbound = new; outbound = connection.outbound }) in
+    Goes (test (is_open w c)) did (SessionsStand now (changed_at c (with_inbound change) w.connections) w.calls) (SessionsStand now w.connections w.calls)
+inbound-goes test did w sessions c connection new change within is stand went =
+    connection-goes test did w sessions c connection (record { seat = connection.seat; inbound = new; outbound = connection.outbound }) (with_inbound change) within is stand (λ stands.
+    let goes = went stands.inbound in
+    record {
+      done = goes.done;
+      goes = λ yes_did. record { seat = stands.seat; inbound = goes.goes yes_did; outbound = stands.outbound };
+      stays = λ not_did. record { seat = stands.seat; inbound = goes.stays not_did; outbound = stands.outbound };
+    })
+
+pub outbound-goes : (test : Bool → Bool) (did : Bool) (w : World) (sessions : Sessions) (c : ℕ) (connection : Connection) (new : Outbound) (change : MachineOutbound → MachineOutbound)
+    → c < length sessions.connections.items → connection ≡ slice_index_or sessions.connections.items c connection → SessionsStand sessions w.connections w.calls
+    → (let machine = (get_connection w.connections c).outbound in
+    OutboundStands w.calls connection.outbound machine → Goes (test true) did (OutboundStands w.calls new (change machine)) (OutboundStands w.calls new machine))
+    → let now = with_connection sessions c (record { seat = connection.seat; inbound = connection.inbound; outbound = new }) in
+    Goes (test (is_open w c)) did (SessionsStand now (changed_at c (with_outbound change) w.connections) w.calls) (SessionsStand now w.connections w.calls)
+outbound-goes test did w sessions c connection new change within is stand went =
+    connection-goes test did w sessions c connection (record { seat = connection.seat; inbound = connection.inbound; outbound = new }) (with_outbound change) within is stand (λ stands.
+    let goes = went stands.outbound in
+    record {
+      done = goes.done;
+      goes = λ yes_did. record { seat = stands.seat; inbound = stands.inbound; outbound = goes.goes yes_did };
+      stays = λ not_did. record { seat = stands.seat; inbound = stands.inbound; outbound = goes.stays not_did };
+    })
+
+-- there is no such connection, so that the event is not enabled
+pub none-goes : (test : Bool → Bool) (w : World) (sessions : Sessions) (c : ℕ) {Moved : Type 0} → length sessions.connections.items ≤ c → test false ≡ false → SessionsStand sessions w.connections w.calls
+    → Goes (test (is_open w c)) false Moved (SessionsStand sessions w.connections w.calls)
+none-goes test w sessions c past refused stand =
+    let over : length w.connections ≤ c = omega (arith, length-connections w.calls 0 sessions.connections.items w.connections stand.connections_stand) in
+    record {
+      done = sym refused ∙ ap test (sym (le-ltb c (length w.connections) over));
+      goes = λ yes_did. cc;
+      stays = λ _. stand;
+    }
+
+-- ---- a connection that enters
+
+slice_get-set_same : (statuses : List Status) (i : ℕ) (old new : Status) → slice_get statuses i ≡ Some old → slice_get (slice_set statuses i new) i ≡ Some new
+slice_get-set_same [] i old new was = cc
+slice_get-set_same (status ∷ statuses) zero old new was = refl
+slice_get-set_same (status ∷ statuses) (suc i) old new was = slice_get-set_same statuses i old new was
+
+slice_get-set_other : (statuses : List Status) (i j : ℕ) (new : Status) → (j ≡ i → ⊥) → slice_get (slice_set statuses i new) j ≡ slice_get statuses j
+slice_get-set_other [] i j new differ = refl
+slice_get-set_other (status ∷ statuses) zero zero new differ = absurd (differ refl)
+slice_get-set_other (status ∷ statuses) zero (suc j) new differ = refl
+slice_get-set_other (status ∷ statuses) (suc i) zero new differ = refl
+slice_get-set_other (status ∷ statuses) (suc i) (suc j) new differ = slice_get-set_other statuses i j new (λ same. differ (ap suc same))
+
+free-not_taken : (status : Option Status) → status ≡ Some free → status ≡ Some taken → ⊥
+free-not_taken status is_free is_taken = cc
+
+not_all-taken : (book : Book) (seat : ℕ) → All (λ status. status ≡ taken) book.statuses → slice_get book.statuses seat ≡ Some free → ⊥
+not_all-taken book seat all is_free =
+    let is_there : slice_index_or book.statuses seat free ≡ free = get_or_from_slice_get book.statuses seat free free is_free in
+    let is_taken : slice_index_or book.statuses seat free ≡ taken = all seat free (slice_get_within book.statuses seat free is_free) in
+    cc
+
+-- the lowest free seat has the number of the connections
+lowest-seat : (statuses : List Status) (count seat : ℕ) → SeatsStand statuses count → slice_get statuses seat ≡ Some free → seat < MAX_SEATS
+    → ((lower : ℕ) → lower < seat → slice_get statuses lower ≡ Some taken) → seat ≡ count
+lowest-seat statuses count seat stand is_free within lowest =
+    let not_below : count ≤ seat = elim (cases_lt seat count) [
+      | inl lt ↦ absurd (free-not_taken (slice_get statuses seat) is_free (stand.are_taken seat lt))
+      | inr le ↦ le
+    ] in
+    let not_above : seat ≤ count = elim (cases_lt count seat) [
+      | inl lt ↦ absurd (free-not_taken (slice_get statuses count) (stand.are_free count (omega arith) (omega arith)) (lowest count lt))
+      | inr le ↦ le
+    ] in
+    omega arith
+
+-- seat `count` is taken
+SeatsStand-more : (before after : Book) (count : ℕ) → SeatsStand before.statuses count → Moves before count free taken after → SeatsStand after.statuses (count + 1)
+SeatsStand-more before after count stand moves = record {
+  complete = after.complete;
+  are_taken = λ seat lt. elim (cases_eq seat count) [
+    | inl same ↦ ap (λ s. slice_get after.statuses s) same ∙ ap (λ statuses. slice_get statuses count) moves.becomes ∙ slice_get-set_same before.statuses count free taken moves.was
+    | inr differ ↦ ap (λ statuses. slice_get statuses seat) moves.becomes ∙ slice_get-set_other before.statuses count seat taken differ ∙ stand.are_taken seat (omega (arith, differ))
+  ];
+  are_free = λ seat le lt. ap (λ statuses. slice_get statuses seat) moves.becomes ∙ slice_get-set_other before.statuses count seat taken (λ same. omega arith) ∙ stand.are_free seat (omega arith) lt;
+}
+
+ConnectionsStand-push : (calls : List Call) (n seat : ℕ) (codes : List Connection) (machines : List MachineConnection) (code : Connection) (machine : MachineConnection) → seat ≡ n + length machines
+    → ConnectionsStand calls n codes machines → ConnectionStands calls seat code machine → ConnectionsStand calls n (codes ++ code ∷ []) (machines ++ machine ∷ [])
+ConnectionsStand-push calls n seat [] [] code machine is stand stands = (subst (λ k. ConnectionStands calls k code machine) (omega arith) stands, tt)
+ConnectionsStand-push calls n seat [] (other ∷ machines) code machine is stand stands = absurd stand
+ConnectionsStand-push calls n seat (other ∷ codes) [] code machine is stand stands = absurd stand
+ConnectionsStand-push calls n seat (first ∷ codes) (other ∷ machines) code machine is stand stands =
+    (stand.0, ConnectionsStand-push calls (suc n) seat codes machines code machine (omega arith) stand.1 stands)
+
+-- it took the lowest free seat
+pub seated-goes : (w : World) (old new : Sessions) (seat : ℕ) (inbound : Inbound) (outbound : Outbound) {Stayed : Type 0} → SessionsStand old w.connections w.calls
+    → Moves old.lobby seat free taken new.lobby → ((lower : ℕ) → lower < seat → slice_get old.lobby.statuses lower ≡ Some taken)
+    → InboundStands inbound no_connection.inbound → OutboundStands w.calls outbound no_connection.outbound
+    → new.connections.items ≡ old.connections.items ++ record { seat = seat; inbound = inbound; outbound = outbound } ∷ [] → new.calls.items ≡ old.calls.items → new.replies.items ≡ old.replies.items
+    → Goes (nat_lt (length w.connections) SEATS) true (SessionsStand new (w.connections ++ no_connection ∷ []) w.calls) Stayed
+seated-goes w old new seat inbound outbound stand moves lowest inbound_stands outbound_stands connections calls replies =
+    let within : seat < MAX_SEATS = omega (arith, slice_get_within old.lobby.statuses seat free moves.was, old.lobby.complete) in
+    let own : seat ≡ length w.connections = lowest-seat old.lobby.statuses (length w.connections) seat stand.seats moves.was within lowest in
+    record {
+      done = sym (lt-ltb (length w.connections) SEATS (omega arith));
+      goes = λ _. record {
+        seats = subst (SeatsStand new.lobby.statuses) (sym (length-append w.connections (no_connection ∷ [])))
+            (SeatsStand-more old.lobby new.lobby (length w.connections) stand.seats (subst (λ place. Moves old.lobby place free taken new.lobby) own moves));
+        connections_stand = subst (λ codes. ConnectionsStand w.calls 0 codes (w.connections ++ no_connection ∷ [])) (sym connections)
+            (ConnectionsStand-push w.calls 0 seat old.connections.items w.connections (record { seat = seat; inbound = inbound; outbound = outbound }) no_connection (omega arith) stand.connections_stand
+            (record { seat = refl; inbound = inbound_stands; outbound = outbound_stands }));
+        calls_are = calls ∙ stand.calls_are;
+        no_reply = replies ∙ stand.no_reply;
+      };
+      stays = λ not_did. cc;
+    }
+
+-- all seats are taken
+pub full-goes : (w : World) (old new : Sessions) {Moved : Type 0} → SessionsStand old w.connections w.calls → All (λ status. status ≡ taken) old.lobby.statuses
+    → new.lobby ≡ old.lobby → new.connections.items ≡ old.connections.items → new.calls.items ≡ old.calls.items → new.replies.items ≡ old.replies.items
+    → Goes (nat_lt (length w.connections) SEATS) false Moved (SessionsStand new w.connections w.calls)
+full-goes w old new stand all lobby connections calls replies =
+    let count = length w.connections in
+    let full : SEATS ≤ count = elim (cases_lt count SEATS) [
+      | inl lt ↦ absurd (not_all-taken old.lobby count all (stand.seats.are_free count (omega arith) lt))
+      | inr le ↦ le
+    ] in
+    record {
+      done = sym (le-ltb (length w.connections) SEATS full);
+      goes = λ yes_did. cc;
+      stays = λ _. record {
+        seats = subst (λ (lobby : Book). SeatsStand lobby.statuses (length w.connections)) (sym lobby) stand.seats;
+        connections_stand = subst (λ codes. ConnectionsStand w.calls 0 codes w.connections) (sym connections) stand.connections_stand;
+        calls_are = calls ∙ stand.calls_are;
+        no_reply = replies ∙ stand.no_reply;
+      };
+    }
+
+-- ---- where it failed
+
+-- only a connection changed, and not what was released to it
+pub tells-the-same : (sessions : Sessions) (c : ℕ) (old new : Connection) → old ≡ slice_index_or sessions.connections.items c old → new.outbound.released.items ≡ old.outbound.released.items
+    → TellsTheSame sessions (with_connection sessions c new)
+tells-the-same sessions c old new is same = record {
+  calls = refl;
+  released = map-set_same (λ (connection : Connection). connection.outbound.released.items) sessions.connections.items c new old (same ∙ ap (λ (connection : Connection). connection.outbound.released.items) is);
+}
+
+pub on_err_from : {T E P : Type 0} (r : Result T E) → P → OnErr r P
+on_err_from (Ok value) p = tt
+on_err_from (Err e) p = p

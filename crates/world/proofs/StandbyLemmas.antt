@@ -1,0 +1,250 @@
+-- What the standby does with a frame of the list is what the machine's does with its span.
+use Rattle.std.proofs.Common.{◌≡◌, ◌≢◌, ℕ, ◌+◌, ◌-◌, ◌<◌, ◌≤◌, ◌⊎◌, ⊎_elim, inl, inr, false, List, [], ◌∷◌, ◌++◌, Result, Ok, Err, IfOk, IfErr, OnOk, IsErrOf, refl, sym, ap, subst, ◌∙◌, arith, append-nil}
+use Rattle.std.proofs.lemmas.Bool.{cases_lt, cases_eq}
+use Rattle.kv_types.specs.declared.refusal.Refusal.{Refusal}
+use Rattle.kv_types.specs.declared.refusal.Refusal.TheVariants.{WrongEpoch, PositionGap, Full, Memory, Fault, Exhausted}
+use Rattle.kv_types.specs.Keyspaces.{play_all}
+use Rattle.pmem.specs.Runs.{LeavesOnly}
+use Rattle.model.specs.declared.call.Call.{Call}
+use Rattle.model.specs.Calls.{keyspace_after, cut_at, position_of}
+use Rattle.model.specs.Images.{Image, IsMapOf, entries_of_lines}
+use Rattle.model.specs.Groups.{Contents}
+use Rattle.model.specs.Standing.{StandsAt}
+use Rattle.model.proofs.CallsLemmas.{keyspace_after-cut_at-append}
+use Rattle.model.proofs.PositionsLemmas.{keyspace_after-cut_at-since}
+use Rattle.mv_keyspace.specs.Tables.{records}
+use Rattle.mv_keyspace.proofs.PartTables.{map-from_table}
+use Rattle.wbl_engine.specs.Contents.{IsDurable, Keeps}
+use Rattle.machine.specs.Events.{Standby as Machine, Span, Takes, acknowledged, moved_to}
+use Rattle.standby.specs.declared.frame.Ack.{Ack}
+use Rattle.standby.specs.declared.frame.Frame.{Frame}
+use Rattle.standby.specs.Following.{Follows, IsNext, HasTaken, IsWhole, IsBeforeOrWhole}
+use Rattle.world.specs.Committings.{AreContentsAt, StandsNear}
+use Rattle.world.specs.Links.{IsFrameOf}
+use Rattle.world.specs.Standbys.{Node, StandbyStands}
+use Rattle.world.proofs.EngineLemmas.{keeps-stands, Stands-engine, EngineStands-grows}
+
+-- a standby that stands is near where it stands
+pub StandbyStands-near : (lines epoch : ℕ) (calls : List Call) (p : ℕ) (node : Node) → StandbyStands lines epoch calls p node → StandsNear lines calls p node.device
+StandbyStands-near lines epoch calls p node stands = λ image is. inl (Stands-engine lines calls p node.device node.contents node.is_faulted stands.engine image is)
+
+-- ---- what a standby answers to a frame
+
+pub record Answers (frame : Frame) (old : Node) (result : Result Ack Refusal) (new : Node) : Type 0 where
+  pub again : frame.epoch ≡ old.epoch → frame.after ≤ old.contents.current.position
+      → (result ≡ Ok (record { epoch = old.epoch; position = old.contents.current.position })) × (new ≡ old)
+  pub gap : frame.epoch ≡ old.epoch → old.contents.current.position < frame.after → frame.before ≢ old.contents.current.position → (result ≡ Err PositionGap) × (new ≡ old)
+  pub ack : frame.epoch ≡ old.epoch → IsNext old.contents.current.position frame → IfOk result (λ ack. ack ≡ record { epoch = old.epoch; position = frame.after })
+  pub taken : frame.epoch ≡ old.epoch → IsNext old.contents.current.position frame → OnOk result (HasTaken frame old.contents new.contents old.table new.table)
+  pub causes : frame.epoch ≡ old.epoch → IsNext old.contents.current.position frame
+      → IfErr result (λ refusal. (refusal ≡ Full) ⊎ (refusal ≡ Memory) ⊎ (refusal ≡ Fault) ⊎ (refusal ≡ Exhausted))
+  pub refused : (result ≡ Err Full) ⊎ (result ≡ Err Memory) → (new.contents ≡ old.contents) × (new.table ≡ old.table)
+  pub still : ¬ IsErrOf result Fault → ¬ IsErrOf result Exhausted → Follows new.contents new.table new.room
+  pub sound : ¬ IsErrOf result Fault → ¬ IsErrOf result Exhausted → new.is_faulted ≡ false
+  pub durable : ¬ IsErrOf result Fault → ¬ IsErrOf result Exhausted → IsDurable new.device new.contents
+  pub epoch_stays : new.epoch ≡ old.epoch
+  pub moments : frame.epoch ≡ old.epoch → IsNext old.contents.current.position frame → LeavesOnly old.device new.device (IsBeforeOrWhole frame old.contents old.table)
+
+-- The machine's standby after it took the span, with the acknowledgements that it made, and the node that stands for it.
+pub record Took (lines epoch : ℕ) (calls : List Call) (span : Span) (old : Machine) (acks : List ℕ) (new : Node) : Type 0 where
+  pub standby : Machine
+  pub takes : Takes span old standby
+  pub waiting : standby.waiting ≡ old.waiting
+  pub acknowledgements : old.acknowledgements ++ acks ≡ standby.acknowledgements
+  pub stands : StandbyStands lines epoch calls standby.position new
+
+same_ok : {a b : Ack} {result : Result Ack Refusal} → result ≡ Ok a → result ≡ Ok b → a ≡ b
+same_ok in_a in_b = cc
+
+not_both : {ack : Ack} {refusal : Refusal} {result : Result Ack Refusal} → result ≡ Ok ack → result ≡ Err refusal → ⊥
+not_both ok err = cc
+
+-- of what a frame that comes next may be refused for, only this leaves the standby going
+is_full : (refusal : Refusal) → (refusal ≡ Full) ⊎ (refusal ≡ PositionGap) ⊎ (refusal ≡ WrongEpoch) → (refusal ≡ Full) ⊎ (refusal ≡ Memory) ⊎ (refusal ≡ Fault) ⊎ (refusal ≡ Exhausted) → refusal ≡ Full
+is_full refusal (inl full) causes = full
+is_full refusal (inr (inl gap)) (inl full) = full
+is_full refusal (inr (inl gap)) (inr (inl memory)) = cc
+is_full refusal (inr (inl gap)) (inr (inr (inl fault))) = cc
+is_full refusal (inr (inl gap)) (inr (inr (inr exhausted))) = cc
+is_full refusal (inr (inr epoch)) (inl full) = full
+is_full refusal (inr (inr epoch)) (inr (inl memory)) = cc
+is_full refusal (inr (inr epoch)) (inr (inr (inl fault))) = cc
+is_full refusal (inr (inr epoch)) (inr (inr (inr exhausted))) = cc
+
+-- a standby that stands at the machine's position, and a frame of the list that it answers
+module _ (lines epoch : ℕ) (calls : List Call) (machine : Machine) (frame : Frame) (span : Span) (old new : Node) (is : IsFrameOf epoch calls frame span)
+    (stands : StandbyStands lines epoch calls machine.position old) where
+  epoch_same : frame.epoch ≡ old.epoch
+  epoch_same = is.epoch_is ∙ sym stands.epoch_is
+
+  at : old.contents.current.position ≡ machine.position
+  at = stands.engine.contents_at.at
+
+  is_below : span.after ≤ machine.position → frame.after ≤ old.contents.current.position
+  is_below le = omega (arith, le, is.after, at)
+
+  is_above : machine.position < span.after → old.contents.current.position < frame.after
+  is_above lt = omega (arith, lt, is.after, at)
+
+  is_next : machine.position < span.after → span.before ≡ machine.position → IsNext old.contents.current.position frame
+  is_next lt e = record { later = is_above lt; joined = is.before ∙ e ∙ sym at }
+
+  is_apart : span.before ≢ machine.position → frame.before ≢ old.contents.current.position
+  is_apart ne e = ne (sym is.before ∙ e ∙ at)
+
+  -- the changes of the frame lead to the keyspace at its end
+  keyspace_next : span.before ≡ machine.position → play_all (records old.table) frame.changes.items ≡ keyspace_after (cut_at calls span.after)
+  keyspace_next e =
+      let joined : span.before + (span.after - span.before) ≡ span.after = omega (arith, is.span_within.rising) in
+      ap (λ s. play_all s frame.changes.items) (stands.table ∙ ap (λ n. keyspace_after (cut_at calls n)) (sym e))
+      ∙ ap (play_all (keyspace_after (cut_at calls span.before))) is.changes
+      ∙ sym (keyspace_after-cut_at-since calls span.before (span.after - span.before) (omega (arith, joined, is.span_within.within)))
+      ∙ ap (λ n. keyspace_after (cut_at calls n)) joined
+
+  -- the whole frame was taken
+  taken_stands : span.before ≡ machine.position → HasTaken frame old.contents new.contents old.table new.table → Follows new.contents new.table new.room → new.is_faulted ≡ false
+      → IsDurable new.device new.contents → new.epoch ≡ old.epoch → StandbyStands lines epoch calls span.after new
+  taken_stands e taken follows sound durable epoch_stays =
+      let now : records new.table ≡ keyspace_after (cut_at calls span.after) = taken.keyspace ∙ keyspace_next e in
+      record {
+        engine = record {
+          contents_at = record {
+            at = taken.position ∙ is.after;
+            lines_are = taken.lines ∙ stands.engine.contents_at.lines_are;
+            consistent = follows.consistent;
+            map = subst (IsMapOf new.contents.versions (entries_of_lines new.contents.lines)) now
+                (map-from_table new.contents.versions (entries_of_lines new.contents.lines) new.table follows.consistent.beyond follows.table_is);
+          };
+          sound = sound;
+          durable = durable;
+        };
+        follows = follows;
+        table = now;
+        epoch_is = epoch_stays ∙ stands.epoch_is;
+      }
+
+  -- nothing of the contents or of the table changed
+  refused_stands : (new.contents ≡ old.contents) × (new.table ≡ old.table) → Follows new.contents new.table new.room → new.is_faulted ≡ false → IsDurable new.device new.contents → new.epoch ≡ old.epoch
+      → StandbyStands lines epoch calls machine.position new
+  refused_stands same follows sound durable epoch_stays = record {
+    engine = record {
+      contents_at = subst (AreContentsAt lines calls machine.position) (sym same.0) stands.engine.contents_at;
+      sound = sound;
+      durable = durable;
+    };
+    follows = follows;
+    table = ap records same.1 ∙ stands.table;
+    epoch_is = epoch_stays ∙ stands.epoch_is;
+  }
+
+  same_stands : new ≡ old → StandbyStands lines epoch calls machine.position new
+  same_stands same = subst (StandbyStands lines epoch calls machine.position) (sym same) stands
+
+  -- a frame that the standby acknowledged
+  pub takes_ok : (ack : Ack) → Answers frame old (Ok ack) new → Took lines epoch calls span machine (ack.position ∷ []) new
+  takes_ok ack answers = ⊎_elim above below (cases_lt machine.position span.after)
+    where
+      no_fault : {refusal : Refusal} → ¬ IsErrOf (Ok ack) refusal
+      no_fault e = cc
+
+      below : span.after ≤ machine.position → Took lines epoch calls span machine (ack.position ∷ []) new
+      below le =
+          let again = answers.again epoch_same (is_below le) in
+          let told : ack ≡ record { epoch = old.epoch; position = old.contents.current.position } = same_ok refl again.0 in
+          record {
+            standby = acknowledged machine;
+            takes = inl (le, refl);
+            waiting = refl;
+            acknowledgements = ap (λ p. machine.acknowledgements ++ p ∷ []) (ap (λ (a : Ack). a.position) told ∙ at);
+            stands = same_stands again.1;
+          }
+
+      joins : machine.position < span.after → span.before ≡ machine.position → Took lines epoch calls span machine (ack.position ∷ []) new
+      joins lt e =
+          let next = is_next lt e in
+          record {
+            standby = acknowledged (moved_to span.after machine);
+            takes = inr (inl (lt, e, refl));
+            waiting = refl;
+            acknowledgements = ap (λ p. machine.acknowledgements ++ p ∷ []) (ap (λ (a : Ack). a.position) (answers.ack epoch_same next) ∙ is.after);
+            stands = taken_stands e (answers.taken epoch_same next) (answers.still no_fault no_fault) (answers.sound no_fault no_fault) (answers.durable no_fault no_fault) answers.epoch_stays;
+          }
+
+      above : machine.position < span.after → Took lines epoch calls span machine (ack.position ∷ []) new
+      above lt = ⊎_elim (joins lt) (λ (ne : span.before ≢ machine.position). absurd (not_both refl (answers.gap epoch_same (is_above lt) (is_apart ne)).0)) (cases_eq span.before machine.position)
+
+  -- a frame that it refused, and went on
+  pub takes_refused : (refusal : Refusal) → (refusal ≡ Full) ⊎ (refusal ≡ PositionGap) ⊎ (refusal ≡ WrongEpoch) → Answers frame old (Err refusal) new
+      → Took lines epoch calls span machine [] new
+  takes_refused refusal goes_on answers = ⊎_elim above below (cases_lt machine.position span.after)
+    where
+      below : span.after ≤ machine.position → Took lines epoch calls span machine [] new
+      below le = absurd (not_both (answers.again epoch_same (is_below le)).0 refl)
+
+      joins : machine.position < span.after → span.before ≡ machine.position → Took lines epoch calls span machine [] new
+      joins lt e =
+          let full : refusal ≡ Full = is_full refusal goes_on (answers.causes epoch_same (is_next lt e)) in
+          let no_fault : ¬ IsErrOf {T = Ack} (Err refusal) Fault = λ is. cc in
+          let not_exhausted : ¬ IsErrOf {T = Ack} (Err refusal) Exhausted = λ is. cc in
+          record {
+            standby = machine;
+            takes = inr (inr (inl (lt, e, refl)));
+            waiting = refl;
+            acknowledgements = append-nil machine.acknowledgements;
+            stands = refused_stands (answers.refused (inl (ap Err full))) (answers.still no_fault not_exhausted) (answers.sound no_fault not_exhausted) (answers.durable no_fault not_exhausted)
+                answers.epoch_stays;
+          }
+
+      apart : machine.position < span.after → span.before ≢ machine.position → Took lines epoch calls span machine [] new
+      apart lt ne = record {
+        standby = machine;
+        takes = inr (inr (inr (lt, ne, refl)));
+        waiting = refl;
+        acknowledgements = append-nil machine.acknowledgements;
+        stands = same_stands (answers.gap epoch_same (is_above lt) (is_apart ne)).1;
+      }
+
+      above : machine.position < span.after → Took lines epoch calls span machine [] new
+      above lt = ⊎_elim (joins lt) (apart lt) (cases_eq span.before machine.position)
+
+  -- a frame of one change, that ended the standby: a crash leaves what was before it or all of it
+  pub near_err : span.after ≡ span.before + 1 → (refusal : Refusal) → Answers frame old (Err refusal) new → StandsNear lines calls machine.position new.device
+  near_err one refusal answers = ⊎_elim above below (cases_lt machine.position span.after)
+    where
+      below : span.after ≤ machine.position → StandsNear lines calls machine.position new.device
+      below le = absurd (not_both (answers.again epoch_same (is_below le)).0 refl)
+
+      whole : (image : Image) → span.before ≡ machine.position → (after : Contents) × IsWhole frame old.contents old.table after × Keeps after image → StandsAt lines calls (machine.position + 1) image
+      whole image e held =
+          let after = held.0 in
+          let next : span.after ≡ machine.position + 1 = omega (arith, one, e) in
+          let contents_at : AreContentsAt lines calls span.after after = record {
+            at = held.1.position ∙ is.after;
+            lines_are = held.1.line_count ∙ stands.engine.contents_at.lines_are;
+            consistent = held.1.consistent;
+            map = subst (IsMapOf after.versions (entries_of_lines after.lines)) (keyspace_next e) held.1.map;
+          } in
+          subst (λ p. StandsAt lines calls p image) next (keeps-stands lines calls span.after after image contents_at held.2)
+
+      joins : machine.position < span.after → span.before ≡ machine.position → StandsNear lines calls machine.position new.device
+      joins lt e = λ image left.
+          elim ((answers.moments epoch_same (is_next lt e)).each image (inl left)) [
+            | inl before ↦ inl (keeps-stands lines calls machine.position old.contents image stands.engine.contents_at before)
+            | inr held ↦ inr (omega (arith, lt, is.span_within.within), whole image e held)
+          ]
+
+      apart : machine.position < span.after → span.before ≢ machine.position → StandsNear lines calls machine.position new.device
+      apart lt ne = StandbyStands-near lines epoch calls machine.position new (same_stands (answers.gap epoch_same (is_above lt) (is_apart ne)).1)
+
+      above : machine.position < span.after → StandsNear lines calls machine.position new.device
+      above lt = ⊎_elim (joins lt) (apart lt) (cases_eq span.before machine.position)
+
+-- ---- the list of calls grows
+
+pub StandbyStands-grows : (lines epoch : ℕ) (calls more : List Call) (p : ℕ) (node : Node) → p ≤ position_of calls → StandbyStands lines epoch calls p node → StandbyStands lines epoch (calls ++ more) p node
+StandbyStands-grows lines epoch calls more p node le stands = record {
+  engine = EngineStands-grows lines calls more p node.device node.contents node.is_faulted le stands.engine;
+  follows = stands.follows;
+  table = stands.table ∙ sym (keyspace_after-cut_at-append calls more p le);
+  epoch_is = stands.epoch_is;
+}

@@ -1,0 +1,369 @@
+-- A turn of the sequencer takes the connections, the list of calls and the sequencer to those of the machine after it.
+use Rattle.std.proofs.Common.{◌≡◌, ◌≢◌, ℕ, zero, suc, ◌+◌, ◌<◌, ◌≤◌, ◌++◌, ◌&&◌, ◌==◌, true, false, nat_lt, List, [], ◌∷◌, length, take, drop, slice_get, slice_index_or, slice_set, Some, refl, sym, ap, ap₂, subst, ◌∙◌, arith, add-zero}
+use Rattle.std.proofs.lemmas.Bool.{eqb-true, ltb-true, lt-ltb, and_from, both_ways, false_from_ne_true}
+use Rattle.std.specs.List.{list_any}
+use Rattle.kv_types.specs.declared.item.Item.{Item}
+use Rattle.kv_types.specs.declared.reply.Held.{Held}
+use Rattle.kv_types.specs.declared.limits.TheConstants.{SERVED_LIMITS}
+use Rattle.kv_types.specs.Keyspaces.{Keyspace}
+use Rattle.kv_types.specs.Reading.{items_at}
+use Rattle.model.specs.declared.call.Call.{Call}
+use Rattle.model.specs.declared.group.TheConstants.{MAX_PARTS}
+use Rattle.model.specs.Calls.{MayReply, is_nonempty, items_of, position_of}
+use Rattle.model.specs.Commands.{outcome_of, closes}
+use Rattle.machine.specs.declared.event.Event.TheVariants.{Turn}
+use Rattle.machine.specs.declared.event.TheConstants.{PIPE_ITEMS, OPEN_CHANGES}
+use Rattle.machine.specs.Events.{Inbound as MachineInbound, Outbound as MachineOutbound, Connection as MachineConnection, World, asked, called, changed_at, connection_of, get_connection, has_room, is_enabled, is_open, open_changes, taken_first, with_inbound, with_made, with_outbound}
+use Rattle.machine.specs.Sound.{Sound}
+use Rattle.machine.proofs.ConnectionLemmas.{length-changed_at}
+use Rattle.machine.proofs.SoundEvents.{four}
+use Rattle.redis_core.specs.Sequencing.{Sequencing, is_closed}
+use Rattle.redis_core.specs.Turns.{Answers, call_of}
+use Rattle.world.specs.declared.connection.Connection.{Connection}
+use Rattle.world.specs.declared.inbound.Inbound.{Inbound}
+use Rattle.world.specs.declared.outbound.Made.{Made}
+use Rattle.world.specs.declared.outbound.Outbound.{Outbound}
+use Rattle.world.specs.declared.sessions.Sessions.{Sessions}
+use Rattle.world.specs.Inbounds.{HasParsed, InboundStands}
+use Rattle.world.specs.Outbounds.{IsMade, AreMade, GateStands, OutboundStands}
+use Rattle.world.specs.Running.{Runs}
+use Rattle.world.specs.Sessions.{ConnectionStands, ConnectionsStand, SeatsStand, SessionsStand, SequencerStands, TakesTurn}
+use Rattle.world.proofs.SequencerLemmas.{open-before, sequencer-answered}
+
+-- ---- the list of calls grows
+
+slice_get-grows : (calls more : List Call) (place : ℕ) (call : Call) → slice_get calls place ≡ Some call → slice_get (calls ++ more) place ≡ Some call
+slice_get-grows [] more place call stands = cc
+slice_get-grows (first ∷ calls) more zero call stands = stands
+slice_get-grows (first ∷ calls) more (suc place) call stands = slice_get-grows calls more place call stands
+
+slice_get-last : (calls : List Call) (call : Call) → slice_get (calls ++ call ∷ []) (length calls) ≡ Some call
+slice_get-last [] call = refl
+slice_get-last (first ∷ calls) call = slice_get-last calls call
+
+AreMade-grows : (calls more : List Call) (mades : List Made) (helds : List Held) → AreMade calls mades helds → AreMade (calls ++ more) mades helds
+AreMade-grows calls more [] [] are = tt
+AreMade-grows calls more [] (held ∷ helds) are = absurd are
+AreMade-grows calls more (made ∷ mades) [] are = absurd are
+AreMade-grows calls more (made ∷ mades) (held ∷ helds) are =
+    (record { call = are.0.call; stands = slice_get-grows calls more made.call are.0.call are.0.stands; reply = are.0.reply; position = are.0.position }, AreMade-grows calls more mades helds are.1)
+
+ConnectionStands-grows : (calls more : List Call) (c : ℕ) (code : Connection) (machine : MachineConnection) → ConnectionStands calls c code machine → ConnectionStands (calls ++ more) c code machine
+ConnectionStands-grows calls more c code machine stands = record {
+  seat = stands.seat;
+  inbound = stands.inbound;
+  outbound = record {
+    made = AreMade-grows calls more code.outbound.made.items machine.outbound.made stands.outbound.made;
+    gate = stands.outbound.gate;
+    released = stands.outbound.released;
+    local = stands.outbound.local;
+    remote = stands.outbound.remote;
+  };
+}
+
+ConnectionsStand-grows : (calls more : List Call) (n : ℕ) (codes : List Connection) (machines : List MachineConnection) → ConnectionsStand calls n codes machines → ConnectionsStand (calls ++ more) n codes machines
+ConnectionsStand-grows calls more n [] [] stand = tt
+ConnectionsStand-grows calls more n [] (machine ∷ machines) stand = absurd stand
+ConnectionsStand-grows calls more n (code ∷ codes) [] stand = absurd stand
+ConnectionsStand-grows calls more n (code ∷ codes) (machine ∷ machines) stand =
+    (ConnectionStands-grows calls more n code machine stand.0, ConnectionsStand-grows calls more (suc n) codes machines stand.1)
+
+-- ---- one of the connections
+
+length-stand : (calls : List Call) (n : ℕ) (codes : List Connection) (machines : List MachineConnection) → ConnectionsStand calls n codes machines → length codes ≡ length machines
+length-stand calls n [] [] stand = refl
+length-stand calls n [] (machine ∷ machines) stand = absurd stand
+length-stand calls n (code ∷ codes) [] stand = absurd stand
+length-stand calls n (code ∷ codes) (machine ∷ machines) stand = ap suc (length-stand calls (suc n) codes machines stand.1)
+
+stands-at : (calls : List Call) (n : ℕ) (codes : List Connection) (machines : List MachineConnection) (c : ℕ) (code : Connection) → ConnectionsStand calls n codes machines
+    → c < length codes → code ≡ slice_index_or codes c code → (k : ℕ) → k ≡ n + c → ConnectionStands calls k code (get_connection machines c)
+stands-at calls n [] machines c code stand lt is k e = absurd (omega arith)
+stands-at calls n (first ∷ codes) [] c code stand lt is k e = absurd stand
+stands-at calls n (first ∷ codes) (machine ∷ machines) zero code stand lt is k e =
+    let same : n ≡ k = omega arith in
+    subst (λ m. ConnectionStands calls m code machine) same (subst (λ (x : Connection). ConnectionStands calls n x machine) (sym is) stand.0)
+stands-at calls n (first ∷ codes) (machine ∷ machines) (suc c) code stand lt is k e = stands-at calls (suc n) codes machines c code stand.1 (omega arith) is k (omega arith)
+
+-- another connection in its place, which stands for the same
+stand-replaced : (calls : List Call) (n : ℕ) (codes : List Connection) (machines : List MachineConnection) (c : ℕ) (code : Connection) → ConnectionsStand calls n codes machines
+    → ConnectionStands calls (n + c) code (get_connection machines c) → ConnectionsStand calls n (slice_set codes c code) machines
+stand-replaced calls n [] machines c code stand at = stand
+stand-replaced calls n (first ∷ codes) [] c code stand at = absurd stand
+stand-replaced calls n (first ∷ codes) (machine ∷ machines) zero code stand at = (subst (λ m. ConnectionStands calls m code machine) (add-zero n) at, stand.1)
+stand-replaced calls n (first ∷ codes) (machine ∷ machines) (suc c) code stand at =
+    let same : n + suc c ≡ suc n + c = omega arith in
+    (stand.0, stand-replaced calls (suc n) codes machines c code stand.1 (subst (λ m. ConnectionStands calls m code (get_connection machines c)) same at))
+
+-- it is changed twice
+stand-changed : (calls : List Call) (n : ℕ) (codes : List Connection) (machines : List MachineConnection) (c : ℕ) (code : Connection) (first second : MachineConnection → MachineConnection) → ConnectionsStand calls n codes machines
+    → ConnectionStands calls (n + c) code (second (first (get_connection machines c))) → ConnectionsStand calls n (slice_set codes c code) (changed_at c second (changed_at c first machines))
+stand-changed calls n [] [] c code first second stand at = tt
+stand-changed calls n [] (machine ∷ machines) c code first second stand at = absurd stand
+stand-changed calls n (old ∷ codes) [] c code first second stand at = absurd stand
+stand-changed calls n (old ∷ codes) (machine ∷ machines) zero code first second stand at = (subst (λ m. ConnectionStands calls m code (second (first machine))) (add-zero n) at, stand.1)
+stand-changed calls n (old ∷ codes) (machine ∷ machines) (suc c) code first second stand at =
+    let same : n + suc c ≡ suc n + c = omega arith in
+    (stand.0, stand-changed calls (suc n) codes machines c code first second stand.1 (subst (λ m. ConnectionStands calls m code (second (first (get_connection machines c)))) same at))
+
+-- ---- what a turn takes
+
+asked-first : (asked_items waiting rest : List Item) (item : Item) → take (length waiting) asked_items ≡ waiting → waiting ≡ item ∷ rest → asked_items ≡ item ∷ drop 1 asked_items
+asked-first [] [] rest item first is = cc
+asked-first [] (w ∷ waiting) rest item first is = cc
+asked-first (a ∷ asked_items) [] rest item first is = cc
+asked-first (a ∷ asked_items) (w ∷ waiting) rest item first is =
+    let head : a ≡ w = cc in
+    let same : w ≡ item = cc in
+    ap (λ x. x ∷ asked_items) (head ∙ same)
+
+-- the first of the items asked for is the first that waits
+pub first-asked : (code : Inbound) (machine : MachineInbound) (item : Item) (rest : List Item) → InboundStands code machine → code.waiting.items ≡ item ∷ rest → code.asked.items ≡ item ∷ drop 1 code.asked.items
+first-asked code machine item rest stands is = asked-first code.asked.items machine.waiting rest item stands.first (sym stands.waits ∙ is)
+
+drop-more : (n : ℕ) (xs ys : List Item) (x : Item) → drop n xs ≡ x ∷ ys → drop (suc n) xs ≡ ys
+drop-more zero [] ys x e = cc
+drop-more zero (y ∷ xs) ys x e = cc
+drop-more (suc n) [] ys x e = cc
+drop-more (suc n) (y ∷ xs) ys x e = drop-more n xs ys x e
+
+drop-within : (n : ℕ) (xs ys : List Item) (x : Item) → drop n xs ≡ x ∷ ys → n < length xs
+drop-within zero [] ys x e = cc
+drop-within zero (y ∷ xs) ys x e = omega arith
+drop-within (suc n) [] ys x e = cc
+drop-within (suc n) (y ∷ xs) ys x e = omega (arith, drop-within n xs ys x e)
+
+take-rest : (xs ys : List Item) (x : Item) → take (length (x ∷ ys)) (x ∷ xs) ≡ x ∷ ys → take (length ys) xs ≡ ys
+take-rest xs ys x e = cc
+
+inbound-taken : (old new : Inbound) (machine : MachineInbound) (item : Item) (rest others : List Item) → InboundStands old machine → old.waiting.items ≡ item ∷ rest → old.asked.items ≡ item ∷ others
+    → new.parser ≡ old.parser → new.is_closed ≡ old.is_closed → new.asked.items ≡ others → new.waiting.items ≡ rest → InboundStands new (taken_first machine)
+inbound-taken old new machine item rest others stands is asks parser is_closed asked_now waiting_now =
+    let waits : machine.waiting ≡ item ∷ rest = sym stands.waits ∙ is in
+    let left : drop 1 machine.waiting ≡ rest = ap (drop 1) waits in
+    let kept : drop stands.run (asked machine.fed) ≡ item ∷ others = stands.kept ∙ asks in
+    let first : take (length (item ∷ rest)) (item ∷ others) ≡ item ∷ rest = ap₂ (λ (xs ys : List Item). take (length xs) ys) (sym waits) (sym asks) ∙ stands.first ∙ waits in
+    record {
+      parsed = subst (HasParsed machine.fed) (sym parser) stands.parsed;
+      closed = is_closed ∙ stands.closed;
+      run = suc stands.run;
+      within = drop-within stands.run (asked machine.fed) others item kept;
+      counted = omega (arith, stands.counted, ap length waits, ap length left);
+      kept = drop-more stands.run (asked machine.fed) others item kept ∙ sym asked_now;
+      waits = waiting_now ∙ sym left;
+      first = ap₂ (λ (xs ys : List Item). take (length xs) ys) left asked_now ∙ take-rest others rest item first ∙ sym left;
+    }
+
+AreMade-push : (calls : List Call) (mades : List Made) (helds : List Held) (made : Made) (held : Held) → AreMade calls mades helds → IsMade calls made held → AreMade calls (mades ++ made ∷ []) (helds ++ held ∷ [])
+AreMade-push calls [] [] made held are is = (is, tt)
+AreMade-push calls [] (h ∷ helds) made held are is = absurd are
+AreMade-push calls (m ∷ mades) [] made held are is = absurd are
+AreMade-push calls (m ∷ mades) (h ∷ helds) made held are is = (are.0, AreMade-push calls mades helds made held are.1 is)
+
+outbound-made : (calls : List Call) (call : Call) (position : ℕ) (old new : Outbound) (machine : MachineOutbound) → OutboundStands calls old machine → position ≡ position_of (calls ++ call ∷ [])
+    → new.made.items ≡ old.made.items ++ record { call = length calls; position = position } ∷ [] → new.gate ≡ old.gate → new.released ≡ old.released → new.seen ≡ old.seen
+    → OutboundStands (calls ++ call ∷ []) new (with_made (record { reply = call.reply; position = position_of (calls ++ call ∷ []) }) machine)
+outbound-made calls call position old new machine stands at made gate released seen =
+    let calls' = calls ++ call ∷ [] in
+    let held : Held = record { reply = call.reply; position = position_of calls' } in
+    let same : GateStands new.gate machine = subst (λ g. GateStands g machine) (sym gate) stands.gate in
+    let is : IsMade calls' (record { call = length calls; position = position }) held = record { call = call; stands = slice_get-last calls call; reply = refl; position = sym at } in
+    record {
+      made = subst (λ (mades : List Made). AreMade calls' mades (machine.made ++ held ∷ [])) (sym made)
+          (AreMade-push calls' old.made.items machine.made _ held (AreMade-grows calls (call ∷ []) old.made.items machine.made stands.made) is);
+      gate = record { pending = same.pending; waiting = same.waiting; held = same.held };
+      released = ap (λ r. r.items) released ∙ stands.released;
+      local = ap (λ s. s.local) seen ∙ stands.local;
+      remote = ap (λ s. s.remote) seen ∙ stands.remote;
+    }
+
+-- ---- where a turn is enabled
+
+-- what it asks for, of the code
+pub record MayRun (code : Connection) (sequencer : Sequencing) : Type 0 where
+  pub waits : code.inbound.waiting.items ≢ []
+  pub room : length code.outbound.made.items < PIPE_ITEMS
+  pub few : length sequencer.waiting < MAX_PARTS
+  pub is_open : is_closed sequencer code.seat ≡ false
+
+length-made : (calls : List Call) (mades : List Made) (helds : List Held) → AreMade calls mades helds → length mades ≡ length helds
+length-made calls [] [] are = refl
+length-made calls [] (held ∷ helds) are = absurd are
+length-made calls (made ∷ mades) [] are = absurd are
+length-made calls (made ∷ mades) (held ∷ helds) are = ap suc (length-made calls mades helds are.1)
+
+open-while-waiting : (w : World) (c : ℕ) (s : Sequencing) → Sound w → SequencerStands w.calls w.committer.closed s → is_nonempty (connection_of w c).inbound.waiting ≡ true → is_closed s c ≡ false
+open-while-waiting w c s sound stands waits =
+    let inbound = (connection_of w c).inbound in
+    false_from_ne_true (is_closed s c) (λ closed. both_ways (list_any closes (items_of c w.calls)) (none inbound.waiting waits (sound.inbound c).order) (stands.seats c closed))
+  where
+    none : (waiting : List Item) → is_nonempty waiting ≡ true → items_of c w.calls ++ waiting ≡ take (connection_of w c).inbound.offered (asked (connection_of w c).inbound.fed) → list_any closes (items_of c w.calls) ≡ false
+    none [] some order = cc
+    none (item ∷ items) some order = open-before (connection_of w c).inbound.offered (items_at SERVED_LIMITS (connection_of w c).inbound.fed) (items_of c w.calls) items item order
+
+is_nonempty-some : {X : Type 0} (xs : List X) → is_nonempty xs ≡ true → xs ≢ []
+is_nonempty-some [] e = λ h. cc
+is_nonempty-some (x ∷ xs) e = λ h. cc
+
+enabled-runs : (w : World) (c : ℕ) (code : Connection) (s : Sequencing) → Sound w → SequencerStands w.calls w.committer.closed s → ConnectionStands w.calls c code (connection_of w c)
+    → is_enabled w (Turn c) ≡ true → MayRun code s
+enabled-runs w c code s sound stands connection e =
+    let machine = connection_of w c in
+    let parts = four (is_open w c) (is_nonempty machine.inbound.waiting) (has_room machine.outbound.made) (nat_lt (open_changes w) OPEN_CHANGES) e in
+    record {
+      waits = λ h. is_nonempty-some machine.inbound.waiting parts.1 (sym connection.inbound.waits ∙ h);
+      room = omega (arith, ltb-true (length machine.outbound.made) PIPE_ITEMS parts.2, length-made w.calls code.outbound.made.items machine.outbound.made connection.outbound.made);
+      few = omega (arith, ltb-true (open_changes w) OPEN_CHANGES parts.3, stands.count);
+      is_open = ap (is_closed s) connection.seat ∙ open-while-waiting w c s sound stands parts.1;
+    }
+
+enabled-open : (w : World) (c : ℕ) → is_enabled w (Turn c) ≡ true → c < length w.connections
+enabled-open w c e =
+    let machine = connection_of w c in
+    ltb-true c (length w.connections) (four (is_open w c) (is_nonempty machine.inbound.waiting) (has_room machine.outbound.made) (nat_lt (open_changes w) OPEN_CHANGES) e).0
+
+runs-enabled : (w : World) (c : ℕ) (code : Connection) (s : Sequencing) → SequencerStands w.calls w.committer.closed s → ConnectionStands w.calls c code (connection_of w c)
+    → c < length w.connections → code.inbound.waiting.items ≢ [] → length code.outbound.made.items < PIPE_ITEMS → length s.waiting < MAX_PARTS → is_enabled w (Turn c) ≡ true
+runs-enabled w c code s stands connection lt waits room few =
+    let machine = connection_of w c in
+    let some : is_nonempty machine.inbound.waiting ≡ true = nonempty machine.inbound.waiting (λ h. waits (connection.inbound.waits ∙ h)) in
+    let fits : has_room machine.outbound.made ≡ true =
+    lt-ltb (length machine.outbound.made) PIPE_ITEMS (omega (arith, length-made w.calls code.outbound.made.items machine.outbound.made connection.outbound.made)) in
+    let below : nat_lt (open_changes w) OPEN_CHANGES ≡ true = lt-ltb (open_changes w) OPEN_CHANGES (omega (arith, stands.count)) in
+    and_from (is_open w c && is_nonempty machine.inbound.waiting && has_room machine.outbound.made) _
+    (and_from (is_open w c && is_nonempty machine.inbound.waiting) _ (and_from (is_open w c) _ (lt-ltb c (length w.connections) lt) some) fits) below
+  where
+    nonempty : (xs : List Item) → xs ≢ [] → is_nonempty xs ≡ true
+    nonempty [] differ = absurd (differ refl)
+    nonempty (x ∷ xs) differ = refl
+
+pub none-wait : (items : List Item) → (length items == 0) ≡ true → items ≡ []
+none-wait [] e = refl
+none-wait (item ∷ items) e = absurd (omega (arith, eqb-true (suc (length items)) 0 e))
+
+-- ---- no turn
+
+-- nothing changed where it is not enabled
+pub no-turn : (w : World) (c : ℕ) (sessions : Sessions) (s s' : Sequencing) → (is_enabled w (Turn c) ≡ true → ⊥) → SessionsStand sessions w.connections w.calls → s' ≡ s → TakesTurn w c false sessions s s'
+no-turn w c sessions s s' never stands same = record {
+  done = sym (false_from_ne_true (is_enabled w (Turn c)) never);
+  goes = λ did. cc;
+  stays = λ did. (stands, same);
+}
+
+-- there is no such connection
+pub no-turn-past : (w : World) (c : ℕ) (sessions : Sessions) (s : Sequencing) → length sessions.connections.items ≤ c → SessionsStand sessions w.connections w.calls → TakesTurn w c false sessions s s
+no-turn-past w c sessions s past stands =
+    no-turn w c sessions s s (λ e. absurd (omega (arith, enabled-open w c e, length-stand w.calls 0 sessions.connections.items w.connections stands.connections_stand))) stands refl
+
+-- the connection of a number that there is
+pub connection-stands : (w : World) (c : ℕ) (sessions : Sessions) (code : Connection) → SessionsStand sessions w.connections w.calls → c < length sessions.connections.items
+    → code ≡ slice_index_or sessions.connections.items c code → ConnectionStands w.calls c code (connection_of w c)
+connection-stands w c sessions code stands lt is = stands-at w.calls 0 sessions.connections.items w.connections c code stands.connections_stand lt is c (omega arith)
+
+inbound-same : (old new : Inbound) (machine : MachineInbound) → InboundStands old machine → new.parser ≡ old.parser → new.is_closed ≡ old.is_closed → new.asked.items ≡ old.asked.items → new.waiting.items ≡ old.waiting.items → InboundStands new machine
+inbound-same old new machine stands parser is_closed asked_same waiting_same = record {
+  parsed = subst (HasParsed machine.fed) (sym parser) stands.parsed;
+  closed = is_closed ∙ stands.closed;
+  run = stands.run;
+  within = stands.within;
+  counted = stands.counted;
+  kept = stands.kept ∙ sym asked_same;
+  waits = waiting_same ∙ stands.waits;
+  first = ap (take (length machine.waiting)) asked_same ∙ stands.first;
+}
+
+-- what a turn leaves alone
+pub record LeavesRest (old new : Sessions) (c : ℕ) (code code' : Connection) : Type 0 where
+  pub lobby : new.lobby ≡ old.lobby
+  pub connections : new.connections.items ≡ slice_set old.connections.items c code'
+  pub seat : code'.seat ≡ code.seat
+  pub parser : code'.inbound.parser ≡ code.inbound.parser
+  pub is_closed_same : code'.inbound.is_closed ≡ code.inbound.is_closed
+  pub gate : code'.outbound.gate ≡ code.outbound.gate
+  pub seen : code'.outbound.seen ≡ code.outbound.seen
+  pub released : code'.outbound.released ≡ code.outbound.released
+
+-- the sequencer ran nothing
+pub no-turn-unserved : (w : World) (c : ℕ) (old new : Sessions) (code code' : Connection) (s s' : Sequencing) → c < length old.connections.items → code ≡ slice_index_or old.connections.items c code
+    → (MayRun code s → ⊥) → Sound w → SessionsStand old w.connections w.calls → SequencerStands w.calls w.committer.closed s → LeavesRest old new c code code'
+    → code'.inbound.asked.items ≡ code.inbound.asked.items → code'.inbound.waiting.items ≡ code.inbound.waiting.items → code'.outbound.made.items ≡ code.outbound.made.items
+    → new.calls.items ≡ old.calls.items → new.replies.items ≡ [] → s' ≡ s → TakesTurn w c false new s s'
+no-turn-unserved w c old new code code' s s' lt is never sound stands sequencer rest asked_same waiting_same made_same calls_same replies same =
+    let here : ConnectionStands w.calls c code (connection_of w c) = connection-stands w c old code stands lt is in
+    let machine = connection_of w c in
+    let at : ConnectionStands w.calls (0 + c) code' machine = record {
+      seat = omega (arith, rest.seat, here.seat);
+      inbound = inbound-same code.inbound code'.inbound machine.inbound here.inbound rest.parser rest.is_closed_same asked_same waiting_same;
+      outbound = record {
+        made = subst (λ (mades : List Made). AreMade w.calls mades machine.outbound.made) (sym made_same) here.outbound.made;
+        gate = subst (λ g. GateStands g machine.outbound) (sym rest.gate) here.outbound.gate;
+        released = ap (λ r. r.items) rest.released ∙ here.outbound.released;
+        local = ap (λ seen. seen.local) rest.seen ∙ here.outbound.local;
+        remote = ap (λ seen. seen.remote) rest.seen ∙ here.outbound.remote;
+      };
+    } in
+    no-turn w c new s s' (λ e. never (enabled-runs w c code s sound sequencer here e)) (record {
+      seats = subst (λ lobby. SeatsStand lobby.statuses (length w.connections)) (sym rest.lobby) stands.seats;
+      connections_stand = subst (λ (codes : List Connection). ConnectionsStand w.calls 0 codes w.connections) (sym rest.connections)
+          (stand-replaced w.calls 0 old.connections.items w.connections c code' stands.connections_stand at);
+      calls_are = calls_same ∙ stands.calls_are;
+      no_reply = replies;
+    }) same
+
+-- ---- a turn
+
+-- the sequencer ran the first item that waits
+pub turn-taken : (w : World) (c : ℕ) (old new : Sessions) (code code' : Connection) (s s' : Sequencing) (held : Held) → c < length old.connections.items → code ≡ slice_index_or old.connections.items c code
+    → length code.outbound.made.items < PIPE_ITEMS → Sound w → SessionsStand old w.connections w.calls → SequencerStands w.calls w.committer.closed s → LeavesRest old new c code code'
+    → (runs : Runs s code.seat code.inbound.waiting.items held code'.inbound.waiting.items s')
+    → code'.inbound.asked.items ≡ drop 1 code.inbound.asked.items → code'.outbound.made.items ≡ code.outbound.made.items ++ record { call = length old.calls.items; position = held.position } ∷ []
+    → new.calls.items ≡ old.calls.items ++ call_of c runs.item held.reply ∷ [] → new.replies.items ≡ [] → TakesTurn w c true new s s'
+turn-taken w c old new code code' s s' held lt is room sound stands sequencer rest runs asked_now made_now calls_now replies =
+    let machine = connection_of w c in
+    let here : ConnectionStands w.calls c code machine = connection-stands w c old code stands lt is in
+    let call = call_of c runs.item held.reply in
+    let calls' = w.calls ++ call ∷ [] in
+    let answers : Answers s c runs.item held.reply s' = subst (λ n. Answers s n runs.item held.reply s') here.seat runs.answers in
+    let after : SequencerStands calls' w.committer.closed s' = sequencer-answered w.calls w.committer.closed s s' c runs.item held.reply sequencer answers in
+    let lt' : c < length w.connections = omega (arith, length-stand w.calls 0 old.connections.items w.connections stands.connections_stand) in
+    let asks = first-asked code.inbound machine.inbound runs.item code'.inbound.waiting.items here.inbound runs.first in
+    let reply : Held = record { reply = held.reply; position = position_of calls' } in
+    let at : ConnectionStands calls' (0 + c) code' (with_outbound (with_made reply) (with_inbound taken_first machine)) = record {
+      seat = omega (arith, rest.seat, here.seat);
+      inbound = inbound-taken code.inbound code'.inbound machine.inbound runs.item code'.inbound.waiting.items (drop 1 code.inbound.asked.items) here.inbound runs.first asks
+          rest.parser rest.is_closed_same asked_now refl;
+      outbound = outbound-made w.calls call held.position code.outbound code'.outbound machine.outbound here.outbound (runs.position ∙ after.position)
+          (made_now ∙ ap (λ (calls : List Call). code.outbound.made.items ++ record { call = length calls; position = held.position } ∷ []) stands.calls_are) rest.gate rest.released rest.seen;
+    } in
+    let taken = changed_at c (with_inbound taken_first) w.connections in
+    let count : length (changed_at c (with_outbound (with_made reply)) taken) ≡ length w.connections =
+    length-changed_at c (with_outbound (with_made reply)) taken ∙ length-changed_at c (with_inbound taken_first) w.connections in
+    let waits : (connection_of w c).inbound.waiting ≡ runs.item ∷ code'.inbound.waiting.items = sym here.inbound.waits ∙ runs.first in
+    record {
+      done = sym (runs-enabled w c code s sequencer here lt' (λ none. absurd (not_both runs.item code'.inbound.waiting.items (sym runs.first ∙ none))) room runs.few);
+      goes = λ did. (
+        called c call w,
+        record {
+          call = call;
+          connection = refl;
+          first = ap (take 1) waits;
+          reply = subst (λ (k : Keyspace). MayReply (outcome_of k runs.item) held.reply) sequencer.table runs.answers.legal;
+          now = refl;
+        },
+        record {
+          seats = subst (λ lobby. SeatsStand lobby.statuses (length (changed_at c (with_outbound (with_made reply)) taken))) (sym rest.lobby)
+              (subst (SeatsStand old.lobby.statuses) (sym count) stands.seats);
+          connections_stand = subst (λ (codes : List Connection). ConnectionsStand calls' 0 codes (changed_at c (with_outbound (with_made reply)) taken)) (sym rest.connections)
+              (stand-changed calls' 0 old.connections.items w.connections c code' (with_inbound taken_first) (with_outbound (with_made reply))
+              (ConnectionsStand-grows w.calls (call ∷ []) 0 old.connections.items w.connections stands.connections_stand) at);
+          calls_are = calls_now ∙ ap (λ (calls : List Call). calls ++ call ∷ []) stands.calls_are;
+          no_reply = replies;
+        },
+        after,
+      );
+      stays = λ did. cc;
+    }
+  where
+    not_both : (item : Item) (items : List Item) → item ∷ items ≡ [] → ⊥
+    not_both item items e = cc

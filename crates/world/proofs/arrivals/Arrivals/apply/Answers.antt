@@ -1,0 +1,86 @@
+use Rattle.std.proofs.Common.{◌≡◌, ◌++◌, [], ◌∷◌, drop, List, Result, Ok, Err, refl, sym, ap, subst, ◌∙◌, arith, append-nil}
+use Rattle.kv_types.specs.declared.refusal.Refusal.{Refusal}
+use Rattle.wbl_engine.proofs.Results.{on_err_from}
+use Rattle.machine.specs.Events.{World, without_first}
+use Rattle.standby.specs.declared.frame.Ack.{Ack}
+use Rattle.standby.specs.declared.standby.Standby.{Standby}
+use Rattle.world.specs.declared.arrivals.Arrivals.{Arrivals}
+use Rattle.world.specs.Standbys.{Node, ArrivalsStand}
+use Rattle.world.proofs.StandbyLemmas.{Answers, takes_ok, takes_refused, near_err, StandbyStands-near}
+use Rattle.world.proofs.ArrivalLemmas.{FirstFrame, first-frame, place_within, one_change, applies}
+use Rattle.world.proofs.arrivals.Arrivals.apply.Given.{Over}
+use Rattle.world.proofs.arrivals.Arrivals.apply.Goals as goal
+use Rattle.world.proofs.arrivals.Arrivals.apply.Goals.{After-on_frame, in-Ok, in-Err}
+
+abbrev node : (g : Over) → Standby g.row.E.Denot g.row.K.Denot g.row.E-Device.Denot → Node
+node g standby = record {
+  device = g.E.Durable.device standby.engine;
+  contents = g.E.Durable.contents standby.engine;
+  is_faulted = g.E.Durable.is_faulted standby.engine;
+  table = g.K.Keyspace.table standby.keyspace;
+  room = standby.heap;
+  epoch = standby.epoch;
+}
+
+answers : (g : Over) (c : After-on_frame g) → Answers c.in-Some-get.frame.now (node g c.args.standby.now) c.on_frame.result (node g c.on_frame.new.self)
+answers g c = record {
+  again = λ epoch le. let told = c.on_frame.ensures.again epoch le in (told.0, ap (node g) told.1);
+  gap = λ epoch lt ne. let told = c.on_frame.ensures.gap epoch lt ne in (told.0, ap (node g) told.1);
+  ack = c.on_frame.ensures.ack;
+  taken = c.on_frame.ensures.taken;
+  causes = c.on_frame.ensures.causes;
+  refused = λ cause. let same = c.on_frame.ensures.refused cause in (ap g.E.Durable.contents same.0, same.1);
+  still = c.on_frame.ensures.still;
+  sound = λ fault exhausted. (c.on_frame.ensures.sound fault exhausted).0;
+  durable = c.on_frame.ensures.durable;
+  epoch_stays = c.on_frame.ensures.epoch_stays;
+  moments = c.on_frame.ensures.moments;
+}
+
+told : (g : Over) (c : After-on_frame g) (result : Result Ack Refusal) → c.on_frame.result ≡ result → Answers c.in-Some-get.frame.now (node g c.args.standby.now) result (node g c.on_frame.new.self)
+told g c result is = subst (λ (r : Result Ack Refusal). Answers c.in-Some-get.frame.now (node g c.args.standby.now) r (node g c.on_frame.new.self)) is (answers g c)
+
+first : (g : Over) (c : After-on_frame g) (w : World) → ArrivalsStand c.args.standby.now.epoch w.calls c.args.frames.now c.args.self.now w.standby
+    → FirstFrame c.args.standby.now.epoch w.calls c.args.frames.now c.in-Some-get.frame.now (drop 1 c.args.self.now.delivered.items) w.standby.waiting
+first g c w stands = first-frame c.args.standby.now.epoch c.args.frames.now w c.args.self.now c.in-Some.place.now c.in-Some-get.frame.now c.in-Some.ensures.item.3.0 c.in-Some.ensures.lookup
+    c.in-Some-get.ensures.lookup.1 stands
+
+pub returns-in_default-get-clause-applies : goal.returns-in_default-get-clause-applies
+returns-in_default-get-clause-applies g c = λ lines w sound arrives stands.
+    let within = place_within c.args.standby.now.epoch c.args.frames.now w c.args.self.now c.in-Some.place.now c.in-Some.ensures.item.3.0 c.in-Some.ensures.lookup arrives in
+    let past = c.in_default-get.ensures.lookup.3 in
+    record { done = absurd (omega (arith, within, past)); goes = λ did. cc; stays = λ did. (arrives, refl {a = node g c.args.standby.now}) }
+
+pub returns-in_err-reserve-clause-near : goal.returns-in_err-reserve-clause-near
+returns-in_err-reserve-clause-near g c =
+    on_err_from c.from_residual.result (λ lines w sound arrives stands. StandbyStands-near lines c.args.standby.now.epoch w.calls w.standby.position (node g c.args.standby.now) stands)
+
+pub returns-in-Err-2-clause-near : goal.returns-in-Err-2-clause-near
+returns-in-Err-2-clause-near g c = λ lines w sound arrives stands.
+    let front = (goal.at.returns-in-Err-2-clause-near g c).After-on_frame in
+    let one = first g front w arrives in
+    near_err lines c.args.standby.now.epoch w.calls w.standby c.in-Some-get.frame.now one.span (node g c.args.standby.now) (node g c.on_frame.new.self) one.is stands
+    (one_change c.args.standby.now.epoch c.args.frames.now w c.in-Some-get.frame.now _ sound one) c.in-Err-2.refusal
+    (told g front (Err c.in-Err-2.refusal) c.in-Err-2.is)
+
+pub returns-clause-applies : goal.returns-clause-applies
+returns-clause-applies g c =
+    let front = (goal.at.returns-clause-applies g c).After-on_frame in
+    let epoch = c.args.standby.now.epoch in
+    let frame = c.in-Some-get.frame.now in
+    let new : Arrivals = record { delivered = c.pop_front.new.self; acknowledgements = c.match-on_frame.self.acknowledgements } in
+    elim c.match-on_frame.branch [
+      | in-Ok w ↦ λ lines w' sound arrives stands.
+          let one = first g front w' arrives in
+          applies lines epoch c.args.frames.now w' frame (w.in-Ok.ack ∷ []) c.args.self.now new (node g c.args.standby.now) (node g c.on_frame.new.self)
+          (c.pop_front.ensures.rest ∙ ap (λ (a : Arrivals). drop 1 a.delivered.items) w.self-is)
+          (ap (λ (a : Arrivals). a.acknowledgements.items) w.self-is ∙ w.push_reserved.ensures.items ∙ ap (λ (acks : List Ack). acks ++ w.in-Ok.ack ∷ []) c.in_ok-reserve.ensures.items) arrives one
+          (takes_ok lines epoch w'.calls (without_first w'.standby) frame one.span (node g c.args.standby.now) (node g c.on_frame.new.self) one.is stands w.in-Ok.ack (told g front (Ok w.in-Ok.ack) w.in-Ok.is))
+      | in-Err w ↦ λ lines w' sound arrives stands.
+          let one = first g front w' arrives in
+          applies lines epoch c.args.frames.now w' frame [] c.args.self.now new (node g c.args.standby.now) (node g c.on_frame.new.self)
+          (c.pop_front.ensures.rest ∙ ap (λ (a : Arrivals). drop 1 a.delivered.items) w.self-is)
+          (ap (λ (a : Arrivals). a.acknowledgements.items) w.self-is ∙ c.in_ok-reserve.ensures.items ∙ sym (append-nil c.args.self.now.acknowledgements.items)) arrives one
+          (takes_refused lines epoch w'.calls (without_first w'.standby) frame one.span (node g c.args.standby.now) (node g c.on_frame.new.self) one.is stands w.in-Err.refusal (w.goes_on.ensures.0 w.if-goes_on.true)
+          (told g front (Err w.in-Err.refusal) w.in-Err.is))
+    ]

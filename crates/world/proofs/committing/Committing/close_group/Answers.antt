@@ -1,0 +1,20 @@
+use Rattle.std.proofs.Common.{refl}
+use Rattle.std.proofs.lemmas.Bool.{both_ways}
+use Rattle.world.proofs.SequencerLemmas.{Leads-push, closes-nothing, closes-one}
+use Rattle.world.proofs.committing.Committing.close_group.Goals as goal
+
+pub returns-then-not-can_close-clause-goes : goal.returns-then-not-can_close-clause-goes
+returns-then-not-can_close-clause-goes g c = λ w stands sequencer.
+    closes-nothing w c.args.self.now c.args.sequencer.now _ stands sequencer
+    (λ some room. both_ways c.can_close.result c.if-not-can_close.true (c.can_close.ensures.1 (some, room)))
+
+pub returns-clause-goes : goal.returns-clause-goes
+returns-clause-goes g c = λ w stands sequencer.
+    let closed = c.in_ok-close_group.ensures.ok in
+    let can = c.if-not-can_close.ensures.0 refl in
+    closes-one w c.args.self.now _ c.args.sequencer.now c.close_group.new.self closed.0 _ stands sequencer can.0 can.1 closed.2 closed.1 refl refl
+
+pub returns-clause-leads : goal.returns-clause-leads
+returns-clause-leads g c = λ contents leads.
+    let closed = c.in_ok-close_group.ensures.ok in
+    Leads-push contents c.args.self.now.waiting.items c.close_group.new.outlet.items closed.0 c.args.sequencer.now c.close_group.new.self leads closed.1 closed.3

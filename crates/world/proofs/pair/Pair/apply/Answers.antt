@@ -1,0 +1,16 @@
+use Rattle.std.proofs.Common.{refl}
+use Rattle.machine.specs.declared.event.Event.TheVariants as events
+use Rattle.world.proofs.PairLemmas.{apply-does}
+use Rattle.world.proofs.pair.Pair.apply.Goals as goal
+
+pub returns : goal.returns
+returns g c = apply-does _ c.apply.new.self
+    (record {
+      device = g.E.Durable.device c.apply.new.standby.engine;
+      contents = g.E.Durable.contents c.apply.new.standby.engine;
+      is_faulted = g.E.Durable.is_faulted c.apply.new.standby.engine;
+      table = g.K.Keyspace.table c.apply.new.standby.keyspace;
+      room = c.apply.new.standby.heap;
+      epoch = c.apply.new.standby.epoch;
+    })
+    c.as_slice.result.now c.apply.result c.as_slice.ensures.value c.apply.ensures.applies c.apply.ensures.near

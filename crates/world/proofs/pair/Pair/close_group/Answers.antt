@@ -1,0 +1,7 @@
+use Rattle.std.proofs.Common.{refl}
+use Rattle.machine.specs.declared.event.Event.TheVariants as events
+use Rattle.world.proofs.PairLemmas.{close-does}
+use Rattle.world.proofs.pair.Pair.close_group.Goals as goal
+
+pub returns : goal.returns
+returns g c = close-does _ c.close_group.new.self c.close_group.new.sequencer c.close_group.result c.close_group.ensures.goes c.close_group.ensures.leads

@@ -1,0 +1,7 @@
+use Rattle.std.proofs.Common.{refl}
+use Rattle.machine.specs.declared.event.Event.TheVariants as events
+use Rattle.world.proofs.PairLemmas.{deliver-does}
+use Rattle.world.proofs.pair.Pair.deliver.Goals as goal
+
+pub returns : goal.returns
+returns g c = deliver-does _ c.deliver.new.self c.as_slice.result.now c.args.frame c.deliver.result c.as_slice.ensures.value c.deliver.ensures

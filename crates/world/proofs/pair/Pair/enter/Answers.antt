@@ -1,0 +1,8 @@
+use Rattle.std.proofs.Common.{[], ◌∷◌, ◌++◌, refl}
+use Rattle.machine.specs.declared.event.Event.TheVariants as events
+use Rattle.machine.specs.Events.{World, no_connection}
+use Rattle.world.proofs.PairLemmas.{sessions-do}
+use Rattle.world.proofs.pair.Pair.enter.Goals as goal
+
+pub returns : goal.returns
+returns g c = sessions-do events.Enter (λ (w : World). w.connections ++ no_connection ∷ []) (λ w. refl) _ c.enter.new.self c.enter.result c.enter.ensures.goes c.enter.ensures.told

@@ -1,0 +1,8 @@
+use Rattle.std.proofs.Common.{refl}
+use Rattle.machine.specs.declared.event.Event.TheVariants as events
+use Rattle.machine.specs.Events.{World, changed_at, with_inbound, fed_with}
+use Rattle.world.proofs.PairLemmas.{sessions-do}
+use Rattle.world.proofs.pair.Pair.feed.Goals as goal
+
+pub returns : goal.returns
+returns g c = sessions-do (events.Feed c.args.c c.args.piece.now) (λ (w : World). changed_at c.args.c (with_inbound (fed_with c.args.piece.now)) w.connections) (λ w. refl) _ c.feed.new.self c.feed.result c.feed.ensures.goes c.feed.ensures.told

@@ -1,0 +1,7 @@
+use Rattle.std.proofs.Common.{refl}
+use Rattle.machine.specs.declared.event.Event.TheVariants as events
+use Rattle.world.proofs.PairLemmas.{hand-does}
+use Rattle.world.proofs.pair.Pair.hand.Goals as goal
+
+pub returns : goal.returns
+returns g c = hand-does _ c.hand.new.self c.hand.new.link c.hand.result c.hand.ensures.goes c.hand.ensures.waiting

@@ -1,0 +1,8 @@
+use Rattle.std.proofs.Common.{refl}
+use Rattle.machine.specs.declared.event.Event.TheVariants as events
+use Rattle.machine.specs.Events.{World, changed_at, with_outbound, held_first}
+use Rattle.world.proofs.PairLemmas.{sessions-do}
+use Rattle.world.proofs.pair.Pair.hold.Goals as goal
+
+pub returns : goal.returns
+returns g c = sessions-do (events.Hold c.args.c) (λ (w : World). changed_at c.args.c (with_outbound held_first) w.connections) (λ w. refl) _ c.hold.new.self c.hold.result c.hold.ensures.goes c.hold.ensures.told

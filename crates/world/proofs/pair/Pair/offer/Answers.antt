@@ -1,0 +1,8 @@
+use Rattle.std.proofs.Common.{refl}
+use Rattle.machine.specs.declared.event.Event.TheVariants as events
+use Rattle.machine.specs.Events.{World, changed_at, with_inbound, offered_next}
+use Rattle.world.proofs.PairLemmas.{sessions-do}
+use Rattle.world.proofs.pair.Pair.offer.Goals as goal
+
+pub returns : goal.returns
+returns g c = sessions-do (events.Offer c.args.c) (λ (w : World). changed_at c.args.c (with_inbound offered_next) w.connections) (λ w. refl) _ c.offer.new.self c.offer.result c.offer.ensures.goes c.offer.ensures.told

@@ -1,0 +1,8 @@
+use Rattle.std.proofs.Common.{refl}
+use Rattle.machine.specs.declared.event.Event.TheVariants as events
+use Rattle.machine.specs.Events.{World, changed_at, with_outbound, written}
+use Rattle.world.proofs.PairLemmas.{sessions-do}
+use Rattle.world.proofs.pair.Pair.write.Goals as goal
+
+pub returns : goal.returns
+returns g c = sessions-do (events.Write c.args.c c.args.n) (λ (w : World). changed_at c.args.c (with_outbound (written c.args.n)) w.connections) (λ w. refl) _ c.write.new.self c.write.result c.write.ensures.goes c.write.ensures.told

@@ -1,0 +1,33 @@
+use Rattle.std.proofs.Common.{◌&&◌, List, refl, ap, subst, ◌∙◌}
+use Rattle.std.proofs.lemmas.Result.{IfOk-weaker}
+use Rattle.model.specs.declared.call.Call.{Call}
+use Rattle.model.specs.Calls.{is_nonempty}
+use Rattle.machine.specs.Events.{held_first, get_connection}
+use Rattle.world.specs.declared.connection.Connection.{Connection}
+use Rattle.world.specs.Outbounds.{OutboundStands, HoldsFirst}
+use Rattle.world.proofs.SessionLemmas.{outbound-goes, none-goes, tells-the-same, on_err_from}
+use Rattle.world.proofs.sessions.Sessions.hold.Goals as goal
+
+pub returns-in-Some-clause-goes : goal.returns-in-Some-clause-goes
+returns-in-Some-clause-goes c = IfOk-weaker c.hold.result _ _
+    (λ did holds. λ w stand.
+    let outbound = (get_connection w.connections c.args.c).outbound in
+    outbound-goes (λ b. b && is_nonempty outbound.made) did w c.args.self.now c.args.c c.in-Some.connection.now c.hold.new.self held_first
+    c.in-Some.ensures.item.3.0 c.in-Some.ensures.value stand
+    (λ stands.
+    let went =
+    subst (λ (calls : List Call). OutboundStands calls c.in-Some.connection.now.outbound outbound → HoldsFirst calls c.hold.new.self did outbound)
+    (c.as_slice.ensures.value ∙ stand.calls_are) (holds outbound) stands in
+    record { done = went.done; goes = went.held; stays = went.stays }))
+    c.hold.ensures.stands
+
+pub returns-in-Some-clause-told : goal.returns-in-Some-clause-told
+returns-in-Some-clause-told c =
+    let connection = c.in-Some.connection.now in
+    let now : Connection = record { seat = connection.seat; inbound = connection.inbound; outbound = c.hold.new.self } in
+    on_err_from c.hold.result (tells-the-same c.args.self.now c.args.c connection now c.in-Some.ensures.value (ap (λ v. v.items) c.hold.ensures.released))
+
+pub returns-in-None-clause-goes : goal.returns-in-None-clause-goes
+returns-in-None-clause-goes c = λ w stand.
+    let outbound = (get_connection w.connections c.args.c).outbound in
+    none-goes (λ b. b && is_nonempty outbound.made) w c.args.self.now c.args.c c.in-None.ensures.item.3 refl stand

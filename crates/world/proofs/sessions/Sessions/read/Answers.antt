@@ -1,0 +1,17 @@
+use Rattle.std.proofs.Common.{true, refl}
+use Rattle.machine.specs.Events.{having_read, get_connection}
+use Rattle.world.proofs.SessionLemmas.{outbound-goes, none-goes}
+use Rattle.world.proofs.sessions.Sessions.read.Goals as goal
+
+pub returns-in-Some : goal.returns-in-Some
+returns-in-Some c = λ w stand local remote.
+    outbound-goes (λ b. b) true w c.args.self.now c.args.c c.in-Some.connection.now c.read.new.self (having_read c.args.mark w)
+    c.in-Some.ensures.item.3.0 c.in-Some.ensures.value stand
+    (λ stands. record {
+      done = refl;
+      goes = λ _. c.read.ensures.stands w.calls w (get_connection w.connections c.args.c).outbound stands local remote;
+      stays = λ not_did. cc;
+    })
+
+pub returns-in-None : goal.returns-in-None
+returns-in-None c = λ w stand local remote. none-goes (λ b. b) w c.args.self.now c.args.c c.in-None.ensures.item.3 refl stand

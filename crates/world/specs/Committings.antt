@@ -1,0 +1,79 @@
+-- What the committer and its engine stand for in the machine.
+use Rattle.std.specs.Prelude.{◌≡◌, ◌⊎◌, ℕ, ◌+◌, ◌<◌, Bool, true, false, List, [], ◌∷◌}
+use Rattle.pmem.specs.Device.{State}
+use Rattle.pmem.specs.Crash.{IsImage}
+use Rattle.model.specs.declared.call.Call.{Call}
+use Rattle.model.specs.declared.group.Group.{Group}
+use Rattle.model.specs.Calls.{keyspace_after, cut_at, position_of}
+use Rattle.model.specs.Images.{Image, IsMapOf, entries_of_lines}
+use Rattle.model.specs.Groups.{Contents, IsConsistent, IsGroup, after_group}
+use Rattle.model.specs.Standing.{StandsAt}
+use Rattle.wbl_engine.specs.Contents.{IsDurable}
+use Rattle.redis_core.specs.Sequencing.{Sequencing, StandsFor}
+use Rattle.machine.specs.Events.{Committer as Machine, Stage as MachineStage}
+use Rattle.machine.specs.Worlds as machine_stage
+use Rattle.world.specs.GroupSpans.{AreGroupsOf, IsGroupOf}
+use Rattle.world.specs.declared.committing.Stage.{Stage}
+use Rattle.world.specs.declared.committing.Stage.TheVariants.{Ready, Durable, Shown}
+use Rattle.world.specs.declared.committing.Committing.{Committing}
+
+-- ---- groups that wait
+
+-- each group is what a commit asks for, after those before it
+abbrev pub AreGroups : Contents → List Group → Type 0
+AreGroups contents [] = Unit {0}
+AreGroups contents (group ∷ groups) = IsGroup contents group × AreGroups (after_group contents group) groups
+
+-- the contents after all of the groups
+abbrev pub after_groups : Contents → List Group → Contents
+after_groups contents [] = contents
+after_groups contents (group ∷ groups) = after_groups (after_group contents group) groups
+
+-- groups lead from what an engine holds to what the sequencer stands for
+pub record Leads (contents : Contents) (groups : List Group) (s : Sequencing) : Type 0 where
+  pub groups_are : AreGroups contents groups
+  pub stands : StandsFor s (after_groups contents groups)
+
+-- what is left to commit leads to where it led before
+pub record LeadsOn (old : Contents) (groups : List Group) (new : Contents) (rest : List Group) : Type 0 where
+  pub groups_are : AreGroups new rest
+  pub same : after_groups new rest ≡ after_groups old groups
+
+-- ---- the engine
+
+-- the contents, of so many lines, are those of the list at this position
+pub record AreContentsAt (lines : ℕ) (calls : List Call) (position : ℕ) (contents : Contents) : Type 0 where
+  pub at : contents.current.position ≡ position
+  pub lines_are : contents.lines ≡ lines
+  pub consistent : IsConsistent contents
+  pub map : IsMapOf contents.versions (entries_of_lines contents.lines) (keyspace_after (cut_at calls position))
+
+-- a sound engine whose contents are those of the list at this position, over a device on which each crash leaves them
+pub record EngineStands (lines : ℕ) (calls : List Call) (position : ℕ) (device : State) (contents : Contents) (is_faulted : Bool) : Type 0 where
+  pub contents_at : AreContentsAt lines calls position contents
+  pub sound : is_faulted ≡ false
+  pub durable : IsDurable device contents
+
+-- each crash now leaves an image that stands at this position of the list
+abbrev pub Stands : ℕ → List Call → ℕ → State → Type 0
+Stands lines calls position device = (image : Image) → IsImage device.words image → StandsAt lines calls position image
+
+-- each crash now leaves an image that stands at this position of the list, or at the next one
+abbrev pub StandsNear : ℕ → List Call → ℕ → State → Type 0
+StandsNear lines calls position device =
+    (image : Image) → IsImage device.words image → StandsAt lines calls position image ⊎ ((position < position_of calls) × StandsAt lines calls (position + 1) image)
+
+-- ---- the committer
+
+-- the group in hand is the span in hand
+abbrev pub StageStands : List Call → Stage → MachineStage → Type 0
+StageStands calls Ready machine_stage.Ready = Unit {0}
+StageStands calls (Durable group) (machine_stage.Durable span) = IsGroupOf calls group span
+StageStands calls (Shown group) (machine_stage.Shown span) = IsGroupOf calls group span
+StageStands calls _ _ = ⊥
+
+-- the committer's groups and mark
+pub record CommittingStands (calls : List Call) (code : Committing) (machine : Machine) : Type 0 where
+  pub groups : AreGroupsOf calls code.waiting.items machine.waiting
+  pub stage_is : StageStands calls code.stage machine.stage
+  pub local_is : code.local ≡ machine.local

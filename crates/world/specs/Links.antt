@@ -1,0 +1,59 @@
+-- What the link and its frames stand for in the machine.
+use Rattle.std.specs.Prelude.{◌≡◌, ℕ, ◌-◌, ◌<◌, ◌≤◌, List, [], ◌∷◌, drop, length, slice_get, Some}
+use Rattle.model.specs.declared.call.Call.{Call}
+use Rattle.model.specs.Positions.{changes_since}
+use Rattle.model.specs.Calls.{IsPrefix}
+use Rattle.machine.specs.Events.{Link as Machine, Span}
+use Rattle.standby.specs.declared.frame.Frame.{Frame}
+use Rattle.world.specs.GroupSpans.{IsWithin, AreGroupsOf}
+use Rattle.world.specs.declared.link.Link.{Link}
+
+-- the frame has the changes of the list between the positions of the span
+pub record IsFrameOf (epoch : ℕ) (calls : List Call) (frame : Frame) (span : Span) : Type 0 where
+  pub span_within : IsWithin calls span
+  pub epoch_is : frame.epoch ≡ epoch
+  pub before : frame.before ≡ span.before
+  pub after : frame.after ≡ span.after
+  pub changes : frame.changes.items ≡ changes_since calls span.before (span.after - span.before)
+
+abbrev pub AreFramesOf : ℕ → List Call → List Frame → List Span → Type 0
+AreFramesOf epoch calls [] [] = Unit {0}
+AreFramesOf epoch calls (frame ∷ frames) (span ∷ spans) = IsFrameOf epoch calls frame span × AreFramesOf epoch calls frames spans
+AreFramesOf epoch calls _ _ = ⊥
+
+-- the frame at this place is that of the span
+pub record IsFrameAt (epoch : ℕ) (calls : List Call) (frames : List Frame) (place : ℕ) (span : Span) : Type 0 where
+  pub frame : Frame
+  pub stands : slice_get frames place ≡ Some frame
+  pub has : IsFrameOf epoch calls frame span
+
+abbrev pub AreFramesAt : ℕ → List Call → List Frame → List ℕ → List Span → Type 0
+AreFramesAt epoch calls frames [] [] = Unit {0}
+AreFramesAt epoch calls frames (place ∷ places) (span ∷ spans) = IsFrameAt epoch calls frames place span × AreFramesAt epoch calls frames places spans
+AreFramesAt epoch calls frames _ _ = ⊥
+
+-- What is kept, and what is to be sent again, are the last of the frames that were ever made.
+pub record LinkStands (calls : List Call) (code : Link) (machine : Machine) : Type 0 where
+  pub waiting : AreGroupsOf calls code.waiting.items machine.waiting
+  -- the spans of all frames that were ever made
+  pub spans : List Span
+  pub frames : AreFramesOf code.epoch calls code.frames.items spans
+  pub kept_within : code.kept ≤ length spans
+  pub kept : drop code.kept spans ≡ machine.kept
+  pub again_within : code.again ≤ length spans
+  pub again : drop code.again spans ≡ machine.again
+  pub sent : AreFramesAt code.epoch calls code.frames.items code.sent.items machine.frames
+  pub known : code.known ≡ machine.known
+  pub remote : code.remote ≡ machine.remote
+
+-- frames that were made stay, with their epoch
+pub record KeepsFrames (old new : Link) : Type 0 where
+  pub epoch : new.epoch ≡ old.epoch
+  pub frames : IsPrefix old.frames.items new.frames.items
+
+-- The place is the first, from this one on, whose frame ends above the position; or the end.
+pub record DropsKnown (frames : List Frame) (from position place : ℕ) : Type 0 where
+  pub later : from ≤ place
+  pub within : place ≤ length frames
+  pub known : (n : ℕ) (frame : Frame) → from ≤ n → n < place → slice_get frames n ≡ Some frame → frame.after ≤ position
+  pub above : (frame : Frame) → slice_get frames place ≡ Some frame → position < frame.after

@@ -1,0 +1,42 @@
+-- What the standby, and what lies before it, stand for in the machine.
+use Rattle.std.specs.Prelude.{◌≡◌, ℕ, Bool, true, false, List, [], ◌∷◌, take, map}
+use Rattle.pmem.specs.Device.{State}
+use Rattle.extent_heap.specs.Room.{Room}
+use Rattle.model.specs.declared.call.Call.{Call}
+use Rattle.model.specs.Calls.{keyspace_after, cut_at}
+use Rattle.model.specs.Groups.{Contents}
+use Rattle.mv_keyspace.specs.Tables.{Table, records}
+use Rattle.machine.specs.declared.event.Event.TheVariants.{Apply}
+use Rattle.machine.specs.Events.{Standby as Machine, World, Span, Applies, is_enabled}
+use Rattle.standby.specs.declared.frame.Frame.{Frame}
+use Rattle.standby.specs.Following.{Follows}
+use Rattle.world.specs.Committings.{EngineStands}
+use Rattle.world.specs.Links.{AreFramesAt}
+use Rattle.world.specs.declared.arrivals.Arrivals.{Arrivals}
+
+-- what a standby is made of
+pub record Node : Type 0 where
+  pub device : State
+  pub contents : Contents
+  pub is_faulted : Bool
+  pub table : Table
+  pub room : Room
+  pub epoch : ℕ
+
+-- the standby of this epoch holds the list up to this position
+pub record StandbyStands (lines epoch : ℕ) (calls : List Call) (position : ℕ) (node : Node) : Type 0 where
+  pub engine : EngineStands lines calls position node.device node.contents node.is_faulted
+  pub follows : Follows node.contents node.table node.room
+  pub table : records node.table ≡ keyspace_after (cut_at calls position)
+  pub epoch_is : node.epoch ≡ epoch
+
+-- the frames that came, by their places, and the acknowledgements that were made
+pub record ArrivalsStand (epoch : ℕ) (calls : List Call) (frames : List Frame) (code : Arrivals) (machine : Machine) : Type 0 where
+  pub delivered : AreFramesAt epoch calls frames code.delivered.items machine.waiting
+  pub acknowledged : map (λ ack. ack.position) code.acknowledgements.items ≡ machine.acknowledgements
+
+-- the standby took the first frame that came, or there was none
+pub record AppliesFirst (lines epoch : ℕ) (frames : List Frame) (w : World) (did : Bool) (arrivals : Arrivals) (old new : Node) : Type 0 where
+  pub done : did ≡ is_enabled w Apply
+  pub goes : did ≡ true → (w' : World) × Applies w w' × ArrivalsStand epoch w.calls frames arrivals w'.standby × StandbyStands lines epoch w.calls w'.standby.position new
+  pub stays : did ≡ false → ArrivalsStand epoch w.calls frames arrivals w.standby × (new ≡ old)

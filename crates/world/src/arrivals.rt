@@ -1,0 +1,118 @@
+//! What came to the standby, and what it acknowledged.
+ghost use Rattle.std.specs.Prelude.{◌≡◌, ◌⊎◌, ◌↔◌, ℕ, false, List, [], slice_get, IsTrue, IfOk, OnOk, OnErr};
+ghost use Rattle.machine.specs.declared.event.Event.TheVariants.{Deliver};
+ghost use Rattle.machine.specs.Events.{World, is_enabled, start, acknowledged, delivered, option_items};
+ghost use Rattle.machine.specs.Sound.{Sound};
+ghost use Rattle.wbl_engine.specs.Contents.{IsDurable};
+ghost use Rattle.standby.specs.declared.frame.Frame.{Frame};
+ghost use Rattle.standby.specs.Following.{Follows};
+ghost use Rattle.world.specs.Going.{Goes};
+ghost use Rattle.world.specs.Committings.{StandsNear};
+ghost use Rattle.world.specs.Links.{AreFramesAt};
+ghost use Rattle.world.specs.Standbys.{StandbyStands, ArrivalsStand, AppliesFirst};
+
+use kv_types::Refusal;
+use mv_keyspace::Keyspace;
+use standby::{Ack, Frame, Standby};
+use std::alloc::Global;
+use std::collections::VecDeque;
+use wbl_engine::Durable;
+
+/// Frames on their way into the standby, and acknowledgements on their way out.
+#[derive(Drop)]
+pub(crate) struct Arrivals {
+    /// The places of the frames that came to the standby and were not taken.
+    pub(crate) delivered: VecDeque<usize>,
+    /// All acknowledgements that the standby ever made.
+    pub(crate) acknowledgements: Vec<Ack>,
+}
+
+impl Arrivals {
+    pub(crate) fn new(alloc: Global) -> Arrivals
+        ensures { (epoch : ℕ) → ArrivalsStand epoch [] [] result start.standby }
+    {
+        Arrivals {
+            delivered: VecDeque::new(alloc),
+            acknowledgements: Vec::new(alloc),
+        }
+    }
+
+    /// The standby tells its position.
+    pub(crate) fn acknowledge(&mut self, ack: Ack) -> Result<(), Refusal>
+        ensures { OnOk result ((epoch : ℕ) (frames : List Frame) (w : World) → ArrivalsStand epoch w.calls frames self.old w.standby → ack.position ≡ w.standby.position
+            → ArrivalsStand epoch w.calls frames self.new (acknowledged w.standby)) }
+    {
+        self.acknowledgements.push(ack)?;
+        Ok(())
+    }
+
+    /// A frame that was sent comes to the standby. Answers whether there is such a frame.
+    pub(crate) fn deliver(&mut self, sent: &[usize], frame: u64) -> Result<bool, Refusal>
+        ensures { IfOk result (λ did. (epoch : ℕ) (frames : List Frame) (w : World) → ArrivalsStand epoch w.calls frames self.old w.standby
+            → AreFramesAt epoch w.calls frames sent.now w.link.frames
+            → Goes (is_enabled w (Deliver frame)) did
+            (ArrivalsStand epoch w.calls frames self.new (delivered (option_items (slice_get w.link.frames frame)) w.standby))
+            (ArrivalsStand epoch w.calls frames self.new w.standby)) }
+    {
+        match sent.get(frame as usize) {
+            Some(place) => {
+                self.delivered.push_back(*place)?;
+                Ok(true)
+            }
+            None => Ok(false),
+        }
+    }
+
+    /// The standby takes the first frame that came. Answers whether there was one.
+    ///
+    /// `Memory` where a growth was refused, `Fault` where a fence failed, `Exhausted` where a counter would reach 2^62.
+    pub(crate) fn apply<E: Durable, K: Keyspace>(
+        &mut self,
+        alloc: Global,
+        standby: &mut Standby<E, K>,
+        frames: &[Frame],
+    ) -> Result<bool, Refusal>
+        requires follows { Follows (E.contents standby.old.engine) (K.table standby.old.keyspace) standby.old.heap }
+        requires sound { E.is_faulted standby.old.engine ≡ false }
+        requires durable { IsDurable (E.device standby.old.engine) (E.contents standby.old.engine) }
+        ensures applies { IfOk result (λ did. (lines : ℕ) (w : World) → Sound w
+            → ArrivalsStand standby.old.epoch w.calls frames.now self.old w.standby
+            → StandbyStands lines standby.old.epoch w.calls w.standby.position (record { device = E.device standby.old.engine; contents = E.contents standby.old.engine;
+              is_faulted = E.is_faulted standby.old.engine; table = K.table standby.old.keyspace; room = standby.old.heap; epoch = standby.old.epoch })
+            → AppliesFirst lines standby.old.epoch frames.now w did self.new
+            (record { device = E.device standby.old.engine; contents = E.contents standby.old.engine;
+              is_faulted = E.is_faulted standby.old.engine; table = K.table standby.old.keyspace; room = standby.old.heap; epoch = standby.old.epoch })
+            (record { device = E.device standby.new.engine; contents = E.contents standby.new.engine;
+              is_faulted = E.is_faulted standby.new.engine; table = K.table standby.new.keyspace; room = standby.new.heap; epoch = standby.new.epoch })) }
+        ensures near { OnErr result ((lines : ℕ) (w : World) → Sound w
+            → ArrivalsStand standby.old.epoch w.calls frames.now self.old w.standby
+            → StandbyStands lines standby.old.epoch w.calls w.standby.position (record { device = E.device standby.old.engine; contents = E.contents standby.old.engine;
+              is_faulted = E.is_faulted standby.old.engine; table = K.table standby.old.keyspace; room = standby.old.heap; epoch = standby.old.epoch })
+            → StandsNear lines w.calls w.standby.position (E.device standby.new.engine)) }
+    {
+        let Some(place) = self.delivered.front() else {
+            return Ok(false);
+        };
+        let Some(frame) = frames.get(*place) else {
+            return Ok(false);
+        };
+        self.acknowledgements.reserve(1)?;
+        match standby.on_frame(alloc, frame) {
+            Ok(ack) => self.acknowledgements.push_reserved(ack),
+            Err(refusal) if goes_on(refusal) => {}
+            Err(refusal) => return Err(refusal),
+        }
+        let _ = self.delivered.pop_front();
+        Ok(true)
+    }
+}
+
+/// Whether a standby that refused a frame so is as it was, and goes on.
+fn goes_on(refusal: Refusal) -> bool
+    ensures { IsTrue result ↔ ((refusal ≡ Refusal.Full) ⊎ (refusal ≡ Refusal.PositionGap) ⊎ (refusal ≡ Refusal.WrongEpoch)) }
+{
+    matches!(
+        refusal,
+        Refusal::Full | Refusal::PositionGap | Refusal::WrongEpoch
+    )
+}

@@ -1,0 +1,155 @@
+//! The primary's committer: a group is committed, then shown, then handed on, in three turns.
+ghost use Rattle.std.specs.Prelude.{◌≡◌, ◌≢◌, ◌<◌, ◌↔◌, ℕ, [], ◌++◌, length, IfOk, IsTrue, OnErr};
+ghost use Rattle.model.specs.Groups.{Contents};
+ghost use Rattle.machine.specs.declared.event.Event.TheVariants.{CloseGroup, Commit, RaiseLocal, Hand};
+ghost use Rattle.machine.specs.Events.{World, is_enabled, start, closed_group, committed_first, raised_local, ready_again, handed};
+ghost use Rattle.machine.specs.Sound.{Sound};
+ghost use Rattle.world.specs.Going.{Goes};
+ghost use Rattle.world.specs.GroupSpans.{AreGroupsOf};
+ghost use Rattle.world.specs.Sessions.{SequencerStands};
+ghost use Rattle.world.specs.Committings.{AreGroups, Leads, LeadsOn, EngineStands, StandsNear, CommittingStands};
+
+use kv_types::Refusal;
+use model::Group;
+use mv_keyspace::Keyspace;
+use pipes::{Inlet, LocalPipe, Outlet, PIPE_ITEMS};
+use redis_core::Sequencer;
+use std::alloc::{AllocError, Global};
+use wbl_engine::Durable;
+
+/// How far the committer is with a group.
+#[derive(Debug, Drop)]
+pub(crate) enum Stage {
+    /// It may take the next one.
+    Ready,
+    /// It has committed this one, and not shown it.
+    Durable(Group),
+    /// It has shown this one, and not handed it on.
+    Shown(Group),
+}
+
+/// Commits the groups that the sequencer closes.
+#[derive(Drop)]
+pub(crate) struct Committing {
+    /// Groups that wait to be committed.
+    pub(crate) waiting: LocalPipe<Group>,
+    pub(crate) stage: Stage,
+    /// The local mark.
+    pub(crate) local: u64,
+}
+
+impl Committing {
+    pub(crate) fn new(alloc: Global) -> Result<Committing, AllocError>
+        ensures stands { IfOk result (λ committing. CommittingStands [] committing start.committer) }
+        ensures none { IfOk result (λ committing. committing.waiting.items ≡ []) }
+    {
+        Ok(Committing {
+            waiting: LocalPipe::new(alloc)?,
+            stage: Stage::Ready,
+            local: 0,
+        })
+    }
+
+    /// Takes the sequencer's oldest changes as a group, if there are any and room for it. Answers whether it did.
+    pub(crate) fn close_group<K: Keyspace>(
+        &mut self,
+        alloc: Global,
+        sequencer: &mut Sequencer<K>,
+    ) -> Result<bool, Refusal>
+        ensures goes { IfOk result (λ did. (w : World) → CommittingStands w.calls self.old w.committer → SequencerStands w.calls w.committer.closed sequencer.old
+            → Goes (is_enabled w CloseGroup) did
+            (CommittingStands w.calls self.new (closed_group w.committer) × SequencerStands w.calls (closed_group w.committer).closed sequencer.new)
+            (CommittingStands w.calls self.new w.committer × SequencerStands w.calls w.committer.closed sequencer.new)) }
+        ensures leads { (contents : Contents) → Leads contents self.old.waiting.items sequencer.old → Leads contents self.new.waiting.items sequencer.new }
+    {
+        if !self.can_close(sequencer) {
+            return Ok(false);
+        }
+        sequencer.close_group(alloc, &mut self.waiting)?;
+        Ok(true)
+    }
+
+    /// Whether changes wait to be closed, and there is room for their group.
+    fn can_close<K: Keyspace>(&self, sequencer: &Sequencer<K>) -> bool
+        ensures { IsTrue result ↔ (((sequencer.now).waiting ≢ []) × (length self.now.waiting.items < PIPE_ITEMS)) }
+    {
+        sequencer.has_open() && self.waiting.len() < PIPE_ITEMS
+    }
+
+    /// Commits the first group that waits, if there is one and the link has room for it. Answers whether it did.
+    ///
+    /// `Fault` where a fence failed, `Exhausted` where a counter would reach 2^62.
+    pub(crate) fn commit<E: Durable>(
+        &mut self,
+        engine: &mut E,
+        link: &LocalPipe<Group>,
+    ) -> Result<bool, Refusal>
+        requires { AreGroups (E.contents engine.old) self.old.waiting.items }
+        ensures goes { IfOk result (λ did. (lines : ℕ) (w : World) → CommittingStands w.calls self.old w.committer
+            → EngineStands lines w.calls w.committer.position (E.device engine.old) (E.contents engine.old) (E.is_faulted engine.old)
+            → AreGroupsOf w.calls link.now.items w.link.waiting
+            → Goes (is_enabled w Commit) did
+            (CommittingStands w.calls self.new (committed_first w.committer.waiting w.committer)
+            × EngineStands lines w.calls (committed_first w.committer.waiting w.committer).position (E.device engine.new) (E.contents engine.new) (E.is_faulted engine.new))
+            (CommittingStands w.calls self.new w.committer
+            × EngineStands lines w.calls w.committer.position (E.device engine.new) (E.contents engine.new) (E.is_faulted engine.new))) }
+        ensures leads { IfOk result (λ _. LeadsOn (E.contents engine.old) self.old.waiting.items (E.contents engine.new) self.new.waiting.items) }
+        ensures near { OnErr result ((lines : ℕ) (w : World) → Sound w → CommittingStands w.calls self.old w.committer
+            → EngineStands lines w.calls w.committer.position (E.device engine.old) (E.contents engine.old) (E.is_faulted engine.old)
+            → StandsNear lines w.calls w.committer.position (E.device engine.new)) }
+    {
+        let Stage::Ready = &self.stage else {
+            return Ok(false);
+        };
+        if link.len() == PIPE_ITEMS {
+            return Ok(false);
+        }
+        let Some(group) = self.waiting.take() else {
+            return Ok(false);
+        };
+        engine.commit(&group)?;
+        self.stage = Stage::Durable(group);
+        Ok(true)
+    }
+
+    /// Shows the last commit: raises the local mark to its position. Answers whether there was one to show.
+    pub(crate) fn raise_local<E: Durable>(&mut self, engine: &E) -> bool
+        ensures goes { (w : World) → CommittingStands w.calls self.old w.committer → (E.contents engine.now).current.position ≡ w.committer.position
+            → Goes (is_enabled w RaiseLocal) result
+            (CommittingStands w.calls self.new (raised_local w.committer))
+            (CommittingStands w.calls self.new w.committer) }
+        ensures waiting { self.new.waiting ≡ self.old.waiting }
+    {
+        match std::mem::replace(&mut self.stage, Stage::Ready) {
+            Stage::Durable(group) => {
+                self.stage = Stage::Shown(group);
+                self.local = engine.position();
+                true
+            }
+            stage => {
+                self.stage = stage;
+                false
+            }
+        }
+    }
+
+    /// Hands the group on to the link. Answers whether there was one.
+    pub(crate) fn hand(&mut self, link: &mut LocalPipe<Group>) -> bool
+        ensures goes { (w : World) → Sound w → CommittingStands w.calls self.old w.committer → AreGroupsOf w.calls link.old.items w.link.waiting
+            → Goes (is_enabled w Hand) result
+            (CommittingStands w.calls self.new (ready_again w.committer) × AreGroupsOf w.calls link.new.items (w.link.waiting ++ handed w.committer.stage))
+            (CommittingStands w.calls self.new w.committer × AreGroupsOf w.calls link.new.items w.link.waiting) }
+        ensures waiting { self.new.waiting ≡ self.old.waiting }
+    {
+        match std::mem::replace(&mut self.stage, Stage::Ready) {
+            Stage::Shown(group) => {
+                let _ = link.offer(group);
+                true
+            }
+            stage => {
+                self.stage = stage;
+                false
+            }
+        }
+    }
+}

@@ -1,0 +1,12 @@
+//! A connection of a client.
+use crate::inbound::Inbound;
+use crate::outbound::Outbound;
+use pipes::Seat;
+
+/// A connection's seat, and what lies before and behind the sequencer.
+#[derive(Drop)]
+pub(crate) struct Connection {
+    pub(crate) seat: Seat,
+    pub(crate) inbound: Inbound,
+    pub(crate) outbound: Outbound,
+}

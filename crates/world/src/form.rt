@@ -1,0 +1,120 @@
+//! A pair of new nodes.
+ghost use Rattle.std.specs.Prelude.{◌≡◌, ℕ, ◌<◌, ◌≤◌, ◌↔◌, [], IsTrue, IfOk};
+ghost use Rattle.model.specs.Groups.{Contents};
+ghost use Rattle.machine.specs.Events.{start};
+ghost use Rattle.wbl_engine.specs.Contents.{IsNew};
+ghost use Rattle.redis_core.specs.Sequencing.{StandsFor};
+ghost use Rattle.world.specs.Committings.{CommittingStands};
+ghost use Rattle.world.specs.Links.{LinkStands};
+ghost use Rattle.world.specs.Standbys.{ArrivalsStand};
+ghost use Rattle.world.specs.Pairs.{PairStands};
+ghost use Rattle.world.specs.Sessions.{SessionsStand, SequencerStands};
+ghost use Rattle.extent_heap.specs.Room.{is_free_line, is_free_entry};
+ghost use Rattle.model.specs.Images.{entries_of_lines, first_extent_line};
+ghost use Rattle.wbl_engine.specs.Contents.{IsDurable};
+
+use crate::arrivals::Arrivals;
+use crate::committing::Committing;
+use crate::link::Link;
+use crate::pair::{Pair, Stepper};
+use crate::sessions::Sessions;
+use extent_heap::ExtentHeap;
+use kv_types::Refusal;
+use mv_keyspace::Keyspace;
+use pmem::Pmem;
+use redis_core::Sequencer;
+use standby::Standby;
+use std::alloc::Global;
+use wbl_engine::{Durable, Role, WblEngine};
+
+/// The epoch of new images.
+const FIRST_EPOCH: u64 = 1;
+
+/// What stands between two nodes and their clients, before there is any.
+#[derive(Drop)]
+struct Between<K: Keyspace> {
+    sessions: Sessions,
+    sequencer: Sequencer<K>,
+    committing: Committing,
+    link: Link,
+    arrivals: Arrivals,
+}
+
+/// All that takes memory, for a primary of so many lines with this empty keyspace.
+fn make_between<K: Keyspace + Drop>(
+    alloc: Global,
+    keyspace: K,
+    lines: u64,
+) -> Result<Between<K>, Refusal>
+    requires { K.table keyspace ≡ [] }
+    ensures sessions { IfOk result (λ between. SessionsStand between.sessions [] []) }
+    ensures sequencer { IfOk result (λ between. SequencerStands [] 0 between.sequencer) }
+    ensures underlies { IfOk result (λ between. (contents : Contents) → IsNew lines contents.current.role contents → StandsFor between.sequencer contents) }
+    ensures committing { IfOk result (λ between. CommittingStands [] between.committing start.committer) }
+    ensures none { IfOk result (λ between. between.committing.waiting.items ≡ []) }
+    ensures link { IfOk result (λ between. LinkStands [] between.link start.link) }
+    ensures epoch { IfOk result (λ between. between.link.epoch ≡ FIRST_EPOCH) }
+    ensures no_frame { IfOk result (λ between. between.link.frames.items ≡ []) }
+    ensures arrivals { IfOk result (λ between. (epoch : ℕ) → ArrivalsStand epoch [] [] between.arrivals start.standby) }
+{
+    Ok(Between {
+        sessions: Sessions::new(alloc)?,
+        sequencer: Sequencer::new(alloc, keyspace, heap_of(lines), 0)?,
+        committing: Committing::new(alloc)?,
+        link: Link::new(alloc, FIRST_EPOCH)?,
+        arrivals: Arrivals::new(alloc),
+    })
+}
+
+/// All entries and extents of a new image of so many lines are free.
+fn heap_of(lines: u64) -> ExtentHeap
+    ensures lines { (line : ℕ) → IsTrue (is_free_line result line) ↔ ((first_extent_line lines ≤ line) × (line < lines)) }
+    ensures entries { (i : ℕ) → IsTrue (is_free_entry result i) ↔ (i < entries_of_lines lines) }
+{
+    let entries = lines / 8;
+    ExtentHeap::new(8 + entries, lines, entries)
+}
+
+/// Formats the first device as primary and the second as standby. The keyspaces are empty.
+///
+/// `WrongSize` where a device has fewer than 4,096 lines or more than 2^31, `Memory` where a growth was refused, `Fault` where a fence failed. A
+/// refusal hands the devices back.
+pub(crate) fn form<P: Pmem, K: Keyspace + Drop>(
+    alloc: Global,
+    primary: P,
+    standby: P,
+    keyspaces: (K, K),
+) -> Result<Pair<WblEngine<P>, K>, (Refusal, P, P)>
+    requires serving { K.table keyspaces.0 ≡ [] }
+    requires following { K.table keyspaces.1 ≡ [] }
+    ensures { IfOk result (λ pair. PairStands (P.state primary).lines (P.state standby).lines (⟦<Pair<WblEngine<P>, K> as Stepper>⟧.parts pair) start) }
+{
+    let heap = heap_of(standby.lines());
+    let (serving, following) = keyspaces;
+    let between = match make_between(alloc, serving, primary.lines()) {
+        Ok(between) => between,
+        Err(refusal) => return Err((refusal, primary, standby)),
+    };
+    let engine = match WblEngine::format(primary, Role::Primary) {
+        Ok(engine) => engine,
+        Err((refusal, primary)) => return Err((refusal, primary, standby)),
+    };
+    match WblEngine::format(standby, Role::Standby) {
+        Ok(follower) => Ok(Pair {
+            alloc,
+            sessions: between.sessions,
+            sequencer: between.sequencer,
+            committing: between.committing,
+            engine,
+            link: between.link,
+            arrivals: between.arrivals,
+            standby: Standby {
+                engine: follower,
+                keyspace: following,
+                heap,
+                epoch: FIRST_EPOCH,
+            },
+        }),
+        Err((refusal, standby)) => Err((refusal, engine.into_device(), standby)),
+    }
+}

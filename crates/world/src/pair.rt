@@ -1,0 +1,217 @@
+//! A pair of nodes with their connections, one event at a time.
+ghost use Rattle.std.specs.Prelude.{◌≡◌};
+ghost use Rattle.machine.specs.declared.event.Event.TheVariants as events;
+ghost use Rattle.world.specs.Pairs.{Does, HasWorld};
+ghost use Rattle.world.specs.Pairs as specs;
+
+use crate::arrivals::Arrivals;
+use crate::committing::Committing;
+use crate::link::Link;
+use crate::sessions::Sessions;
+use bytes::Bytes;
+use kv_types::Refusal;
+use machine::{Event, Mark};
+use mv_keyspace::Keyspace;
+use redis_core::Sequencer;
+use reply_gate::Seen;
+use standby::Standby;
+use std::alloc::Global;
+use wbl_engine::Durable;
+
+/// What events happen to, one at a time.
+pub(crate) trait Stepper {
+    /// What it is made of.
+    ghost parts: { Self → specs.Pair };
+
+    /// Lets an event do its step, if it is enabled, and answers whether it was.
+    ///
+    /// `Memory` where a growth was refused, `Fault` where a fence failed, `Exhausted` where a counter would reach 2^62: the event is the last.
+    fn step(&mut self, event: &Event) -> Result<bool, Refusal>
+        requires { HasWorld (parts self.old) }
+        ensures { Does (parts self.old) event.now result (parts self.new) };
+}
+
+/// Both nodes, and what stands between them and the clients.
+pub(crate) struct Pair<E: Durable, K: Keyspace> {
+    pub(crate) alloc: Global,
+    pub(crate) sessions: Sessions,
+    pub(crate) sequencer: Sequencer<K>,
+    pub(crate) committing: Committing,
+    /// The primary's engine.
+    pub(crate) engine: E,
+    pub(crate) link: Link,
+    pub(crate) arrivals: Arrivals,
+    pub(crate) standby: Standby<E, K>,
+}
+
+impl<E: Durable, K: Keyspace> Stepper for Pair<E, K> {
+    ghost parts = { λ p. record {
+      sessions = p.sessions;
+      sequencer = p.sequencer;
+      committing = p.committing;
+      device = E.device p.engine;
+      contents = E.contents p.engine;
+      is_faulted = E.is_faulted p.engine;
+      link = p.link;
+      arrivals = p.arrivals;
+      standby = record {
+        device = E.device p.standby.engine;
+        contents = E.contents p.standby.engine;
+        is_faulted = E.is_faulted p.standby.engine;
+        table = K.table p.standby.keyspace;
+        room = p.standby.heap;
+        epoch = p.standby.epoch;
+      };
+    } };
+
+    fn step(&mut self, event: &Event) -> Result<bool, Refusal> {
+        match event {
+            Event::Enter => self.enter(),
+            Event::Feed(c, piece) => self.feed(*c, piece),
+            Event::Offer(c) => self.offer(*c),
+            Event::Turn(c) => self.turn(*c),
+            Event::CloseGroup => self.close_group(),
+            Event::Commit => self.commit(),
+            Event::RaiseLocal => self.raise_local(),
+            Event::Hand => self.hand(),
+            Event::OpenLink => self.open_link(),
+            Event::Send => self.send(),
+            Event::Deliver(frame) => self.deliver(*frame),
+            Event::Apply => self.apply(),
+            Event::AckDelivered(ack) => self.ack_delivered(*ack),
+            Event::RaiseRemote => self.raise_remote(),
+            Event::Hold(c) => self.hold(*c),
+            Event::Read(c, mark) => self.read(*c, *mark),
+            Event::Release(c) => self.release(*c),
+            Event::Write(c, n) => self.write(*c, *n),
+        }
+    }
+}
+
+impl<E: Durable, K: Keyspace> Pair<E, K> {
+    fn enter(&mut self) -> Result<bool, Refusal>
+        ensures { Does (⟦<Pair<E, K> as Stepper>⟧.parts self.old) events.Enter result (⟦<Pair<E, K> as Stepper>⟧.parts self.new) }
+    {
+        self.sessions.enter(self.alloc)
+    }
+
+    fn feed(&mut self, c: u64, piece: &Bytes) -> Result<bool, Refusal>
+        ensures { Does (⟦<Pair<E, K> as Stepper>⟧.parts self.old) (events.Feed c piece.now) result (⟦<Pair<E, K> as Stepper>⟧.parts self.new) }
+    {
+        self.sessions.feed(c, piece)
+    }
+
+    fn offer(&mut self, c: u64) -> Result<bool, Refusal>
+        ensures { Does (⟦<Pair<E, K> as Stepper>⟧.parts self.old) (events.Offer c) result (⟦<Pair<E, K> as Stepper>⟧.parts self.new) }
+    {
+        self.sessions.offer(c)
+    }
+
+    fn turn(&mut self, c: u64) -> Result<bool, Refusal>
+        ensures { Does (⟦<Pair<E, K> as Stepper>⟧.parts self.old) (events.Turn c) result (⟦<Pair<E, K> as Stepper>⟧.parts self.new) }
+    {
+        self.sessions.turn(self.alloc, c, &mut self.sequencer)
+    }
+
+    fn close_group(&mut self) -> Result<bool, Refusal>
+        ensures { Does (⟦<Pair<E, K> as Stepper>⟧.parts self.old) events.CloseGroup result (⟦<Pair<E, K> as Stepper>⟧.parts self.new) }
+    {
+        self.committing.close_group(self.alloc, &mut self.sequencer)
+    }
+
+    fn commit(&mut self) -> Result<bool, Refusal>
+        requires { HasWorld (⟦<Pair<E, K> as Stepper>⟧.parts self.old) }
+        ensures { Does (⟦<Pair<E, K> as Stepper>⟧.parts self.old) events.Commit result (⟦<Pair<E, K> as Stepper>⟧.parts self.new) }
+    {
+        self.committing.commit(&mut self.engine, &self.link.waiting)
+    }
+
+    fn raise_local(&mut self) -> Result<bool, Refusal>
+        ensures { Does (⟦<Pair<E, K> as Stepper>⟧.parts self.old) events.RaiseLocal result (⟦<Pair<E, K> as Stepper>⟧.parts self.new) }
+    {
+        Ok(self.committing.raise_local(&self.engine))
+    }
+
+    fn hand(&mut self) -> Result<bool, Refusal>
+        ensures { Does (⟦<Pair<E, K> as Stepper>⟧.parts self.old) events.Hand result (⟦<Pair<E, K> as Stepper>⟧.parts self.new) }
+    {
+        Ok(self.committing.hand(&mut self.link.waiting))
+    }
+
+    fn open_link(&mut self) -> Result<bool, Refusal>
+        ensures { Does (⟦<Pair<E, K> as Stepper>⟧.parts self.old) events.OpenLink result (⟦<Pair<E, K> as Stepper>⟧.parts self.new) }
+    {
+        self.arrivals.acknowledge(self.standby.ack())?;
+        self.link.reopen();
+        Ok(true)
+    }
+
+    fn send(&mut self) -> Result<bool, Refusal>
+        ensures { Does (⟦<Pair<E, K> as Stepper>⟧.parts self.old) events.Send result (⟦<Pair<E, K> as Stepper>⟧.parts self.new) }
+    {
+        self.link.send(self.alloc)
+    }
+
+    fn deliver(&mut self, frame: u64) -> Result<bool, Refusal>
+        ensures { Does (⟦<Pair<E, K> as Stepper>⟧.parts self.old) (events.Deliver frame) result (⟦<Pair<E, K> as Stepper>⟧.parts self.new) }
+    {
+        self.arrivals.deliver(self.link.sent.as_slice(), frame)
+    }
+
+    fn apply(&mut self) -> Result<bool, Refusal>
+        requires { HasWorld (⟦<Pair<E, K> as Stepper>⟧.parts self.old) }
+        ensures { Does (⟦<Pair<E, K> as Stepper>⟧.parts self.old) events.Apply result (⟦<Pair<E, K> as Stepper>⟧.parts self.new) }
+    {
+        self.arrivals.apply(
+            self.alloc,
+            &mut self.standby,
+            self.link.frames.as_slice(),
+        )
+    }
+
+    fn ack_delivered(&mut self, ack: u64) -> Result<bool, Refusal>
+        ensures { Does (⟦<Pair<E, K> as Stepper>⟧.parts self.old) (events.AckDelivered ack) result (⟦<Pair<E, K> as Stepper>⟧.parts self.new) }
+    {
+        match self.arrivals.acknowledgements.get(ack as usize) {
+            Some(ack) => {
+                self.link.on_ack(*ack);
+                Ok(true)
+            }
+            None => Ok(false),
+        }
+    }
+
+    fn raise_remote(&mut self) -> Result<bool, Refusal>
+        ensures { Does (⟦<Pair<E, K> as Stepper>⟧.parts self.old) events.RaiseRemote result (⟦<Pair<E, K> as Stepper>⟧.parts self.new) }
+    {
+        Ok(self.link.raise_remote())
+    }
+
+    fn hold(&mut self, c: u64) -> Result<bool, Refusal>
+        ensures { Does (⟦<Pair<E, K> as Stepper>⟧.parts self.old) (events.Hold c) result (⟦<Pair<E, K> as Stepper>⟧.parts self.new) }
+    {
+        self.sessions.hold(c)
+    }
+
+    fn read(&mut self, c: u64, mark: Mark) -> Result<bool, Refusal>
+        ensures { Does (⟦<Pair<E, K> as Stepper>⟧.parts self.old) (events.Read c mark) result (⟦<Pair<E, K> as Stepper>⟧.parts self.new) }
+    {
+        let marks = Seen {
+            local: self.committing.local,
+            remote: self.link.remote,
+        };
+        Ok(self.sessions.read(c, mark, marks))
+    }
+
+    fn release(&mut self, c: u64) -> Result<bool, Refusal>
+        ensures { Does (⟦<Pair<E, K> as Stepper>⟧.parts self.old) (events.Release c) result (⟦<Pair<E, K> as Stepper>⟧.parts self.new) }
+    {
+        Ok(self.sessions.release(c))
+    }
+
+    fn write(&mut self, c: u64, n: u64) -> Result<bool, Refusal>
+        ensures { Does (⟦<Pair<E, K> as Stepper>⟧.parts self.old) (events.Write c n) result (⟦<Pair<E, K> as Stepper>⟧.parts self.new) }
+    {
+        self.sessions.write(c, n)
+    }
+}

@@ -1,0 +1,184 @@
+//! A run of any list of events over two devices.
+ghost use Rattle.std.specs.Prelude.{◌≡◌, ℕ, ◌≤◌, ◌∷◌, [], List, map, length, vec_len, vec_capacity, Some, IfOk};
+ghost use Rattle.world.specs.declared.trace.Ended.TheVariants.{AtFormatting};
+ghost use Rattle.machine.specs.Events.{start};
+ghost use Rattle.world.specs.Headline.{KeepsItsWord, Plays};
+ghost use Rattle.world.specs.Pairs.{PairStands};
+ghost use Rattle.world.specs.Sessions.{released_of};
+
+use crate::connection::Connection;
+use crate::form::form;
+use crate::pair::{Pair, Stepper};
+use crate::sessions::Sessions;
+use crate::trace::{Ended, Trace};
+use kv_types::Refusal;
+use machine::{Event, SEATS};
+use model::Call;
+use mv_keyspace::{Keyspace, ListKeyspace};
+use pmem::{Crashing, Pmem};
+use std::alloc::{AllocError, Global};
+use wbl_engine::{Durable, WblEngine};
+
+/// Formats the first device as primary and the second as standby, and lets the events happen to them and to their connections, one after another: one
+/// that is enabled does its step, another changes nothing. Where memory is refused for an event, or a fence fails in it, the run ends there. All
+/// devices come back in their order.
+///
+/// This is the promise of the whole server, for any devices and any list of events: one sequential Redis answers the list of calls, which takes each
+/// connection's requests in order; the bytes released to each connection begin its replies; each released call was covered, and is in what both
+/// images hold; and a crash leaves either image at a position of the list.
+pub fn run<P: Crashing>(alloc: Global, devices: Vec<P>, events: &[Event]) -> Trace<P>
+    requires { 2 ≤ vec_len devices }
+    ensures { (primary standby : P) (others : List P) → devices.items ≡ primary ∷ standby ∷ others
+        → (primary' : P) × (standby' : P) × (result.devices.items ≡ primary' ∷ standby' ∷ others)
+        × KeepsItsWord (P.state primary).lines (P.state standby).lines events.now result.ended result.done.items result.calls.items
+        (map (λ bytes. bytes.items) result.released.items) (P.state primary') (P.state standby') }
+{
+    let mut devices = devices;
+    let primary = devices.remove(0);
+    let standby = devices.remove(0);
+    let Played {
+        calls,
+        released,
+        done,
+        ended,
+        primary,
+        standby,
+    } = play_over(alloc, primary, standby, events);
+    devices.push_reserved(primary);
+    devices.push_reserved(standby);
+    devices.rotate_right(2);
+    Trace {
+        calls,
+        released,
+        done,
+        ended,
+        devices,
+    }
+}
+
+/// What was played, and the two devices.
+struct Played<P> {
+    calls: Vec<Call>,
+    released: Vec<Vec<u8>>,
+    done: Vec<bool>,
+    ended: Option<Ended>,
+    primary: P,
+    standby: P,
+}
+
+/// Plays the events over a primary and a standby.
+fn play_over<P: Pmem>(alloc: Global, primary: P, standby: P, events: &[Event]) -> Played<P>
+    ensures { KeepsItsWord (P.state primary).lines (P.state standby).lines events.now result.ended result.done.items result.calls.items
+        (map (λ bytes. bytes.items) result.released.items) (P.state result.primary) (P.state result.standby) }
+{
+    let (done, released) = match room_for(alloc, events.len()) {
+        Ok(room) => room,
+        Err(_) => return nothing(alloc, Refusal::Memory, primary, standby),
+    };
+    let keyspaces = (ListKeyspace::new(alloc), ListKeyspace::new(alloc));
+    match form(alloc, primary, standby, keyspaces) {
+        Ok(pair) => play_on(pair, events, done, released),
+        Err((refusal, primary, standby)) => nothing(alloc, refusal, primary, standby),
+    }
+}
+
+/// Nothing was played.
+fn nothing<P>(alloc: Global, refusal: Refusal, primary: P, standby: P) -> Played<P>
+    ensures ended { result.ended ≡ Some (AtFormatting refusal) }
+    ensures devices { (result.primary ≡ primary) × (result.standby ≡ standby) }
+    ensures none { (result.done.items ≡ []) × (result.calls.items ≡ []) × (result.released.items ≡ []) }
+{
+    Played {
+        calls: Vec::new(alloc),
+        released: Vec::new(alloc),
+        done: Vec::new(alloc),
+        ended: Some(Ended::AtFormatting(refusal)),
+        primary,
+        standby,
+    }
+}
+
+/// Room for what a run over so many events tells, so that none is asked for at its end.
+fn room_for(alloc: Global, events: usize) -> Result<(Vec<bool>, Vec<Vec<u8>>), AllocError>
+    ensures done { IfOk result (λ room. (room.0.items ≡ []) × (events ≤ vec_capacity room.0)) }
+    ensures released { IfOk result (λ room. (room.1.items ≡ []) × (SEATS ≤ vec_capacity room.1)) }
+{
+    let done = Vec::with_capacity(alloc, events)?;
+    let released = Vec::with_capacity(alloc, SEATS as usize)?;
+    Ok((done, released))
+}
+
+/// Plays the events over a pair.
+fn play_on<P: Pmem, K: Keyspace + Drop>(
+    pair: Pair<WblEngine<P>, K>,
+    events: &[Event],
+    done: Vec<bool>,
+    released: Vec<Vec<u8>>,
+) -> Played<P>
+    requires none_done { done.items ≡ [] }
+    requires room { length events.now ≤ vec_capacity done }
+    requires none_released { released.items ≡ [] }
+    requires room_released { SEATS ≤ vec_capacity released }
+    requires stands { (first : ℕ) × (second : ℕ) × PairStands first second (⟦<Pair<WblEngine<P>, K> as Stepper>⟧.parts pair) start }
+    ensures { (first second : ℕ) → PairStands first second (⟦<Pair<WblEngine<P>, K> as Stepper>⟧.parts pair) start
+        → KeepsItsWord first second events.now result.ended result.done.items result.calls.items
+        (map (λ bytes. bytes.items) result.released.items) (P.state result.primary) (P.state result.standby) }
+{
+    let mut pair = pair;
+    let mut done = done;
+    let mut released = released;
+    let ended = play(&mut pair, events, &mut done);
+    let Pair {
+        alloc: _,
+        sessions,
+        sequencer: _sequencer,
+        committing: _committing,
+        engine,
+        link: _link,
+        arrivals: _arrivals,
+        standby,
+    } = pair;
+    let Sessions {
+        lobby: _lobby,
+        connections,
+        calls,
+        replies: _replies,
+    } = sessions;
+    take_released(connections, &mut released);
+    Played {
+        calls,
+        released,
+        done,
+        ended,
+        primary: engine.into_device(),
+        standby: standby.into_device(),
+    }
+}
+
+/// Lets the events happen, one after another, and notes which did their step.
+fn play<S: Stepper>(stepper: &mut S, events: &[Event], done: &mut Vec<bool>) -> Option<Ended>
+    requires none { done.old.items ≡ [] }
+    requires room { length events.now ≤ vec_capacity done.old }
+    requires stands { (first : ℕ) × (second : ℕ) × PairStands first second (S.parts stepper.old) start }
+    ensures { (first second : ℕ) → PairStands first second (S.parts stepper.old) start
+        → Plays first second events.now result done.new.items (S.parts stepper.new) }
+{
+    for event in events {
+        match stepper.step(event) {
+            Ok(did) => done.push_reserved(did),
+            Err(refusal) => return Some(Ended::AtEvent(done.len(), refusal)),
+        }
+    }
+    None
+}
+
+/// Takes the released bytes out of the connections, in their order.
+fn take_released(connections: Vec<Connection>, released: &mut Vec<Vec<u8>>)
+    requires none { released.old.items ≡ [] }
+    requires room { length connections.items ≤ vec_capacity released.old }
+    ensures { map (λ bytes. bytes.items) released.new.items ≡ released_of connections.items }
+{
+    for connection in connections {
+        released.push_reserved(connection.outbound.into_released());
+    }
+}

@@ -1,0 +1,249 @@
+//! The connections, and the one list of calls that the sequencer makes of their items.
+ghost use Rattle.std.specs.Prelude.{◌≡◌, ◌≢◌, ◌<◌, ◌∷◌, ◌++◌, [], false, List, length, IfOk, IfNone, IfSome, IsSome, OnErr, vec_len, vec_capacity};
+ghost use Rattle.kv_types.specs.declared.item.Item.{Item};
+ghost use Rattle.model.specs.Groups.{Contents};
+ghost use Rattle.model.specs.declared.group.TheConstants.{MAX_PARTS};
+ghost use Rattle.machine.specs.declared.event.Event.TheVariants.{Enter, Feed, Offer, Hold, Read, Release, Write};
+ghost use Rattle.machine.specs.Events.{World, is_enabled, no_connection, changed_at, with_inbound, with_outbound, fed_with, offered_next, held_first, having_read, let_out, written};
+ghost use Rattle.machine.specs.Sound.{Sound};
+ghost use Rattle.redis_core.specs.Sequencing.{StandsFor, is_closed};
+ghost use Rattle.redis_core.specs.Turns.{call_of};
+ghost use Rattle.world.specs.Going.{Goes};
+ghost use Rattle.world.specs.Running.{Runs};
+ghost use Rattle.world.specs.Sessions.{SessionsStand, SequencerStands, TakesTurn, TellsTheSame};
+
+use crate::connection::Connection;
+use crate::inbound::Inbound;
+use crate::outbound::{Made, Outbound};
+use bytes::Bytes;
+use kv_types::{Held, Item, Refusal};
+use lobby::Lobby;
+use machine::Mark;
+use model::Call;
+use mv_keyspace::Keyspace;
+use pipes::{Inlet, LocalPipe, Outlet, PIPE_ITEMS, Seat};
+use redis_core::{Sequencer, Turn};
+use reply_gate::Seen;
+use std::alloc::Global;
+use std::collections::VecDeque;
+
+/// All connections in the order in which they entered, and the list of calls.
+#[derive(Drop)]
+pub(crate) struct Sessions {
+    pub(crate) lobby: Lobby,
+    pub(crate) connections: Vec<Connection>,
+    pub(crate) calls: Vec<Call>,
+    /// Where a turn leaves its reply. It is empty between two events.
+    pub(crate) replies: LocalPipe<Held>,
+}
+
+impl Sessions {
+    /// No connection, and no call.
+    pub(crate) fn new(alloc: Global) -> Result<Sessions, Refusal>
+        ensures { IfOk result (λ sessions. SessionsStand sessions [] []) }
+    {
+        Ok(Sessions {
+            lobby: Lobby::new(alloc)?,
+            connections: Vec::new(alloc),
+            calls: Vec::new(alloc),
+            replies: LocalPipe::new(alloc)?,
+        })
+    }
+
+    /// Gives a new connection a seat, if one is free. Answers whether it did.
+    pub(crate) fn enter(&mut self, alloc: Global) -> Result<bool, Refusal>
+        ensures goes { IfOk result (λ did. (w : World) → SessionsStand self.old w.connections w.calls
+            → Goes (is_enabled w Enter) did (SessionsStand self.new (w.connections ++ no_connection ∷ []) w.calls) (SessionsStand self.new w.connections w.calls)) }
+        ensures told { OnErr result (TellsTheSame self.old self.new) }
+    {
+        self.connections.reserve(1)?;
+        let inbound = Inbound::new(alloc)?;
+        let outbound = Outbound::new(alloc)?;
+        match self.lobby.enter() {
+            Ok(seat) => {
+                self.connections.push_reserved(Connection {
+                    seat,
+                    inbound,
+                    outbound,
+                });
+                Ok(true)
+            }
+            Err(_) => Ok(false),
+        }
+    }
+
+    /// Takes a piece of a connection's bytes, unless an item closed it. Answers whether it did.
+    pub(crate) fn feed(&mut self, c: u64, piece: &Bytes) -> Result<bool, Refusal>
+        ensures goes { IfOk result (λ did. (w : World) → SessionsStand self.old w.connections w.calls
+            → Goes (is_enabled w (Feed c piece.now)) did
+            (SessionsStand self.new (changed_at c (with_inbound (fed_with piece.now)) w.connections) w.calls)
+            (SessionsStand self.new w.connections w.calls)) }
+        ensures told { OnErr result (TellsTheSame self.old self.new) }
+    {
+        let place = c as usize;
+        match self.connections.get_mut(place) {
+            Some(connection) => connection.inbound.feed(piece),
+            None => Ok(false),
+        }
+    }
+
+    /// Hands a connection's next item to the sequencer, if there is one and room for it. Answers whether it did.
+    pub(crate) fn offer(&mut self, c: u64) -> Result<bool, Refusal>
+        ensures goes { IfOk result (λ did. (w : World) → SessionsStand self.old w.connections w.calls
+            → Goes (is_enabled w (Offer c)) did
+            (SessionsStand self.new (changed_at c (with_inbound offered_next) w.connections) w.calls)
+            (SessionsStand self.new w.connections w.calls)) }
+        ensures told { OnErr result (TellsTheSame self.old self.new) }
+    {
+        match self.connections.get_mut(c as usize) {
+            Some(connection) => connection.inbound.offer(),
+            None => Ok(false),
+        }
+    }
+
+    /// A connection's gate takes the first reply that waits. Answers whether there was one.
+    pub(crate) fn hold(&mut self, c: u64) -> Result<bool, Refusal>
+        ensures goes { IfOk result (λ did. (w : World) → SessionsStand self.old w.connections w.calls
+            → Goes (is_enabled w (Hold c)) did
+            (SessionsStand self.new (changed_at c (with_outbound held_first) w.connections) w.calls)
+            (SessionsStand self.new w.connections w.calls)) }
+        ensures told { OnErr result (TellsTheSame self.old self.new) }
+    {
+        match self.connections.get_mut(c as usize) {
+            Some(connection) => connection.outbound.hold(self.calls.as_slice()),
+            None => Ok(false),
+        }
+    }
+
+    /// A connection's gate reads one of the marks, which stand so now. Answers whether there is such a connection.
+    pub(crate) fn read(&mut self, c: u64, mark: Mark, marks: Seen) -> bool
+        ensures { (w : World) → SessionsStand self.old w.connections w.calls → marks.local ≡ w.committer.local → marks.remote ≡ w.link.remote
+            → Goes (is_enabled w (Read c mark)) result
+            (SessionsStand self.new (changed_at c (with_outbound (having_read mark w)) w.connections) w.calls)
+            (SessionsStand self.new w.connections w.calls) }
+    {
+        match self.connections.get_mut(c as usize) {
+            Some(connection) => {
+                connection.outbound.read(mark, marks);
+                true
+            }
+            None => false,
+        }
+    }
+
+    /// A connection's gate lets out the replies that are covered. Answers whether there were any.
+    pub(crate) fn release(&mut self, c: u64) -> bool
+        ensures { (w : World) → SessionsStand self.old w.connections w.calls
+            → Goes (is_enabled w (Release c)) result
+            (SessionsStand self.new (changed_at c (with_outbound let_out) w.connections) w.calls)
+            (SessionsStand self.new w.connections w.calls) }
+    {
+        match self.connections.get_mut(c as usize) {
+            Some(connection) => connection.outbound.release(),
+            None => false,
+        }
+    }
+
+    /// Writes so many of the bytes that are out to a connection, if there are so many. Answers whether it did.
+    pub(crate) fn write(&mut self, c: u64, n: u64) -> Result<bool, Refusal>
+        ensures goes { IfOk result (λ did. (w : World) → SessionsStand self.old w.connections w.calls
+            → Goes (is_enabled w (Write c n)) did
+            (SessionsStand self.new (changed_at c (with_outbound (written n)) w.connections) w.calls)
+            (SessionsStand self.new w.connections w.calls)) }
+        ensures told { OnErr result (TellsTheSame self.old self.new) }
+    {
+        match self.connections.get_mut(c as usize) {
+            Some(connection) => connection.outbound.write(n),
+            None => Ok(false),
+        }
+    }
+
+    /// The sequencer runs a connection's first waiting item, if there is one and room for its reply and for what it changes. Answers whether
+    /// it did.
+    pub(crate) fn turn<K: Keyspace>(
+        &mut self,
+        alloc: Global,
+        c: u64,
+        sequencer: &mut Sequencer<K>,
+    ) -> Result<bool, Refusal>
+        ensures turns { IfOk result (λ did. (w : World) → Sound w → SessionsStand self.old w.connections w.calls
+            → SequencerStands w.calls w.committer.closed sequencer.old
+            → TakesTurn w c did self.new sequencer.old sequencer.new) }
+        ensures stands { (contents : Contents) → StandsFor sequencer.old contents → StandsFor sequencer.new contents }
+        ensures told { OnErr result (TellsTheSame self.old self.new) }
+    {
+        let Some(connection) = self.connections.get_mut(c as usize) else {
+            return Ok(false);
+        };
+        if connection.outbound.made.len() == PIPE_ITEMS || connection.inbound.waiting.is_empty() {
+            return Ok(false);
+        }
+        self.calls.reserve(1)?;
+        let waiting = &mut connection.inbound.waiting;
+        let Some(held) = first_reply(
+            alloc,
+            &connection.seat,
+            waiting,
+            &mut self.replies,
+            sequencer,
+        ) else {
+            return Ok(false);
+        };
+        let asked = &mut connection.inbound.asked;
+        write_call(
+            &mut self.calls,
+            c,
+            asked,
+            held,
+            &mut connection.outbound.made,
+        );
+        Ok(true)
+    }
+}
+
+/// What the sequencer answers to the first item that waits, if it runs it.
+fn first_reply<K: Keyspace>(
+    alloc: Global,
+    seat: &Seat,
+    waiting: &mut LocalPipe<Item>,
+    replies: &mut LocalPipe<Held>,
+    sequencer: &mut Sequencer<K>,
+) -> Option<Held>
+    ensures runs { replies.old.items ≡ [] → IfSome result (λ held. Runs sequencer.old seat.now waiting.old.items held waiting.new.items sequencer.new) }
+    ensures stays { replies.old.items ≡ [] → IfNone result ((waiting.new.items ≡ waiting.old.items) × (sequencer.new ≡ sequencer.old)) }
+    ensures otherwise { replies.old.items ≡ [] → is_closed sequencer.old seat.now ≡ false → length (sequencer.old).waiting < MAX_PARTS → waiting.old.items ≢ [] → IsSome result }
+    ensures replies { replies.old.items ≡ [] → replies.new.items ≡ [] }
+    ensures stands { (contents : Contents) → StandsFor sequencer.old contents → StandsFor sequencer.new contents }
+{
+    match sequencer.turn(alloc, seat, waiting, replies) {
+        Turn::Served => replies.take(),
+        _ => None,
+    }
+}
+
+/// Writes the call of the item that was run, which is the first of those asked for, and leaves its reply for the gate.
+fn write_call(
+    calls: &mut Vec<Call>,
+    c: u64,
+    asked: &mut VecDeque<Item>,
+    held: Held,
+    made: &mut LocalPipe<Made>,
+)
+    requires { vec_len calls.old < vec_capacity calls.old }
+    ensures { (item : Item) (rest : List Item) → asked.old.items ≡ item ∷ rest → length made.old.items < PIPE_ITEMS
+        → (calls.new.items ≡ calls.old.items ++ call_of c item held.reply ∷ []) × (asked.new.items ≡ rest)
+        × (made.new.items ≡ made.old.items ++ record { call = length calls.old.items; position = held.position } ∷ []) }
+{
+    let Some(item) = asked.pop_front() else {
+        return;
+    };
+    let _ = made.offer(Made {
+        call: calls.len(),
+        position: held.position,
+    });
+    calls.push_reserved(Call {
+        connection: c,
+        item,
+        reply: held.reply,
+    });
+}
