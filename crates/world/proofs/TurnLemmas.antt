@@ -28,53 +28,16 @@ use Rattle.world.specs.Inbounds.{HasParsed, InboundStands}
 use Rattle.world.specs.Outbounds.{IsMade, AreMade, GateStands, OutboundStands}
 use Rattle.world.specs.Running.{Runs}
 use Rattle.world.specs.Sessions.{ConnectionStands, ConnectionsStand, SeatsStand, SessionsStand, SequencerStands, TakesTurn}
+use Rattle.world.proofs.SessionLemmas.{AreMade-grows, ConnectionsStand-grows, length-connections}
 use Rattle.world.proofs.SequencerLemmas.{open-before, sequencer-answered}
 
 -- ---- the list of calls grows
-
-slice_get-grows : (calls more : List Call) (place : ℕ) (call : Call) → slice_get calls place ≡ Some call → slice_get (calls ++ more) place ≡ Some call
-slice_get-grows [] more place call stands = cc
-slice_get-grows (first ∷ calls) more zero call stands = stands
-slice_get-grows (first ∷ calls) more (suc place) call stands = slice_get-grows calls more place call stands
 
 slice_get-last : (calls : List Call) (call : Call) → slice_get (calls ++ call ∷ []) (length calls) ≡ Some call
 slice_get-last [] call = refl
 slice_get-last (first ∷ calls) call = slice_get-last calls call
 
-AreMade-grows : (calls more : List Call) (mades : List Made) (helds : List Held) → AreMade calls mades helds → AreMade (calls ++ more) mades helds
-AreMade-grows calls more [] [] are = tt
-AreMade-grows calls more [] (held ∷ helds) are = absurd are
-AreMade-grows calls more (made ∷ mades) [] are = absurd are
-AreMade-grows calls more (made ∷ mades) (held ∷ helds) are =
-    (record { call = are.0.call; stands = slice_get-grows calls more made.call are.0.call are.0.stands; reply = are.0.reply; position = are.0.position }, AreMade-grows calls more mades helds are.1)
-
-ConnectionStands-grows : (calls more : List Call) (c : ℕ) (code : Connection) (machine : MachineConnection) → ConnectionStands calls c code machine → ConnectionStands (calls ++ more) c code machine
-ConnectionStands-grows calls more c code machine stands = record {
-  seat = stands.seat;
-  inbound = stands.inbound;
-  outbound = record {
-    made = AreMade-grows calls more code.outbound.made.items machine.outbound.made stands.outbound.made;
-    gate = stands.outbound.gate;
-    released = stands.outbound.released;
-    local = stands.outbound.local;
-    remote = stands.outbound.remote;
-  };
-}
-
-ConnectionsStand-grows : (calls more : List Call) (n : ℕ) (codes : List Connection) (machines : List MachineConnection) → ConnectionsStand calls n codes machines → ConnectionsStand (calls ++ more) n codes machines
-ConnectionsStand-grows calls more n [] [] stand = tt
-ConnectionsStand-grows calls more n [] (machine ∷ machines) stand = absurd stand
-ConnectionsStand-grows calls more n (code ∷ codes) [] stand = absurd stand
-ConnectionsStand-grows calls more n (code ∷ codes) (machine ∷ machines) stand =
-    (ConnectionStands-grows calls more n code machine stand.0, ConnectionsStand-grows calls more (suc n) codes machines stand.1)
-
 -- ---- one of the connections
-
-length-stand : (calls : List Call) (n : ℕ) (codes : List Connection) (machines : List MachineConnection) → ConnectionsStand calls n codes machines → length codes ≡ length machines
-length-stand calls n [] [] stand = refl
-length-stand calls n [] (machine ∷ machines) stand = absurd stand
-length-stand calls n (code ∷ codes) [] stand = absurd stand
-length-stand calls n (code ∷ codes) (machine ∷ machines) stand = ap suc (length-stand calls (suc n) codes machines stand.1)
 
 stands-at : (calls : List Call) (n : ℕ) (codes : List Connection) (machines : List MachineConnection) (c : ℕ) (code : Connection) → ConnectionsStand calls n codes machines
     → c < length codes → code ≡ slice_index_or codes c code → (k : ℕ) → k ≡ n + c → ConnectionStands calls k code (get_connection machines c)
@@ -254,7 +217,7 @@ no-turn w c sessions s s' never stands same = record {
 -- there is no such connection
 pub no-turn-past : (w : World) (c : ℕ) (sessions : Sessions) (s : Sequencing) → length sessions.connections.items ≤ c → SessionsStand sessions w.connections w.calls → TakesTurn w c false sessions s s
 no-turn-past w c sessions s past stands =
-    no-turn w c sessions s s (λ e. absurd (omega (arith, enabled-open w c e, length-stand w.calls 0 sessions.connections.items w.connections stands.connections_stand))) stands refl
+    no-turn w c sessions s s (λ e. absurd (omega (arith, enabled-open w c e, length-connections w.calls 0 sessions.connections.items w.connections stands.connections_stand))) stands refl
 
 -- the connection of a number that there is
 pub connection-stands : (w : World) (c : ℕ) (sessions : Sessions) (code : Connection) → SessionsStand sessions w.connections w.calls → c < length sessions.connections.items
@@ -326,7 +289,7 @@ turn-taken w c old new code code' s s' held lt is room sound stands sequencer re
     let calls' = w.calls ++ call ∷ [] in
     let answers : Answers s c runs.item held.reply s' = subst (λ n. Answers s n runs.item held.reply s') here.seat runs.answers in
     let after : SequencerStands calls' w.committer.closed s' = sequencer-answered w.calls w.committer.closed s s' c runs.item held.reply sequencer answers in
-    let lt' : c < length w.connections = omega (arith, length-stand w.calls 0 old.connections.items w.connections stands.connections_stand) in
+    let lt' : c < length w.connections = omega (arith, length-connections w.calls 0 old.connections.items w.connections stands.connections_stand) in
     let asks = first-asked code.inbound machine.inbound runs.item code'.inbound.waiting.items here.inbound runs.first in
     let reply : Held = record { reply = held.reply; position = position_of calls' } in
     let at : ConnectionStands calls' (0 + c) code' (with_outbound (with_made reply) (with_inbound taken_first machine)) = record {
