@@ -3,12 +3,12 @@ use Rattle.std.proofs.Common.{◌≡◌, ◌⊎◌, inl, inr, ℕ, ◌+◌, ◌-
 use Rattle.std.proofs.lemmas.Bool.{lt-ltb, le-ltb}
 use Rattle.pmem.specs.Device.{State}
 use Rattle.pmem.specs.Runs.{LeavesOnly}
+use Rattle.pmem.proofs.Leaving.{LeavesOnly-weaken}
 use Rattle.model.specs.declared.call.Call.{Call}
 use Rattle.model.specs.declared.group.Group.{Group}
-use Rattle.model.specs.Calls.{is_nonempty, position_of}
+use Rattle.model.specs.Calls.{is_nonempty}
 use Rattle.model.specs.Images.{Image}
 use Rattle.model.specs.Groups.{Contents, IsGroup, after_group}
-use Rattle.model.specs.Standing.{StandsAt}
 use Rattle.wbl_engine.specs.Contents.{Keeps, IsDurable, Same}
 use Rattle.pipes.specs.Waiting.{Waiting}
 use Rattle.machine.specs.declared.event.TheConstants.{PIPE_ITEMS}
@@ -16,7 +16,7 @@ use Rattle.machine.specs.declared.event.Event.TheVariants.{Commit, Hand}
 use Rattle.machine.specs.Events.{Committer as Machine, Stage as MachineStage, Span, World, committed_first, handed, has_room, is_enabled, is_ready, is_shown, ready_again}
 use Rattle.machine.specs.Worlds as machine_stage
 use Rattle.machine.specs.Sound.{HasRoomFor, IsChain, Sound}
-use Rattle.world.specs.Committings.{AreContentsAt, AreGroups, CommittingStands, EngineStands, StageStands, StandsNear}
+use Rattle.world.specs.Committings.{AreContentsAt, AreGroups, CommittingStands, EngineStands, StageStands, StandsAtOrNext, NearOnly}
 use Rattle.world.specs.Going.{Goes}
 use Rattle.world.specs.GroupSpans.{AreGroupsOf, IsGroupOf}
 use Rattle.world.specs.declared.committing.Stage.{Stage}
@@ -151,21 +151,20 @@ commit-goes lines w old new group link device device' contents contents' is_faul
       stays = λ did. cc;
     }
 
--- where the engine's call failed, a crash leaves what was before it or what is after it
-pub commit-near : (lines : ℕ) (w : World) (code : Committing) (group : Group) (rest : List Group) (device device' : State) (contents : Contents) (is_faulted : Bool)
+-- at any moment of the engine's call, a crash leaves what was before it or what is after it
+pub commit-moments : (lines : ℕ) (w : World) (code : Committing) (group : Group) (rest : List Group) (device device' : State) (contents : Contents) (is_faulted : Bool)
     → code.waiting.items ≡ group ∷ rest → IsGroup contents group
     → (is_faulted ≡ false → LeavesOnly device device' (λ image. Keeps contents image ⊎ Keeps (after_group contents group) image))
     → Sound w → CommittingStands w.calls code w.committer → EngineStands lines w.calls w.committer.position device contents is_faulted
-    → StandsNear lines w.calls w.committer.position device'
-commit-near lines w code group rest device device' contents is_faulted waits lawful moments sound stands engine =
-    λ image is. either image ((moments engine.sound).each image (inl is))
+    → NearOnly lines w.calls w.committer.position device device'
+commit-moments lines w code group rest device device' contents is_faulted waits lawful moments sound stands engine =
+    LeavesOnly-weaken (StandsAtOrNext lines w.calls w.committer.position) (λ image. either image) (moments engine.sound)
   where
     next : NextGroup lines w.calls w.committer.position contents group rest w.committer.waiting
     next = next-group lines w.calls w.committer.position contents group rest w.committer.waiting engine.contents_at lawful (subst (λ groups. AreGroupsOf w.calls groups w.committer.waiting) waits stands.groups)
     chain : IsChain w.committer.position (next.firsts.first ∷ next.firsts.others) w.committer.closed
     chain = subst (λ spans. IsChain w.committer.position spans w.committer.closed) next.firsts.all sound.committer.waiting
-    either : (image : Image) → Keeps contents image ⊎ Keeps (after_group contents group) image
-        → StandsAt lines w.calls w.committer.position image ⊎ ((w.committer.position < position_of w.calls) × StandsAt lines w.calls (w.committer.position + 1) image)
+    either : (image : Image) → Keeps contents image ⊎ Keeps (after_group contents group) image → StandsAtOrNext lines w.calls w.committer.position image
     either image (inl keeps) = inl (keeps-stands lines w.calls w.committer.position contents image engine.contents_at keeps)
     either image (inr keeps) =
         inr (omega (arith, chain.1, next.firsts.is.span_within.within),

@@ -1,27 +1,25 @@
 -- New images, and the tables and heaps with which they begin.
-use Rattle.std.proofs.Common.{◌≡◌, ◌≢◌, ℕ, zero, suc, ◌<◌, ◌≤◌, ◌↔◌, Bool, true, false, List, [], ◌∷◌, replicate, slice_index_or, Option, Some, None, IsTrue, refl, sym, ap, subst, ◌∙◌, true≢false}
+use Rattle.std.proofs.Common.{◌≡◌, ℕ, zero, suc, ◌<◌, ◌≤◌, ◌↔◌, Bool, false, List, [], replicate, slice_index_or, None, IsTrue, refl, sym, ap, subst, ◌∙◌, true≢false, inl}
 use Rattle.std.proofs.lemmas.Option.{none-some}
-use Rattle.model.specs.declared.call.Call.{Call}
-use Rattle.model.specs.Calls.{keyspace_after, position_of}
-use Rattle.model.specs.Images.{IsMapOf, entries_of_lines, first_extent_line}
+use Rattle.model.specs.Images.{entries_of_lines, first_extent_line}
 use Rattle.model.specs.Groups.{Contents, IsConsistent}
 use Rattle.model.specs.declared.group.Group.{Group}
 use Rattle.model.specs.declared.record.Role.{Role}
 use Rattle.model.proofs.MapLemmas.{IsMapOf-none}
 use Rattle.pmem.specs.Device.{State}
+use Rattle.pmem.proofs.Leaving.{none_leaves}
 use Rattle.extent_heap.specs.Room.{Room, is_free_entry, is_free_line}
 use Rattle.mv_keyspace.specs.Tables.{Table, IsTable, records}
 use Rattle.mv_keyspace.proofs.PartTables.{table-none}
 use Rattle.wbl_engine.specs.Contents.{IsNew, IsDurable}
+use Rattle.wbl_engine.specs.Formatting.{IsFormatting}
 use Rattle.redis_core.specs.Keeping.{IsBeside}
 use Rattle.redis_core.proofs.KeepingLemmas.{beside_none}
-use Rattle.redis_core.specs.Sequencing as sequencing
-use Rattle.redis_core.specs.Sequencing.{Sequencing, StandsFor, Underlies, is_closed, starts}
-use Rattle.standby.specs.Following as following
+use Rattle.redis_core.specs.Sequencing.{Sequencing, StandsFor, Underlies, starts}
 use Rattle.standby.specs.Following.{Follows}
 use Rattle.machine.specs.Events.{start}
 use Rattle.machine.proofs.RunLemmas.{sound-start}
-use Rattle.world.specs.Committings.{AreContentsAt, AreGroups, CommittingStands, EngineStands, Leads, after_groups}
+use Rattle.world.specs.Committings.{FormattingOnly, CommittingStands, EngineStands, Leads}
 use Rattle.world.specs.Links.{LinkStands}
 use Rattle.world.specs.Sessions.{SessionsStand, SequencerStands}
 use Rattle.world.specs.Standbys.{Node, StandbyStands, ArrivalsStand}
@@ -156,3 +154,9 @@ pair-starts first second pair sessions sequencer committing none engine ahead li
         standby = standby;
       };
     }
+
+-- ---- what a crash leaves meanwhile
+
+-- a device that was not formatted yet
+pub formatting-none : (role : Role) (device : State) → FormattingOnly role device device
+formatting-none role device = none_leaves device (IsFormatting device.words device.lines role) (λ image is. inl is)

@@ -1,5 +1,5 @@
 -- What each event does to the pair, of what it does to its parts.
-use Rattle.std.proofs.Common.{◌≡◌, ◌⊎◌, ℕ, ◌+◌, ◌≤◌, Bool, true, false, nat_lt, List, [], ◌∷◌, ◌++◌, map, length, option_map, slice_get, slice_index_or, Option, Some, None, Result, Ok, Err, IfOk, OnOk, OnErr, IsErr, refl, sym, ap, subst, ◌∙◌, arith, inl, inr, true≢false}
+use Rattle.std.proofs.Common.{◌≡◌, ℕ, ◌≤◌, Bool, true, false, nat_lt, List, [], ◌∷◌, ◌++◌, length, option_map, slice_get, slice_index_or, Option, Some, Result, Ok, Err, IfOk, OnOk, OnErr, IsErr, refl, sym, ap, subst, ◌∙◌, arith, inl, true≢false}
 use Rattle.std.proofs.lemmas.Bool.{lt-ltb, le-ltb, ltb-true}
 use Rattle.std.proofs.lemmas.List.{length-map}
 use Rattle.std.proofs.lemmas.Option.{slice_get-get_or, slice_get-map, slice_get_within}
@@ -15,27 +15,27 @@ use Rattle.standby.specs.declared.frame.Frame.{Frame}
 use Rattle.standby.specs.declared.frame.Ack.{Ack}
 use Rattle.machine.specs.declared.event.Event.{Event}
 use Rattle.machine.specs.declared.event.Event.TheVariants as events
-use Rattle.machine.specs.Events.{Connection, World, Committer as MachineCommitter, Link as MachineLink, Standby as MachineStandby, Span, Happens, Step, Turns, is_enabled, called, opened_link, acknowledged, closed_group, committed_first, raised_local, ready_again, handed, handed_to, sent_next, delivered, option_items, knowing, told, raised_remote, with_link, with_standby, with_committer}
+use Rattle.machine.specs.Events.{Connection, World, Committer as MachineCommitter, Link as MachineLink, Standby as MachineStandby, Span, Happens, Step, Turns, is_enabled, called, opened_link, acknowledged, closed_group, committed_first, raised_local, ready_again, handed, handed_to, delivered, option_items, knowing, told, with_link, with_standby, with_committer}
 use Rattle.machine.specs.Sound.{Sound}
 use Rattle.machine.proofs.GroupLemmas.{chain-le}
 use Rattle.machine.proofs.SoundEvents.{sound-step}
 use Rattle.world.specs.Going.{Goes}
 use Rattle.world.specs.GroupSpans.{AreGroupsOf}
-use Rattle.world.specs.Committings.{EngineStands, Leads, LeadsOn, Stands, StandsNear, CommittingStands}
+use Rattle.world.specs.Committings.{EngineStands, Leads, LeadsOn, Stands, StandsNear, NearOnly, CommittingStands}
 use Rattle.world.specs.Links.{LinkStands, KeepsFrames, AreFramesAt}
-use Rattle.world.specs.Sessions.{SessionsStand, SequencerStands, TakesTurn, TellsTheSame, released_of}
+use Rattle.world.specs.Sessions.{SessionsStand, SequencerStands, TakesTurn, TellsTheSame}
 use Rattle.world.specs.Standbys.{Node, StandbyStands, ArrivalsStand, AppliesFirst}
-use Rattle.world.specs.Pairs.{Pair, PartsStand, PairStands, IsCut, Steps, Does}
+use Rattle.world.specs.Pairs.{Pair, PartsStand, PairStands, IsCut, Steps, LeavesNear, Does}
 use Rattle.world.specs.declared.arrivals.Arrivals.{Arrivals}
 use Rattle.world.specs.declared.connection.Connection.{Connection as Connection'}
 use Rattle.world.specs.declared.committing.Committing.{Committing}
 use Rattle.world.specs.declared.link.Link.{Link}
 use Rattle.world.specs.declared.sessions.Sessions.{Sessions}
 use Rattle.world.proofs.SessionLemmas.{length-connections, released-told}
-use Rattle.world.proofs.EngineLemmas.{Stands-engine, EngineStands-grows}
+use Rattle.world.proofs.EngineLemmas.{Stands-engine, near-now, near-still, EngineStands-grows}
 use Rattle.world.proofs.CommittingLemmas.{CommittingStands-grows}
 use Rattle.world.proofs.LinkLemmas.{LinkStands-grows}
-use Rattle.world.proofs.StandbyLemmas.{StandbyStands-grows}
+use Rattle.world.proofs.StandbyLemmas.{StandbyStands-grows, StandbyStands-still}
 use Rattle.world.proofs.ArrivalLemmas.{ArrivalsStand-grows, ArrivalsStand-frames}
 
 -- ---- steps
@@ -92,6 +92,23 @@ cut-same first second old new w device device' same stands =
 tells : (sessions : Sessions) → TellsTheSame sessions sessions
 tells sessions = record { calls = refl; released = refl }
 
+-- ---- moments
+
+still-primary : (first second : ℕ) (old : Pair) (w : World) → PairStands first second old w → NearOnly first w.calls w.committer.position old.device old.device
+still-primary first second old w stands = near-still first w.calls w.committer.position old.device old.contents old.is_faulted stands.parts.engine
+
+still-standby : (first second : ℕ) (old : Pair) (w : World) → PairStands first second old w → NearOnly second w.calls w.standby.position old.standby.device old.standby.device
+still-standby first second old w stands = StandbyStands-still second old.link.epoch w.calls w.standby.position old.standby stands.parts.standby
+
+-- neither device was touched
+moments-same : (old new : Pair) → new.device ≡ old.device → new.standby.device ≡ old.standby.device
+    → (first second : ℕ) (w : World) → PairStands first second old w → LeavesNear first second old new w
+moments-same old new device device' first second w stands =
+    record {
+      primary = subst (NearOnly first w.calls w.committer.position old.device) (sym device) (still-primary first second old w stands);
+      standby = subst (NearOnly second w.calls w.standby.position old.standby.device) (sym device') (still-standby first second old w stands);
+    }
+
 -- ---- what the connections do
 
 abbrev pub with_connections : List Connection → World → World
@@ -132,9 +149,14 @@ sessions-steps event change happens old sessions did go first second w stands =
 pub sessions-do : (event : Event) (change : World → List Connection) → ((w : World) → Happens w event (with_connections (change w) w))
     → (old : Pair) (sessions : Sessions) (result : Result Bool Refusal) → IfOk result (λ did. SessionsGo event change did old.sessions sessions)
     → OnErr result (TellsTheSame old.sessions sessions) → Does old event result (with_sessions sessions old)
-sessions-do event change happens old sessions (Ok did) go same = record { steps = sessions-steps event change happens old sessions did go; cut = tt }
+sessions-do event change happens old sessions (Ok did) go same =
+    record { steps = sessions-steps event change happens old sessions did go; cut = tt; moments = moments-same old (with_sessions sessions old) refl refl }
 sessions-do event change happens old sessions (Err refusal) go same =
-    record { steps = tt; cut = λ first second w stands. cut-same first second old (with_sessions sessions old) w refl refl same stands }
+    record {
+      steps = tt;
+      cut = λ first second w stands. cut-same first second old (with_sessions sessions old) w refl refl same stands;
+      moments = moments-same old (with_sessions sessions old) refl refl;
+    }
 
 -- a read needs the marks, which are the machine's
 pub read-does : (event : Event) (change : World → List Connection) → ((w : World) → Happens w event (with_connections (change w) w))
@@ -150,14 +172,15 @@ read-does event change happens old sessions did go =
           (sessions-parts first second old sessions (change w) w stands.parts)
           (sessions-parts first second old sessions w.connections w stands.parts));
       cut = tt;
+      moments = moments-same old (with_sessions sessions old) refl refl;
     }
 
 -- ---- the list grows
 
-primary-within : (w : World) → Sound w → w.committer.position ≤ position_of w.calls
+pub primary-within : (w : World) → Sound w → w.committer.position ≤ position_of w.calls
 primary-within w s = omega (arith, s.committer.closed, chain-le _ _ _ s.committer.waiting)
 
-standby-within : (w : World) → Sound w → w.standby.position ≤ position_of w.calls
+pub standby-within : (w : World) → Sound w → w.standby.position ≤ position_of w.calls
 standby-within w s = omega (arith, s.standby.behind, chain-le _ _ _ s.link.waiting, primary-within w s)
 
 abbrev pub with_turn : Sessions → Sequencing → Pair → Pair
@@ -228,9 +251,14 @@ turn-does old sessions sequencer c (Ok did) takes goes_on same =
     record {
       steps = λ first second w stands. turn-steps first second old sessions sequencer w c did stands (takes w stands.sound stands.parts.sessions stands.parts.sequencer) goes_on;
       cut = tt;
+      moments = moments-same old (with_turn sessions sequencer old) refl refl;
     }
 turn-does old sessions sequencer c (Err refusal) takes goes_on same =
-    record { steps = tt; cut = λ first second w stands. cut-same first second old (with_turn sessions sequencer old) w refl refl same stands }
+    record {
+      steps = tt;
+      cut = λ first second w stands. cut-same first second old (with_turn sessions sequencer old) w refl refl same stands;
+      moments = moments-same old (with_turn sessions sequencer old) refl refl;
+    }
 
 -- ---- the committer
 
@@ -245,7 +273,11 @@ pub close-does : (old : Pair) (committing : Committing) (sequencer : Sequencing)
     → ((contents : Contents) → Leads contents old.committing.waiting.items old.sequencer → Leads contents committing.waiting.items sequencer)
     → Does old events.CloseGroup result (with_group committing sequencer old)
 close-does old committing sequencer (Err refusal) go leads =
-    record { steps = tt; cut = λ first second w stands. cut-same first second old (with_group committing sequencer old) w refl refl (tells old.sessions) stands }
+    record {
+      steps = tt;
+      cut = λ first second w stands. cut-same first second old (with_group committing sequencer old) w refl refl (tells old.sessions) stands;
+      moments = moments-same old (with_group committing sequencer old) refl refl;
+    }
 close-does old committing sequencer (Ok did) go leads =
     record {
       steps = λ first second w stands.
@@ -273,6 +305,7 @@ close-does old committing sequencer (Ok did) go leads =
             standby = parts.standby;
           }));
       cut = tt;
+      moments = moments-same old (with_group committing sequencer old) refl refl;
     }
 
 -- the primary's engine, with the groups that wait for it
@@ -291,17 +324,20 @@ pub commit-does : (old : Pair) (committing : Committing) (device : State) (conte
     × EngineStands lines w.calls (committed_first w.committer.waiting w.committer).position device contents is_faulted)
     (CommittingStands w.calls committing w.committer × EngineStands lines w.calls w.committer.position device contents is_faulted))
     → IfOk result (λ _. LeadsOn old.contents old.committing.waiting.items contents committing.waiting.items)
-    → OnErr result ((lines : ℕ) (w : World) → Sound w → CommittingStands w.calls old.committing w.committer
-    → EngineStands lines w.calls w.committer.position old.device old.contents old.is_faulted → StandsNear lines w.calls w.committer.position device)
+    → ((lines : ℕ) (w : World) → Sound w → CommittingStands w.calls old.committing w.committer
+    → EngineStands lines w.calls w.committer.position old.device old.contents old.is_faulted → NearOnly lines w.calls w.committer.position old.device device)
     → Does old events.Commit result (with_engine committing device contents is_faulted old)
-commit-does old committing device contents is_faulted (Err refusal) go leads cut =
+commit-does old committing device contents is_faulted (Err refusal) go leads only =
     record {
       steps = tt;
       cut = λ first second w stands.
           cut-near first second old (with_engine committing device contents is_faulted old) w stands (tells old.sessions)
-          (cut first w stands.sound stands.parts.committing stands.parts.engine) (near-standby first second old w stands);
+          (near-now first w.calls w.committer.position old.device device (only first w stands.sound stands.parts.committing stands.parts.engine))
+          (near-standby first second old w stands);
+      moments = λ first second w stands.
+          record { primary = only first w stands.sound stands.parts.committing stands.parts.engine; standby = still-standby first second old w stands };
     }
-commit-does old committing device contents is_faulted (Ok did) go leads cut =
+commit-does old committing device contents is_faulted (Ok did) go leads only =
     record {
       steps = λ first second w stands.
           let parts = stands.parts in
@@ -311,6 +347,8 @@ commit-does old committing device contents is_faulted (Ok did) go leads cut =
           (λ moved. committed-parts first second w (committed_first w.committer.waiting w.committer) parts moved.0 moved.1 (same_closed w.committer.waiting w))
           (λ stayed. committed-parts first second w w.committer parts stayed.0 stayed.1 refl));
       cut = tt;
+      moments = λ first second w stands.
+          record { primary = only first w stands.sound stands.parts.committing stands.parts.engine; standby = still-standby first second old w stands };
     }
   where
     same_closed : (groups : List Span) (w : World) → (committed_first groups w.committer).closed ≡ w.committer.closed
@@ -364,6 +402,7 @@ raise-does old committing did go waiting =
           (λ moved. shown-parts first second old committing w (raised_local w.committer) parts waiting moved refl refl)
           (λ stayed. shown-parts first second old committing w w.committer parts waiting stayed refl refl));
       cut = tt;
+      moments = moments-same old (with_committing committing old) refl refl;
     }
 
 -- ---- the link
@@ -410,6 +449,7 @@ hand-does old committing waiting did go same =
                 standby = parts.standby;
               }));
       cut = tt;
+      moments = moments-same old (with_handed committing (record old.link { waiting = waiting }) old) refl refl;
     }
   where
     waits : (link : MachineLink) (w : World) → LinkStands w.calls old.link w.link → record w.link { waiting = link.waiting } ≡ link → AreGroupsOf w.calls waiting.items link.waiting
@@ -463,9 +503,14 @@ link-does event change happens old link (Ok did) go keeps =
           (link-parts first second old link w (change w) stands.parts keeps)
           (link-parts first second old link w w.link stands.parts keeps));
       cut = tt;
+      moments = moments-same old (with_frames link old) refl refl;
     }
 link-does event change happens old link (Err refusal) go keeps =
-    record { steps = tt; cut = λ first second w stands. cut-same first second old (with_frames link old) w refl refl (tells old.sessions) stands }
+    record {
+      steps = tt;
+      cut = λ first second w stands. cut-same first second old (with_frames link old) w refl refl (tells old.sessions) stands;
+      moments = moments-same old (with_frames link old) refl refl;
+    }
 
 -- ---- the standby
 
@@ -507,12 +552,17 @@ open-does old arrivals link ack position acknowledges opens keeps =
           goes-steps first second w (with_link (opened_link w.link) (with_standby (acknowledged w.standby) w)) events.OpenLink true (with_opened arrivals link old) stands.sound refl
           (record { done = refl; goes = λ did. moved; stays = λ did. absurd (true≢false did) });
       cut = tt;
+      moments = moments-same old (with_opened arrivals link old) refl refl;
     }
 
 pub open-cut : (old : Pair) (arrivals : Arrivals) (result : Result Bool Refusal) → IsErr result → Does old events.OpenLink result (with_arrivals arrivals old)
 open-cut old arrivals (Ok did) is = absurd (true≢false (sym is))
 open-cut old arrivals (Err refusal) is =
-    record { steps = tt; cut = λ first second w stands. cut-same first second old (with_arrivals arrivals old) w refl refl (tells old.sessions) stands }
+    record {
+      steps = tt;
+      cut = λ first second w stands. cut-same first second old (with_arrivals arrivals old) w refl refl (tells old.sessions) stands;
+      moments = moments-same old (with_arrivals arrivals old) refl refl;
+    }
 
 pub deliver-does : (old : Pair) (arrivals : Arrivals) (sent : List ℕ) (frame : ℕ) (result : Result Bool Refusal) → sent ≡ old.link.sent.items
     → IfOk result (λ did. (epoch : ℕ) (frames : List Frame) (w : World) → ArrivalsStand epoch w.calls frames old.arrivals w.standby
@@ -532,9 +582,14 @@ deliver-does old arrivals sent frame (Ok did) same go =
           (arrivals-parts first second old arrivals w came parts refl)
           (arrivals-parts first second old arrivals w w.standby parts refl));
       cut = tt;
+      moments = moments-same old (with_arrivals arrivals old) refl refl;
     }
 deliver-does old arrivals sent frame (Err refusal) same go =
-    record { steps = tt; cut = λ first second w stands. cut-same first second old (with_arrivals arrivals old) w refl refl (tells old.sessions) stands }
+    record {
+      steps = tt;
+      cut = λ first second w stands. cut-same first second old (with_arrivals arrivals old) w refl refl (tells old.sessions) stands;
+      moments = moments-same old (with_arrivals arrivals old) refl refl;
+    }
 
 abbrev pub with_node : Arrivals → Node → Pair → Pair
 with_node arrivals node pair = record pair { arrivals = arrivals; standby = node }
@@ -590,10 +645,10 @@ pub apply-does : (old : Pair) (arrivals : Arrivals) (node : Node) (frames : List
     → IfOk result (λ did. (lines : ℕ) (w : World) → Sound w → ArrivalsStand old.standby.epoch w.calls frames old.arrivals w.standby
     → StandbyStands lines old.standby.epoch w.calls w.standby.position old.standby
     → AppliesFirst lines old.standby.epoch frames w did arrivals old.standby node)
-    → OnErr result ((lines : ℕ) (w : World) → Sound w → ArrivalsStand old.standby.epoch w.calls frames old.arrivals w.standby
-    → StandbyStands lines old.standby.epoch w.calls w.standby.position old.standby → StandsNear lines w.calls w.standby.position node.device)
+    → ((lines : ℕ) (w : World) → Sound w → ArrivalsStand old.standby.epoch w.calls frames old.arrivals w.standby
+    → StandbyStands lines old.standby.epoch w.calls w.standby.position old.standby → NearOnly lines w.calls w.standby.position old.standby.device node.device)
     → Does old events.Apply result (with_node arrivals node old)
-apply-does old arrivals node frames result same applies cut = go result applies cut
+apply-does old arrivals node frames result same applies only = go result applies
   where
     arrive : (first second : ℕ) (w : World) → PairStands first second old w → ArrivalsStand old.standby.epoch w.calls frames old.arrivals w.standby
     arrive first second w stands =
@@ -604,14 +659,18 @@ apply-does old arrivals node frames result same applies cut = go result applies 
     stand first second w stands =
         subst (λ e. StandbyStands second e w.calls w.standby.position old.standby) (sym stands.parts.standby.epoch_is) stands.parts.standby
 
+    applied-only : (first second : ℕ) (w : World) → PairStands first second old w → NearOnly second w.calls w.standby.position old.standby.device node.device
+    applied-only first second w stands = only second w stands.sound (arrive first second w stands) (stand first second w stands)
+
+    applied-moments : (first second : ℕ) (w : World) → PairStands first second old w → LeavesNear first second old (with_node arrivals node old) w
+    applied-moments first second w stands = record { primary = still-primary first second old w stands; standby = applied-only first second w stands }
+
     go : (result : Result Bool Refusal)
         → IfOk result (λ did. (lines : ℕ) (w : World) → Sound w → ArrivalsStand old.standby.epoch w.calls frames old.arrivals w.standby
         → StandbyStands lines old.standby.epoch w.calls w.standby.position old.standby
         → AppliesFirst lines old.standby.epoch frames w did arrivals old.standby node)
-        → OnErr result ((lines : ℕ) (w : World) → Sound w → ArrivalsStand old.standby.epoch w.calls frames old.arrivals w.standby
-        → StandbyStands lines old.standby.epoch w.calls w.standby.position old.standby → StandsNear lines w.calls w.standby.position node.device)
         → Does old events.Apply result (with_node arrivals node old)
-    go (Ok did) applies cut =
+    go (Ok did) applies =
         record {
           steps = λ first second w stands.
               let applied = applies second w stands.sound (arrive first second w stands) (stand first second w stands) in
@@ -619,13 +678,15 @@ apply-does old arrivals node frames result same applies cut = go result applies 
               (subst (λ (all : List Frame). AppliesFirst second old.link.epoch all w did arrivals old.standby node) same
               (subst (λ e. AppliesFirst second e frames w did arrivals old.standby node) stands.parts.standby.epoch_is applied));
           cut = tt;
+          moments = applied-moments;
         }
-    go (Err refusal) applies cut =
+    go (Err refusal) applies =
         record {
           steps = tt;
           cut = λ first second w stands.
               cut-near first second old (with_node arrivals node old) w stands (tells old.sessions) (near-primary first second old w stands)
-              (cut second w stands.sound (arrive first second w stands) (stand first second w stands));
+              (near-now second w.calls w.standby.position old.standby.device node.device (applied-only first second w stands));
+          moments = applied-moments;
         }
 
 -- ---- acknowledgements
@@ -653,6 +714,7 @@ ack-does old n ack link stands_there knows keeps =
             stays = λ did. absurd (true≢false did);
           });
       cut = tt;
+      moments = moments-same old (with_frames link old) refl refl;
     }
 
 pub no-ack-does : (old : Pair) (n : ℕ) → length old.arrivals.acknowledgements.items ≤ n → Does old (events.AckDelivered n) (Ok false) old
@@ -669,4 +731,5 @@ no-ack-does old n past =
             stands = stands;
           };
       cut = tt;
+      moments = moments-same old old refl refl;
     }

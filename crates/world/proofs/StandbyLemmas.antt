@@ -5,6 +5,7 @@ use Rattle.kv_types.specs.declared.refusal.Refusal.{Refusal}
 use Rattle.kv_types.specs.declared.refusal.Refusal.TheVariants.{WrongEpoch, PositionGap, Full, Memory, Fault, Exhausted}
 use Rattle.kv_types.specs.Keyspaces.{play_all}
 use Rattle.pmem.specs.Runs.{LeavesOnly}
+use Rattle.pmem.proofs.Leaving.{LeavesOnly-weaken}
 use Rattle.model.specs.declared.call.Call.{Call}
 use Rattle.model.specs.Calls.{keyspace_after, cut_at, position_of}
 use Rattle.model.specs.Images.{Image, IsMapOf, entries_of_lines}
@@ -19,14 +20,14 @@ use Rattle.machine.specs.Events.{Standby as Machine, Span, Takes, acknowledged, 
 use Rattle.standby.specs.declared.frame.Ack.{Ack}
 use Rattle.standby.specs.declared.frame.Frame.{Frame}
 use Rattle.standby.specs.Following.{Follows, IsNext, HasTaken, IsWhole, IsBeforeOrWhole}
-use Rattle.world.specs.Committings.{AreContentsAt, StandsNear}
+use Rattle.world.specs.Committings.{AreContentsAt, StandsAtOrNext, NearOnly}
 use Rattle.world.specs.Links.{IsFrameOf}
 use Rattle.world.specs.Standbys.{Node, StandbyStands}
-use Rattle.world.proofs.EngineLemmas.{keeps-stands, Stands-engine, EngineStands-grows}
+use Rattle.world.proofs.EngineLemmas.{keeps-stands, near-still, EngineStands-grows}
 
--- a standby that stands is near where it stands
-pub StandbyStands-near : (lines epoch : ℕ) (calls : List Call) (p : ℕ) (node : Node) → StandbyStands lines epoch calls p node → StandsNear lines calls p node.device
-StandbyStands-near lines epoch calls p node stands = λ image is. inl (Stands-engine lines calls p node.device node.contents node.is_faulted stands.engine image is)
+-- nothing happened to the standby
+pub StandbyStands-still : (lines epoch : ℕ) (calls : List Call) (p : ℕ) (node : Node) → StandbyStands lines epoch calls p node → NearOnly lines calls p node.device node.device
+StandbyStands-still lines epoch calls p node stands = near-still lines calls p node.device node.contents node.is_faulted stands.engine
 
 -- ---- what a standby answers to a frame
 
@@ -207,12 +208,17 @@ module _ (lines epoch : ℕ) (calls : List Call) (machine : Machine) (frame : Fr
       above : machine.position < span.after → Took lines epoch calls span machine [] new
       above lt = ⊎_elim (joins lt) (apart lt) (cases_eq span.before machine.position)
 
-  -- a frame of one change, that ended the standby: a crash leaves what was before it or all of it
-  pub near_err : span.after ≡ span.before + 1 → (refusal : Refusal) → Answers frame old (Err refusal) new → StandsNear lines calls machine.position new.device
-  near_err one refusal answers = ⊎_elim above below (cases_lt machine.position span.after)
+  -- a frame of one change: at any moment of the call, a crash leaves what was before it or all of it
+  pub frame-moments : span.after ≡ span.before + 1 → (result : Result Ack Refusal) → Answers frame old result new → NearOnly lines calls machine.position old.device new.device
+  frame-moments one result answers = ⊎_elim above below (cases_lt machine.position span.after)
     where
-      below : span.after ≤ machine.position → StandsNear lines calls machine.position new.device
-      below le = absurd (not_both (answers.again epoch_same (is_below le)).0 refl)
+      still : new ≡ old → NearOnly lines calls machine.position old.device new.device
+      still same =
+          subst (λ (node : Node). NearOnly lines calls machine.position old.device node.device) (sym same)
+          (StandbyStands-still lines epoch calls machine.position old stands)
+
+      below : span.after ≤ machine.position → NearOnly lines calls machine.position old.device new.device
+      below le = still (answers.again epoch_same (is_below le)).1
 
       whole : (image : Image) → span.before ≡ machine.position → (after : Contents) × IsWhole frame old.contents old.table after × Keeps after image → StandsAt lines calls (machine.position + 1) image
       whole image e held =
@@ -226,18 +232,15 @@ module _ (lines epoch : ℕ) (calls : List Call) (machine : Machine) (frame : Fr
           } in
           subst (λ p. StandsAt lines calls p image) next (keeps-stands lines calls span.after after image contents_at held.2)
 
-      joins : machine.position < span.after → span.before ≡ machine.position → StandsNear lines calls machine.position new.device
-      joins lt e = λ image left.
-          elim ((answers.moments epoch_same (is_next lt e)).each image (inl left)) [
-            | inl before ↦ inl (keeps-stands lines calls machine.position old.contents image stands.engine.contents_at before)
-            | inr held ↦ inr (omega (arith, lt, is.span_within.within), whole image e held)
-          ]
+      either : machine.position < span.after → span.before ≡ machine.position → (image : Image) → IsBeforeOrWhole frame old.contents old.table image → StandsAtOrNext lines calls machine.position image
+      either lt e image (inl before) = inl (keeps-stands lines calls machine.position old.contents image stands.engine.contents_at before)
+      either lt e image (inr held) = inr (omega (arith, lt, is.span_within.within), whole image e held)
 
-      apart : machine.position < span.after → span.before ≢ machine.position → StandsNear lines calls machine.position new.device
-      apart lt ne = StandbyStands-near lines epoch calls machine.position new (same_stands (answers.gap epoch_same (is_above lt) (is_apart ne)).1)
+      joins : machine.position < span.after → span.before ≡ machine.position → NearOnly lines calls machine.position old.device new.device
+      joins lt e = LeavesOnly-weaken (StandsAtOrNext lines calls machine.position) (λ image. either lt e image) (answers.moments epoch_same (is_next lt e))
 
-      above : machine.position < span.after → StandsNear lines calls machine.position new.device
-      above lt = ⊎_elim (joins lt) (apart lt) (cases_eq span.before machine.position)
+      above : machine.position < span.after → NearOnly lines calls machine.position old.device new.device
+      above lt = ⊎_elim (joins lt) (λ (ne : span.before ≢ machine.position). still (answers.gap epoch_same (is_above lt) (is_apart ne)).1) (cases_eq span.before machine.position)
 
 -- ---- the list of calls grows
 

@@ -1,14 +1,17 @@
 -- What the committer and its engine stand for in the machine.
-use Rattle.std.specs.Prelude.{◌≡◌, ◌⊎◌, ℕ, ◌+◌, ◌<◌, Bool, true, false, List, [], ◌∷◌}
+use Rattle.std.specs.Prelude.{◌≡◌, ◌⊎◌, ℕ, ◌+◌, ◌<◌, ◌≤◌, Bool, false, List, [], ◌∷◌}
 use Rattle.pmem.specs.Device.{State}
 use Rattle.pmem.specs.Crash.{IsImage}
+use Rattle.pmem.specs.Runs.{LeavesOnly}
 use Rattle.model.specs.declared.call.Call.{Call}
 use Rattle.model.specs.declared.group.Group.{Group}
 use Rattle.model.specs.Calls.{keyspace_after, cut_at, position_of}
 use Rattle.model.specs.Images.{Image, IsMapOf, entries_of_lines}
 use Rattle.model.specs.Groups.{Contents, IsConsistent, IsGroup, after_group}
 use Rattle.model.specs.Standing.{StandsAt}
+use Rattle.model.specs.declared.record.Role.{Role}
 use Rattle.wbl_engine.specs.Contents.{IsDurable}
+use Rattle.wbl_engine.specs.Formatting.{IsFormatting}
 use Rattle.redis_core.specs.Sequencing.{Sequencing, StandsFor}
 use Rattle.machine.specs.Events.{Committer as Machine, Stage as MachineStage}
 use Rattle.machine.specs.Worlds as machine_stage
@@ -58,10 +61,29 @@ pub record EngineStands (lines : ℕ) (calls : List Call) (position : ℕ) (devi
 abbrev pub Stands : ℕ → List Call → ℕ → State → Type 0
 Stands lines calls position device = (image : Image) → IsImage device.words image → StandsAt lines calls position image
 
+-- the image stands at this position of the list, or at the next one
+abbrev pub StandsAtOrNext : ℕ → List Call → ℕ → Image → Type 0
+StandsAtOrNext lines calls position image = StandsAt lines calls position image ⊎ ((position < position_of calls) × StandsAt lines calls (position + 1) image)
+
+-- the image stands at some position of the list
+abbrev pub StandsSomewhere : ℕ → List Call → Image → Type 0
+StandsSomewhere lines calls image = (p : ℕ) × (p ≤ position_of calls) × StandsAt lines calls p image
+
 -- each crash now leaves an image that stands at this position of the list, or at the next one
 abbrev pub StandsNear : ℕ → List Call → ℕ → State → Type 0
-StandsNear lines calls position device =
-    (image : Image) → IsImage device.words image → StandsAt lines calls position image ⊎ ((position < position_of calls) × StandsAt lines calls (position + 1) image)
+StandsNear lines calls position device = (image : Image) → IsImage device.words image → StandsAtOrNext lines calls position image
+
+-- each crash between these two states of a device leaves an image that stands at this position of the list, or at the next one
+abbrev pub NearOnly : ℕ → List Call → ℕ → State → State → Type 0
+NearOnly lines calls position old new = LeavesOnly old new (StandsAtOrNext lines calls position)
+
+-- each crash between these two states of a device leaves an image that stands at some position of the list
+abbrev pub SomewhereOnly : ℕ → List Call → State → State → Type 0
+SomewhereOnly lines calls old new = LeavesOnly old new (StandsSomewhere lines calls)
+
+-- each crash between these two states of a device leaves what is there while it is formatted for this role
+abbrev pub FormattingOnly : Role → State → State → Type 0
+FormattingOnly role old new = LeavesOnly old new (IsFormatting old.words old.lines role)
 
 -- ---- the committer
 

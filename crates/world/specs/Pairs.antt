@@ -1,5 +1,5 @@
 -- What a pair of nodes with its connections stands for in the machine.
-use Rattle.std.specs.Prelude.{◌≡◌, ◌⊎◌, ℕ, ◌≤◌, Bool, List, [], length, slice_index_or, Result, IfOk, OnErr}
+use Rattle.std.specs.Prelude.{◌≡◌, ℕ, ◌≤◌, Bool, [], length, slice_index_or, Result, IfOk, OnErr}
 use Rattle.pmem.specs.Device.{State}
 use Rattle.kv_types.specs.declared.refusal.Refusal.{Refusal}
 use Rattle.model.specs.Groups.{Contents}
@@ -9,7 +9,7 @@ use Rattle.machine.specs.declared.event.TheConstants.{SEATS}
 use Rattle.machine.specs.Events.{World, Step}
 use Rattle.machine.specs.Promises.{released_in}
 use Rattle.machine.specs.Sound.{Sound}
-use Rattle.world.specs.Committings.{EngineStands, Leads, StandsNear, CommittingStands}
+use Rattle.world.specs.Committings.{EngineStands, Leads, StandsNear, NearOnly, CommittingStands}
 use Rattle.world.specs.Links.{LinkStands}
 use Rattle.world.specs.Sessions.{SessionsStand, SequencerStands, released_of}
 use Rattle.world.specs.Standbys.{Node, StandbyStands, ArrivalsStand}
@@ -69,7 +69,13 @@ pub record Steps (first second : ℕ) (old : World) (event : Event) (did : Bool)
   pub step : Step old event did world
   pub stands : PairStands first second pair world
 
+-- a crash at any moment of what led from one pair to the other leaves each image where it stood, or one change further on
+pub record LeavesNear (first second : ℕ) (old new : Pair) (w : World) : Type 0 where
+  pub primary : NearOnly first w.calls w.committer.position old.device new.device
+  pub standby : NearOnly second w.calls w.standby.position old.standby.device new.standby.device
+
 -- what an event did to a pair: a step, or it was cut
 pub record Does (old : Pair) (event : Event) (result : Result Bool Refusal) (new : Pair) : Type 0 where
   pub steps : IfOk result (λ did. (first second : ℕ) (w : World) → PairStands first second old w → Steps first second w event did new)
   pub cut : OnErr result ((first second : ℕ) (w : World) → PairStands first second old w → IsCut first second new w)
+  pub moments : (first second : ℕ) (w : World) → PairStands first second old w → LeavesNear first second old new w

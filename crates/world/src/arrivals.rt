@@ -1,5 +1,5 @@
 //! What came to the standby, and what it acknowledged.
-ghost use Rattle.std.specs.Prelude.{◌≡◌, ◌⊎◌, ◌↔◌, ℕ, false, List, [], slice_get, IsTrue, IfOk, OnOk, OnErr};
+ghost use Rattle.std.specs.Prelude.{◌≡◌, ◌⊎◌, ◌↔◌, ℕ, false, List, [], slice_get, IsTrue, IfOk, OnOk};
 ghost use Rattle.machine.specs.declared.event.Event.TheVariants.{Deliver};
 ghost use Rattle.machine.specs.Events.{World, is_enabled, start, acknowledged, delivered, option_items};
 ghost use Rattle.machine.specs.Sound.{Sound};
@@ -7,7 +7,7 @@ ghost use Rattle.wbl_engine.specs.Contents.{IsDurable};
 ghost use Rattle.standby.specs.declared.frame.Frame.{Frame};
 ghost use Rattle.standby.specs.Following.{Follows};
 ghost use Rattle.world.specs.Going.{Goes};
-ghost use Rattle.world.specs.Committings.{StandsNear};
+ghost use Rattle.world.specs.Committings.{NearOnly};
 ghost use Rattle.world.specs.Links.{AreFramesAt};
 ghost use Rattle.world.specs.Standbys.{StandbyStands, ArrivalsStand, AppliesFirst};
 
@@ -84,11 +84,12 @@ impl Arrivals {
               is_faulted = E.is_faulted standby.old.engine; table = K.table standby.old.keyspace; room = standby.old.heap; epoch = standby.old.epoch })
             (record { device = E.device standby.new.engine; contents = E.contents standby.new.engine;
               is_faulted = E.is_faulted standby.new.engine; table = K.table standby.new.keyspace; room = standby.new.heap; epoch = standby.new.epoch })) }
-        ensures near { OnErr result ((lines : ℕ) (w : World) → Sound w
+        // at any moment of the call
+        ensures moments { (lines : ℕ) (w : World) → Sound w
             → ArrivalsStand standby.old.epoch w.calls frames.now self.old w.standby
             → StandbyStands lines standby.old.epoch w.calls w.standby.position (record { device = E.device standby.old.engine; contents = E.contents standby.old.engine;
               is_faulted = E.is_faulted standby.old.engine; table = K.table standby.old.keyspace; room = standby.old.heap; epoch = standby.old.epoch })
-            → StandsNear lines w.calls w.standby.position (E.device standby.new.engine)) }
+            → NearOnly lines w.calls w.standby.position (E.device standby.old.engine) (E.device standby.new.engine) }
     {
         let Some(place) = self.delivered.front() else {
             return Ok(false);

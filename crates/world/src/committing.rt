@@ -1,5 +1,5 @@
 //! The primary's committer: a group is committed, then shown, then handed on, in three turns.
-ghost use Rattle.std.specs.Prelude.{◌≡◌, ◌≢◌, ◌<◌, ◌↔◌, ℕ, [], ◌++◌, length, IfOk, IsTrue, OnErr};
+ghost use Rattle.std.specs.Prelude.{◌≡◌, ◌≢◌, ◌<◌, ◌↔◌, ℕ, [], ◌++◌, length, IfOk, IsTrue};
 ghost use Rattle.model.specs.Groups.{Contents};
 ghost use Rattle.machine.specs.declared.event.Event.TheVariants.{CloseGroup, Commit, RaiseLocal, Hand};
 ghost use Rattle.machine.specs.Events.{World, is_enabled, start, closed_group, committed_first, raised_local, ready_again, handed};
@@ -7,7 +7,7 @@ ghost use Rattle.machine.specs.Sound.{Sound};
 ghost use Rattle.world.specs.Going.{Goes};
 ghost use Rattle.world.specs.GroupSpans.{AreGroupsOf};
 ghost use Rattle.world.specs.Sessions.{SequencerStands};
-ghost use Rattle.world.specs.Committings.{AreGroups, Leads, LeadsOn, EngineStands, StandsNear, CommittingStands};
+ghost use Rattle.world.specs.Committings.{AreGroups, Leads, LeadsOn, EngineStands, NearOnly, CommittingStands};
 
 use kv_types::Refusal;
 use model::Group;
@@ -94,9 +94,10 @@ impl Committing {
             (CommittingStands w.calls self.new w.committer
             × EngineStands lines w.calls w.committer.position (E.device engine.new) (E.contents engine.new) (E.is_faulted engine.new))) }
         ensures leads { IfOk result (λ _. LeadsOn (E.contents engine.old) self.old.waiting.items (E.contents engine.new) self.new.waiting.items) }
-        ensures near { OnErr result ((lines : ℕ) (w : World) → Sound w → CommittingStands w.calls self.old w.committer
+        // at any moment of the call
+        ensures moments { (lines : ℕ) (w : World) → Sound w → CommittingStands w.calls self.old w.committer
             → EngineStands lines w.calls w.committer.position (E.device engine.old) (E.contents engine.old) (E.is_faulted engine.old)
-            → StandsNear lines w.calls w.committer.position (E.device engine.new)) }
+            → NearOnly lines w.calls w.committer.position (E.device engine.old) (E.device engine.new) }
     {
         let Stage::Ready = &self.stage else {
             return Ok(false);

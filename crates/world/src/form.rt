@@ -1,10 +1,10 @@
 //! A pair of new nodes.
-ghost use Rattle.std.specs.Prelude.{◌≡◌, ℕ, ◌<◌, ◌≤◌, ◌↔◌, [], IsTrue, IfOk};
+ghost use Rattle.std.specs.Prelude.{◌≡◌, ℕ, ◌<◌, ◌≤◌, ◌↔◌, [], IsTrue, IfOk, MatchResult};
 ghost use Rattle.model.specs.Groups.{Contents};
 ghost use Rattle.machine.specs.Events.{start};
 ghost use Rattle.wbl_engine.specs.Contents.{IsNew};
 ghost use Rattle.redis_core.specs.Sequencing.{StandsFor};
-ghost use Rattle.world.specs.Committings.{CommittingStands};
+ghost use Rattle.world.specs.Committings.{CommittingStands, FormattingOnly};
 ghost use Rattle.world.specs.Links.{LinkStands};
 ghost use Rattle.world.specs.Standbys.{ArrivalsStand};
 ghost use Rattle.world.specs.Pairs.{PairStands};
@@ -87,7 +87,11 @@ pub(crate) fn form<P: Pmem, K: Keyspace + Drop>(
 ) -> Result<Pair<WblEngine<P>, K>, (Refusal, P, P)>
     requires serving { K.table keyspaces.0 ≡ [] }
     requires following { K.table keyspaces.1 ≡ [] }
-    ensures { IfOk result (λ pair. PairStands (P.state primary).lines (P.state standby).lines (⟦<Pair<WblEngine<P>, K> as Stepper>⟧.parts pair) start) }
+    ensures stands { IfOk result (λ pair. PairStands (P.state primary).lines (P.state standby).lines (⟦<Pair<WblEngine<P>, K> as Stepper>⟧.parts pair) start) }
+    ensures moments { MatchResult result
+        (λ pair. FormattingOnly Role.Primary (P.state primary) (⟦<Pair<WblEngine<P>, K> as Stepper>⟧.parts pair).device
+        × FormattingOnly Role.Standby (P.state standby) (⟦<Pair<WblEngine<P>, K> as Stepper>⟧.parts pair).standby.device)
+        (λ refused. FormattingOnly Role.Primary (P.state primary) (P.state refused.1) × FormattingOnly Role.Standby (P.state standby) (P.state refused.2)) }
 {
     let heap = heap_of(standby.lines());
     let (serving, following) = keyspaces;

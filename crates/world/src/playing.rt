@@ -1,8 +1,10 @@
 //! A run of any list of events over two devices.
 ghost use Rattle.std.specs.Prelude.{◌≡◌, ℕ, ◌≤◌, ◌∷◌, [], List, map, length, vec_len, vec_capacity, Some, IfOk};
 ghost use Rattle.world.specs.declared.trace.Ended.TheVariants.{AtFormatting};
+ghost use Rattle.model.specs.declared.record.Role.TheVariants.{Primary, Standby};
 ghost use Rattle.machine.specs.Events.{start};
-ghost use Rattle.world.specs.Headline.{KeepsItsWord, Plays};
+ghost use Rattle.world.specs.Committings.{SomewhereOnly};
+ghost use Rattle.world.specs.Headline.{KeepsItsWord, AtAnyMoment, Plays};
 ghost use Rattle.world.specs.Pairs.{PairStands};
 ghost use Rattle.world.specs.Sessions.{released_of};
 
@@ -25,13 +27,17 @@ use wbl_engine::{Durable, WblEngine};
 ///
 /// This is the promise of the whole server, for any devices and any list of events: one sequential Redis answers the list of calls, which takes each
 /// connection's requests in order; the bytes released to each connection begin its replies; each released call was covered, and is in what both
-/// images hold; and a crash leaves either image at a position of the list.
+/// images hold; and a crash, after the run or at any moment of it since the devices were formatted, leaves either image at a position of the list.
 pub fn run<P: Crashing>(alloc: Global, devices: Vec<P>, events: &[Event]) -> Trace<P>
     requires { 2 ≤ vec_len devices }
-    ensures { (primary standby : P) (others : List P) → devices.items ≡ primary ∷ standby ∷ others
+    ensures kept { (primary standby : P) (others : List P) → devices.items ≡ primary ∷ standby ∷ others
         → (primary' : P) × (standby' : P) × (result.devices.items ≡ primary' ∷ standby' ∷ others)
         × KeepsItsWord (P.state primary).lines (P.state standby).lines events.now result.ended result.done.items result.calls.items
         (map (λ bytes. bytes.items) result.released.items) (P.state primary') (P.state standby') }
+    ensures moments { (primary standby : P) (others : List P) → devices.items ≡ primary ∷ standby ∷ others
+        → (primary' : P) × (standby' : P) × (result.devices.items ≡ primary' ∷ standby' ∷ others)
+        × AtAnyMoment Primary result.calls.items (P.state primary) (P.state primary')
+        × AtAnyMoment Standby result.calls.items (P.state standby) (P.state standby') }
 {
     let mut devices = devices;
     let primary = devices.remove(0);
@@ -68,8 +74,10 @@ struct Played<P> {
 
 /// Plays the events over a primary and a standby.
 fn play_over<P: Pmem>(alloc: Global, primary: P, standby: P, events: &[Event]) -> Played<P>
-    ensures { KeepsItsWord (P.state primary).lines (P.state standby).lines events.now result.ended result.done.items result.calls.items
+    ensures kept { KeepsItsWord (P.state primary).lines (P.state standby).lines events.now result.ended result.done.items result.calls.items
         (map (λ bytes. bytes.items) result.released.items) (P.state result.primary) (P.state result.standby) }
+    ensures moments { AtAnyMoment Primary result.calls.items (P.state primary) (P.state result.primary)
+        × AtAnyMoment Standby result.calls.items (P.state standby) (P.state result.standby) }
 {
     let (done, released) = match room_for(alloc, events.len()) {
         Ok(room) => room,
@@ -120,9 +128,12 @@ fn play_on<P: Pmem, K: Keyspace + Drop>(
     requires none_released { released.items ≡ [] }
     requires room_released { SEATS ≤ vec_capacity released }
     requires stands { (first : ℕ) × (second : ℕ) × PairStands first second (⟦<Pair<WblEngine<P>, K> as Stepper>⟧.parts pair) start }
-    ensures { (first second : ℕ) → PairStands first second (⟦<Pair<WblEngine<P>, K> as Stepper>⟧.parts pair) start
+    ensures kept { (first second : ℕ) → PairStands first second (⟦<Pair<WblEngine<P>, K> as Stepper>⟧.parts pair) start
         → KeepsItsWord first second events.now result.ended result.done.items result.calls.items
         (map (λ bytes. bytes.items) result.released.items) (P.state result.primary) (P.state result.standby) }
+    ensures moments { (first second : ℕ) → PairStands first second (⟦<Pair<WblEngine<P>, K> as Stepper>⟧.parts pair) start
+        → SomewhereOnly first result.calls.items (⟦<Pair<WblEngine<P>, K> as Stepper>⟧.parts pair).device (P.state result.primary)
+        × SomewhereOnly second result.calls.items (⟦<Pair<WblEngine<P>, K> as Stepper>⟧.parts pair).standby.device (P.state result.standby) }
 {
     let mut pair = pair;
     let mut done = done;
@@ -161,7 +172,7 @@ fn play<S: Stepper>(stepper: &mut S, events: &[Event], done: &mut Vec<bool>) -> 
     requires room { length events.now ≤ vec_capacity done.old }
     requires stands { (first : ℕ) × (second : ℕ) × PairStands first second (S.parts stepper.old) start }
     ensures { (first second : ℕ) → PairStands first second (S.parts stepper.old) start
-        → Plays first second events.now result done.new.items (S.parts stepper.new) }
+        → Plays first second (S.parts stepper.old) events.now result done.new.items (S.parts stepper.new) }
 {
     for event in events {
         match stepper.step(event) {

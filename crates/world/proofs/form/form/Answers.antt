@@ -1,9 +1,16 @@
-use Rattle.std.proofs.Common.{◌≡◌, ℕ, refl, sym, subst}
-use Rattle.world.proofs.FormLemmas.{HasAll, engine-new, new-own, pair-starts, standby-new}
+use Rattle.std.proofs.Common.{sym, subst}
+use Rattle.model.specs.declared.record.Role.TheVariants.{Primary, Standby}
+use Rattle.world.proofs.FormLemmas.{HasAll, engine-new, formatting-none, new-own, pair-starts, standby-new}
 use Rattle.world.proofs.form.form.Goals as goal
 
-pub returns-in-Ok-format-2 : goal.returns-in-Ok-format-2
-returns-in-Ok-format-2 g c =
+pub returns-in-Err-clause-moments : goal.returns-in-Err-clause-moments
+returns-in-Err-clause-moments g c = (formatting-none Primary (g.P.Pmem.state c.args.primary), formatting-none Standby (g.P.Pmem.state c.args.standby))
+
+pub returns-in-Err-format-clause-moments : goal.returns-in-Err-format-clause-moments
+returns-in-Err-format-clause-moments g c = (c.in-Err-format.ensures.moments, formatting-none Standby (g.P.Pmem.state c.args.standby))
+
+pub returns-in-Ok-format-2-clause-stands : goal.returns-in-Ok-format-2-clause-stands
+returns-in-Ok-format-2-clause-stands g c =
     let made = c.in-Ok.ensures in
     let serving = c.in-Ok-format.ensures in
     let following = c.in-Ok-format-2.ensures in

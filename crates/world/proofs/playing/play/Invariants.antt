@@ -10,5 +10,5 @@ invariant-loop-event g l = record {
   count : vec_len l.done ≡ l.event-index;
   room : length l.events ≤ vec_capacity l.done;
   reaches : (first second : ℕ) → PairStands first second (g.S.Stepper.parts l.initial.stepper) start
-    → Reaches first second (take l.event-index l.events) l.done.items (g.S.Stepper.parts l.stepper);
+      → Reaches first second (g.S.Stepper.parts l.initial.stepper) (take l.event-index l.events) l.done.items (g.S.Stepper.parts l.stepper);
 }

@@ -1,12 +1,13 @@
-use Rattle.std.proofs.Common.{◌≡◌, ◌++◌, [], ◌∷◌, drop, List, Result, Ok, Err, refl, sym, ap, subst, ◌∙◌, arith, append-nil}
+use Rattle.std.proofs.Common.{◌≡◌, ℕ, ◌++◌, [], ◌∷◌, drop, List, Result, Ok, Err, refl, sym, ap, subst, ◌∙◌, arith, append-nil}
 use Rattle.kv_types.specs.declared.refusal.Refusal.{Refusal}
-use Rattle.wbl_engine.proofs.Results.{on_err_from}
 use Rattle.machine.specs.Events.{World, without_first}
+use Rattle.machine.specs.Sound.{Sound}
 use Rattle.standby.specs.declared.frame.Ack.{Ack}
 use Rattle.standby.specs.declared.standby.Standby.{Standby}
 use Rattle.world.specs.declared.arrivals.Arrivals.{Arrivals}
-use Rattle.world.specs.Standbys.{Node, ArrivalsStand}
-use Rattle.world.proofs.StandbyLemmas.{Answers, takes_ok, takes_refused, near_err, StandbyStands-near}
+use Rattle.world.specs.Committings.{NearOnly}
+use Rattle.world.specs.Standbys.{Node, ArrivalsStand, StandbyStands}
+use Rattle.world.proofs.StandbyLemmas.{Answers, takes_ok, takes_refused, frame-moments, StandbyStands-still}
 use Rattle.world.proofs.ArrivalLemmas.{FirstFrame, first-frame, place_within, one_change, applies}
 use Rattle.world.proofs.arrivals.Arrivals.apply.Given.{Over}
 use Rattle.world.proofs.arrivals.Arrivals.apply.Goals as goal
@@ -45,23 +46,22 @@ first : (g : Over) (c : After-on_frame g) (w : World) → ArrivalsStand c.args.s
 first g c w stands = first-frame c.args.standby.now.epoch c.args.frames.now w c.args.self.now c.in-Some.place.now c.in-Some-get.frame.now c.in-Some.ensures.item.3.0 c.in-Some.ensures.lookup
     c.in-Some-get.ensures.lookup.1 stands
 
+-- at any moment of the call
+moments : (g : Over) (c : After-on_frame g) (lines : ℕ) (w : World) → Sound w → ArrivalsStand c.args.standby.now.epoch w.calls c.args.frames.now c.args.self.now w.standby
+    → StandbyStands lines c.args.standby.now.epoch w.calls w.standby.position (node g c.args.standby.now)
+    → NearOnly lines w.calls w.standby.position (g.E.Durable.device c.args.standby.now.engine) (g.E.Durable.device c.on_frame.new.self.engine)
+moments g c lines w sound arrives stands =
+    let epoch = c.args.standby.now.epoch in
+    let frame = c.in-Some-get.frame.now in
+    let one = first g c w arrives in
+    frame-moments lines epoch w.calls w.standby frame one.span (node g c.args.standby.now) (node g c.on_frame.new.self) one.is stands
+    (one_change epoch c.args.frames.now w frame (drop 1 c.args.self.now.delivered.items) sound one) c.on_frame.result (answers g c)
+
 pub returns-in_default-get-clause-applies : goal.returns-in_default-get-clause-applies
 returns-in_default-get-clause-applies g c = λ lines w sound arrives stands.
     let within = place_within c.args.standby.now.epoch c.args.frames.now w c.args.self.now c.in-Some.place.now c.in-Some.ensures.item.3.0 c.in-Some.ensures.lookup arrives in
     let past = c.in_default-get.ensures.lookup.3 in
     record { done = absurd (omega (arith, within, past)); goes = λ did. cc; stays = λ did. (arrives, refl {a = node g c.args.standby.now}) }
-
-pub returns-in_err-reserve-clause-near : goal.returns-in_err-reserve-clause-near
-returns-in_err-reserve-clause-near g c =
-    on_err_from c.from_residual.result (λ lines w sound arrives stands. StandbyStands-near lines c.args.standby.now.epoch w.calls w.standby.position (node g c.args.standby.now) stands)
-
-pub returns-in-Err-2-clause-near : goal.returns-in-Err-2-clause-near
-returns-in-Err-2-clause-near g c = λ lines w sound arrives stands.
-    let front = (goal.at.returns-in-Err-2-clause-near g c).After-on_frame in
-    let one = first g front w arrives in
-    near_err lines c.args.standby.now.epoch w.calls w.standby c.in-Some-get.frame.now one.span (node g c.args.standby.now) (node g c.on_frame.new.self) one.is stands
-    (one_change c.args.standby.now.epoch c.args.frames.now w c.in-Some-get.frame.now _ sound one) c.in-Err-2.refusal
-    (told g front (Err c.in-Err-2.refusal) c.in-Err-2.is)
 
 pub returns-clause-applies : goal.returns-clause-applies
 returns-clause-applies g c =
@@ -84,3 +84,18 @@ returns-clause-applies g c =
           (takes_refused lines epoch w'.calls (without_first w'.standby) frame one.span (node g c.args.standby.now) (node g c.on_frame.new.self) one.is stands w.in-Err.refusal (w.goes_on.ensures.0 w.if-goes_on.true)
           (told g front (Err w.in-Err.refusal) w.in-Err.is))
     ]
+
+pub returns-in_default-clause-moments : goal.returns-in_default-clause-moments
+returns-in_default-clause-moments g c = λ lines w sound arrives stands. StandbyStands-still lines c.args.standby.now.epoch w.calls w.standby.position (node g c.args.standby.now) stands
+
+pub returns-in_default-get-clause-moments : goal.returns-in_default-get-clause-moments
+returns-in_default-get-clause-moments g c = λ lines w sound arrives stands. StandbyStands-still lines c.args.standby.now.epoch w.calls w.standby.position (node g c.args.standby.now) stands
+
+pub returns-in_err-reserve-clause-moments : goal.returns-in_err-reserve-clause-moments
+returns-in_err-reserve-clause-moments g c = λ lines w sound arrives stands. StandbyStands-still lines c.args.standby.now.epoch w.calls w.standby.position (node g c.args.standby.now) stands
+
+pub returns-in-Err-2-clause-moments : goal.returns-in-Err-2-clause-moments
+returns-in-Err-2-clause-moments g c = moments g (goal.at.returns-in-Err-2-clause-moments g c).After-on_frame
+
+pub returns-clause-moments : goal.returns-clause-moments
+returns-clause-moments g c = moments g (goal.at.returns-clause-moments g c).After-on_frame

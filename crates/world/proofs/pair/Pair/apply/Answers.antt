@@ -1,5 +1,3 @@
-use Rattle.std.proofs.Common.{refl}
-use Rattle.machine.specs.declared.event.Event.TheVariants as events
 use Rattle.world.proofs.PairLemmas.{apply-does}
 use Rattle.world.proofs.pair.Pair.apply.Goals as goal
 
@@ -13,4 +11,4 @@ returns g c = apply-does _ c.apply.new.self
       room = c.apply.new.standby.heap;
       epoch = c.apply.new.standby.epoch;
     })
-    c.as_slice.result.now c.apply.result c.as_slice.ensures.value c.apply.ensures.applies c.apply.ensures.near
+    c.as_slice.result.now c.apply.result c.as_slice.ensures.value c.apply.ensures.applies c.apply.ensures.moments

@@ -1,5 +1,3 @@
-use Rattle.std.proofs.Common.{refl}
-use Rattle.machine.specs.declared.event.Event.TheVariants as events
 use Rattle.world.proofs.PairLemmas.{commit-does}
 use Rattle.world.proofs.pair.Pair.commit.Goals as goal
 
@@ -8,4 +6,4 @@ commit-requires g c = c.requires.stands.parts.leads.groups_are
 
 pub returns : goal.returns
 returns g c = commit-does _ c.commit.new.self (g.E.Durable.device c.commit.new.engine) (g.E.Durable.contents c.commit.new.engine) (g.E.Durable.is_faulted c.commit.new.engine) c.commit.result
-    c.commit.ensures.goes c.commit.ensures.leads c.commit.ensures.near
+    c.commit.ensures.goes c.commit.ensures.leads c.commit.ensures.moments
