@@ -30,7 +30,7 @@ use Rattle.standby.proofs.TakenLemmas.{All-map, All-front, All-rest, IsFree, IsW
 
 -- ---- what is free of the heap is free in the contents
 
-placed_of_free : (contents : Contents) (room : Room) (put : Put) → IsLeftOf contents room → IsFree room put → IsPlaced contents.lines put
+pub placed_of_free : (contents : Contents) (room : Room) (put : Put) → IsLeftOf contents room → IsFree room put → IsPlaced contents.lines put
 placed_of_free contents room put left free =
     let first = left.lines put.extent.first_line (free.run put.extent.first_line (omega arith) (omega (arith, free.some))) in
     let end = put.extent.first_line + (put.extent.lines - 1) in
@@ -45,7 +45,7 @@ swapped : (first lines first' lines' : ℕ) → AreApart first lines first' line
 swapped first lines first' lines' (inl h) = inr h
 swapped first lines first' lines' (inr h) = inl h
 
-unused_of_free : (contents : Contents) (room : Room) (put : Put) → IsLeftOf contents room → IsFree room put → IsUnused contents.versions contents.is_free put
+pub unused_of_free : (contents : Contents) (room : Room) (put : Put) → IsLeftOf contents room → IsFree room put → IsUnused contents.versions contents.is_free put
 unused_of_free contents room put left free = record {
   entry = (left.entries put.entry.0 free.entry).1;
   lines = λ i version begun.

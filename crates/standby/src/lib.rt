@@ -5,6 +5,8 @@ mod frame;
 mod part;
 mod places;
 mod standby;
+#[cfg(test)]
+mod tests;
 
 pub use frame::{Ack, Frame};
 pub use standby::Standby;

@@ -138,16 +138,18 @@ commit-goes lines w old new group link device device' contents contents' is_faul
     record {
       done = all_three (is_ready w.committer.stage) (is_nonempty w.committer.waiting) (has_room w.link.waiting)
           (ap is_ready is_ready_now) (ap is_nonempty next.firsts.all) (has_room-groups calls link w.link.waiting are ∙ lt-ltb (length link) PIPE_ITEMS room);
-      goes = λ did. subst (λ spans. CommittingStands calls new (committed_first spans w.committer) × EngineStands lines calls (committed_first spans w.committer).position device' contents' is_faulted') (sym next.firsts.all)
-          (record {
-            groups = next.firsts.are;
-            stage_is = subst (λ stage. StageStands calls stage (machine_stage.Durable span)) (sym durable) next.firsts.is;
-            local_is = local ∙ stands.local_is;
-          }, record {
-            contents_at = subst (AreContentsAt lines calls span.after) (sym (Same-is (after_group contents group) contents' moved)) next.after;
-            sound = sound;
-            durable = leaves;
-          });
+      goes = λ did. subst (λ spans. CommittingStands calls new (committed_first spans w.committer) × EngineStands lines calls (committed_first spans w.committer).position device' contents' is_faulted') (sym next.firsts.all) (
+        record {
+          groups = next.firsts.are;
+          stage_is = subst (λ stage. StageStands calls stage (machine_stage.Durable span)) (sym durable) next.firsts.is;
+          local_is = local ∙ stands.local_is;
+        },
+        record {
+          contents_at = subst (AreContentsAt lines calls span.after) (sym (Same-is (after_group contents group) contents' moved)) next.after;
+          sound = sound;
+          durable = leaves;
+        },
+      );
       stays = λ did. cc;
     }
 
@@ -162,13 +164,17 @@ commit-moments lines w code group rest device device' contents is_faulted waits 
   where
     next : NextGroup lines w.calls w.committer.position contents group rest w.committer.waiting
     next = next-group lines w.calls w.committer.position contents group rest w.committer.waiting engine.contents_at lawful (subst (λ groups. AreGroupsOf w.calls groups w.committer.waiting) waits stands.groups)
+
     chain : IsChain w.committer.position (next.firsts.first ∷ next.firsts.others) w.committer.closed
     chain = subst (λ spans. IsChain w.committer.position spans w.committer.closed) next.firsts.all sound.committer.waiting
+
     either : (image : Image) → Keeps contents image ⊎ Keeps (after_group contents group) image → StandsAtOrNext lines w.calls w.committer.position image
     either image (inl keeps) = inl (keeps-stands lines w.calls w.committer.position contents image engine.contents_at keeps)
     either image (inr keeps) =
-        inr (omega (arith, chain.1, next.firsts.is.span_within.within),
-        keeps-stands lines w.calls (w.committer.position + 1) (after_group contents group) image (subst (λ p. AreContentsAt lines w.calls p (after_group contents group)) chain.1 next.after) keeps)
+        inr (
+          omega (arith, chain.1, next.firsts.is.span_within.within),
+          keeps-stands lines w.calls (w.committer.position + 1) (after_group contents group) image (subst (λ p. AreContentsAt lines w.calls p (after_group contents group)) chain.1 next.after) keeps,
+        )
 
 -- ---- a group handed on
 
@@ -202,11 +208,14 @@ hand-goes w old new group link link' shown waiting ready local last sound stands
     let offered : link' ≡ link ++ group ∷ [] = last (omega (arith, room, length-groups calls link w.link.waiting are)) in
     record {
       done = sym (ap is_shown shows.shows);
-      goes = λ did. (record {
-        groups = subst (λ (pipe : Waiting Group). AreGroupsOf calls pipe.items w.committer.waiting) (sym waiting) stands.groups;
-        stage_is = subst (λ stage. StageStands calls stage machine_stage.Ready) (sym ready) tt;
-        local_is = local ∙ stands.local_is;
-      }, subst (λ stage. AreGroupsOf calls link' (w.link.waiting ++ handed stage)) (sym shows.shows)
-          (subst (λ groups. AreGroupsOf calls groups (w.link.waiting ++ shows.span ∷ [])) (sym offered) (AreGroupsOf-push calls link w.link.waiting group shows.span are shows.is)));
+      goes = λ did. (
+        record {
+          groups = subst (λ (pipe : Waiting Group). AreGroupsOf calls pipe.items w.committer.waiting) (sym waiting) stands.groups;
+          stage_is = subst (λ stage. StageStands calls stage machine_stage.Ready) (sym ready) tt;
+          local_is = local ∙ stands.local_is;
+        },
+        subst (λ stage. AreGroupsOf calls link' (w.link.waiting ++ handed stage)) (sym shows.shows)
+            (subst (λ groups. AreGroupsOf calls groups (w.link.waiting ++ shows.span ∷ [])) (sym offered) (AreGroupsOf-push calls link w.link.waiting group shows.span are shows.is)),
+      );
       stays = λ did. cc;
     }

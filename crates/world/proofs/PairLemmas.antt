@@ -68,9 +68,14 @@ cut-near first second old new w stands same primary standby =
       calls = same.calls ∙ sessions.calls_are;
       released = λ c. ap (λ (all : List (List ℕ)). slice_index_or all c []) same.released
           ∙ released-told w.calls 0 old.sessions.connections.items w.connections sessions.connections_stand c;
-      few = omega (arith, stands.sound.seats, length-connections w.calls 0 old.sessions.connections.items w.connections sessions.connections_stand,
-          ap length same.released, length-map old.sessions.connections.items (λ (k : Connection'). k.outbound.released.items),
-          length-map new.sessions.connections.items (λ (k : Connection'). k.outbound.released.items));
+      few = omega (
+        arith,
+        stands.sound.seats,
+        length-connections w.calls 0 old.sessions.connections.items w.connections sessions.connections_stand,
+        ap length same.released,
+        length-map old.sessions.connections.items (λ (k : Connection'). k.outbound.released.items),
+        length-map new.sessions.connections.items (λ (k : Connection'). k.outbound.released.items),
+      );
       primary = primary;
       standby = standby;
     }
@@ -425,29 +430,29 @@ hand-does old committing waiting did go same =
           (with_handed committing (record old.link { waiting = waiting }) old) stands.sound refl
           (goes-map (go w stands.sound parts.committing parts.link.waiting)
           (λ moved.
-              let shown = shown-parts first second old committing w (ready_again w.committer) parts same moved.0 refl refl in
-              record {
-                sessions = shown.sessions;
-                sequencer = shown.sequencer;
-                committing = shown.committing;
-                engine = shown.engine;
-                leads = shown.leads;
-                link = waits (handed_to (handed w.committer.stage) w.link) w parts.link refl moved.1;
-                arrivals = parts.arrivals;
-                standby = parts.standby;
-              })
+          let shown = shown-parts first second old committing w (ready_again w.committer) parts same moved.0 refl refl in
+          record {
+            sessions = shown.sessions;
+            sequencer = shown.sequencer;
+            committing = shown.committing;
+            engine = shown.engine;
+            leads = shown.leads;
+            link = waits (handed_to (handed w.committer.stage) w.link) w parts.link refl moved.1;
+            arrivals = parts.arrivals;
+            standby = parts.standby;
+          })
           (λ stayed.
-              let shown = shown-parts first second old committing w w.committer parts same stayed.0 refl refl in
-              record {
-                sessions = shown.sessions;
-                sequencer = shown.sequencer;
-                committing = shown.committing;
-                engine = shown.engine;
-                leads = shown.leads;
-                link = waits w.link w parts.link refl stayed.1;
-                arrivals = parts.arrivals;
-                standby = parts.standby;
-              }));
+          let shown = shown-parts first second old committing w w.committer parts same stayed.0 refl refl in
+          record {
+            sessions = shown.sessions;
+            sequencer = shown.sequencer;
+            committing = shown.committing;
+            engine = shown.engine;
+            leads = shown.leads;
+            link = waits w.link w parts.link refl stayed.1;
+            arrivals = parts.arrivals;
+            standby = parts.standby;
+          }));
       cut = tt;
       moments = moments-same old (with_handed committing (record old.link { waiting = waiting }) old) refl refl;
     }

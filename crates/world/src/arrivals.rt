@@ -77,18 +77,42 @@ impl Arrivals {
         requires durable { IsDurable (E.device standby.old.engine) (E.contents standby.old.engine) }
         ensures applies { IfOk result (λ did. (lines : ℕ) (w : World) → Sound w
             → ArrivalsStand standby.old.epoch w.calls frames.now self.old w.standby
-            → StandbyStands lines standby.old.epoch w.calls w.standby.position (record { device = E.device standby.old.engine; contents = E.contents standby.old.engine;
-              is_faulted = E.is_faulted standby.old.engine; table = K.table standby.old.keyspace; room = standby.old.heap; epoch = standby.old.epoch })
+            → StandbyStands lines standby.old.epoch w.calls w.standby.position (record {
+              device = E.device standby.old.engine;
+              contents = E.contents standby.old.engine;
+              is_faulted = E.is_faulted standby.old.engine;
+              table = K.table standby.old.keyspace;
+              room = standby.old.heap;
+              epoch = standby.old.epoch;
+            })
             → AppliesFirst lines standby.old.epoch frames.now w did self.new
-            (record { device = E.device standby.old.engine; contents = E.contents standby.old.engine;
-              is_faulted = E.is_faulted standby.old.engine; table = K.table standby.old.keyspace; room = standby.old.heap; epoch = standby.old.epoch })
-            (record { device = E.device standby.new.engine; contents = E.contents standby.new.engine;
-              is_faulted = E.is_faulted standby.new.engine; table = K.table standby.new.keyspace; room = standby.new.heap; epoch = standby.new.epoch })) }
+            (record {
+              device = E.device standby.old.engine;
+              contents = E.contents standby.old.engine;
+              is_faulted = E.is_faulted standby.old.engine;
+              table = K.table standby.old.keyspace;
+              room = standby.old.heap;
+              epoch = standby.old.epoch;
+            })
+            (record {
+              device = E.device standby.new.engine;
+              contents = E.contents standby.new.engine;
+              is_faulted = E.is_faulted standby.new.engine;
+              table = K.table standby.new.keyspace;
+              room = standby.new.heap;
+              epoch = standby.new.epoch;
+            })) }
         // at any moment of the call
         ensures moments { (lines : ℕ) (w : World) → Sound w
             → ArrivalsStand standby.old.epoch w.calls frames.now self.old w.standby
-            → StandbyStands lines standby.old.epoch w.calls w.standby.position (record { device = E.device standby.old.engine; contents = E.contents standby.old.engine;
-              is_faulted = E.is_faulted standby.old.engine; table = K.table standby.old.keyspace; room = standby.old.heap; epoch = standby.old.epoch })
+            → StandbyStands lines standby.old.epoch w.calls w.standby.position (record {
+              device = E.device standby.old.engine;
+              contents = E.contents standby.old.engine;
+              is_faulted = E.is_faulted standby.old.engine;
+              table = K.table standby.old.keyspace;
+              room = standby.old.heap;
+              epoch = standby.old.epoch;
+            })
             → NearOnly lines w.calls w.standby.position (E.device standby.old.engine) (E.device standby.new.engine) }
     {
         let Some(place) = self.delivered.front() else {

@@ -162,11 +162,8 @@ impl<E: Durable, K: Keyspace> Pair<E, K> {
         requires { HasWorld (⟦<Pair<E, K> as Stepper>⟧.parts self.old) }
         ensures { Does (⟦<Pair<E, K> as Stepper>⟧.parts self.old) events.Apply result (⟦<Pair<E, K> as Stepper>⟧.parts self.new) }
     {
-        self.arrivals.apply(
-            self.alloc,
-            &mut self.standby,
-            self.link.frames.as_slice(),
-        )
+        self.arrivals
+            .apply(self.alloc, &mut self.standby, self.link.frames.as_slice())
     }
 
     fn ack_delivered(&mut self, ack: u64) -> Result<bool, Refusal>

@@ -1,0 +1,314 @@
+//! Commits to simulated devices: what an image holds after them. Names and values are written as numbers.
+ghost use Rattle.std.specs.Prelude.{◌≡◌, ℕ, ◌<◌, ◌≤◌, ◌↔◌, false, [], IsTrue, IfOk, OnErr};
+ghost use Rattle.extent_heap.specs.Room.{is_free_line, is_free_entry};
+ghost use Rattle.model.specs.Groups.{Contents, IsGroup};
+ghost use Rattle.model.specs.Images.{entries_of_lines, first_extent_line};
+ghost use Rattle.wbl_engine.specs.Contents.{IsDurable, IsNew};
+
+use crate::part::make_part;
+use crate::{Ack, Frame, Standby};
+use extent_heap::ExtentHeap;
+use kv_types::{Change, Key, RecordId, Refusal, Value, write_int};
+use model::{Group, ImageContents, Role, read_image};
+use mv_keyspace::{Keyspace, ListKeyspace};
+use pmem::{Crashing, Pmem, SimPmem};
+use std::alloc::{AllocError, Global};
+use std::process::Abort;
+use std::test::Fail;
+use wbl_engine::{Durable, WblEngine};
+
+/// A record: its key, and its field if it is one of a hash.
+type Name = (i64, Option<i64>);
+
+/// A change of a case.
+#[derive(Clone, Copy)]
+enum Step {
+    Put(Name, i64),
+    Drop(Name),
+    DropKey(i64),
+    Clear,
+}
+
+fn key(alloc: Global, number: i64) -> Result<Key, Fail> {
+    Ok(Key::new(write_int(alloc, number)?).ok_or("a long key")?)
+}
+
+fn record_id(alloc: Global, name: Name) -> Result<RecordId, Fail> {
+    match name.1 {
+        None => Ok(RecordId::Str(key(alloc, name.0)?)),
+        Some(field) => Ok(RecordId::Field(key(alloc, name.0)?, key(alloc, field)?)),
+    }
+}
+
+fn change(alloc: Global, step: Step) -> Result<Change, Fail> {
+    match step {
+        Step::Put(name, number) => {
+            let value = Value::new(write_int(alloc, number)?).ok_or("a long value")?;
+            Ok(Change::Put(record_id(alloc, name)?, value))
+        }
+        Step::Drop(name) => Ok(Change::Drop(record_id(alloc, name)?)),
+        Step::DropKey(number) => Ok(Change::DropKey(key(alloc, number)?)),
+        Step::Clear => Ok(Change::Clear),
+    }
+}
+
+/// The frame from 0 to a position with these changes.
+fn frame(alloc: Global, after: u64, steps: &[Step]) -> Result<Frame, Fail>
+    ensures after { IfOk result (λ frame. frame.after ≡ after) }
+{
+    let mut changes = Vec::new(alloc);
+    for step in steps {
+        changes.push(change(alloc, *step)?)?;
+    }
+    Ok(Frame {
+        epoch: 1,
+        before: 0,
+        after,
+        changes,
+    })
+}
+
+/// An engine over a new image of 4,096 lines. The fence of this number fails, counted from 1; at 0 none does. Formatting makes three.
+fn new_engine(alloc: Global, role: Role, fence: u64) -> Result<WblEngine<SimPmem>, Refusal>
+    ensures new { IfOk result (λ engine. IsNew 4096 role (⟦<WblEngine<SimPmem> as Durable>⟧.contents engine)) }
+    ensures durable { IfOk result (λ engine. IsDurable (⟦<WblEngine<SimPmem> as Durable>⟧.device engine) (⟦<WblEngine<SimPmem> as Durable>⟧.contents engine)) }
+    ensures sound { IfOk result (λ engine. ⟦<WblEngine<SimPmem> as Durable>⟧.is_faulted engine ≡ false) }
+{
+    let mut device = SimPmem::new(alloc, 4_096)?;
+    device.fail_at(fence);
+    match WblEngine::format(device, role) {
+        Ok(engine) => Ok(engine),
+        Err((refusal, _)) => Err(refusal),
+    }
+}
+
+/// All entries and extents of a new image of so many lines are free.
+fn heap_of(lines: u64) -> ExtentHeap
+    ensures lines { (line : ℕ) → IsTrue (is_free_line result line) ↔ ((first_extent_line lines ≤ line) × (line < lines)) }
+    ensures entries { (i : ℕ) → IsTrue (is_free_entry result i) ↔ (i < entries_of_lines lines) }
+{
+    let entries = lines / 8;
+    ExtentHeap::new(8 + entries, lines, entries)
+}
+
+/// What a device holds, as its words are loaded.
+fn contents_of(alloc: Global, device: &SimPmem) -> Result<ImageContents, Fail> {
+    let mut words = Vec::new(alloc);
+    for word in 0..8 * device.lines() {
+        words.push(device.load(word))?;
+    }
+    Ok(read_image(alloc, &words)?.ok_or("no whole image")?)
+}
+
+/// What a standby of epoch 1 over a new image answers to a frame, and its device afterwards.
+fn take<E: Durable, K: Keyspace + Drop>(
+    alloc: Global,
+    engine: E,
+    keyspace: K,
+    frame: &Frame,
+) -> (Result<Ack, Refusal>, E::Device)
+    requires new { IsNew 4096 Role.Standby (E.contents engine) }
+    requires durable { IsDurable (E.device engine) (E.contents engine) }
+    requires sound { E.is_faulted engine ≡ false }
+    requires empty { K.table keyspace ≡ [] }
+{
+    let mut standby = Standby {
+        engine,
+        keyspace,
+        heap: heap_of(4_096),
+        epoch: 1,
+    };
+    let answer = standby.on_frame(alloc, frame);
+    (answer, standby.into_device())
+}
+
+/// What a new standby answers to a frame, and what its image holds then.
+fn answer_to(alloc: Global, frame: &Frame) -> Result<(Result<Ack, Refusal>, ImageContents), Fail> {
+    let engine = new_engine(alloc, Role::Standby, 0)?;
+    let (answer, device) = take(alloc, engine, ListKeyspace::new(alloc), frame);
+    Ok((answer, contents_of(alloc, &device)?))
+}
+
+/// The record has this value.
+fn holds(
+    rt: &impl Abort,
+    alloc: Global,
+    contents: &ImageContents,
+    name: Name,
+    number: i64,
+) -> Result<(), Fail> {
+    let found = contents
+        .keyspace
+        .get(&record_id(alloc, name)?)
+        .ok_or("a record")?;
+    assert_eq!(rt; found.as_slice(), write_int(alloc, number)?.as_slice());
+    Ok(())
+}
+
+#[test]
+fn a_standby_position_stays_below_2_to_the_62(rt: HostRuntime) -> Result<(), Fail> {
+    let steps = [Step::Put((1, None), 10)];
+    let last = 4_611_686_018_427_387_903;
+    let (answer, contents) = answer_to(rt.alloc(), &frame(rt.alloc(), last + 1, &steps)?)?;
+    assert_eq!(rt; answer.map_err(|refusal| refusal.number()), Err(6));
+    assert_eq!(rt; contents.record.number, 1);
+    assert_eq!(rt; contents.record.position, 0);
+    assert!(rt; contents.keyspace.is_empty());
+
+    let (answer, contents) = answer_to(rt.alloc(), &frame(rt.alloc(), last, &steps)?)?;
+    assert_eq!(rt;
+        answer,
+        Ok(Ack {
+            epoch: 1,
+            position: last
+        })
+    );
+    assert_eq!(rt; contents.record.number, 2);
+    assert_eq!(rt; contents.record.position, last);
+    assert_eq!(rt; contents.keyspace.len(), 1);
+    holds(&rt, rt.alloc(), &contents, (1, None), 10)
+}
+
+#[test]
+fn a_frame_of_every_kind_commits_whole(rt: HostRuntime) -> Result<(), Fail> {
+    let steps = [
+        Step::Put((9, None), 9),
+        Step::Clear,
+        Step::Put((1, None), 1),
+        Step::Put((2, None), 2),
+        Step::Put((3, None), 3),
+        Step::Put((7, Some(1)), 71),
+        Step::Put((7, Some(2)), 72),
+        Step::Put((8, Some(1)), 81),
+        Step::Put((8, Some(2)), 82),
+        Step::Drop((1, None)),
+        Step::Drop((7, Some(1))),
+        Step::DropKey(8),
+        Step::Put((2, None), 22),
+    ];
+    let (answer, contents) = answer_to(rt.alloc(), &frame(rt.alloc(), 13, &steps)?)?;
+    assert_eq!(rt;
+        answer,
+        Ok(Ack {
+            epoch: 1,
+            position: 13
+        })
+    );
+    // A frame takes one record and one stamp, however many changes it has.
+    assert_eq!(rt; contents.record.number, 2);
+    assert_eq!(rt; contents.record.position, 13);
+    assert_eq!(rt; contents.record.cp, 1);
+    assert_eq!(rt; contents.record.cd, 4_098);
+    assert_eq!(rt; contents.record.role, Role::Standby);
+    assert_eq!(rt; contents.keyspace.len(), 3);
+    for (name, number) in [((2, None), 22), ((3, None), 3), ((7, Some(2)), 72)] {
+        holds(&rt, rt.alloc(), &contents, name, number)?;
+    }
+    Ok(())
+}
+
+/// The change of a group that ends at this position.
+fn step_at(position: u8) -> Step {
+    let number = i64::from(position);
+    match position {
+        21 => Step::Clear,
+        41..=58 => Step::Put((7, Some(number)), number),
+        59 => Step::Drop((22, None)),
+        60 => Step::Drop((7, Some(41))),
+        61 => Step::DropKey(23),
+        // A string is written over, and another gives way to a hash.
+        62 => Step::Put((24, None), number),
+        63 => Step::Put((25, Some(1)), number),
+        _ => Step::Put((number, None), number),
+    }
+}
+
+/// A group of so many parts for a new image, made on an empty keyspace.
+fn group_of<K: Keyspace + Drop>(alloc: Global, keyspace: K, count: u8) -> Result<Group, Fail>
+    requires empty { K.table keyspace ≡ [] }
+    requires some { 0 < count }
+    requires few { count ≤ 64 }
+    ensures { IfOk result (λ group. (contents : Contents) → IsNew 4096 Role.Primary contents → IsGroup contents group) }
+{
+    let mut keyspace = keyspace;
+    let mut heap = heap_of(4_096);
+    let mut parts = Vec::new(alloc);
+    for before in 0..count {
+        let after = before + 1;
+        let frame = frame(alloc, u64::from(after), &[step_at(after)])?;
+        let part = make_part(alloc, &mut keyspace, &mut heap, &frame)?;
+        parts.push(part)?;
+    }
+    Ok(Group { before: 0, parts })
+}
+
+/// Commits a group to a new image.
+fn commit<E: Durable>(engine: &mut E, group: &Group) -> Result<(), Refusal>
+    requires new { IsNew 4096 Role.Primary (E.contents engine.old) }
+    requires group { (contents : Contents) → IsNew 4096 Role.Primary contents → IsGroup contents group.now }
+    ensures { OnErr result (IsNew 4096 Role.Primary (E.contents engine.new)) }
+{
+    match engine.commit(group) {
+        Ok(_) => Ok(()),
+        Err(refusal) => Err(refusal),
+    }
+}
+
+/// Each of three commits of a group to a new image answers that a fence failed.
+fn faults<E: Durable>(rt: &impl Abort, engine: &mut E, group: &Group)
+    requires new { IsNew 4096 Role.Primary (E.contents engine.old) }
+    requires group { (contents : Contents) → IsNew 4096 Role.Primary contents → IsGroup contents group.now }
+{
+    for _ in 0..3 {
+        match commit(engine, group) {
+            Ok(()) => panic!(rt; "committed"),
+            Err(refusal) => assert_eq!(rt; refusal, Refusal::Fault),
+        }
+    }
+}
+
+#[test]
+fn a_group_of_64_parts_commits_whole(rt: HostRuntime) -> Result<(), Fail> {
+    let group = group_of(rt.alloc(), ListKeyspace::new(rt.alloc()), 64)?;
+    let mut engine = new_engine(rt.alloc(), Role::Primary, 0)?;
+    assert_eq!(rt; commit(&mut engine, &group), Ok(()));
+    assert_eq!(rt; engine.position(), 64);
+
+    let contents = contents_of(rt.alloc(), &engine.into_device())?;
+    assert_eq!(rt; contents.record.number, 2);
+    assert_eq!(rt; contents.record.position, 64);
+    assert_eq!(rt; contents.record.cp, 64);
+    assert_eq!(rt; contents.record.cd, 4_161);
+    // The strings 26 to 40, 24 and 64, and the fields 42 to 58 of one hash and one of another.
+    assert_eq!(rt; contents.keyspace.len(), 35);
+    for number in 26..=40 {
+        holds(&rt, rt.alloc(), &contents, (number, None), number)?;
+    }
+    for number in 42..=58 {
+        holds(&rt, rt.alloc(), &contents, (7, Some(number)), number)?;
+    }
+    for (name, number) in [((24, None), 62), ((25, Some(1)), 63), ((64, None), 64)] {
+        holds(&rt, rt.alloc(), &contents, name, number)?;
+    }
+    Ok(())
+}
+
+#[test]
+fn a_fault_stays(rt: HostRuntime) -> Result<(), Fail> {
+    let group = group_of(rt.alloc(), ListKeyspace::new(rt.alloc()), 1)?;
+    // A commit makes the fences 4 to 6.
+    for fence in 4..=6 {
+        let mut engine = new_engine(rt.alloc(), Role::Primary, fence)?;
+        faults(&rt, &mut engine, &group);
+        assert_eq!(rt; engine.position(), 0);
+        let mut device = engine.into_device();
+        // No fence was asked for after the one that failed.
+        assert_eq!(rt; device.failures(), 1);
+        device.crash(&[]);
+        let contents = contents_of(rt.alloc(), &device)?;
+        assert_eq!(rt; contents.record.number, 1);
+        assert_eq!(rt; contents.record.position, 0);
+        assert!(rt; contents.keyspace.is_empty());
+    }
+    Ok(())
+}
