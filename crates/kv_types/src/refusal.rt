@@ -2,8 +2,10 @@
 ghost use Rattle.std.specs.Prelude.{◌≡◌};
 
 use std::alloc::{AllocError, AllocFailed};
+use std::error::Error;
+use std::fmt;
 
-/// Why a call was refused. Each has a number of its own, which programs print.
+/// Why a call was refused. Each has a number of its own and a text, which programs print.
 #[derive(Clone, Copy, Debug, PartialEq, Eq)]
 pub enum Refusal {
     /// The device's failure count rose, in this call or in an earlier call of the same engine; or a file could not be opened, made or read.
@@ -70,3 +72,33 @@ impl Refusal {
         self as u8
     }
 }
+
+impl fmt::Display for Refusal {
+    ghost use Rattle.std.specs.Prelude.{Some};
+    ghost use Rattle.kv_types.specs.Refusals.{refusal_text};
+
+    ghost output = { λ r. Some (refusal_text r) };
+
+    fn fmt<W: fmt::Write>(&self, f: &mut fmt::Formatter<W>) -> fmt::Result {
+        f.write_str(match self {
+            Refusal::Fault => "device fault",
+            Refusal::BadMagic => "bad magic",
+            Refusal::BadVersion => "bad version",
+            Refusal::WrongSize => "wrong size",
+            Refusal::Full => "full",
+            Refusal::Exhausted => "stamps exhausted",
+            Refusal::Damaged => "damaged image",
+            Refusal::SeatsFull => "seats full",
+            Refusal::PipeFull => "pipe full",
+            Refusal::FrameFault => "frame fault",
+            Refusal::WrongEpoch => "wrong epoch",
+            Refusal::PositionGap => "position gap",
+            Refusal::StandbyAhead => "standby ahead",
+            Refusal::Memory => "out of memory",
+            Refusal::NotFenced => "not fenced",
+            Refusal::WrongRole => "wrong role",
+        })
+    }
+}
+
+impl Error for Refusal {}

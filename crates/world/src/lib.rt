@@ -16,3 +16,6 @@ mod trace;
 pub use machine::{Event, Mark};
 pub use playing::run;
 pub use trace::{Ended, Trace};
+
+#[cfg(test)]
+mod tests;

@@ -1,0 +1,4 @@
+pub mod FeedingLemmas
+pub mod AgendaLemmas
+pub mod AnswerLemmas
+pub mod ServingLemmas

@@ -1,0 +1,45 @@
+//! What a pair of new nodes answers to one connection.
+ghost use Rattle.std.specs.Prelude.{◌≡◌, [], map, None, IfOk, slice_index_or};
+ghost use Rattle.std.specs.List.{concat};
+ghost use Rattle.server.specs.Answers.{IsAnswer};
+
+use crate::agenda::{IMAGE_LINES, agenda};
+use bytes::Bytes;
+use kv_types::Refusal;
+use pmem::SimPmem;
+use std::alloc::Global;
+use world::{Ended, Trace, run};
+
+/// The bytes released to the connection that these pieces come from, served by a pair of new nodes.
+///
+/// `Memory` where a growth was refused, `Fault` where a fence failed, which a simulated device does only where memory is refused to it.
+pub fn answer(alloc: Global, pieces: Vec<Bytes>) -> Result<Vec<u8>, Refusal>
+    ensures { IfOk result (λ answer. IsAnswer (concat pieces.items) answer.items) }
+{
+    let events = agenda(alloc, pieces)?;
+    let primary = SimPmem::new(alloc, IMAGE_LINES)?;
+    let standby = SimPmem::new(alloc, IMAGE_LINES)?;
+    let devices = vec![in alloc; primary, standby]?;
+    released(alloc, run(alloc, devices, &events))
+}
+
+/// What the run released to the connection, if it did not end early.
+fn released(alloc: Global, trace: Trace<SimPmem>) -> Result<Vec<u8>, Refusal>
+    ensures ended { IfOk result (λ answer. trace.ended ≡ None) }
+    ensures first { IfOk result (λ answer. answer.items ≡ slice_index_or (map (λ bytes. bytes.items) trace.released.items) 0 []) }
+{
+    match trace.ended {
+        Some(Ended::AtFormatting(refusal) | Ended::AtEvent(_, refusal)) => Err(refusal),
+        None => Ok(first(alloc, trace.released)),
+    }
+}
+
+/// The first of these, or no bytes where there is none.
+fn first(alloc: Global, released: Vec<Vec<u8>>) -> Vec<u8>
+    ensures { result.items ≡ slice_index_or (map (λ bytes. bytes.items) released.items) 0 [] }
+{
+    match released.into_iter().next() {
+        Some(bytes) => bytes,
+        None => Vec::new(alloc),
+    }
+}

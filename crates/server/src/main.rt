@@ -1,0 +1,50 @@
+//! The key-value server over standard input and output: one connection's requests in, its released replies out.
+#![tactic(auto)]
+
+mod agenda;
+mod answer;
+mod serve;
+#[cfg(test)]
+mod tests;
+
+use crate::serve::{ServeError, serve};
+use kv_types::Refusal;
+use std::env;
+use std::io::ErrorKind;
+use std::process::ExitCode;
+use std::rt::Env;
+
+const USAGE: &str = "usage: wbl-server < REQUESTS > REPLIES";
+
+/// The status where the command line is not understood.
+const MISUSED: u8 = 2;
+
+fn main(rt: HostRuntime) -> ExitCode {
+    match run(&rt) {
+        Ok(code) => code,
+        Err(error) => {
+            let _ = rt.eprintln(error);
+            ExitCode::FAILURE
+        }
+    }
+}
+
+fn run(rt: &HostRuntime) -> Result<ExitCode, ServeError> {
+    if has_words(rt)? {
+        let _ = rt.eprintln(USAGE);
+        return Ok(ExitCode::from(MISUSED));
+    }
+    serve(rt.alloc(), &mut rt.stdin(), &mut rt.stdout())?;
+    Ok(ExitCode::SUCCESS)
+}
+
+/// Whether anything follows the program's name on the command line, be it text or not.
+fn has_words(rt: &(impl Env + Alloc)) -> Result<bool, ServeError> {
+    match env::args(rt) {
+        Ok(words) => Ok(words.skip(1).next().is_some()),
+        Err(error) if error.kind() == ErrorKind::OutOfMemory => {
+            Err(ServeError::Refused(Refusal::Memory))
+        }
+        Err(_) => Ok(true),
+    }
+}
