@@ -166,12 +166,16 @@ fn a_fence_that_fails_in_a_commit_ends_the_run_and_releases_nothing(
 ) -> Result<(), Fail> {
     let alloc = rt.alloc();
     // by the fence: the position that each of the picks leaves. Only the last leaves the root undecided.
-    let left = [[0, 0, 0, 0], [0, 0, 0, 0], [0, 1, 0, 1]];
+    let left = [
+        (FORMAT_FENCES + 1, [0, 0, 0, 0]),
+        (FORMAT_FENCES + 2, [0, 0, 0, 0]),
+        (FORMAT_FENCES + 3, [0, 1, 0, 1]),
+    ];
     // Commit is event 6, and the standby's Apply event 11
     for (place, event) in [(0, 6), (1, 11)] {
-        for (n, positions) in (1..4).zip(left) {
+        for (fence, positions) in left {
             for (picks, position) in PICKS.iter().zip(positions) {
-                let trace = crashed(alloc, place, FORMAT_FENCES + n, *picks)?;
+                let trace = crashed(alloc, place, fence, *picks)?;
                 assert_eq!(rt; trace.ended, Some(Ended::AtEvent(event, Refusal::Fault)));
                 assert_eq!(rt; trace.done.len(), event);
                 assert_eq!(rt; released(&trace, 0), b"".as_slice());

@@ -46,6 +46,7 @@ fn expect_named_end(rt: &impl Abort, trace: &Trace<SimPmem>, events: usize) {
         Some(Ended::AtEvent(place, refusal)) => (place, refusal),
     };
     assert_eq!(rt; trace.done.len(), reached);
+    assert!(rt; trace.ended.is_some() || trace.calls.len() == 5);
     assert_eq!(rt; trace.devices.len(), 2);
     assert!(rt; cause == Refusal::Memory || (is_starved && cause == Refusal::Fault));
 }
