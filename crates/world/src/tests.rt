@@ -1,5 +1,5 @@
 //! Whole runs: from the bytes of clients to the bytes that they read, and to both images.
-ghost use Rattle.std.specs.Prelude.{◌≤◌, ◌*◌, ◌<◌, ◌^◌, IfOk, vec_len};
+ghost use Rattle.std.specs.Prelude.{◌≤◌, IfOk, vec_len};
 
 mod agenda;
 mod commits;
@@ -11,7 +11,7 @@ mod orders;
 mod replies;
 mod standbys;
 
-use crate::{Trace, run};
+use crate::{Ended, Trace, run};
 use agenda::Agenda;
 use kv_types::{Refusal, Reply};
 use model::Call;
@@ -52,8 +52,8 @@ fn two(alloc: Global, primary: SimPmem, standby: SimPmem) -> Result<Vec<SimPmem>
 /// Whether memory was refused for a part of the run.
 fn lacked_memory(trace: &Trace<SimPmem>) -> bool {
     let ended = match trace.ended {
-        Some(crate::Ended::AtFormatting(refusal)) => refusal == Refusal::Memory,
-        Some(crate::Ended::AtEvent(_, refusal)) => refusal == Refusal::Memory,
+        Some(Ended::AtFormatting(refusal)) => refusal == Refusal::Memory,
+        Some(Ended::AtEvent(_, refusal)) => refusal == Refusal::Memory,
         None => false,
     };
     ended

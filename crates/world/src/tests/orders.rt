@@ -234,7 +234,7 @@ fn expect_same(rt: &impl Abort, right: &PlainKeyspace, found: &PlainKeyspace) {
     }
 }
 
-/// All that is promised of a run, which was played to its last event or on until all was served. Gives the position of the standby.
+/// All that is promised of a run; of one that was finished, also that everything was served. Gives the position of the standby.
 fn expect_kept_promise(
     rt: &impl Abort,
     alloc: Global,
