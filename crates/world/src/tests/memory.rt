@@ -18,11 +18,15 @@ fn agenda_of(alloc: Global) -> Result<Agenda, AllocError> {
     let second = b"*2\r\n$3\r\nGET\r\n$1\r\na\r\n*3\r\n$3\r\nSET\r\n$1\r\nb\r\n$1\r\n2\r\n:";
     agenda.feed(0, first)?;
     agenda.feed(1, second)?;
-    for _ in 0..2 {
+    for number in 0..2 {
         agenda.serve(0)?;
         agenda.serve(1)?;
         agenda.commit()?;
-        agenda.add(Event::Send)?;
+        agenda.replicate(number)?;
+        for c in 0..2 {
+            agenda.read_marks(c)?;
+            agenda.write_out(c)?;
+        }
     }
     agenda.add(Event::OpenLink)?;
     agenda.drain(2, 1, 5)?;
