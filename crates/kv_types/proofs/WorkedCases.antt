@@ -7,6 +7,8 @@ use Rattle.kv_types.specs.declared.item.ProtocolFault.TheVariants.{ExpectedArray
 use Rattle.kv_types.specs.declared.limits.TheConstants.{FULL_LIMITS, SERVED_LIMITS}
 use Rattle.kv_types.specs.declared.record_id.RecordId.TheVariants.{Str, Field}
 use Rattle.kv_types.specs.declared.reply.Reply.{Reply, Simple, Error, Int, Bulk, NullBulk, Array, NullArray}
+use Rattle.kv_types.specs.declared.reply.Reply.TheBlock.{hidden-the_row-Reply-0}
+use denote.Hole.Carrier.{hidden}
 use Rattle.kv_types.specs.Changes.{change_text, changes_text, changes_size}
 use Rattle.kv_types.specs.Faults.{fault_message}
 use Rattle.kv_types.specs.Keyspaces.{play_all}
@@ -184,23 +186,17 @@ empty_bulk = refl
 null_bulk : text_of NullBulk ≡ codes "$-1\r\n"
 null_bulk = refl
 
--- an array is told by the list of its replies
-array_of : (replies : Vec Reply Global) (items : List Reply) → replies.items ≡ items → text_of (Array replies) ≡ 42 ∷ number_line (length items) ++ flat_map text_of items
-array_of replies items is = text_of-Array replies ∙ ap (λ xs. 42 ∷ number_line (length xs) ++ flat_map text_of xs) is
+empty_array : text_of (Array []) ≡ codes "*0\r\n"
+unfolding digits hidden-the_row-Reply-0 hidden
+empty_array = refl
 
-empty_array : (replies : Vec Reply Global) → replies.items ≡ [] → text_of (Array replies) ≡ codes "*0\r\n"
-unfolding digits
-empty_array replies is = array_of replies [] is
+array : text_of (Array (Simple (codes "OK") ∷ NullBulk ∷ Int (pos 1) ∷ [])) ≡ codes "*3\r\n+OK\r\n$-1\r\n:1\r\n"
+unfolding digits hidden-the_row-Reply-0 hidden
+array = refl
 
-array : (replies : Vec Reply Global) → replies.items ≡ Simple (codes "OK") ∷ NullBulk ∷ Int (pos 1) ∷ [] → text_of (Array replies) ≡ codes "*3\r\n+OK\r\n$-1\r\n:1\r\n"
-unfolding digits
-array replies is = array_of replies (Simple (codes "OK") ∷ NullBulk ∷ Int (pos 1) ∷ []) is
-
-nested_array : (inner outer : Vec Reply Global) → inner.items ≡ Int (pos 1) ∷ [] → outer.items ≡ Bulk (codes "v") ∷ Array inner ∷ NullArray ∷ [] → text_of (Array outer) ≡ codes "*3\r\n$1\r\nv\r\n*1\r\n:1\r\n*-1\r\n"
-unfolding digits
-nested_array inner outer within is =
-    array_of outer (Bulk (codes "v") ∷ Array inner ∷ NullArray ∷ []) is
-    ∙ ap (λ text. codes "*3\r\n$1\r\nv\r\n" ++ text ++ codes "*-1\r\n") (array_of inner (Int (pos 1) ∷ []) within)
+nested_array : text_of (Array (Bulk (codes "v") ∷ Array (Int (pos 1) ∷ []) ∷ NullArray ∷ [])) ≡ codes "*3\r\n$1\r\nv\r\n*1\r\n:1\r\n*-1\r\n"
+unfolding digits hidden-the_row-Reply-0 hidden
+nested_array = refl
 
 null_array : text_of NullArray ≡ codes "*-1\r\n"
 null_array = refl

@@ -1,3 +1,4 @@
+pub mod formers
 pub mod Words
 pub mod Keyspaces
 pub mod LookUps

@@ -1,7 +1,6 @@
 //! Laws of the definitions, each the contract of a function that does nothing.
-ghost use Rattle.std.specs.Prelude.{◌≡◌, ◌↔◌, ℕ, List, [], ◌∷◌, ◌++◌, length, flat_map, Some, Contains, Vec};
+ghost use Rattle.std.specs.Prelude.{◌≡◌, ◌↔◌, ℕ, List, [], ◌∷◌, ◌++◌, length, flat_map, Some, Contains};
 ghost use Rattle.kv_types.specs.declared.change.Change.{Change};
-ghost use Rattle.std.specs.Global.{Global};
 ghost use Rattle.kv_types.specs.declared.record_id.RecordId.{RecordId};
 ghost use Rattle.kv_types.specs.declared.reply.Reply.{Reply, Array};
 ghost use Rattle.kv_types.specs.Keyspaces.{Keyspace, IsKeyspace, value_at, play, play_all};
@@ -38,5 +37,5 @@ pub fn records_are_found()
 
 /// The text of an array is `*`, the number of its replies, and their texts.
 pub fn array_text()
-    ensures { (replies : Vec Reply Global) → text_of (Array replies) ≡ 42 ∷ number_line (length replies.items) ++ flat_map text_of replies.items }
+    ensures { (replies : List Reply) → text_of (Array replies) ≡ 42 ∷ number_line (length replies) ++ flat_map text_of replies }
 {}

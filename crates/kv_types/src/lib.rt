@@ -8,6 +8,7 @@ mod integer;
 mod item;
 mod laws;
 mod limits;
+mod listed;
 mod place;
 mod plain_keyspace;
 mod record_id;
@@ -29,6 +30,7 @@ pub use laws::{
 pub use limits::{
     FULL_LIMITS, Limits, MAX_CHANGE_BYTES, MAX_KEY_BYTES, MAX_VALUE_BYTES, SERVED_LIMITS,
 };
+pub use listed::Listed;
 pub use place::{EntryNo, Extent};
 pub use plain_keyspace::PlainKeyspace;
 pub use record_id::RecordId;

@@ -1,4 +1,5 @@
 //! Replies, and a reply with the position at which it was made.
+use crate::listed::Listed;
 use bytes::Bytes;
 use std::alloc::AllocError;
 
@@ -16,16 +17,15 @@ pub enum Reply {
     /// No value.
     NullBulk,
     /// An array of replies.
-    Array(Vec<Reply>),
+    Array(Listed<Reply>),
     /// No array.
     NullArray,
 }
 
 impl Clone for Reply {
     ghost use Rattle.std.specs.Prelude.{◌≡◌};
-    ghost use Rattle.kv_types.specs.Replies.{text_of};
 
-    ghost is_clone = { λ reply copy. text_of copy ≡ text_of reply };
+    ghost is_clone = { λ reply copy. copy ≡ reply };
 
     fn clone(&self) -> Result<Reply, AllocError> {
         Ok(match self {
@@ -35,8 +35,8 @@ impl Clone for Reply {
             Reply::Bulk(bytes) => Reply::Bulk(bytes.clone()?),
             Reply::NullBulk => Reply::NullBulk,
             Reply::Array(replies) => {
-                let mut copies = Vec::with_capacity(*replies.allocator(), replies.len())?;
-                for reply in replies {
+                let mut copies = Listed::new(replies.allocator());
+                for reply in replies.as_slice() {
                     copies.push(reply.clone()?)?;
                 }
                 Reply::Array(copies)

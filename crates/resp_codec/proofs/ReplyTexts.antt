@@ -1,5 +1,5 @@
 -- The text of an array, by its replies as a list.
-use Rattle.std.proofs.Common.{◌≡◌, ℕ, ◌+◌, ◌<◌, ◌≤◌, List, ◌∷◌, ◌++◌, length, Vec, Global, vec_len, refl, ap, sym, ◌∙◌, arith}
+use Rattle.std.proofs.Common.{◌≡◌, ℕ, ◌+◌, ◌<◌, ◌≤◌, List, ◌∷◌, ◌++◌, length, refl, ap, sym, ◌∙◌, arith}
 use Rattle.std.specs.List.{flat_map}
 use mathlib.Core.Former.{Count}
 use Rattle.kv_types.specs.declared.reply.Reply.{Reply, Array, Array', Row_of-Reply, end_of-Reply, more_of-Reply, items-the_row-Reply, items_hidden-the_row-Reply-0}
@@ -20,22 +20,22 @@ row_length-items : (n : _) (row : Row_of-Reply n) → row_length row ≡ length 
 row_length-items n end_of-Reply = refl
 row_length-items n (more_of-Reply reply rest) = omega (arith, row_length-items _ rest)
 
-pub text_of-Array : (replies : Vec Reply Global) → text_of (Array replies) ≡ 42 ∷ number_line (length replies.items) ++ flat_map text_of replies.items
+pub text_of-Array : (replies : List Reply) → text_of (Array replies) ≡ 42 ∷ number_line (length replies) ++ flat_map text_of replies
 text_of-Array replies =
     let row = row_of (Array replies) in
     let same = items_hidden-the_row-Reply-0 replies in
-    ap (λ n. 42 ∷ number_line n ++ texts_of row.1) (row_length-items row.0 row.1 ∙ ap length same) ∙ ap (λ x. 42 ∷ number_line (length replies.items) ++ x) (texts_of-items row.0 row.1 ∙ ap (flat_map text_of) same)
+    ap (λ n. 42 ∷ number_line n ++ texts_of row.1) (row_length-items row.0 row.1 ∙ ap length same) ∙ ap (λ x. 42 ∷ number_line (length replies) ++ x) (texts_of-items row.0 row.1 ∙ ap (flat_map text_of) same)
 
 -- how long it is: a first byte, the number of replies and its line end, and the replies
-pub length-text_of-Array : (replies : Vec Reply Global) → length (text_of (Array replies)) ≡ length (decimal (length replies.items)) + 3 + length (flat_map text_of replies.items)
+pub length-text_of-Array : (replies : List Reply) → length (text_of (Array replies)) ≡ length (decimal (length replies)) + 3 + length (flat_map text_of replies)
 length-text_of-Array replies =
     ap length (text_of-Array replies)
-    ∙ omega (arith, length-append (42 ∷ number_line (length replies.items)) (flat_map text_of replies.items), length-append (decimal (length replies.items)) line_end)
+    ∙ omega (arith, length-append (42 ∷ number_line (length replies)) (flat_map text_of replies), length-append (decimal (length replies)) line_end)
 
 -- the same for a reply that is known to be an array, and its number of replies as it was counted
-pub text_of_counted : (reply : Reply) (replies : Vec Reply Global) (n : ℕ) → reply ≡ Array replies → n ≡ vec_len replies → text_of reply ≡ (42 ∷ decimal n ++ line_end) ++ flat_map text_of replies.items
+pub text_of_counted : (reply : Reply) (replies : List Reply) (n : ℕ) → reply ≡ Array replies → n ≡ length replies → text_of reply ≡ (42 ∷ decimal n ++ line_end) ++ flat_map text_of replies
 text_of_counted reply replies n is counted =
-    ap text_of is ∙ text_of-Array replies ∙ ap (λ k. (42 ∷ decimal k ++ line_end) ++ flat_map text_of replies.items) (sym (counted ∙ replies.ok.0))
+    ap text_of is ∙ text_of-Array replies ∙ ap (λ k. (42 ∷ decimal k ++ line_end) ++ flat_map text_of replies) (sym counted)
 
 -- no room for the head of a text is none for the text
 pub no_room : (room : ℕ) (head texts whole : List ℕ) → whole ≡ head ++ texts → room < length head → room < length whole

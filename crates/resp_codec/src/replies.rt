@@ -37,7 +37,7 @@ fn text_len(reply: &Reply) -> Option<usize>
         Reply::NullBulk | Reply::NullArray => Some(5),
         Reply::Array(replies) => {
             let mut len = Buffer::new().format(replies.len()).len().checked_add(3)?;
-            for element in replies {
+            for element in replies.as_slice() {
                 len = len.checked_add(text_len(element)?)?;
             }
             Some(len)
@@ -61,7 +61,7 @@ fn put_reply<W: BufMut>(reply: &Reply, out: &mut W) -> Result<(), AllocError>
         Reply::NullBulk => out.put_slice(b"$-1\r\n"),
         Reply::Array(replies) => {
             put_number(out, b'*', replies.len())?;
-            for element in replies {
+            for element in replies.as_slice() {
                 put_reply(element, out)?;
             }
             Ok(())

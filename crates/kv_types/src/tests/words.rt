@@ -1,6 +1,7 @@
 //! Bounded bytes, the order of records, faults, refusals, requests and replies.
 use super::names::{key, record_id};
 use crate::{
+    Listed,
     Item, Key, MAX_KEY_BYTES, MAX_VALUE_BYTES, ProtocolFault, Refusal, Reply, Request, Value,
 };
 use bytes::Bytes;
@@ -149,11 +150,11 @@ fn copies_items(rt: HostRuntime) -> Result<(), Fail> {
 fn copies_replies(rt: HostRuntime) -> Result<(), Fail> {
     let alloc = rt.alloc();
     let inner = vec![in alloc; Reply::Int(-1), Reply::NullBulk]?;
-    let reply = Reply::Array(vec![in alloc;
+    let reply = Reply::Array(Listed::from_vec(vec![in alloc;
         Reply::Simple(Bytes::from_static(b"OK")),
-        Reply::Array(inner),
+        Reply::Array(Listed::from_vec(inner)),
         Reply::NullArray,
-    ]?);
+    ]?));
     let copy = format!(in alloc; "{:?}", reply.clone()?)?;
     assert_eq!(rt; copy.as_str(), format!(in alloc; "{reply:?}")?.as_str());
     Ok(())

@@ -1,6 +1,6 @@
 use super::write_reply;
 use bytes::{BufMut, Bytes, BytesMut};
-use kv_types::Reply;
+use kv_types::{Listed, Reply};
 use std::alloc::{AllocError, Global};
 use std::process::Abort;
 use std::test::Fail;
@@ -76,19 +76,19 @@ fn writes_arrays(rt: HostRuntime) -> Result<(), Fail> {
     expect_text(
         &rt,
         alloc,
-        Reply::Array(Vec::new(alloc)),
+        Reply::Array(Listed::new(alloc)),
         b"\x2a\x30\x0d\x0a",
     )?;
 
-    let mut two = Vec::new(alloc);
+    let mut two = Listed::new(alloc);
     two.push(Reply::Bulk(Bytes::copy_from_slice(alloc, b"a")?))?;
     two.push(Reply::Bulk(Bytes::copy_from_slice(alloc, b"2")?))?;
     let text = b"\x2a\x32\x0d\x0a\x24\x31\x0d\x0a\x61\x0d\x0a\x24\x31\x0d\x0a\x32\x0d\x0a";
     expect_text(&rt, alloc, Reply::Array(two), text)?;
 
-    let mut inner = Vec::new(alloc);
+    let mut inner = Listed::new(alloc);
     inner.push(Reply::Int(1))?;
-    let mut outer = Vec::new(alloc);
+    let mut outer = Listed::new(alloc);
     outer.push(Reply::Array(inner))?;
     outer.push(Reply::Simple(Bytes::copy_from_slice(alloc, b"OK")?))?;
     let text = b"\x2a\x32\x0d\x0a\x2a\x31\x0d\x0a\x3a\x31\x0d\x0a\x2b\x4f\x4b\x0d\x0a";

@@ -10,11 +10,11 @@ pub loop-element-init : goal.loop-element-init
 loop-element-init t c =
     let replies = c.in-Array.replies in
     let whole = ap (λ reply. length (text_of reply)) c.in-Array.is ∙ length-text_of-Array replies in
-    let digits : length c.format-in-Array.result.now ≡ length (decimal (length replies.items)) = ap length c.format-in-Array.ensures.text ∙ ap (λ n. length (decimal n)) (c.len-in-Array.ensures ∙ replies.ok.0) in
-    rw c.deref-element-items.ensures.value (omega (arith, whole, digits, c.in_ok-len-in-Array.ensures), omega (arith, c.in_ok-len-in-Array.ensures))
+    let digits : length c.format-in-Array.result.now ≡ length (decimal (length replies)) = ap length c.format-in-Array.ensures.text ∙ ap (λ n. length (decimal n)) c.len-in-Array.ensures in
+    rw c.as_slice-element-items.ensures (omega (arith, whole, digits, c.in_ok-len-in-Array.ensures), omega (arith, c.in_ok-len-in-Array.ensures))
 
 pub returns-after-loop-element : goal.returns-after-loop-element
 returns-after-loop-element t c =
-    let none = ap length (at_drop_all (flat_map text_of) c.deref-element-items.result.now c.loop-element.element-index c.loop-element-test.false) in
+    let none = ap length (at_drop_all (flat_map text_of) c.as_slice-element-items.result.now c.loop-element.element-index c.loop-element-test.false) in
     let h = c.loop-element.invariant in
     (omega (arith, none, h.0, h.1), omega (arith, none, h.0))
