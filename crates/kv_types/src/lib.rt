@@ -15,8 +15,6 @@ mod record_id;
 mod refusal;
 mod reply;
 mod request;
-#[cfg(test)]
-mod tests;
 
 pub use bounded::{BoundedBytes, Field, Key, Value};
 pub use change::{Change, changes_fit};

@@ -2,8 +2,6 @@
 #![tactic(auto)]
 
 mod lobby;
-#[cfg(test)]
-mod tests;
 
 pub use lobby::Lobby;
 pub use pipes::{MAX_SEATS, Seat};

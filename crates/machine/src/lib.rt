@@ -3,8 +3,6 @@
 
 mod event;
 mod laws;
-#[cfg(test)]
-mod tests;
 
 pub use event::{Event, KEPT_GROUPS, Mark, OPEN_CHANGES, PIPE_ITEMS, SEATS};
 pub use laws::{

@@ -23,6 +23,3 @@ pub use laws::{
 };
 pub use record::{Gap, MAX_GAPS, Record, Role};
 pub use redis::Redis;
-
-#[cfg(test)]
-mod tests;

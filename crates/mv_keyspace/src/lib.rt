@@ -3,8 +3,6 @@
 
 mod keyspace;
 mod list_keyspace;
-#[cfg(test)]
-mod tests;
 
 pub use keyspace::Keyspace;
 pub use list_keyspace::ListKeyspace;

@@ -5,8 +5,6 @@ mod ends;
 mod limits;
 mod local_pipe;
 mod seat;
-#[cfg(test)]
-mod tests;
 
 pub use ends::{Inlet, Outlet};
 pub use limits::{MAX_SEATS, PIPE_ITEMS};

@@ -7,8 +7,6 @@ mod history;
 mod keep;
 mod runs;
 mod sim;
-#[cfg(test)]
-mod tests;
 
 pub use device::{Crashing, Fault, Pmem};
 pub use history::History;

@@ -6,8 +6,7 @@ mod outcome;
 mod perform;
 mod places;
 mod sequencer;
-#[cfg(test)]
-mod tests;
+
 mod turn;
 
 pub use sequencer::Sequencer;

@@ -74,6 +74,3 @@ impl Parser {
         Ok(item)
     }
 }
-
-#[cfg(test)]
-mod tests;

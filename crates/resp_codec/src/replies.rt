@@ -86,6 +86,3 @@ fn put_number<W: BufMut, I: Integer>(out: &mut W, first: u8, n: I) -> Result<(),
     let mut buffer = Buffer::new();
     put_line(out, first, buffer.format(n).as_bytes())
 }
-
-#[cfg(test)]
-mod tests;

@@ -4,8 +4,6 @@
 mod agenda;
 mod answer;
 mod serve;
-#[cfg(test)]
-mod tests;
 
 use crate::serve::{ServeError, serve};
 use kv_types::Refusal;

@@ -1,17 +1,17 @@
-//! Commits to simulated devices: what an image holds after them. Names and values are written as numbers.
-ghost use Rattle.std.specs.Prelude.{◌≡◌, ℕ, ◌<◌, ◌≤◌, ◌↔◌, false, [], IsTrue, IfOk, OnErr};
+//! A commit of as many parts as a group may have, to a simulated device. Names and values are written as numbers.
+ghost use Rattle.std.specs.Prelude.{◌≡◌, ℕ, ◌<◌, ◌≤◌, ◌↔◌, [], IsTrue, IfOk};
 ghost use Rattle.extent_heap.specs.Room.{is_free_line, is_free_entry};
 ghost use Rattle.model.specs.Groups.{Contents, IsGroup};
 ghost use Rattle.model.specs.Images.{entries_of_lines, first_extent_line};
-ghost use Rattle.wbl_engine.specs.Contents.{IsDurable, IsNew};
+ghost use Rattle.wbl_engine.specs.Contents.{IsNew};
 
+use crate::Frame;
 use crate::part::make_part;
-use crate::{Ack, Frame, Standby};
 use extent_heap::ExtentHeap;
 use kv_types::{Change, Key, RecordId, Refusal, Value, write_int};
 use model::{Group, ImageContents, Role, read_image};
 use mv_keyspace::{Keyspace, ListKeyspace};
-use pmem::{Crashing, Pmem, SimPmem};
+use pmem::{Pmem, SimPmem};
 use std::alloc::{AllocError, Global};
 use std::process::Abort;
 use std::test::Fail;
@@ -68,15 +68,12 @@ fn frame(alloc: Global, after: u64, steps: &[Step]) -> Result<Frame, Fail>
     })
 }
 
-/// An engine over a new image of 4,096 lines. The fence of this number fails, counted from 1; at 0 none does. Formatting makes three.
-fn new_engine(alloc: Global, role: Role, fence: u64) -> Result<WblEngine<SimPmem>, Refusal>
-    ensures new { IfOk result (λ engine. IsNew 4096 role (⟦<WblEngine<SimPmem> as Durable>⟧.contents engine)) }
-    ensures durable { IfOk result (λ engine. IsDurable (⟦<WblEngine<SimPmem> as Durable>⟧.device engine) (⟦<WblEngine<SimPmem> as Durable>⟧.contents engine)) }
-    ensures sound { IfOk result (λ engine. ⟦<WblEngine<SimPmem> as Durable>⟧.is_faulted engine ≡ false) }
+/// An engine of a primary over a new image of 4,096 lines.
+fn new_engine(alloc: Global) -> Result<WblEngine<SimPmem>, Refusal>
+    ensures { IfOk result (λ engine. IsNew 4096 Role.Primary (⟦<WblEngine<SimPmem> as Durable>⟧.contents engine)) }
 {
-    let mut device = SimPmem::new(alloc, 4_096)?;
-    device.fail_at(fence);
-    match WblEngine::format(device, role) {
+    let device = SimPmem::new(alloc, 4_096)?;
+    match WblEngine::format(device, Role::Primary) {
         Ok(engine) => Ok(engine),
         Err((refusal, _)) => Err(refusal),
     }
@@ -100,35 +97,6 @@ fn contents_of(alloc: Global, device: &SimPmem) -> Result<ImageContents, Fail> {
     Ok(read_image(alloc, &words)?.ok_or("no whole image")?)
 }
 
-/// What a standby of epoch 1 over a new image answers to a frame, and its device afterwards.
-fn take<E: Durable, K: Keyspace + Drop>(
-    alloc: Global,
-    engine: E,
-    keyspace: K,
-    frame: &Frame,
-) -> (Result<Ack, Refusal>, E::Device)
-    requires new { IsNew 4096 Role.Standby (E.contents engine) }
-    requires durable { IsDurable (E.device engine) (E.contents engine) }
-    requires sound { E.is_faulted engine ≡ false }
-    requires empty { K.table keyspace ≡ [] }
-{
-    let mut standby = Standby {
-        engine,
-        keyspace,
-        heap: heap_of(4_096),
-        epoch: 1,
-    };
-    let answer = standby.on_frame(alloc, frame);
-    (answer, standby.into_device())
-}
-
-/// What a new standby answers to a frame, and what its image holds then.
-fn answer_to(alloc: Global, frame: &Frame) -> Result<(Result<Ack, Refusal>, ImageContents), Fail> {
-    let engine = new_engine(alloc, Role::Standby, 0)?;
-    let (answer, device) = take(alloc, engine, ListKeyspace::new(alloc), frame);
-    Ok((answer, contents_of(alloc, &device)?))
-}
-
 /// The record has this value.
 fn holds(
     rt: &impl Abort,
@@ -142,68 +110,6 @@ fn holds(
         .get(&record_id(alloc, name)?)
         .ok_or("a record")?;
     assert_eq!(rt; found.as_slice(), write_int(alloc, number)?.as_slice());
-    Ok(())
-}
-
-#[test]
-fn a_standby_position_stays_below_2_to_the_62(rt: HostRuntime) -> Result<(), Fail> {
-    let steps = [Step::Put((1, None), 10)];
-    let last = 4_611_686_018_427_387_903;
-    let (answer, contents) = answer_to(rt.alloc(), &frame(rt.alloc(), last + 1, &steps)?)?;
-    assert_eq!(rt; answer.map_err(|refusal| refusal.number()), Err(6));
-    assert_eq!(rt; contents.record.number, 1);
-    assert_eq!(rt; contents.record.position, 0);
-    assert!(rt; contents.keyspace.is_empty());
-
-    let (answer, contents) = answer_to(rt.alloc(), &frame(rt.alloc(), last, &steps)?)?;
-    assert_eq!(rt;
-        answer,
-        Ok(Ack {
-            epoch: 1,
-            position: last
-        })
-    );
-    assert_eq!(rt; contents.record.number, 2);
-    assert_eq!(rt; contents.record.position, last);
-    assert_eq!(rt; contents.keyspace.len(), 1);
-    holds(&rt, rt.alloc(), &contents, (1, None), 10)
-}
-
-#[test]
-fn a_frame_of_every_kind_commits_whole(rt: HostRuntime) -> Result<(), Fail> {
-    let steps = [
-        Step::Put((9, None), 9),
-        Step::Clear,
-        Step::Put((1, None), 1),
-        Step::Put((2, None), 2),
-        Step::Put((3, None), 3),
-        Step::Put((7, Some(1)), 71),
-        Step::Put((7, Some(2)), 72),
-        Step::Put((8, Some(1)), 81),
-        Step::Put((8, Some(2)), 82),
-        Step::Drop((1, None)),
-        Step::Drop((7, Some(1))),
-        Step::DropKey(8),
-        Step::Put((2, None), 22),
-    ];
-    let (answer, contents) = answer_to(rt.alloc(), &frame(rt.alloc(), 13, &steps)?)?;
-    assert_eq!(rt;
-        answer,
-        Ok(Ack {
-            epoch: 1,
-            position: 13
-        })
-    );
-    // A frame takes one record and one stamp, however many changes it has.
-    assert_eq!(rt; contents.record.number, 2);
-    assert_eq!(rt; contents.record.position, 13);
-    assert_eq!(rt; contents.record.cp, 1);
-    assert_eq!(rt; contents.record.cd, 4_098);
-    assert_eq!(rt; contents.record.role, Role::Standby);
-    assert_eq!(rt; contents.keyspace.len(), 3);
-    for (name, number) in [((2, None), 22), ((3, None), 3), ((7, Some(2)), 72)] {
-        holds(&rt, rt.alloc(), &contents, name, number)?;
-    }
     Ok(())
 }
 
@@ -246,7 +152,6 @@ fn group_of<K: Keyspace + Drop>(alloc: Global, keyspace: K, count: u8) -> Result
 fn commit<E: Durable>(engine: &mut E, group: &Group) -> Result<(), Refusal>
     requires new { IsNew 4096 Role.Primary (E.contents engine.old) }
     requires group { (contents : Contents) → IsNew 4096 Role.Primary contents → IsGroup contents group.now }
-    ensures { OnErr result (IsNew 4096 Role.Primary (E.contents engine.new)) }
 {
     match engine.commit(group) {
         Ok(_) => Ok(()),
@@ -254,23 +159,10 @@ fn commit<E: Durable>(engine: &mut E, group: &Group) -> Result<(), Refusal>
     }
 }
 
-/// Each of three commits of a group to a new image answers that a fence failed.
-fn faults<E: Durable>(rt: &impl Abort, engine: &mut E, group: &Group)
-    requires new { IsNew 4096 Role.Primary (E.contents engine.old) }
-    requires group { (contents : Contents) → IsNew 4096 Role.Primary contents → IsGroup contents group.now }
-{
-    for _ in 0..3 {
-        match commit(engine, group) {
-            Ok(()) => panic!(rt; "committed"),
-            Err(refusal) => assert_eq!(rt; refusal, Refusal::Fault),
-        }
-    }
-}
-
 #[test]
 fn a_group_of_64_parts_commits_whole(rt: HostRuntime) -> Result<(), Fail> {
     let group = group_of(rt.alloc(), ListKeyspace::new(rt.alloc()), 64)?;
-    let mut engine = new_engine(rt.alloc(), Role::Primary, 0)?;
+    let mut engine = new_engine(rt.alloc())?;
     assert_eq!(rt; commit(&mut engine, &group), Ok(()));
     assert_eq!(rt; engine.position(), 64);
 
@@ -289,26 +181,6 @@ fn a_group_of_64_parts_commits_whole(rt: HostRuntime) -> Result<(), Fail> {
     }
     for (name, number) in [((24, None), 62), ((25, Some(1)), 63), ((64, None), 64)] {
         holds(&rt, rt.alloc(), &contents, name, number)?;
-    }
-    Ok(())
-}
-
-#[test]
-fn a_fault_stays(rt: HostRuntime) -> Result<(), Fail> {
-    let group = group_of(rt.alloc(), ListKeyspace::new(rt.alloc()), 1)?;
-    // A commit makes the fences 4 to 6.
-    for fence in 4..=6 {
-        let mut engine = new_engine(rt.alloc(), Role::Primary, fence)?;
-        faults(&rt, &mut engine, &group);
-        assert_eq!(rt; engine.position(), 0);
-        let mut device = engine.into_device();
-        // No fence was asked for after the one that failed.
-        assert_eq!(rt; device.failures(), 1);
-        device.crash(&[]);
-        let contents = contents_of(rt.alloc(), &device)?;
-        assert_eq!(rt; contents.record.number, 1);
-        assert_eq!(rt; contents.record.position, 0);
-        assert!(rt; contents.keyspace.is_empty());
     }
     Ok(())
 }

@@ -10,8 +10,6 @@ mod layout;
 mod record;
 mod staging;
 mod successor;
-#[cfg(test)]
-mod tests;
 
 pub use committed::Committed;
 pub use durable::Durable;

@@ -95,36 +95,3 @@ fn closes_connection(item: &Item) -> bool
         Item::Fault(_) => true,
     }
 }
-
-#[cfg(test)]
-mod tests {
-    use super::*;
-    use std::test::Fail;
-
-    fn fed(inbound: &mut Inbound, piece: &'static [u8]) -> Result<bool, Refusal> {
-        inbound.feed(&Bytes::from_static(piece))
-    }
-
-    #[test]
-    fn items_come_of_pieces(rt: HostRuntime) -> Result<(), Fail> {
-        let mut inbound = Inbound::new(rt.alloc())?;
-        assert!(rt; fed(&mut inbound, b"*1\r\n$4\r\nPI")?);
-        assert!(rt; !inbound.offer()?);
-        assert!(rt; fed(&mut inbound, b"NG\r\n*2\r\n$3\r\nGET\r\n$1\r\na\r\n")?);
-        assert!(rt; inbound.offer()?);
-        assert!(rt; inbound.offer()?);
-        assert!(rt; !inbound.offer()?);
-        assert_eq!(rt; inbound.waiting.len(), 2);
-        Ok(())
-    }
-
-    #[test]
-    fn nothing_is_read_after_a_fault(rt: HostRuntime) -> Result<(), Fail> {
-        let mut inbound = Inbound::new(rt.alloc())?;
-        assert!(rt; fed(&mut inbound, b"P")?);
-        assert!(rt; !fed(&mut inbound, b"*1\r\n$4\r\nPING\r\n")?);
-        assert!(rt; inbound.offer()?);
-        assert!(rt; !inbound.offer()?);
-        Ok(())
-    }
-}

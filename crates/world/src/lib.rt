@@ -16,6 +16,3 @@ mod trace;
 pub use machine::{Event, Mark};
 pub use playing::run;
 pub use trace::{Ended, Trace};
-
-#[cfg(test)]
-mod tests;

@@ -18,6 +18,7 @@ use machine::{Event, SEATS};
 use model::Call;
 use mv_keyspace::{Keyspace, ListKeyspace};
 use pmem::{Crashing, Pmem};
+use standby::{Ack, Frame};
 use std::alloc::{AllocError, Global};
 use wbl_engine::{Durable, WblEngine};
 
@@ -45,6 +46,8 @@ pub fn run<P: Crashing>(alloc: Global, devices: Vec<P>, events: &[Event]) -> Tra
     let Played {
         calls,
         released,
+        frames,
+        acknowledgements,
         done,
         ended,
         primary,
@@ -56,6 +59,8 @@ pub fn run<P: Crashing>(alloc: Global, devices: Vec<P>, events: &[Event]) -> Tra
     Trace {
         calls,
         released,
+        frames,
+        acknowledgements,
         done,
         ended,
         devices,
@@ -66,6 +71,8 @@ pub fn run<P: Crashing>(alloc: Global, devices: Vec<P>, events: &[Event]) -> Tra
 struct Played<P> {
     calls: Vec<Call>,
     released: Vec<Vec<u8>>,
+    frames: Vec<Frame>,
+    acknowledgements: Vec<Ack>,
     done: Vec<bool>,
     ended: Option<Ended>,
     primary: P,
@@ -99,6 +106,8 @@ fn nothing<P>(alloc: Global, refusal: Refusal, primary: P, standby: P) -> Played
     Played {
         calls: Vec::new(alloc),
         released: Vec::new(alloc),
+        frames: Vec::new(alloc),
+        acknowledgements: Vec::new(alloc),
         done: Vec::new(alloc),
         ended: Some(Ended::AtFormatting(refusal)),
         primary,
@@ -145,8 +154,8 @@ fn play_on<P: Pmem, K: Keyspace + Drop>(
         sequencer: _sequencer,
         committing: _committing,
         engine,
-        link: _link,
-        arrivals: _arrivals,
+        link,
+        arrivals,
         standby,
     } = pair;
     let Sessions {
@@ -159,6 +168,8 @@ fn play_on<P: Pmem, K: Keyspace + Drop>(
     Played {
         calls,
         released,
+        frames: link.frames,
+        acknowledgements: arrivals.acknowledgements,
         done,
         ended,
         primary: engine.into_device(),

@@ -1,5 +1,0 @@
-//! What no clause says: that calls succeed while memory lasts, and values from outside.
-mod integers;
-mod keyspaces;
-mod names;
-mod words;

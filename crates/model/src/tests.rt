@@ -1,3 +1,0 @@
-//! What no clause says: that calls succeed while memory lasts, and values from outside.
-mod images;
-mod replies;

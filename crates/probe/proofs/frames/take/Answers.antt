@@ -1,0 +1,7 @@
+use Rattle.model.specs.declared.record.Role.TheVariants.{Standby}
+use Rattle.standby.proofs.NewLemmas.{follows-new}
+use Rattle.probe.proofs.frames.take.Goals as goal
+
+pub on_frame-answer-requires-clause-follows : goal.on_frame-answer-requires-clause-follows
+on_frame-answer-requires-clause-follows g c =
+    follows-new 4096 Standby _ _ c.heap_of.result c.requires.new (record { lines_free = c.heap_of.ensures.lines; entries_free = c.heap_of.ensures.entries }) c.requires.empty

@@ -1,0 +1,73 @@
+//! How answers are written.
+use crate::cause::Cause;
+use kv_types::{RecordId, Refusal, Reply};
+use resp_codec::write_reply;
+use std::alloc::{AllocError, Global};
+
+/// The answer of a call that answers nothing.
+pub fn done(alloc: Global) -> Result<String, Cause> {
+    word(alloc, "done")
+}
+
+/// The answer of a call that found nothing.
+pub fn none(alloc: Global) -> Result<String, Cause> {
+    word(alloc, "none")
+}
+
+pub fn word(alloc: Global, text: &str) -> Result<String, Cause> {
+    Ok(String::from_str(alloc, text)?)
+}
+
+pub fn refused(alloc: Global, refusal: Refusal) -> Result<String, Cause> {
+    let number = refusal.number();
+    Ok(format!(in alloc; "refusal {number}: {refusal}")?)
+}
+
+/// Bytes in hexadecimal, `-` for none.
+pub fn hexed(alloc: Global, bytes: &[u8]) -> Result<String, AllocError> {
+    if bytes.is_empty() {
+        String::from_str(alloc, "-")
+    } else {
+        hex::encode(alloc, bytes)
+    }
+}
+
+/// As `hexed`, or `none`.
+pub fn hexed_or_none(alloc: Global, bytes: Option<&[u8]>) -> Result<String, Cause> {
+    match bytes {
+        Some(bytes) => Ok(hexed(alloc, bytes)?),
+        None => none(alloc),
+    }
+}
+
+/// A key, or a key and a field with a point between them.
+pub fn record_text(alloc: Global, id: &RecordId) -> Result<String, AllocError> {
+    let key = hexed(alloc, id.key().as_slice())?;
+    match id.field() {
+        None => Ok(key),
+        Some(field) => {
+            let field = hexed(alloc, field.as_slice())?;
+            format!(in alloc; "{key}.{field}")
+        }
+    }
+}
+
+/// The bytes of a reply as the protocol writes them, in hexadecimal.
+pub fn reply_text(alloc: Global, reply: &Reply) -> Result<String, Cause> {
+    let mut bytes = Vec::new(alloc);
+    write_reply(reply, &mut bytes)?;
+    Ok(hexed(alloc, &bytes)?)
+}
+
+/// Adds a word to an answer of several.
+pub fn add_word(answer: &mut String, word: &str) -> Result<(), AllocError> {
+    if !answer.is_empty() {
+        answer.push_str(" ")?;
+    }
+    answer.push_str(word)
+}
+
+/// Adds a number to an answer of several words.
+pub fn add_number(alloc: Global, answer: &mut String, number: u64) -> Result<(), AllocError> {
+    add_word(answer, &number.to_string(alloc)?)
+}

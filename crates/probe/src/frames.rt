@@ -1,0 +1,108 @@
+//! A new standby that takes one frame.
+ghost use Rattle.std.specs.Prelude.{◌≡◌, ◌<◌, ◌≤◌, ◌↔◌, ℕ, false, [], IsTrue, IfOk};
+ghost use Rattle.extent_heap.specs.Room.{is_free_line, is_free_entry};
+ghost use Rattle.model.specs.Images.{entries_of_lines, first_extent_line};
+ghost use Rattle.wbl_engine.specs.Contents.{IsDurable, IsNew};
+
+use crate::answers::refused;
+use crate::cause::Cause;
+use crate::image::contents_text;
+use crate::words::{changes, number};
+use extent_heap::ExtentHeap;
+use kv_types::Refusal;
+use model::{MIN_LINES, Role, read_image};
+use mv_keyspace::{Keyspace, ListKeyspace};
+use pmem::{Pmem, SimPmem};
+use standby::{Ack, Frame, Standby};
+use std::alloc::Global;
+use wbl_engine::{Durable, WblEngine};
+
+/// The epoch of a new image.
+const FIRST_EPOCH: u64 = 1;
+
+pub fn answer(alloc: Global, words: &[&str]) -> Result<String, Cause> {
+    match words {
+        ["take", epoch, before, after, words @ ..] => {
+            let frame = Frame {
+                epoch: number(epoch)?,
+                before: number(before)?,
+                after: number(after)?,
+                changes: changes(alloc, words)?,
+            };
+            answer_to(alloc, &frame)
+        }
+        _ => Err(Cause::NoCall),
+    }
+}
+
+/// What a new standby answers to a frame, and what its image holds then.
+fn answer_to(alloc: Global, frame: &Frame) -> Result<String, Cause> {
+    match new_engine(alloc) {
+        Ok(engine) => {
+            let (answer, device) = take(alloc, engine, ListKeyspace::new(alloc), frame);
+            let answer = ack_text(alloc, answer)?;
+            let contents = device_text(alloc, &device)?;
+            Ok(format!(in alloc; "{answer}, {contents}")?)
+        }
+        Err(refusal) => refused(alloc, refusal),
+    }
+}
+
+fn ack_text(alloc: Global, answer: Result<Ack, Refusal>) -> Result<String, Cause> {
+    match answer {
+        Ok(ack) => Ok(format!(in alloc; "ack {} {}", ack.epoch, ack.position)?),
+        Err(refusal) => refused(alloc, refusal),
+    }
+}
+
+/// What a device holds, as its words are loaded.
+fn device_text(alloc: Global, device: &SimPmem) -> Result<String, Cause> {
+    let mut words = Vec::new(alloc);
+    for word in 0..8 * device.lines() {
+        words.push(device.load(word))?;
+    }
+    contents_text(alloc, read_image(alloc, &words)?)
+}
+
+/// An engine over a new image of a standby.
+fn new_engine(alloc: Global) -> Result<WblEngine<SimPmem>, Refusal>
+    ensures new { IfOk result (λ engine. IsNew MIN_LINES Role.Standby (⟦<WblEngine<SimPmem> as Durable>⟧.contents engine)) }
+    ensures durable { IfOk result (λ engine. IsDurable (⟦<WblEngine<SimPmem> as Durable>⟧.device engine) (⟦<WblEngine<SimPmem> as Durable>⟧.contents engine)) }
+    ensures sound { IfOk result (λ engine. ⟦<WblEngine<SimPmem> as Durable>⟧.is_faulted engine ≡ false) }
+{
+    match WblEngine::format(SimPmem::new(alloc, MIN_LINES)?, Role::Standby) {
+        Ok(engine) => Ok(engine),
+        Err((refusal, _)) => Err(refusal),
+    }
+}
+
+/// All entries and extents of a new image of so many lines are free.
+fn heap_of(lines: u64) -> ExtentHeap
+    ensures lines { (line : ℕ) → IsTrue (is_free_line result line) ↔ ((first_extent_line lines ≤ line) × (line < lines)) }
+    ensures entries { (i : ℕ) → IsTrue (is_free_entry result i) ↔ (i < entries_of_lines lines) }
+{
+    let entries = lines / 8;
+    ExtentHeap::new(8 + entries, lines, entries)
+}
+
+/// What a standby over a new image answers to a frame, and its device afterwards.
+fn take<E: Durable, K: Keyspace + Drop>(
+    alloc: Global,
+    engine: E,
+    keyspace: K,
+    frame: &Frame,
+) -> (Result<Ack, Refusal>, E::Device)
+    requires new { IsNew MIN_LINES Role.Standby (E.contents engine) }
+    requires durable { IsDurable (E.device engine) (E.contents engine) }
+    requires sound { E.is_faulted engine ≡ false }
+    requires empty { K.table keyspace ≡ [] }
+{
+    let mut standby = Standby {
+        engine,
+        keyspace,
+        heap: heap_of(MIN_LINES),
+        epoch: FIRST_EPOCH,
+    };
+    let answer = standby.on_frame(alloc, frame);
+    (answer, standby.into_device())
+}

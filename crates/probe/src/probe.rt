@@ -1,0 +1,64 @@
+//! What the lines have made so far, by the first word that names it.
+use crate::cause::Cause;
+use crate::device::DeviceProbe;
+use crate::gate::GateProbe;
+use crate::heap::HeapProbe;
+use crate::image::ImageProbe;
+use crate::keyspace::KeyspaceProbe;
+use crate::pipe::PipeProbe;
+use crate::redis::RedisProbe;
+use crate::seats::LobbyProbe;
+use crate::sequencer::SequencerProbe;
+use crate::table::TableProbe;
+use crate::{frames, integers, keyspace, replies, texts};
+use std::alloc::Global;
+
+/// At most one value of each kind.
+#[derive(Default, Drop)]
+pub struct Probe {
+    keyspace: KeyspaceProbe,
+    redis: RedisProbe,
+    image: ImageProbe,
+    device: DeviceProbe,
+    heap: HeapProbe,
+    table: TableProbe,
+    sequencer: SequencerProbe,
+    gate: GateProbe,
+    pipe: PipeProbe,
+    lobby: LobbyProbe,
+}
+
+impl Probe {
+    /// Makes the call that the words name, and answers what it came to.
+    pub fn answer(&mut self, alloc: Global, words: &[&str]) -> Result<String, Cause> {
+        let Some((subject, words)) = words.split_first() else {
+            return Err(Cause::NoCall);
+        };
+        match *subject {
+            "keyspace" => self.keyspace.answer(alloc, words),
+            "redis" => self.redis.answer(alloc, words),
+            "image" => self.image.answer(alloc, words),
+            "device" => self.device.answer(alloc, words),
+            "heap" => self.heap.answer(alloc, words),
+            "table" => self.table.answer(alloc, words),
+            "sequencer" => self.sequencer.answer(alloc, words),
+            "gate" => self.gate.answer(alloc, words),
+            "pipe" => self.pipe.answer(alloc, words),
+            "lobby" => self.lobby.answer(alloc, words),
+            subject => answer_alone(alloc, subject, words),
+        }
+    }
+}
+
+/// The calls that keep nothing.
+fn answer_alone(alloc: Global, subject: &str, words: &[&str]) -> Result<String, Cause> {
+    match subject {
+        "integer" => integers::answer(alloc, words),
+        "bytes" => keyspace::answer_bytes(alloc, words),
+        "record" => keyspace::answer_record(alloc, words),
+        "change" => keyspace::answer_change(alloc, words),
+        "reply" => replies::answer(alloc, words),
+        "standby" => frames::answer(alloc, words),
+        _ => texts::answer(alloc, subject, words),
+    }
+}

@@ -1,0 +1,79 @@
+//! The lines of a reader, each answered by a line to a writer.
+use crate::cause::Cause;
+use crate::probe::Probe;
+use std::alloc::{AllocError, Global};
+use std::error::Error;
+use std::io::{BufRead, BufReader, BufWriter, ErrorKind, Read, Write};
+use std::{fmt, io};
+
+/// Why a run ended early. The lines before are answered, unless writing failed.
+#[derive(Debug, Drop)]
+pub enum RunError {
+    /// The line of this number, counted from 1, is not answered.
+    Line(u64, Cause),
+    /// The lines could not be read to their end.
+    Read(io::Error),
+    /// An answer could not be written.
+    Write(io::Error),
+    /// Memory for the lines was refused.
+    Memory,
+}
+
+impl fmt::Display for RunError {
+    fn fmt<W: fmt::Write>(&self, f: &mut fmt::Formatter<W>) -> fmt::Result {
+        match self {
+            RunError::Line(number, cause) => write!(f, "line {number}: {cause}"),
+            RunError::Read(error) => write!(f, "reading failed: {error}"),
+            RunError::Write(error) => write!(f, "writing failed: {error}"),
+            RunError::Memory => f.write_str("out of memory"),
+        }
+    }
+}
+
+impl Error for RunError {}
+
+impl From<AllocError> for RunError {
+    fn from(_e: AllocError) -> RunError {
+        RunError::Memory
+    }
+}
+
+/// Answers each line, and stops at the first that cannot be answered.
+pub fn run<R: Read + Drop, W: Write + Drop>(
+    alloc: Global,
+    reader: R,
+    writer: W,
+) -> Result<(), RunError> {
+    let reader = BufReader::new(alloc, reader).map_err(RunError::Read)?;
+    let mut writer = BufWriter::new(alloc, writer).map_err(RunError::Write)?;
+    let answered = answer_lines(alloc, reader, &mut writer);
+    writer.flush().map_err(RunError::Write)?;
+    answered
+}
+
+fn answer_lines<R: BufRead + Drop, W: Write>(
+    alloc: Global,
+    reader: R,
+    writer: &mut W,
+) -> Result<(), RunError> {
+    let mut probe = Probe::default();
+    let mut number: u64 = 0;
+    for line in reader.lines(alloc) {
+        number = number.saturating_add(1);
+        let answer = match line {
+            Ok(line) => answer_line(alloc, &mut probe, &line),
+            Err(error) if error.kind() == ErrorKind::InvalidData => Err(Cause::NotText),
+            Err(error) => return Err(RunError::Read(error)),
+        };
+        match answer {
+            Ok(answer) => writeln!(writer, "{answer}").map_err(RunError::Write)?,
+            Err(cause) => return Err(RunError::Line(number, cause)),
+        }
+    }
+    Ok(())
+}
+
+fn answer_line(alloc: Global, probe: &mut Probe, line: &str) -> Result<String, Cause> {
+    let words: Vec<&str> = line.split(' ').collect(alloc)?;
+    probe.answer(alloc, &words)
+}

@@ -1,0 +1,85 @@
+//! All seats, and a lobby with those that it gave out.
+use crate::answers::{add_number, done, refused};
+use crate::cause::Cause;
+use crate::words::number;
+use lobby::{Lobby, Seat};
+use std::alloc::Global;
+
+/// The numbers of all seats.
+pub fn all(alloc: Global) -> Result<String, Cause> {
+    let mut answer = String::new(alloc);
+    for seat in &Seat::all(alloc)? {
+        add_number(alloc, &mut answer, seat.number() as u64)?;
+    }
+    Ok(answer)
+}
+
+#[derive(Default, Drop)]
+pub struct LobbyProbe {
+    house: Option<House>,
+}
+
+#[derive(Drop)]
+struct House {
+    lobby: Lobby,
+    taken: Vec<Seat>,
+}
+
+impl LobbyProbe {
+    pub fn answer(&mut self, alloc: Global, words: &[&str]) -> Result<String, Cause> {
+        if let ["new"] = words {
+            return match Lobby::new(alloc) {
+                Ok(lobby) => {
+                    let taken = Vec::new(alloc);
+                    self.house = Some(House { lobby, taken });
+                    done(alloc)
+                }
+                Err(refusal) => refused(alloc, refusal),
+            };
+        }
+        let house = self.house.as_mut().ok_or(Cause::NotMade)?;
+        match words {
+            ["enter"] => house.enter(alloc),
+            ["leave", number_of_seat] => house.leave(alloc, number(number_of_seat)?),
+            ["leave-stranger"] => house.leave_stranger(alloc),
+            _ => Err(Cause::NoCall),
+        }
+    }
+}
+
+impl House {
+    /// The number of the seat that is given out.
+    fn enter(&mut self, alloc: Global) -> Result<String, Cause> {
+        match self.lobby.enter() {
+            Ok(seat) => {
+                let number = seat.number();
+                self.taken.push(seat)?;
+                Ok(number.to_string(alloc)?)
+            }
+            Err(refusal) => refused(alloc, refusal),
+        }
+    }
+
+    /// Takes back a seat that was given out.
+    fn leave(&mut self, alloc: Global, number: u64) -> Result<String, Cause> {
+        let place = self
+            .taken
+            .iter()
+            .position(|seat| seat.number() as u64 == number);
+        let seat = self.taken.swap_remove(place.ok_or(Cause::OutOfRange)?);
+        self.lobby.leave(seat);
+        done(alloc)
+    }
+
+    /// Takes back the first seat of another lobby.
+    fn leave_stranger(&mut self, alloc: Global) -> Result<String, Cause> {
+        let seat = Lobby::new(alloc).and_then(|mut lobby| lobby.enter());
+        match seat {
+            Ok(seat) => {
+                self.lobby.leave(seat);
+                done(alloc)
+            }
+            Err(refusal) => refused(alloc, refusal),
+        }
+    }
+}

@@ -1,0 +1,131 @@
+//! A sequencer with a pipe on each side, over an empty keyspace.
+use crate::answers::{done, none, refused, reply_text};
+use crate::cause::Cause;
+use crate::words::{item, number};
+use extent_heap::ExtentHeap;
+use kv_types::{Held, Item, Refusal};
+use model::{Group, PlacedChange};
+use mv_keyspace::ListKeyspace;
+use pipes::{Inlet, LocalPipe, Outlet, Seat};
+use redis_core::{Sequencer, Turn};
+use std::alloc::Global;
+
+/// The first line of the extents: that of an image of 4,096 lines.
+const FIRST_LINE: u64 = 520;
+
+#[derive(Default, Drop)]
+pub struct SequencerProbe {
+    node: Option<Node>,
+}
+
+#[derive(Drop)]
+struct Node {
+    sequencer: Sequencer<ListKeyspace>,
+    seats: Vec<Seat>,
+    requests: LocalPipe<Item>,
+    replies: LocalPipe<Held>,
+    groups: LocalPipe<Group>,
+}
+
+impl SequencerProbe {
+    pub fn answer(&mut self, alloc: Global, words: &[&str]) -> Result<String, Cause> {
+        if let ["new", end, entries] = words {
+            return match Node::new(alloc, number(end)?, number(entries)?) {
+                Ok(node) => {
+                    self.node = Some(node);
+                    done(alloc)
+                }
+                Err(refusal) => refused(alloc, refusal),
+            };
+        }
+        let node = self.node.as_mut().ok_or(Cause::NotMade)?;
+        match words {
+            ["ask", seat, words @ ..] => {
+                node.requests
+                    .offer(item(alloc, words)?)
+                    .map_err(|_| Cause::OutOfRange)?;
+                turn_text(alloc, node.turn(alloc, number(seat)?)?)
+            }
+            ["turn", seat] => turn_text(alloc, node.turn(alloc, number(seat)?)?),
+            ["reply"] => node.reply(alloc),
+            ["close"] => node.close(alloc),
+            ["group"] => node.group(alloc),
+            ["counts"] => node.counts(alloc),
+            _ => Err(Cause::NoCall),
+        }
+    }
+}
+
+fn turn_text(alloc: Global, turn: Turn) -> Result<String, Cause> {
+    Ok(format!(in alloc; "{turn:?}")?)
+}
+
+impl Node {
+    fn new(alloc: Global, end: u64, entries: u64) -> Result<Node, Refusal> {
+        let heap = ExtentHeap::new(FIRST_LINE, end, entries);
+        Ok(Node {
+            sequencer: Sequencer::new(alloc, ListKeyspace::new(alloc), heap, 0)?,
+            seats: Seat::all(alloc)?,
+            requests: LocalPipe::new(alloc)?,
+            replies: LocalPipe::new(alloc)?,
+            groups: LocalPipe::new(alloc)?,
+        })
+    }
+
+    /// What one turn for a seat comes to.
+    fn turn(&mut self, alloc: Global, seat: u64) -> Result<Turn, Cause> {
+        let seat = self.seats.get(seat as usize).ok_or(Cause::OutOfRange)?;
+        Ok(
+            self.sequencer
+                .turn(alloc, seat, &mut self.requests, &mut self.replies),
+        )
+    }
+
+    /// The oldest reply and its position.
+    fn reply(&mut self, alloc: Global) -> Result<String, Cause> {
+        match self.replies.take() {
+            Some(held) => {
+                let reply = reply_text(alloc, &held.reply)?;
+                Ok(format!(in alloc; "{reply} {}", held.position)?)
+            }
+            None => none(alloc),
+        }
+    }
+
+    /// Hands out the oldest part that waits.
+    fn close(&mut self, alloc: Global) -> Result<String, Cause> {
+        if !self.sequencer.has_open() {
+            return none(alloc);
+        }
+        match self.sequencer.close_group(alloc, &mut self.groups) {
+            Ok(()) => done(alloc),
+            Err(refusal) => refused(alloc, refusal),
+        }
+    }
+
+    /// The first put of the oldest group that was handed out: its entry, its extent, and the positions before the group and after its first part.
+    fn group(&mut self, alloc: Global) -> Result<String, Cause> {
+        let Some(group) = self.groups.take() else {
+            return none(alloc);
+        };
+        let part = group.parts.first().ok_or(Cause::OutOfRange)?;
+        match part.changes.first() {
+            Some(PlacedChange::Put(put)) => Ok(format!(in alloc;
+                "{} {} {} {} {}",
+                put.entry.0, put.extent.first_line, put.extent.lines, group.before, part.position
+            )?),
+            _ => none(alloc),
+        }
+    }
+
+    /// How many requests, replies and groups wait in the pipes, and whether a part waits.
+    fn counts(&self, alloc: Global) -> Result<String, Cause> {
+        let requests = self.requests.len();
+        let replies = self.replies.len();
+        let groups = self.groups.len();
+        Ok(format!(in alloc;
+            "{requests} {replies} {groups} {}",
+            self.sequencer.has_open()
+        )?)
+    }
+}

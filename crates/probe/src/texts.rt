@@ -1,0 +1,116 @@
+//! Texts of refusals, faults and events; copies of items; and laws.
+use crate::answers::{add_word, done, hexed};
+use crate::cause::Cause;
+use crate::seats;
+use crate::words::{bytes, fault, item, number};
+use kv_types::{Item, Refusal};
+use machine::{Event, Mark};
+use std::alloc::Global;
+
+/// All refusals, in the order of their numbers.
+const REFUSALS: [Refusal; 16] = [
+    Refusal::Fault,
+    Refusal::BadMagic,
+    Refusal::BadVersion,
+    Refusal::WrongSize,
+    Refusal::Full,
+    Refusal::Exhausted,
+    Refusal::Damaged,
+    Refusal::SeatsFull,
+    Refusal::PipeFull,
+    Refusal::FrameFault,
+    Refusal::WrongEpoch,
+    Refusal::PositionGap,
+    Refusal::StandbyAhead,
+    Refusal::Memory,
+    Refusal::NotFenced,
+    Refusal::WrongRole,
+];
+
+pub fn answer(alloc: Global, subject: &str, words: &[&str]) -> Result<String, Cause> {
+    match (subject, words) {
+        ("refusals", []) => refusals(alloc),
+        ("fault", [kind]) => Ok(hexed(alloc, &fault(kind)?.message(alloc)?)?),
+        ("item", words) => copy(alloc, item(alloc, words)?),
+        ("event", words) => {
+            let event = event(alloc, words)?;
+            Ok(format!(in alloc; "{event:?}")?)
+        }
+        ("seats", []) => seats::all(alloc),
+        ("laws", []) => {
+            call_laws();
+            done(alloc)
+        }
+        _ => Err(Cause::NoCall),
+    }
+}
+
+/// The name, the number and the text of each refusal.
+fn refusals(alloc: Global) -> Result<String, Cause> {
+    let mut answer = String::new(alloc);
+    for refusal in REFUSALS {
+        let number = refusal.number();
+        add_word(
+            &mut answer,
+            &format!(in alloc; "{refusal:?}={number}={refusal};")?,
+        )?;
+    }
+    Ok(answer)
+}
+
+/// The words of a copy of the item, or its fault.
+fn copy(alloc: Global, item: Item) -> Result<String, Cause> {
+    match item.clone()? {
+        Item::Fault(fault) => Ok(format!(in alloc; "{fault:?}")?),
+        Item::Request(request) => {
+            let mut answer = String::new(alloc);
+            for word in request.words() {
+                add_word(&mut answer, &hexed(alloc, word)?)?;
+            }
+            Ok(answer)
+        }
+    }
+}
+
+fn event(alloc: Global, words: &[&str]) -> Result<Event, Cause> {
+    match words {
+        ["enter"] => Ok(Event::Enter),
+        ["feed", connection, piece] => Ok(Event::Feed(number(connection)?, bytes(alloc, piece)?)),
+        ["read", connection, "local"] => Ok(Event::Read(number(connection)?, Mark::Local)),
+        ["read", connection, "remote"] => Ok(Event::Read(number(connection)?, Mark::Remote)),
+        ["write", connection, count] => Ok(Event::Write(number(connection)?, number(count)?)),
+        _ => Err(Cause::NotWord),
+    }
+}
+
+/// A law asks for nothing: whoever wants it calls it.
+fn call_laws() {
+    call_laws_of_model();
+    call_laws_of_machine();
+}
+
+fn call_laws_of_model() {
+    model::list_grows();
+    model::refused_calls_change_nothing();
+    model::cut_is_the_longest_beginning();
+    model::keyspace_of_a_cut_is_stable();
+    model::changes_lead_from_position_to_position();
+    model::lists_leave_keyspaces();
+    model::images_hold_one_keyspace();
+    model::map_is_computed();
+    model::map_moves_by_the_group();
+    model::images_stand_while_the_list_grows();
+}
+
+fn call_laws_of_machine() {
+    machine::every_run_is_promised();
+    machine::every_world_is_sound();
+    machine::runs_are_made_of_steps();
+    machine::worlds_grow();
+    machine::calls_take_requests_in_order();
+    machine::replies_add_up();
+    machine::positions_are_in_order();
+    machine::frames_are_committed_groups();
+    machine::nothing_comes_of_nothing();
+    machine::first_case_is_a_run();
+}

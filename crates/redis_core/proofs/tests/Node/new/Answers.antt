@@ -1,8 +1,0 @@
-use Rattle.std.proofs.Common.{sym, subst}
-use Rattle.mv_keyspace.specs.Tables.{Table}
-use Rattle.redis_core.specs.Keeping.{IsBeside}
-use Rattle.redis_core.proofs.KeepingLemmas.{beside_none}
-use Rattle.redis_core.proofs.tests.Node.new.Goals as goal
-
-pub new-requires-2 : goal.new-requires-2
-new-requires-2 c = subst (λ (table : Table). IsBeside table c.new-heap.result) (sym c.new.ensures) (beside_none c.new-heap.result)

@@ -1,0 +1,31 @@
+//! Copies of an event.
+ghost use Rattle.std.specs.Prelude.{◌≡◌, IfOk};
+
+use machine::Event;
+use std::alloc::AllocError;
+
+/// The same event once more. Bytes are shared.
+pub fn copy_of(event: &Event) -> Result<Event, AllocError>
+    ensures { IfOk result (λ copy. copy ≡ event.now) }
+{
+    Ok(match event {
+        Event::Enter => Event::Enter,
+        Event::Feed(connection, piece) => Event::Feed(*connection, piece.clone()?),
+        Event::Offer(connection) => Event::Offer(*connection),
+        Event::Turn(connection) => Event::Turn(*connection),
+        Event::CloseGroup => Event::CloseGroup,
+        Event::Commit => Event::Commit,
+        Event::RaiseLocal => Event::RaiseLocal,
+        Event::Hand => Event::Hand,
+        Event::OpenLink => Event::OpenLink,
+        Event::Send => Event::Send,
+        Event::Deliver(frame) => Event::Deliver(*frame),
+        Event::Apply => Event::Apply,
+        Event::AckDelivered(number) => Event::AckDelivered(*number),
+        Event::RaiseRemote => Event::RaiseRemote,
+        Event::Hold(connection) => Event::Hold(*connection),
+        Event::Read(connection, mark) => Event::Read(*connection, *mark),
+        Event::Release(connection) => Event::Release(*connection),
+        Event::Write(connection, count) => Event::Write(*connection, *count),
+    })
+}

@@ -1,0 +1,99 @@
+//! The words of an event.
+ghost use Rattle.std.specs.Prelude.{◌≡◌, IfOk};
+ghost use Rattle.hex.specs.Hex.{decode_of};
+
+use crate::cause::{Cause, LineError};
+use crate::line_words::LineWords;
+use crate::spelling::spelled;
+use bytes::Bytes;
+use hex::FromHexError;
+use machine::Event;
+use std::alloc::{AllocError, Global};
+
+/// The event of this name and of the words that follow it.
+pub fn read_event(
+    alloc: Global,
+    name: &[u8],
+    words: &mut LineWords<'_>,
+) -> Result<Event, LineError> {
+    let event = match name {
+        b"feed" => read_request(alloc, words)?,
+        b"feed-bytes" => read_piece(alloc, words)?,
+        b"read" => read_mark(words)?,
+        b"write" => read_write(words)?,
+        _ => match event_alone(name) {
+            Some(event) => event,
+            None => event_with_number(name, words)?,
+        },
+    };
+    words.end()?;
+    Ok(event)
+}
+
+/// The event that is named without more words.
+fn event_alone(name: &[u8]) -> Option<Event> {
+    match name {
+        b"enter" => Some(Event::Enter),
+        b"close-group" => Some(Event::CloseGroup),
+        b"commit" => Some(Event::Commit),
+        b"raise-local" => Some(Event::RaiseLocal),
+        b"hand" => Some(Event::Hand),
+        b"open-link" => Some(Event::OpenLink),
+        b"send" => Some(Event::Send),
+        b"apply" => Some(Event::Apply),
+        b"raise-remote" => Some(Event::RaiseRemote),
+        _ => None,
+    }
+}
+
+/// The event that is named with a number: a connection, a frame or an acknowledgement.
+fn event_with_number(name: &[u8], words: &mut LineWords<'_>) -> Result<Event, Cause> {
+    match name {
+        b"offer" => Ok(Event::Offer(words.number()?)),
+        b"turn" => Ok(Event::Turn(words.number()?)),
+        b"deliver" => Ok(Event::Deliver(words.number()?)),
+        b"ack-delivered" => Ok(Event::AckDelivered(words.number()?)),
+        b"hold" => Ok(Event::Hold(words.number()?)),
+        b"release" => Ok(Event::Release(words.number()?)),
+        _ => Err(Cause::UnknownEvent),
+    }
+}
+
+fn read_mark(words: &mut LineWords<'_>) -> Result<Event, Cause> {
+    let connection = words.number()?;
+    Ok(Event::Read(connection, words.mark()?))
+}
+
+fn read_write(words: &mut LineWords<'_>) -> Result<Event, Cause> {
+    let connection = words.number()?;
+    Ok(Event::Write(connection, words.number()?))
+}
+
+/// A connection, and the words of a request.
+fn read_request(alloc: Global, words: &mut LineWords<'_>) -> Result<Event, LineError> {
+    let connection = words.number()?;
+    let mut request = Vec::new(alloc);
+    request.push(Bytes::copy_from_slice(alloc, words.word()?)?)?;
+    for word in words {
+        request.push(Bytes::copy_from_slice(alloc, word)?)?;
+    }
+    Ok(Event::Feed(connection, spelled(alloc, request)?))
+}
+
+/// A connection, and bytes as hex digits.
+fn read_piece(alloc: Global, words: &mut LineWords<'_>) -> Result<Event, LineError> {
+    let connection = words.number()?;
+    let digits = words.next().unwrap_or(&[]);
+    Ok(Event::Feed(connection, read_hex(alloc, digits)?))
+}
+
+/// The bytes of these hex digits.
+fn read_hex(alloc: Global, digits: &[u8]) -> Result<Bytes, LineError>
+    ensures { IfOk result (λ bytes. decode_of digits.now ≡ Ok bytes) }
+{
+    match hex::decode(alloc, digits) {
+        Ok(bytes) => Ok(Bytes::from_vec(bytes)?),
+        Err(FromHexError::OutOfMemory) => Err(LineError::Memory),
+        Err(_) => Err(LineError::Bad(Cause::NotHex)),
+    }
+}

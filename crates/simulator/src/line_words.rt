@@ -1,0 +1,95 @@
+//! The words of a line.
+ghost use Rattle.std.specs.Prelude.{◌≡◌, ◌<◌, ◌≤◌, length};
+ghost use Rattle.std.specs.Iterator.{at_most};
+
+use crate::cause::Cause;
+use crate::node::Node;
+use crate::number::read_number;
+use machine::Mark;
+
+/// The words of a line that are not read yet. One or more spaces stand between two words.
+#[derive(Drop)]
+pub struct LineWords<'a> {
+    rest: &'a [u8],
+}
+
+impl<'a> Iterator for LineWords<'a> {
+    type Item = &'a [u8];
+
+    ghost remaining = { λ words. at_most (length words.rest.now) };
+
+    fn next(&mut self) -> Option<&'a [u8]> {
+        let line = without_spaces(self.rest);
+        if line.is_empty() {
+            self.rest = line;
+            return None;
+        }
+        let (word, rest) = line.split_at(word_len(line));
+        self.rest = rest;
+        Some(word)
+    }
+}
+
+impl<'a> LineWords<'a> {
+    pub fn new(line: &'a [u8]) -> LineWords<'a> {
+        LineWords { rest: line }
+    }
+
+    /// The next word, which has to be there.
+    pub fn word(&mut self) -> Result<&'a [u8], Cause> {
+        self.next().ok_or(Cause::MissingWord)
+    }
+
+    /// The next word, a number.
+    pub fn number(&mut self) -> Result<u64, Cause> {
+        read_number(self.word()?).ok_or(Cause::NotNumber)
+    }
+
+    /// The next word, a mark.
+    pub fn mark(&mut self) -> Result<Mark, Cause> {
+        match self.word()? {
+            b"local" => Ok(Mark::Local),
+            b"remote" => Ok(Mark::Remote),
+            _ => Err(Cause::NotMark),
+        }
+    }
+
+    /// The next word, a node.
+    pub fn node(&mut self) -> Result<Node, Cause> {
+        match self.word()? {
+            b"primary" => Ok(Node::Primary),
+            b"standby" => Ok(Node::Standby),
+            _ => Err(Cause::NotNode),
+        }
+    }
+
+    /// No word may be left.
+    pub fn end(&mut self) -> Result<(), Cause> {
+        match self.next() {
+            None => Ok(()),
+            Some(_) => Err(Cause::NeedlessWord),
+        }
+    }
+}
+
+/// The line from its first word on.
+fn without_spaces(line: &[u8]) -> &[u8]
+    ensures { length result.now ≤ length line.now }
+{
+    match line.iter().position(|byte| *byte != b' ') {
+        Some(place) => &line[place..],
+        None => &[],
+    }
+}
+
+/// How long the first word is. The first byte is of it.
+fn word_len(line: &[u8]) -> usize
+    requires { 0 < length line.now }
+    ensures some { 0 < result }
+    ensures within { result ≤ length line.now }
+{
+    match line[1..].iter().position(|byte| *byte == b' ') {
+        Some(place) => place + 1,
+        None => line.len(),
+    }
+}

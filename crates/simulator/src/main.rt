@@ -1,0 +1,53 @@
+//! Plays a list of events over a pair of simulated nodes, and prints what came of it.
+#![tactic(auto)]
+
+mod agenda;
+mod cause;
+mod copies;
+mod error;
+mod event_words;
+mod image;
+mod line_words;
+mod node;
+mod node_report;
+mod number;
+mod options;
+mod play;
+mod quoted;
+mod report;
+mod script;
+mod spelling;
+
+use crate::error::SimulatorError;
+use crate::options::read_options;
+use crate::play::play;
+use crate::report::report;
+use crate::script::read_script;
+use std::io::{BufWriter, Read, Write};
+use std::process::ExitCode;
+
+fn main(rt: HostRuntime) -> ExitCode {
+    match run(&rt) {
+        Ok(()) => ExitCode::SUCCESS,
+        Err(error) => {
+            let status = error.status();
+            let _ = rt.eprintln(error);
+            ExitCode::from(status)
+        }
+    }
+}
+
+fn run(rt: &HostRuntime) -> Result<(), SimulatorError> {
+    let alloc = rt.alloc();
+    let options = read_options(rt)?;
+    let mut text = Vec::new(alloc);
+    rt.stdin()
+        .read_to_end(&mut text)
+        .map_err(SimulatorError::Read)?;
+    let script = read_script(alloc, &text)?;
+    let trace = play(alloc, &options, &script)?;
+    let mut out = BufWriter::new(alloc, rt.stdout())?;
+    report(alloc, &mut out, &options, &script, &trace)?;
+    out.flush()?;
+    Ok(())
+}

@@ -1,0 +1,89 @@
+//! Printing what the nodes hold.
+use crate::error::SimulatorError;
+use crate::image::{DeviceImage, read_device};
+use crate::node::Node;
+use crate::options::Options;
+use crate::quoted::Quoted;
+use kv_types::RecordId;
+use model::Role;
+use pmem::SimPmem;
+use std::alloc::Global;
+use std::io;
+use std::io::Write;
+
+/// Prints the position of each node, then the records of each and then the words of each, where they are asked for.
+pub fn write_nodes<W: Write>(
+    alloc: Global,
+    out: &mut W,
+    options: &Options,
+    devices: &[SimPmem],
+) -> Result<(), SimulatorError> {
+    let mut nodes = Vec::new(alloc);
+    for (node, device) in [Node::Primary, Node::Standby].iter().zip(devices) {
+        nodes.push((*node, read_device(alloc, device)?))?;
+    }
+    for (node, image) in &nodes {
+        write_position(out, *node, image)?;
+    }
+    if options.map {
+        for (node, image) in &nodes {
+            write_records(out, *node, image)?;
+        }
+    }
+    if options.images {
+        for (node, image) in &nodes {
+            write_words(out, *node, image.words.as_slice())?;
+        }
+    }
+    Ok(())
+}
+
+/// The current record of an image.
+fn write_position<W: Write>(out: &mut W, node: Node, image: &DeviceImage) -> io::Result<()> {
+    let Some(contents) = &image.contents else {
+        return writeln!(out, "{node}: no whole image");
+    };
+    let position = contents.record.position;
+    let number = contents.record.number;
+    let cp = contents.record.cp;
+    let cd = contents.record.cd;
+    let epoch = contents.record.epoch;
+    let role = match contents.record.role {
+        Role::Primary => "primary",
+        Role::Standby => "standby",
+    };
+    let gaps = contents.record.gaps.len();
+    writeln!(
+        out,
+        "{node}: position {position}, record {number}, cp {cp}, cd {cd}, epoch {epoch}, role {role}, gaps {gaps}"
+    )
+}
+
+/// The records of an image, in their order.
+fn write_records<W: Write>(out: &mut W, node: Node, image: &DeviceImage) -> io::Result<()> {
+    let Some(contents) = &image.contents else {
+        return Ok(());
+    };
+    for (id, value) in contents.keyspace.records() {
+        let key = Quoted(id.key().as_slice());
+        let value = Quoted(value.as_slice());
+        match id {
+            RecordId::Str(_) => writeln!(out, "{node} record: {key} = {value}")?,
+            RecordId::Field(_, field) => {
+                let field = Quoted(field.as_slice());
+                writeln!(out, "{node} record: {key} {field} = {value}")?;
+            }
+        }
+    }
+    Ok(())
+}
+
+/// The words that are not zero.
+fn write_words<W: Write>(out: &mut W, node: Node, words: &[u64]) -> io::Result<()> {
+    for (number, word) in words.iter().enumerate() {
+        if *word != 0 {
+            writeln!(out, "{node} word {number}: {word}")?;
+        }
+    }
+    Ok(())
+}

@@ -1,0 +1,88 @@
+//! Playing a script over two simulated devices.
+ghost use Rattle.std.specs.Prelude.{◌≡◌, ◌%◌, ◌<◌, ◌≤◌, length, map, IfOk, slice_index, vec_len};
+ghost use Rattle.std.specs.List.{range_with_len};
+
+use crate::node::Node;
+use crate::options::Options;
+use crate::script::{Crash, Failure, Script};
+use pmem::{Crashing, Pmem, SimPmem};
+use std::alloc::{AllocError, Global};
+use world::{Trace, run};
+
+/// Plays the events over two new devices, and crashes those that are to crash once the run is over. An error where memory was refused to the
+/// simulator or to one of its devices.
+pub fn play(
+    alloc: Global,
+    options: &Options,
+    script: &Script,
+) -> Result<Trace<SimPmem>, AllocError> {
+    let devices = new_devices(alloc, options, script.failures.as_slice())?;
+    let mut trace = run(alloc, devices, script.agenda.events());
+    crash_devices(alloc, &mut trace.devices, script.crashes.as_slice())?;
+    Ok(trace)
+}
+
+/// The primary's device and the standby's, which fail as they are told to.
+fn new_devices(
+    alloc: Global,
+    options: &Options,
+    failures: &[Failure],
+) -> Result<Vec<SimPmem>, AllocError>
+    ensures { IfOk result (λ devices. 2 ≤ vec_len devices) }
+{
+    let mut primary = new_device(alloc, options.primary_lines)?;
+    let mut standby = new_device(alloc, options.standby_lines)?;
+    for failure in failures {
+        match failure.node {
+            Node::Primary => primary.fail_at(failure.fence),
+            Node::Standby => standby.fail_at(failure.fence),
+        }
+    }
+    Ok(vec![in alloc; primary, standby]?)
+}
+
+/// Crashes devices, one after another. An error too where one of them was refused memory, since it does not know all that a crash may leave.
+fn crash_devices(
+    alloc: Global,
+    devices: &mut Vec<SimPmem>,
+    crashes: &[Crash],
+) -> Result<(), AllocError> {
+    if devices.iter().any(|device| device.starved()) {
+        return Err(AllocError);
+    }
+    for crash in crashes {
+        if let Some(device) = devices.get_mut(crash.node.place()) {
+            crash_device(alloc, device, crash.picks.as_slice())?;
+        }
+    }
+    Ok(())
+}
+
+/// A new device of so many lines. Its words are counted in 64 bits, so that no memory could hold more than 2^61 lines.
+fn new_device(alloc: Global, lines: u64) -> Result<SimPmem, AllocError> {
+    if lines >= 1 << 61 {
+        return Err(AllocError);
+    }
+    SimPmem::new(alloc, lines)
+}
+
+/// Crashes a device, in which a word of several candidates gets the one that the next pick names. The picks begin again where they end.
+fn crash_device(alloc: Global, device: &mut SimPmem, picks: &[u64]) -> Result<(), AllocError> {
+    let picks = repeated(alloc, picks, 8 * device.lines())?;
+    device.crash(picks.as_slice());
+    Ok(())
+}
+
+/// So many picks, over and over from the first; none where there are none.
+fn repeated(alloc: Global, picks: &[u64], count: u64) -> Result<Vec<u64>, AllocError>
+    ensures { IfOk result (λ all. 0 < length picks.now
+        → all.items ≡ map (λ i. slice_index picks.now (i % length picks.now)) (range_with_len 0 count)) }
+{
+    let mut all = Vec::new(alloc);
+    if !picks.is_empty() {
+        for i in 0..count {
+            all.push(picks[i as usize % picks.len()])?;
+        }
+    }
+    Ok(all)
+}

@@ -1,0 +1,148 @@
+//! Printing what came of a run.
+use crate::error::SimulatorError;
+use crate::node_report::write_nodes;
+use crate::options::Options;
+use crate::quoted::Quoted;
+use crate::script::Script;
+use kv_types::{Item, Refusal, Reply};
+use model::{Call, Redis};
+use pmem::SimPmem;
+use resp_codec::write_reply;
+use standby::{Ack, Frame};
+use std::alloc::{AllocError, Global};
+use std::io;
+use std::io::Write;
+use world::{Ended, Trace};
+
+/// Prints the events, the calls, the plain answers, the released bytes, what the nodes told each other, what both hold and how the run ended.
+pub fn report<W: Write>(
+    alloc: Global,
+    out: &mut W,
+    options: &Options,
+    script: &Script,
+    trace: &Trace<SimPmem>,
+) -> Result<(), SimulatorError> {
+    let lines = script.agenda.lines();
+    write_events(out, lines, trace.done.as_slice())?;
+    write_calls(alloc, out, trace.calls.as_slice())?;
+    if options.plain {
+        write_plain(alloc, out, trace.calls.as_slice())?;
+    }
+    for (number, bytes) in trace.released.iter().enumerate() {
+        let quoted = Quoted(bytes.as_slice());
+        writeln!(out, "connection {number}: released {quoted}")?;
+    }
+    write_frames(out, trace.frames.as_slice())?;
+    write_acknowledgements(out, trace.acknowledgements.as_slice())?;
+    write_nodes(alloc, out, options, trace.devices.as_slice())?;
+    write_end(out, lines, trace.ended)?;
+    Ok(())
+}
+
+/// Each event that was reached, with its line.
+fn write_events<W: Write>(out: &mut W, lines: &[u64], done: &[bool]) -> io::Result<()> {
+    for (number, (line, did)) in lines.iter().zip(done).enumerate() {
+        let outcome = if *did { "done" } else { "not enabled" };
+        writeln!(out, "event {number}, line {line}: {outcome}")?;
+    }
+    Ok(())
+}
+
+fn write_calls<W: Write>(alloc: Global, out: &mut W, calls: &[Call]) -> Result<(), SimulatorError> {
+    for (number, call) in calls.iter().enumerate() {
+        let connection = call.connection;
+        write!(out, "call {number}: connection {connection},")?;
+        write_item(out, &call.item)?;
+        let text = text_of(alloc, &call.reply)?;
+        let reply = Quoted(text.as_slice());
+        writeln!(out, " -> {reply}")?;
+    }
+    Ok(())
+}
+
+fn write_item<W: Write>(out: &mut W, item: &Item) -> io::Result<()> {
+    match item {
+        Item::Request(request) => {
+            for word in request.words() {
+                let quoted = Quoted(word.as_slice());
+                write!(out, " {quoted}")?;
+            }
+            Ok(())
+        }
+        Item::Fault(_) => write!(out, " fault"),
+    }
+}
+
+/// What the plain Redis answers to the items of the calls, one after another, and its position after each.
+fn write_plain<W: Write>(alloc: Global, out: &mut W, calls: &[Call]) -> Result<(), SimulatorError> {
+    let mut redis = Redis::new(alloc);
+    for (number, call) in calls.iter().enumerate() {
+        redis.call(alloc, call.connection, call.item.clone()?)?;
+        if let Some(answered) = redis.calls().last() {
+            let position = redis.position();
+            let text = text_of(alloc, &answered.reply)?;
+            let reply = Quoted(text.as_slice());
+            writeln!(out, "plain {number}: position {position} -> {reply}")?;
+        }
+    }
+    Ok(())
+}
+
+/// The frames of the link, one for each group that was sent.
+fn write_frames<W: Write>(out: &mut W, frames: &[Frame]) -> io::Result<()> {
+    for (number, frame) in frames.iter().enumerate() {
+        let epoch = frame.epoch;
+        let before = frame.before;
+        let after = frame.after;
+        let changes = frame.changes.len();
+        writeln!(
+            out,
+            "frame {number}: epoch {epoch}, from {before} to {after}, changes {changes}"
+        )?;
+    }
+    Ok(())
+}
+
+/// The acknowledgements that the standby made.
+fn write_acknowledgements<W: Write>(out: &mut W, acknowledgements: &[Ack]) -> io::Result<()> {
+    for (number, ack) in acknowledgements.iter().enumerate() {
+        let epoch = ack.epoch;
+        let position = ack.position;
+        writeln!(
+            out,
+            "acknowledgement {number}: epoch {epoch}, position {position}"
+        )?;
+    }
+    Ok(())
+}
+
+/// The bytes of a reply.
+fn text_of(alloc: Global, reply: &Reply) -> Result<Vec<u8>, AllocError> {
+    let mut text = Vec::new(alloc);
+    write_reply(reply, &mut text)?;
+    Ok(text)
+}
+
+/// How the run ended.
+fn write_end<W: Write>(out: &mut W, lines: &[u64], ended: Option<Ended>) -> io::Result<()> {
+    match ended {
+        None => {
+            let events = lines.len();
+            writeln!(out, "ended: after all {events} events")
+        }
+        Some(Ended::AtFormatting(refusal)) => {
+            write!(out, "ended: at formatting: ")?;
+            write_refusal(out, refusal)
+        }
+        Some(Ended::AtEvent(number, refusal)) => {
+            let line = lines.get(number).copied().unwrap_or(0);
+            write!(out, "ended: at event {number}, line {line}: ")?;
+            write_refusal(out, refusal)
+        }
+    }
+}
+
+fn write_refusal<W: Write>(out: &mut W, refusal: Refusal) -> io::Result<()> {
+    let number = refusal.number();
+    writeln!(out, "refusal {number}: {refusal}")
+}

@@ -1,0 +1,112 @@
+//! What is to be played: failures of fences, events, and crashes.
+use crate::agenda::Agenda;
+use crate::cause::{Cause, LineError};
+use crate::error::SimulatorError;
+use crate::event_words::read_event;
+use crate::line_words::LineWords;
+use crate::node::Node;
+use crate::number::read_number;
+use std::alloc::Global;
+
+/// A fence that fails.
+#[derive(Clone, Copy, Debug, PartialEq, Eq)]
+pub struct Failure {
+    pub node: Node,
+    /// Which fence of the node, counted from 1; at 0 none fails.
+    pub fence: u64,
+}
+
+/// A crash after the run.
+#[derive(Debug, Drop)]
+pub struct Crash {
+    pub node: Node,
+    /// Which candidates are left, in turn. There is one at least.
+    pub picks: Vec<u64>,
+}
+
+/// What is to be played.
+#[derive(Drop)]
+pub struct Script {
+    /// Before the first event.
+    pub failures: Vec<Failure>,
+    pub agenda: Agenda,
+    /// After the last event.
+    pub crashes: Vec<Crash>,
+}
+
+/// Reads all lines. `Line` names the first that is not understood, and its cause.
+pub fn read_script(alloc: Global, text: &[u8]) -> Result<Script, SimulatorError> {
+    let mut script = Script {
+        failures: Vec::new(alloc),
+        agenda: Agenda::new(alloc),
+        crashes: Vec::new(alloc),
+    };
+    let mut number: u64 = 0;
+    for line in text.split(|byte| *byte == b'\n') {
+        number = number.saturating_add(1);
+        if let Err(error) = add_line(alloc, &mut script, line, number) {
+            return Err(SimulatorError::at_line(number, error));
+        }
+    }
+    Ok(script)
+}
+
+/// Adds what a line says. An empty line and a line that begins with `#` say nothing.
+fn add_line(alloc: Global, script: &mut Script, line: &[u8], number: u64) -> Result<(), LineError> {
+    if line.starts_with(b"#") {
+        return Ok(());
+    }
+    let mut words = LineWords::new(line);
+    match words.next() {
+        None => Ok(()),
+        Some(b"fail") => add_failure(script, &mut words),
+        Some(b"crash") => add_crash(alloc, script, &mut words),
+        Some(b"repeat") => {
+            let times = words.number()?;
+            let name = words.word()?;
+            add_events(alloc, script, times, name, &mut words, number)
+        }
+        Some(name) => add_events(alloc, script, 1, name, &mut words, number),
+    }
+}
+
+/// The event of this name and of the words that follow it, so many times.
+fn add_events(
+    alloc: Global,
+    script: &mut Script,
+    times: u64,
+    name: &[u8],
+    words: &mut LineWords<'_>,
+    number: u64,
+) -> Result<(), LineError> {
+    let event = read_event(alloc, name, words)?;
+    if !script.crashes.is_empty() {
+        return Err(LineError::Bad(Cause::EventAfterCrash));
+    }
+    script.agenda.add(&event, times, number)
+}
+
+fn add_failure(script: &mut Script, words: &mut LineWords<'_>) -> Result<(), LineError> {
+    let node = words.node()?;
+    let fence = words.number()?;
+    words.end()?;
+    if !script.agenda.events().is_empty() {
+        return Err(LineError::Bad(Cause::FailAfterEvent));
+    }
+    script.failures.push(Failure { node, fence })?;
+    Ok(())
+}
+
+fn add_crash(
+    alloc: Global,
+    script: &mut Script,
+    words: &mut LineWords<'_>,
+) -> Result<(), LineError> {
+    let node = words.node()?;
+    let mut picks = vec![in alloc; words.number()?]?;
+    for word in words {
+        picks.push(read_number(word).ok_or(Cause::NotNumber)?)?;
+    }
+    script.crashes.push(Crash { node, picks })?;
+    Ok(())
+}

@@ -1,0 +1,144 @@
+"""The programs under test: where they are, how they are run with a time limit, the strings they print, and cases that
+are counted."""
+
+import contextlib
+import fcntl
+import os
+import pathlib
+import re
+import struct
+import subprocess
+import termios
+import time
+import typing
+import unittest
+
+ROOT = pathlib.Path(__file__).resolve().parent.parent
+
+# By the name of a crate: the variable that names its program instead, and what builds it.
+PROGRAMS = {
+    "server": ("WBL_SERVER", "bin/wbl-server < /dev/null"),
+    "simulator": ("WBL_SIM", "bin/wbl-sim < /dev/null"),
+    "probe": ("WBL_PROBE", "bin/wbl-probe < /dev/null"),
+}
+
+# A program that takes longer is at fault.
+SECONDS = 300
+
+
+class MissingProgram(Exception):
+    """A program that was not built. The text says how to build it."""
+
+
+def program(crate):
+    """The path of a crate's program."""
+    variable, build = PROGRAMS[crate]
+    named = os.environ.get(variable)
+    path = pathlib.Path(named) if named else ROOT / "crates" / crate / "out" / crate
+    if not os.access(path, os.X_OK) or path.is_dir():
+        raise MissingProgram(f"no program at {path}: build it with `{build}`, or name another by {variable}")
+    return str(path)
+
+
+class Finished(typing.NamedTuple):
+    """What a program left: its exit status (below 0 where a signal ended it) and all that it wrote."""
+
+    status: int
+    output: bytes
+    errors: bytes
+
+
+def run_program(crate, words=(), stdin=b"", seconds=SECONDS, **options):
+    """Runs a program over these bytes, or this file. `options` are those of subprocess.run."""
+    source = {"input": stdin} if isinstance(stdin, bytes) else {"stdin": stdin}
+    options.setdefault("stdout", subprocess.PIPE)
+    options.setdefault("stderr", subprocess.PIPE)
+    ended = subprocess.run([program(crate), *words], timeout=seconds, **source, **options)
+    return Finished(ended.returncode, ended.stdout or b"", ended.stderr or b"")
+
+
+def run_in_pieces(crate, pieces, seconds=SECONDS):
+    """Runs a program that is fed each piece by itself: the next one is written once the one before it was read."""
+    source, sink = os.pipe()
+    child = subprocess.Popen([program(crate)], stdin=source, stdout=subprocess.PIPE, stderr=subprocess.PIPE)
+    try:
+        end = time.monotonic() + seconds
+        for piece in pieces:
+            os.write(sink, piece)
+            while bytes_unread(source) and child.poll() is None and time.monotonic() < end:
+                time.sleep(0.00005)
+    finally:
+        os.close(sink)
+        os.close(source)
+    try:
+        output, errors = child.communicate(timeout=seconds)
+    except subprocess.TimeoutExpired:
+        child.kill()
+        child.communicate()
+        raise
+    return Finished(child.returncode, output, errors)
+
+
+def bytes_unread(pipe):
+    """How many bytes wait in a pipe."""
+    return struct.unpack("i", fcntl.ioctl(pipe, termios.FIONREAD, b"\0\0\0\0"))[0]
+
+
+SHORT_ESCAPES = {0x22: '\\"', 0x5C: "\\\\", 0x0D: "\\r", 0x0A: "\\n", 0x09: "\\t"}
+LONG_ESCAPES = {text: bytes([byte]) for byte, text in SHORT_ESCAPES.items()}
+ESCAPE = re.compile(r'\\x[0-9a-f]{2}|\\["\\rnt]|[ !#-\[\]-~]')
+
+
+def quoted(data):
+    """The bytes as the simulator prints them."""
+    return '"' + "".join(SHORT_ESCAPES.get(byte) or quoted_plainly(byte) for byte in data) + '"'
+
+
+def quoted_plainly(byte):
+    return chr(byte) if 0x20 <= byte <= 0x7E else f"\\x{byte:02x}"
+
+
+def unquoted(text):
+    """The bytes that a quoted string of the simulator stands for. It has to be in the one form that stands for them."""
+    inside, data, at = text[1:-1], b"", 0
+    while at < len(inside):
+        found = ESCAPE.match(inside, at)
+        if not found:
+            break
+        at, escape = found.end(), found.group()
+        if escape.startswith("\\x"):
+            data += bytes([int(escape[2:], 16)])
+        else:
+            data += LONG_ESCAPES.get(escape) or escape.encode("ascii")
+    if quoted(data) != text:
+        raise AssertionError(f"not a quoted string: {text!r}")
+    return data
+
+
+class Cases(unittest.TestCase):
+    """Tests whose cases are counted one by one."""
+
+    # A difference of long outputs says where they part, and no more.
+    maxDiff = 2_000
+
+    @contextlib.contextmanager
+    def case(self, name, /, **details):
+        """One case: the others go on where it fails."""
+        with self.subTest(name, **details):
+            yield
+
+    def assert_bytes(self, found, wanted):
+        """Both are the same bytes; else the message shows them around the first place where they part."""
+        if found == wanted:
+            return
+        shared = os.path.commonprefix([found, wanted])
+        at, start = len(shared), max(0, len(shared) - 30)
+        self.fail(
+            f"{len(found)} bytes for {len(wanted)}, parting at byte {at}:\n"
+            f"  found  {found[start:at + 60]!r}\n  wanted {wanted[start:at + 60]!r}"
+        )
+
+    def assert_written(self, finished, wanted):
+        """The program wrote just these bytes, no message, and ended with status 0."""
+        self.assert_bytes(finished.output, wanted)
+        self.assertEqual((finished.status, finished.errors), (0, b""))

@@ -1,0 +1,210 @@
+"""Images as words, from docs/image.md: a reader that checks each rule of a whole image, and a writer of formatting and
+of commits."""
+
+import dataclasses
+import typing
+
+# "Layout, version 1": what each part is, in words of 64 bits and lines of 8 words.
+WORDS_OF_LINE = 8
+LEAST_LINES, MOST_LINES = 4_096, 2**31
+MAGIC = int.from_bytes(b"WBLIMG01", "little")
+VERSION = 1
+RECORD_LINES = (1, 4)
+RECORD_WORDS = 24
+DIRECTORY_LINE = 8
+MOST_GAPS = 8
+STAMPS_BETWEEN_RECORDS = 4_097
+BOUND = 2**62
+PRIMARY, STANDBY = 1, 2
+STRING, FIELD = 1, 2
+MOST_KEY_BYTES, MOST_VALUE_BYTES = 512, 65_536
+LENGTH_SHIFT = 65_536
+
+# "Refusals" of docs/replication.md: those of an image that is read.
+WRONG_SIZE, BAD_MAGIC, BAD_VERSION, DAMAGED = 4, 2, 3, 7
+
+
+class BadImage(Exception):
+    """No whole image: the number of the refusal, and the rule that is broken."""
+
+    def __init__(self, number, rule):
+        super().__init__(f"refusal {number}: {rule}")
+        self.number = number
+
+
+class Record(typing.NamedTuple):
+    """The record that counts."""
+
+    number: int
+    position: int
+    cp: int
+    cd: int
+    epoch: int
+    gaps: tuple
+    role: int
+
+    def counts(self, stamp):
+        return 1 <= stamp <= self.cp and not any(first <= stamp <= last for first, last in self.gaps)
+
+
+class Entry(typing.NamedTuple):
+    """The entry of one version, as its words stand."""
+
+    begin: int
+    end: int
+    position: int
+    line: int
+    lines: int
+    kind: int
+    key_lengths: int
+    value_length: int
+
+
+@dataclasses.dataclass
+class Image:
+    """A whole image: its record, and its map from (key,) or (key, field) to values."""
+
+    record: Record
+    map: dict
+
+
+class Words:
+    """The words of a device of so many lines, by their places. Those that are not named are zero."""
+
+    def __init__(self, lines, words):
+        self.lines = lines
+        self.words = words
+
+    def slice(self, at, count):
+        return [self.words.get(place, 0) for place in range(at, at + count)]
+
+    def line(self, line):
+        return self.slice(line * WORDS_OF_LINE, WORDS_OF_LINE)
+
+    def bytes(self, line, count):
+        words = self.slice(line * WORDS_OF_LINE, -(-count // 8))
+        return b"".join(word.to_bytes(8, "little") for word in words)[:count]
+
+
+def read_image(device):
+    """The image on a device. BadImage where there is none, with the first refusal that docs/image.md names."""
+    if not LEAST_LINES <= device.lines <= MOST_LINES:
+        raise BadImage(WRONG_SIZE, "number of lines")
+    magic, version, lines, entries, root = device.slice(0, 5)
+    if magic != MAGIC:
+        raise BadImage(BAD_MAGIC, "magic")
+    if version != VERSION:
+        raise BadImage(BAD_VERSION, "version")
+    if lines != device.lines:
+        raise BadImage(WRONG_SIZE, "lines in the superblock")
+    _whole(entries == device.lines // 8, "number of entries")
+    record = _read_record(device, root)
+    versions = [Entry(*device.line(DIRECTORY_LINE + entry)) for entry in range(entries)]
+    return Image(record, _read_map(device, record, versions))
+
+
+def _whole(holds, rule):
+    if not holds:
+        raise BadImage(DAMAGED, rule)
+
+
+def _read_record(device, root):
+    words = device.slice(RECORD_LINES[root % 2] * WORDS_OF_LINE, RECORD_WORDS)
+    number, position, cp, cd, epoch, count = words[:6]
+    pairs = list(zip(words[6:22:2], words[7:22:2]))
+    _whole(number == root and 1 <= number < BOUND, "number of the record")
+    _whole(position < BOUND, "position")
+    _whole(cd == cp + STAMPS_BETWEEN_RECORDS and cd < BOUND, "cp and cd")
+    _whole(1 <= epoch < BOUND, "epoch")
+    _whole(count <= MOST_GAPS and not any(map(any, pairs[count:])), "number of gaps")
+    _whole(words[22] in (PRIMARY, STANDBY) and words[23] == 0, "role")
+    before = 0
+    for first, last in pairs[:count]:
+        _whole(before < first <= last < cp, "gap")
+        before = last
+    return Record(number, position, cp, cd, epoch, tuple(pairs[:count]), words[22])
+
+
+def _read_map(device, record, versions):
+    """The versions whose begin counts and whose end does not."""
+    found, taken = {}, []
+    for entry in versions:
+        _whole(max(entry.begin, entry.end) < record.cd, "stamp at cd or above")
+        if record.counts(entry.begin):
+            name, value = _read_version(device, record, entry)
+            taken.append((entry.line, entry.line + entry.lines))
+            if not record.counts(entry.end):
+                _whole(name not in found, "two live versions of one record")
+                found[name] = value
+    taken.sort()
+    _whole(all(end <= start for (_, end), (start, _) in zip(taken, taken[1:])), "extents that overlap")
+    hashes = {name[0] for name in found if len(name) == 2}
+    _whole(not any(name == (name[0],) and name[0] in hashes for name in found), "a string and a field of one key")
+    return found
+
+
+def _read_version(device, record, entry):
+    key_length, field_length = entry.key_lengths % LENGTH_SHIFT, entry.key_lengths // LENGTH_SHIFT
+    length = key_length + field_length + entry.value_length
+    _whole(entry.kind in (STRING, FIELD) and (entry.kind == FIELD or field_length == 0), "kind")
+    _whole(max(key_length, field_length) <= MOST_KEY_BYTES and entry.value_length <= MOST_VALUE_BYTES, "lengths")
+    _whole(entry.lines == lines_of(length), "number of lines of an extent")
+    _whole(extents_begin(device.lines) <= entry.line and entry.line + entry.lines <= device.lines, "place of an extent")
+    _whole(entry.position <= record.position, "position of a version")
+    data = device.bytes(entry.line, length)
+    key, field, value = data[:key_length], data[key_length:key_length + field_length], data[key_length + field_length:]
+    return ((key,) if entry.kind == STRING else (key, field)), value
+
+
+def lines_of(length):
+    """How many lines so many bytes take."""
+    return max(1, -(-length // 64))
+
+
+def extents_begin(lines):
+    """The first line of extents."""
+    return DIRECTORY_LINE + lines // 8
+
+
+class Writer:
+    """A new image, to which one SET after another is committed."""
+
+    def __init__(self, lines, role):
+        self.lines = lines
+        self.role = role
+        self.words = {}
+        self._live = {}
+        self._position = 0
+        self._next_line = extents_begin(lines)
+        self._put(0, [MAGIC, VERSION, lines, lines // 8, 1])
+        self._put_record()
+
+    def set(self, key, value):
+        """The group of one SET: its version, the end of the one before it, the next record and the root."""
+        entry, self._position = self._position, self._position + 1
+        data = key + value
+        lines = lines_of(len(data))
+        fields = [self._position, 0, self._position, self._next_line, lines, STRING, len(key), len(value)]
+        self._put((DIRECTORY_LINE + entry) * WORDS_OF_LINE, fields)
+        padded = data.ljust(lines * 64, b"\0")
+        extent = [int.from_bytes(padded[at:at + 8], "little") for at in range(0, len(padded), 8)]
+        self._put(self._next_line * WORDS_OF_LINE, extent)
+        self._next_line += lines
+        if key in self._live:
+            self._put((DIRECTORY_LINE + self._live[key]) * WORDS_OF_LINE + 1, [self._position])
+        self._live[key] = entry
+        self._put_record()
+
+    def _put_record(self):
+        number, position = self._position + 1, self._position
+        record = [number, position, position, position + STAMPS_BETWEEN_RECORDS, 1, 0] + 16 * [0] + [self.role, 0]
+        self._put(RECORD_LINES[number % 2] * WORDS_OF_LINE, record)
+        self._put(4, [number])
+
+    def _put(self, at, words):
+        """Stores these words. Only those that are not zero are kept."""
+        for place, word in enumerate(words, at):
+            if word:
+                self.words[place] = word
+            else:
+                self.words.pop(place, None)

@@ -1,0 +1,90 @@
+"""Large runs to their end with ample memory: no clause of a proof can say that memory was really refused where it is
+told, so that a server that tells it too early is seen only here."""
+
+import worked_cases as worked
+from simulation import Agenda, Runs
+from spelling import spell
+from worked_cases import GET_A, OK, ONE, SET_A, SHORTEST, STORE_IS_FULL, UNKNOWN
+
+PROGRAMS = ["simulator"]
+IS_SLOW = True
+
+
+def changes(count, request_of):
+    """So many changes of one connection, each served to its end before the next one."""
+    agenda = Agenda(1)
+    for number in range(count):
+        agenda.feed(0, request_of(number))
+        agenda.serve(0)
+        agenda.commit()
+        agenda.replicate(number)
+        agenda.read_marks(0)
+        agenda.add("release 0", "write 0 5")
+    return agenda
+
+
+class Capacity(Runs):
+    """Limits that README.md and docs/image.md name, reached and not passed too early."""
+
+    def play(self, agenda, *options, **others):
+        trace = super().play(agenda, *options, **others)
+        self.assertNotIn(b"out of memory", b"".join(call.reply for call in trace.calls))
+        self.assertRegex(trace.ended, r"\Aafter all \d+ events\Z")
+        return trace
+
+    def check_room(self, lines, request_of):
+        """An image of so many lines takes a change for each of its entries, and then is full."""
+        room = lines // 8
+        agenda = changes(room, request_of)
+        agenda.feed(0, request_of(room) + spell("GET", "a") + request_of(room + 1))
+        agenda.drain(1, 3, 0)
+        trace = self.play(agenda, lines=(lines, lines))
+        replies = [call.reply for call in trace.calls]
+        self.assertEqual(replies[:room], room * [OK])
+        self.assertEqual(replies[room:], [STORE_IS_FULL, ONE, STORE_IS_FULL])
+        self.assert_bytes(trace.released[0], b"".join(replies))
+        self.assertEqual([node.position for node in trace.nodes.values()], [room, room])
+
+    def test_room_of_4096_lines(self):
+        self.check_room(4_096, lambda number: SET_A)
+
+    def test_room_of_8192_lines(self):
+        self.check_room(8_192, lambda number: SET_A)
+
+    def test_room_of_8192_lines_for_different_keys(self):
+        self.check_room(8_192, lambda number: spell("SET", f"k{number}", "1") if number else SET_A)
+
+    def test_more_than_5000_changes(self):
+        count = 5_100
+        trace = self.play(changes(count, lambda number: SET_A), lines=(65_536, 65_536))
+        self.assertEqual([call.reply for call in trace.calls], count * [OK])
+        self.assertEqual([node.position for node in trace.nodes.values()], [count, count])
+        self.assert_bytes(trace.released[0], count * OK)
+
+    def serve_piece(self, data, items):
+        """Serves one piece to its end, and gives what was released."""
+        agenda = Agenda(1)
+        agenda.feed(0, data)
+        for _ in range(items + 1):
+            agenda.serve(0)
+        agenda.drain(1, 0, 4)
+        return self.play(agenda).released[0]
+
+    def test_pieces_above_65536_bytes(self):
+        for length in [65_534, 65_535, 65_536, 65_537, 70_000, 131_072, 200_000]:
+            with self.case("requests of no words", length=length):
+                # four bytes each, and the first word makes up the length
+                data = spell("GET", "z" * (length % 4)) + SET_A + GET_A
+                data = b"*0\r\n" * ((length - len(data)) // 4) + data
+                self.assertLess(length - len(data), 4)
+                self.assert_bytes(self.serve_piece(data, 3), b"$-1\r\n" + OK + ONE)
+
+    def test_a_piece_of_many_requests(self):
+        for name, data, items, output in [
+            ("shortest", 7_000 * SHORTEST, 7_000, 7_000 * UNKNOWN),
+            ("GET", SET_A + 3_500 * GET_A, 3_501, OK + 3_500 * ONE),
+            ("with a fault", 6_600 * SHORTEST + b"P", 6_601, 6_600 * UNKNOWN + worked.NO_STAR),
+        ]:
+            with self.case(name):
+                self.assertGreater(len(data), 65_536)
+                self.assert_bytes(self.serve_piece(data, items), output)

@@ -1,0 +1,213 @@
+"""Images and crashes: the worked image word for word, the records after it, fences that fail in formatting and in
+commits of either node with all kinds of picks, and devices that are too small."""
+
+import draws
+import plain_image
+from simulation import Agenda, NODES, ROLES, Runs, simulate
+from worked_cases import OK, SET_A
+
+PROGRAMS = ["simulator"]
+
+FORMAT_FENCES = 3
+
+# "Worked image" of docs/image.md after the group `SET a 1`: its words that are not zero, but for the two roles.
+WORKED_IMAGE = {
+    # superblock
+    0: 3544411304008368727,
+    1: 1,
+    2: 4096,
+    3: 512,
+    4: 2,
+    # record 2, from line 1
+    8: 2,
+    9: 1,
+    10: 1,
+    11: 4098,
+    12: 1,
+    # record 1, from line 4
+    32: 1,
+    35: 4097,
+    36: 1,
+    # entry 0, line 8
+    64: 1,
+    66: 1,
+    67: 520,
+    68: 1,
+    69: 1,
+    70: 1,
+    71: 1,
+    # line 520
+    4160: 12641,
+}
+NEW_IMAGE = {0: 3544411304008368727, 1: 1, 2: 4096, 3: 512, 4: 1, 32: 1, 35: 4097, 36: 1}
+
+# Where record 2 and record 1 have their role.
+ROLE_OF_RECORD_2, ROLE_OF_RECORD_1 = 30, 54
+
+# At a crash all words get their oldest candidate, all their newest, or the two in turn.
+PICKS = {"oldest": "0", "newest": "1", "oldest first": "0 1", "newest first": "1 0"}
+
+
+def sets(count):
+    """A connection sets a to 1 so many times, each served to its end."""
+    agenda = Agenda(1)
+    for number in range(count):
+        agenda.feed(0, SET_A)
+        agenda.serve(0)
+        agenda.commit()
+        agenda.replicate(number)
+        agenda.read_marks(0)
+        agenda.add("release 0", "write 0 5")
+    return agenda
+
+
+class Images(Runs):
+    """What formatting and commits write."""
+
+    def test_new_image(self):
+        trace = self.play(Agenda())
+        for node in NODES:
+            with self.case(node):
+                self.assertEqual(trace.words[node], {**NEW_IMAGE, ROLE_OF_RECORD_1: ROLES[node]})
+                self.assertEqual(trace.records[node], [])
+
+    def test_worked_image(self):
+        trace = self.play(sets(1))
+        for node in NODES:
+            with self.case(node):
+                roles = {ROLE_OF_RECORD_1: ROLES[node], ROLE_OF_RECORD_2: ROLES[node]}
+                self.assertEqual(trace.words[node], {**WORKED_IMAGE, **roles})
+                self.assertEqual(trace.records[node], [((b"a",), b"1")])
+                self.assertEqual(tuple(trace.nodes[node]), (1, 2, 1, 4098, 1, node, 0))
+        self.assertEqual(trace.released, [OK])
+
+    def test_magic_is_its_bytes_in_a_file(self):
+        for node in NODES:
+            with self.case(node):
+                self.assertEqual(simulate([], "--images").words[node][0].to_bytes(8, "little"), b"WBLIMG01")
+
+    def test_each_set_leaves_the_next_record(self):
+        for count in range(5):
+            trace = self.play(sets(count))
+            for node in NODES:
+                with self.case(node, count=count):
+                    self.assertEqual(tuple(trace.nodes[node]), (count, count + 1, count, count + 4097, 1, node, 0))
+
+    def test_sizes(self):
+        # an eighth of the lines, rounded down, are entries
+        for lines in [(4_096, 4_103), (4_097, 4_104), (8_191, 4_096), (16_384, 65_536)]:
+            with self.case("lines", lines=lines):
+                trace = self.play(sets(2), lines=lines)
+                for node, size in zip(NODES, lines):
+                    words = trace.words[node]
+                    self.assertEqual((words[2], words[3], words[67]), (size, size // 8, 8 + size // 8))
+
+    def test_devices_that_are_too_small(self):
+        for lines in ["4095,4096", "4096,4095", "0,4096", "4096,1", "0,0"]:
+            with self.case("lines", lines=lines):
+                trace = simulate(sets(1).events, "--map", "--images", "--lines", lines)
+                self.assertEqual(trace.ended, "at formatting: refusal 4: wrong size")
+                self.assertEqual((trace.done, trace.calls, trace.released), ([], [], []))
+                for node, size in zip(NODES, lines.split(",")):
+                    if int(size) < 4_096:
+                        self.assertEqual((trace.nodes[node], trace.words[node]), (None, {}))
+
+
+class Crashes(Runs):
+    """A fence of one node fails, and that node crashes. Before its root is fenced an image is the one before or the one
+    after."""
+
+    def crashed(self, node, fence, picks, count=1):
+        fail = (fence, 0) if node == "primary" else (0, fence)
+        return self.play(sets(count), fail=fail, crash=f"{node} {picks}")
+
+    def assert_holds(self, trace, node, position):
+        """The image is whole at this position, and has what was set until then."""
+        image = plain_image.read_image(plain_image.Words(4_096, trace.words[node]))
+        self.assertEqual(image.map, {(b"a",): b"1"} if position else {})
+        self.assertEqual(trace.records[node], list(image.map.items()))
+        self.assertEqual((image.record.position, image.record.number), (position, position + 1))
+        self.assertEqual(tuple(trace.nodes[node])[:3], (position, position + 1, position))
+
+    def check_fence(self, node, number):
+        """In the commits of one SET and of the second one: by the picks of the root the position before or after, and
+        only at the last fence."""
+        for before in range(3):
+            for name, picks in PICKS.items():
+                with self.case(name, before=before):
+                    trace = self.crashed(node, FORMAT_FENCES * (1 + before) + number, picks, 4)
+                    # the events of a SET: Commit is the sixth of them, Apply the eleventh
+                    event = {"primary": 6, "standby": 11}[node] + 17 * before
+                    self.assertEqual(trace.ended, f"at event {event}, line {event + 2}: refusal 1: device fault")
+                    self.assertEqual(len(trace.done), event)
+                    self.assertEqual(trace.released, [before * OK])
+                    is_new = number == 3 and picks.startswith("1")
+                    self.assert_holds(trace, node, before + is_new)
+                    other, behind = ("standby", 0) if node == "primary" else ("primary", 1)
+                    self.assert_holds(trace, other, before + behind)
+
+    def test_first_fence_of_a_commit_of_the_primary(self):
+        self.check_fence("primary", 1)
+
+    def test_second_fence_of_a_commit_of_the_primary(self):
+        self.check_fence("primary", 2)
+
+    def test_third_fence_of_a_commit_of_the_primary(self):
+        self.check_fence("primary", 3)
+
+    def test_first_fence_of_a_commit_of_the_standby(self):
+        self.check_fence("standby", 1)
+
+    def test_second_fence_of_a_commit_of_the_standby(self):
+        self.check_fence("standby", 2)
+
+    def test_third_fence_of_a_commit_of_the_standby(self):
+        self.check_fence("standby", 3)
+
+    def test_picks_drawn_by_a_seed(self):
+        numbers = draws.numbers("picks")
+        for node in NODES:
+            for fence in range(4, 13):
+                picks = " ".join(str(numbers.randrange(4)) for _ in range(numbers.randint(1, 40)))
+                with self.case(node, fence=fence, picks=picks):
+                    trace = self.crashed(node, fence, picks, 4)
+                    before = (fence - 4) // 3
+                    position = trace.nodes[node].position
+                    self.assertIn(position, (before, before + 1) if fence % 3 == 0 else (before,))
+                    self.assert_holds(trace, node, position)
+
+    def test_fences_of_formatting(self):
+        for node in NODES:
+            for fence in (1, 2, 3):
+                for name, picks in PICKS.items():
+                    with self.case(name, node=node, fence=fence):
+                        trace = self.crashed(node, fence, picks)
+                        self.assertEqual((trace.done, trace.calls), ([], []))
+                        self.assertEqual(trace.ended, "at formatting: refusal 1: device fault")
+                        # the magic is stored last, and then the rest is durable
+                        if fence == 3 and picks.startswith("1"):
+                            self.assertEqual(trace.words[node], {**NEW_IMAGE, ROLE_OF_RECORD_1: ROLES[node]})
+                            self.assert_holds(trace, node, 0)
+                        else:
+                            self.assertIsNone(trace.nodes[node])
+                            self.assertNotIn(0, trace.words[node])
+
+    def test_a_crash_where_no_fence_failed_changes_nothing(self):
+        for node in NODES:
+            for name, picks in PICKS.items():
+                with self.case(name, node=node):
+                    trace = self.play(sets(3), crash=f"{node} {picks}")
+                    self.assert_holds(trace, node, 3)
+
+    def test_a_fence_that_is_never_reached(self):
+        for fail in [(13, 0), (0, 13), (2**64 - 1, 2**64 - 1)]:
+            with self.case("fail", fail=fail):
+                trace = self.play(sets(3), fail=fail)
+                self.assertEqual(trace.released, [3 * OK])
+
+    def test_without_a_crash_the_newest_words_are_read(self):
+        for node in NODES:
+            for fence, position in [(4, 0), (5, 0), (6, 1)]:
+                with self.case(node, fence=fence):
+                    trace = self.play(sets(2), fail=(fence, 0) if node == "primary" else (0, fence))
+                    self.assertEqual(trace.nodes[node].position, position)

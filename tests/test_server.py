@@ -1,0 +1,192 @@
+"""The server as its client meets it: bytes in, bytes out, statuses and messages."""
+
+import draws
+import plain_redis
+import spelling
+import worked_cases as worked
+from common import Cases, run_in_pieces, run_program
+from worked_cases import GET_A, OK, ONE, SET_A, SHORTEST, STORE_IS_FULL, UNKNOWN
+
+PROGRAMS = ["server"]
+
+# Versions that an image of 4,096 lines takes.
+MOST_CHANGES = 512
+
+
+def serve(data):
+    return run_program("server", stdin=data)
+
+
+class Served(Cases):
+    """Tests that compare the server with what should come out."""
+
+    def assert_served(self, data, wanted):
+        self.assert_written(serve(data), wanted)
+
+    def assert_plainly_served(self, data):
+        """The server answers as the plain Redis does to what the plain reader reads."""
+        self.assert_served(data, plain_redis.served(data))
+
+
+@worked.one_test_for_each(worked.FIRST_PATH, "check_row")
+class FirstPath(Served):
+    """Rows of "The first path" in docs/worked-cases.md."""
+
+    def check_row(self, data, output):
+        with self.case("in one piece"):
+            self.assert_served(data, output)
+        with self.case("in single bytes"):
+            self.assert_written(run_in_pieces("server", [data[at:at + 1] for at in range(len(data))]), output)
+        for cut in range(1, len(data)):
+            with self.case("cut in two", cut=cut):
+                self.assert_written(run_in_pieces("server", [data[:cut], data[cut:]]), output)
+        for length in range(len(data)):
+            with self.case("front", length=length):
+                self.assert_plainly_served(data[:length])
+
+    def test_no_input(self):
+        self.assert_served(b"", b"")
+
+    def test_the_last_entry(self):
+        output = MOST_CHANGES * OK + STORE_IS_FULL + ONE
+        self.assert_served((MOST_CHANGES + 1) * SET_A + GET_A, output)
+
+
+@worked.one_test_for_each(worked.FAULTS, "check_row")
+class Faults(Served):
+    """Rows of "Protocol" in docs/worked-cases.md: nothing is answered before the last byte, and nothing is read after
+    it."""
+
+    def check_row(self, data, output):
+        for name, text, wanted in [
+            ("without the last byte", data[:-1], b""),
+            ("whole", data, output),
+            ("with a request after it", data + SET_A, output),
+            ("behind two requests", SET_A + GET_A + data + GET_A, OK + ONE + output),
+        ]:
+            with self.case(name):
+                self.assert_served(text, wanted)
+
+    def test_rows_of_the_full_limits(self):
+        # at present they are decided earlier
+        rows = [(b"*1025", worked.BAD_COUNT), (b"*3\r\n$3\r\nSET\r\n$1\r\na\r\n$65537", worked.BAD_LENGTH)]
+        for data, output in rows:
+            with self.case("row", data=data):
+                self.assert_served(data, output)
+                self.assert_served(data + b"\r\n" + SET_A, output)
+
+    def test_each_byte_in_place_of_each(self):
+        for at in range(len(worked.PING)):
+            for byte in b"*$\r\n 0139:-+\x00\x7f\xff":
+                data = worked.PING[:at] + bytes([byte]) + worked.PING[at + 1:] + GET_A
+                with self.case("byte in place of another", at=at, byte=byte):
+                    self.assert_plainly_served(data)
+
+
+class Names(Served):
+    """Rules of docs/commands.md."""
+
+    def test_names_without_regard_to_case(self):
+        for name in ["SET", "set", "Set", "sEt", "SEt"]:
+            with self.case("SET", name=name):
+                self.assert_served(spelling.spell(name, "a", "1") + GET_A, OK + ONE)
+        for name in ["get", "gET", "GEt"]:
+            with self.case("GET", name=name):
+                self.assert_served(SET_A + spelling.spell(name, "a"), OK + ONE)
+
+    def test_unknown_names(self):
+        names = [b"", b"SE", b"SET ", b"GET\0", b"\xc7ET"]
+        names += [b"PING", b"SETNX", b"GETDEL", b"QUIT", b"MULTI", b"EXEC", b"DEL", b"INCR"]
+        for name in names:
+            with self.case("unknown", name=name):
+                self.assert_served(spelling.spell(name) + spelling.spell(name, "a", "1"), 2 * UNKNOWN)
+
+    def test_numbers_of_words(self):
+        for words in [("SET",), ("sEt", "a"), ("GET",), ("GET", "a", "b"), ("gEt", "a", "")]:
+            with self.case("refused", words=words):
+                name = words[0].lower().encode()
+                reply = b"-ERR wrong number of arguments for '%s' command\r\n" % name
+                self.assert_served(SET_A + spelling.spell(*words) + GET_A, OK + reply + ONE)
+
+    def test_words_of_any_bytes(self):
+        words = [b"", b"\r\n", b"\0", b"*1\r\n$1\r\n", b"\xff\xfe", b"A", b"a", b" a", b"a ", b"$-1", b"123456789"]
+        for key in words:
+            with self.case("key", key=key):
+                sets = b"".join(spelling.spell("SET", word, word) for word in words)
+                others = b"".join(spelling.spell("SET", word, "other") for word in words if word != key)
+                output = (2 * len(words) - 1) * OK + plain_redis.bulk(key)
+                self.assert_served(sets + others + spelling.spell("GET", key), output)
+
+    def test_a_value_is_replaced(self):
+        data = b"".join(spelling.spell("SET", "a", value) + GET_A for value in ["1", "", "123456789", "1"])
+        self.assert_served(data, OK + ONE + OK + b"$0\r\n\r\n" + OK + b"$9\r\n123456789\r\n" + OK + ONE)
+
+
+class Damaged(Served):
+    """Requests with a few bytes changed, against the plain reader and the plain Redis."""
+
+    def check(self, seed):
+        numbers = draws.numbers(f"damaged {seed}")
+        for copy in range(100):
+            rows = [numbers.choice(draws.REQUESTS) for _ in range(numbers.randint(1, 4))]
+            data = draws.damaged(numbers, b"".join(spelling.spell(*row) for row in rows))
+            with self.case("damaged", copy=copy, data=data):
+                self.assert_plainly_served(data)
+
+    def test_seed_0(self):
+        self.check(0)
+
+    def test_seed_1(self):
+        self.check(1)
+
+    def test_seed_2(self):
+        self.check(2)
+
+    def test_seed_3(self):
+        self.check(3)
+
+    def test_scripts(self):
+        for seed in range(8):
+            with self.case("script", seed=seed):
+                self.assert_plainly_served(draws.Script(draws.numbers(f"script {seed}"), 400).text)
+
+
+class Large(Served):
+    """More requests than a pipe holds, and outputs longer than a pipe of the system."""
+
+    def test_more_requests_than_a_pipe_holds(self):
+        data = 300 * SET_A + 1_000 * SHORTEST + 1_000 * GET_A
+        self.assert_served(data, 300 * OK + 1_000 * UNKNOWN + 1_000 * ONE)
+
+    def test_ten_thousand_shortest_requests(self):
+        self.assert_served(10_000 * SHORTEST, 10_000 * UNKNOWN)
+
+    def test_shortest_requests_and_a_fault(self):
+        for count in [1, 2, 255, 256, 257, 1_000, 9_999]:
+            with self.case("shortest", count=count):
+                self.assert_served(count * SHORTEST, count * UNKNOWN)
+            with self.case("with a fault", count=count):
+                self.assert_served(count * SHORTEST + b"P", count * UNKNOWN + worked.NO_STAR)
+
+    def test_requests_of_no_words_between(self):
+        data = 5_000 * b"*0\r\n" + 3_000 * (SHORTEST + b"*0\r\n")
+        self.assert_served(data, 3_000 * UNKNOWN)
+
+    def test_lengths_of_output_around_a_pipe(self):
+        # 5 bytes and 7 bytes a reply make every length
+        for length in [4_096, 65_535, 65_536, 65_537, 131_072]:
+            sevens = length % 5 * 3 % 5
+            fives = (length - 7 * sevens) // 5
+            data = spelling.spell("GET", "z") * fives + SET_A + GET_A * sevens
+            output = fives * b"$-1\r\n" + OK + sevens * ONE
+            with self.case("length", length=len(output)):
+                self.assertEqual(len(output), length + 5)
+                self.assert_served(data, output)
+
+    def test_store_is_full_and_stays_as_it_is(self):
+        keys = [b"k%d" % number for number in range(MOST_CHANGES)]
+        data = b"".join(spelling.spell("SET", key, key) for key in keys)
+        data += spelling.spell("SET", "k0", "new") + spelling.spell("SET", "new", "new")
+        data += b"".join(spelling.spell("GET", key) for key in keys) + spelling.spell("GET", "new")
+        output = MOST_CHANGES * OK + 2 * STORE_IS_FULL + b"".join(map(plain_redis.bulk, keys)) + b"$-1\r\n"
+        self.assert_served(data, output)
