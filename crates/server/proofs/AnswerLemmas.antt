@@ -54,11 +54,11 @@ answer-promised input events done calls released primary standby answer agenda p
 }
 
 -- A run over an agenda that went to its end: what it released to the first connection is an answer.
-pub answer-kept : {A R : Type 0} (bytes : A → List ℕ) (result : Result A R) (first second : ℕ) (input : List ℕ) (agenda events : List Event) (ended : Option Ended) (done : List Bool) (calls : List Call) (released : List (List ℕ)) (primary standby : State)
-    → IsAgenda input agenda → events ≡ agenda → KeepsItsWord first second events ended done calls released primary standby
+pub answer-kept : {A R : Type 0} (bytes : A → List ℕ) (result : Result A R) (input : List ℕ) (agenda events : List Event) (ended : Option Ended) (done : List Bool) (calls : List Call) (released : List (List ℕ))
+    (primary standby primary' standby' : State) → IsAgenda input agenda → events ≡ agenda → KeepsItsWord events ended done calls released primary standby primary' standby'
     → IfOk result (λ _. ended ≡ None) → IfOk result (λ answer. bytes answer ≡ slice_index_or released 0 []) → IfOk result (λ answer. IsAnswer input (bytes answer))
-answer-kept bytes (Ok answer) first second input agenda events ended done calls released primary standby is_agenda same kept whole is_first =
-    let at_end : KeepsItsWord first second events None done calls released primary standby =
-    subst (λ (how : Option Ended). KeepsItsWord first second events how done calls released primary standby) whole kept in
-    answer-promised input events done calls _ _ _ (bytes answer) (subst (IsAgenda input) (sym same) is_agenda) at_end.promised is_first
-answer-kept bytes (Err refusal) first second input agenda events ended done calls released primary standby is_agenda same kept whole is_first = tt
+answer-kept bytes (Ok answer) input agenda events ended done calls released primary standby primary' standby' is_agenda same kept whole is_first =
+    let at_end : KeepsItsWord events None done calls released primary standby primary' standby' =
+    subst (λ (how : Option Ended). KeepsItsWord events how done calls released primary standby primary' standby') whole kept in
+    answer-promised input events done calls _ _ _ (bytes answer) (subst (IsAgenda input) (sym same) is_agenda) at_end.kept.promised is_first
+answer-kept bytes (Err refusal) input agenda events ended done calls released primary standby primary' standby' is_agenda same kept whole is_first = tt

@@ -124,7 +124,7 @@ one_change epoch frames w frame places sound first = (standby-first sound.sent w
 pub applies : (lines epoch : ℕ) (frames : List Frame) (w : World) (frame : Frame) (acks : List Ack) (old new : Arrivals) (before after : Node)
     → new.delivered.items ≡ drop 1 old.delivered.items → new.acknowledgements.items ≡ old.acknowledgements.items ++ acks
     → ArrivalsStand epoch w.calls frames old w.standby → (first : FirstFrame epoch w.calls frames frame (drop 1 old.delivered.items) w.standby.waiting)
-    → Took lines epoch w.calls first.span (without_first w.standby) (map (λ (ack : Ack). ack.position) acks) after → AppliesFirst lines epoch frames w true new before after
+    → Took lines epoch w.calls first.span (without_first w.standby) (map (λ (ack : Ack). ack.position) acks) before after → AppliesFirst lines epoch frames w true new before after
 applies lines epoch frames w frame acks old new before after items told stands first took =
     let positions : List Ack → List ℕ = map (λ (ack : Ack). ack.position) in
     record {
@@ -139,6 +139,7 @@ applies lines epoch frames w frame acks old new before after items told stands f
               ∙ took.acknowledgements;
         },
         took.stands,
+        took.moves,
       );
       stays = λ did. cc;
     }

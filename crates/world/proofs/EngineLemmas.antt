@@ -1,8 +1,8 @@
 -- An engine over the list of calls: what its contents say of images, and how they stay and move with the list.
-use Rattle.std.proofs.Common.{◌≡◌, ℕ, ◌+◌, ◌-◌, ◌≤◌, Bool, List, ◌++◌, inl, sym, ap, subst, ◌∙◌, arith}
+use Rattle.std.proofs.Common.{◌≡◌, ◌⊎◌, ℕ, ◌+◌, ◌-◌, ◌≤◌, Bool, List, ◌++◌, inl, inr, refl, sym, ap, subst, ◌∙◌, arith}
 use Rattle.kv_types.specs.Keyspaces.{play_all}
 use Rattle.pmem.specs.Device.{State}
-use Rattle.pmem.proofs.Leaving.{none_leaves}
+use Rattle.pmem.proofs.Leaving.{none_leaves, LeavesOnly-weaken}
 use Rattle.model.specs.declared.call.Call.{Call}
 use Rattle.model.specs.declared.group.Group.{Group}
 use Rattle.model.specs.Calls.{keyspace_after, cut_at, position_of}
@@ -16,7 +16,7 @@ use Rattle.model.proofs.StandingLemmas.{Holds-versions}
 use Rattle.wbl_engine.specs.Contents.{Keeps}
 use Rattle.machine.specs.Events.{Span}
 use Rattle.world.specs.GroupSpans.{IsGroupOf}
-use Rattle.world.specs.Committings.{AreContentsAt, EngineStands, Stands, StandsAtOrNext, StandsNear, NearOnly}
+use Rattle.world.specs.Committings.{AreContentsAt, EngineStands, Moves, Stands, StandsAtOrNext, NearOnly}
 
 -- ---- what a crash leaves
 
@@ -34,14 +34,23 @@ keeps-stands lines calls p contents image are keeps =
 pub Stands-engine : (lines : ℕ) (calls : List Call) (p : ℕ) (device : State) (contents : Contents) (is_faulted : Bool) → EngineStands lines calls p device contents is_faulted → Stands lines calls p device
 Stands-engine lines calls p device contents is_faulted stands = λ image is. keeps-stands lines calls p contents image stands.contents_at (stands.durable image is)
 
--- what a crash at any moment leaves, it leaves now
-pub near-now : (lines : ℕ) (calls : List Call) (p : ℕ) (old new : State) → NearOnly lines calls p old new → StandsNear lines calls p new
-near-now lines calls p old new only = λ image is. only.each image (inl is)
-
 -- nothing happened to the device
 pub near-still : (lines : ℕ) (calls : List Call) (p : ℕ) (device : State) (contents : Contents) (is_faulted : Bool) → EngineStands lines calls p device contents is_faulted → NearOnly lines calls p device device
 near-still lines calls p device contents is_faulted stands =
     none_leaves device (StandsAtOrNext lines calls p) (λ image is. inl (Stands-engine lines calls p device contents is_faulted stands image is))
+
+-- nothing happened to the device, wherever its node was said to stand before
+pub moves-same : (lines : ℕ) (calls : List Call) (p q : ℕ) (old new : State) → new ≡ old → Stands lines calls q new → Moves lines calls p q old new
+moves-same lines calls p q old new same stands = subst (λ (d : State). Moves lines calls p q d new) same
+    (record { leaves = none_leaves new (λ image. StandsAt lines calls p image ⊎ StandsAt lines calls q image) (λ image is. inr (stands image is)); failures = refl })
+
+-- the node moved by one change
+pub near-moves : (lines : ℕ) (calls : List Call) (p q : ℕ) (old new : State) → q ≡ p + 1 → new.failures ≡ old.failures → NearOnly lines calls p old new → Moves lines calls p q old new
+near-moves lines calls p q old new next failures only = record { leaves = LeavesOnly-weaken (λ image. StandsAt lines calls p image ⊎ StandsAt lines calls q image) either only; failures = failures }
+  where
+    either : (image : Image) → StandsAtOrNext lines calls p image → StandsAt lines calls p image ⊎ StandsAt lines calls q image
+    either image (inl here) = inl here
+    either image (inr there) = inr (subst (λ n. StandsAt lines calls n image) (sym next) there.1)
 
 -- ---- while the list grows
 

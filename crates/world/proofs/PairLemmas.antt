@@ -1,5 +1,5 @@
 -- What each event does to the pair, of what it does to its parts.
-use Rattle.std.proofs.Common.{◌≡◌, ℕ, ◌≤◌, Bool, true, false, nat_lt, List, [], ◌∷◌, ◌++◌, length, option_map, slice_get, slice_index_or, Option, Some, Result, Ok, Err, IfOk, OnOk, OnErr, IsErr, refl, sym, ap, subst, ◌∙◌, arith, inl, true≢false}
+use Rattle.std.proofs.Common.{◌≡◌, ℕ, ◌+◌, ◌≤◌, ◌&&◌, Bool, true, false, nat_lt, List, [], ◌∷◌, ◌++◌, length, option_map, slice_get, slice_index_or, Option, Some, Result, Ok, Err, IfOk, OnOk, OnErr, IsErr, refl, sym, ap, subst, ◌∙◌, arith, inl, true≢false}
 use Rattle.std.proofs.lemmas.Bool.{lt-ltb, le-ltb, ltb-true}
 use Rattle.std.proofs.lemmas.List.{length-map}
 use Rattle.std.proofs.lemmas.Option.{slice_get-get_or, slice_get-map, slice_get_within}
@@ -8,31 +8,31 @@ use Rattle.kv_types.specs.declared.refusal.Refusal.{Refusal}
 use Rattle.pipes.specs.Waiting.{Waiting}
 use Rattle.model.specs.declared.call.Call.{Call}
 use Rattle.model.specs.declared.group.Group.{Group}
-use Rattle.model.specs.Calls.{position_of}
+use Rattle.model.specs.Calls.{is_nonempty, position_of}
 use Rattle.model.specs.Groups.{Contents}
 use Rattle.redis_core.specs.Sequencing.{Sequencing, StandsFor}
 use Rattle.standby.specs.declared.frame.Frame.{Frame}
 use Rattle.standby.specs.declared.frame.Ack.{Ack}
 use Rattle.machine.specs.declared.event.Event.{Event}
 use Rattle.machine.specs.declared.event.Event.TheVariants as events
-use Rattle.machine.specs.Events.{Connection, World, Committer as MachineCommitter, Link as MachineLink, Standby as MachineStandby, Span, Happens, Step, Turns, is_enabled, called, opened_link, acknowledged, closed_group, committed_first, raised_local, ready_again, handed, handed_to, delivered, option_items, knowing, told, with_link, with_standby, with_committer}
-use Rattle.machine.specs.Sound.{Sound}
+use Rattle.machine.specs.Events.{Connection, World, Committer as MachineCommitter, Link as MachineLink, Standby as MachineStandby, Span, Happens, Step, Turns, is_enabled, is_ready, has_room, called, opened_link, acknowledged, closed_group, committed_first, raised_local, ready_again, handed, handed_to, delivered, option_items, knowing, told, with_link, with_standby, with_committer}
+use Rattle.machine.specs.Sound.{IsChain, Sound}
 use Rattle.machine.proofs.GroupLemmas.{chain-le}
 use Rattle.machine.proofs.SoundEvents.{sound-step}
 use Rattle.world.specs.Going.{Goes}
 use Rattle.world.specs.GroupSpans.{AreGroupsOf}
-use Rattle.world.specs.Committings.{EngineStands, Leads, LeadsOn, Stands, StandsNear, NearOnly, CommittingStands}
+use Rattle.world.specs.Committings.{EngineStands, Leads, LeadsOn, NearOnly, Moves, CommittingStands}
 use Rattle.world.specs.Links.{LinkStands, KeepsFrames, AreFramesAt}
 use Rattle.world.specs.Sessions.{SessionsStand, SequencerStands, TakesTurn, TellsTheSame}
 use Rattle.world.specs.Standbys.{Node, StandbyStands, ArrivalsStand, AppliesFirst}
-use Rattle.world.specs.Pairs.{Pair, PartsStand, PairStands, IsCut, Steps, LeavesNear, Does}
+use Rattle.world.specs.Pairs.{Pair, PartsStand, PairStands, IsCut, MovesBoth, Steps, Does}
 use Rattle.world.specs.declared.arrivals.Arrivals.{Arrivals}
 use Rattle.world.specs.declared.connection.Connection.{Connection as Connection'}
 use Rattle.world.specs.declared.committing.Committing.{Committing}
 use Rattle.world.specs.declared.link.Link.{Link}
 use Rattle.world.specs.declared.sessions.Sessions.{Sessions}
 use Rattle.world.proofs.SessionLemmas.{length-connections, released-told}
-use Rattle.world.proofs.EngineLemmas.{Stands-engine, near-now, near-still, EngineStands-grows}
+use Rattle.world.proofs.EngineLemmas.{Stands-engine, near-still, near-moves, moves-same, EngineStands-grows}
 use Rattle.world.proofs.CommittingLemmas.{CommittingStands-grows}
 use Rattle.world.proofs.LinkLemmas.{LinkStands-grows}
 use Rattle.world.proofs.StandbyLemmas.{StandbyStands-grows, StandbyStands-still}
@@ -43,25 +43,37 @@ use Rattle.world.proofs.ArrivalLemmas.{ArrivalsStand-grows, ArrivalsStand-frames
 pub goes-map : {A B C D : Type 0} {enabled did : Bool} → Goes enabled did A B → (A → C) → (B → D) → Goes enabled did C D
 goes-map goes moved stayed = record { done = goes.done; goes = λ did. moved (goes.goes did); stays = λ did. stayed (goes.stays did) }
 
-pub goes-steps : (first second : ℕ) (w w' : World) (event : Event) (did : Bool) (pair : Pair) → Sound w → Happens w event w'
-    → Goes (is_enabled w event) did (PartsStand first second pair w') (PartsStand first second pair w) → Steps first second w event did pair
-goes-steps first second w w' event true pair sound happens goes =
+-- neither device was touched
+untouched : (first second : ℕ) (old new : Pair) (w w' : World) → new.device ≡ old.device → new.standby.device ≡ old.standby.device → PartsStand first second new w' → MovesBoth first second old new w w'
+untouched first second old new w w' device device' parts =
+    record {
+      primary = moves-same first w'.calls w.committer.position w'.committer.position old.device new.device device (Stands-engine _ _ _ _ _ _ parts.engine);
+      standby = moves-same second w'.calls w.standby.position w'.standby.position old.standby.device new.standby.device device' (Stands-engine _ _ _ _ _ _ parts.standby.engine);
+    }
+
+-- an event that touches no device
+pub goes-steps : (first second : ℕ) (w w' : World) (event : Event) (did : Bool) (old new : Pair) → new.device ≡ old.device → new.standby.device ≡ old.standby.device → Sound w → Happens w event w'
+    → Goes (is_enabled w event) did (PartsStand first second new w') (PartsStand first second new w) → Steps first second w event did old new
+goes-steps first second w w' event true old new device device' sound happens goes =
     let step : Step w event true w' = record { done = goes.done; happens = λ did. happens; stands = λ did. absurd (true≢false did) } in
-    record { world = w'; step = step; stands = record { sound = sound-step w event true w' step sound; parts = goes.goes refl } }
-goes-steps first second w w' event false pair sound happens goes =
+    record {
+      world = w';
+      step = step;
+      stands = record { sound = sound-step w event true w' step sound; parts = goes.goes refl };
+      moves = untouched first second old new w w' device device' (goes.goes refl);
+    }
+goes-steps first second w w' event false old new device device' sound happens goes =
     record {
       world = w;
       step = record { done = goes.done; happens = λ did. absurd (true≢false (sym did)); stands = λ did. refl };
       stands = record { sound = sound; parts = goes.stays refl };
+      moves = untouched first second old new w w device device' (goes.stays refl);
     }
 
 -- ---- cuts
 
-near : (lines : ℕ) (calls : List Call) (p : ℕ) (device : State) → Stands lines calls p device → StandsNear lines calls p device
-near lines calls p device stands = λ image is. inl (stands image is)
-
 pub cut-near : (first second : ℕ) (old new : Pair) (w : World) → PairStands first second old w → TellsTheSame old.sessions new.sessions
-    → StandsNear first w.calls w.committer.position new.device → StandsNear second w.calls w.standby.position new.standby.device → IsCut first second new w
+    → NearOnly first w.calls w.committer.position old.device new.device → NearOnly second w.calls w.standby.position old.standby.device new.standby.device → IsCut first second old new w
 cut-near first second old new w stands same primary standby =
     let sessions = stands.parts.sessions in
     record {
@@ -80,25 +92,6 @@ cut-near first second old new w stands same primary standby =
       standby = standby;
     }
 
-pub near-primary : (first second : ℕ) (old : Pair) (w : World) → PairStands first second old w → StandsNear first w.calls w.committer.position old.device
-near-primary first second old w stands = near first w.calls w.committer.position old.device (Stands-engine _ _ _ _ _ _ stands.parts.engine)
-
-pub near-standby : (first second : ℕ) (old : Pair) (w : World) → PairStands first second old w → StandsNear second w.calls w.standby.position old.standby.device
-near-standby first second old w stands = near second w.calls w.standby.position old.standby.device (Stands-engine _ _ _ _ _ _ stands.parts.standby.engine)
-
--- neither device was touched
-pub cut-same : (first second : ℕ) (old new : Pair) (w : World) → new.device ≡ old.device → new.standby.device ≡ old.standby.device → TellsTheSame old.sessions new.sessions
-    → PairStands first second old w → IsCut first second new w
-cut-same first second old new w device device' same stands =
-    cut-near first second old new w stands same
-    (subst (StandsNear first w.calls w.committer.position) (sym device) (near-primary first second old w stands))
-    (subst (StandsNear second w.calls w.standby.position) (sym device') (near-standby first second old w stands))
-
-tells : (sessions : Sessions) → TellsTheSame sessions sessions
-tells sessions = record { calls = refl; released = refl }
-
--- ---- moments
-
 still-primary : (first second : ℕ) (old : Pair) (w : World) → PairStands first second old w → NearOnly first w.calls w.committer.position old.device old.device
 still-primary first second old w stands = near-still first w.calls w.committer.position old.device old.contents old.is_faulted stands.parts.engine
 
@@ -106,13 +99,15 @@ still-standby : (first second : ℕ) (old : Pair) (w : World) → PairStands fir
 still-standby first second old w stands = StandbyStands-still second old.link.epoch w.calls w.standby.position old.standby stands.parts.standby
 
 -- neither device was touched
-moments-same : (old new : Pair) → new.device ≡ old.device → new.standby.device ≡ old.standby.device
-    → (first second : ℕ) (w : World) → PairStands first second old w → LeavesNear first second old new w
-moments-same old new device device' first second w stands =
-    record {
-      primary = subst (NearOnly first w.calls w.committer.position old.device) (sym device) (still-primary first second old w stands);
-      standby = subst (NearOnly second w.calls w.standby.position old.standby.device) (sym device') (still-standby first second old w stands);
-    }
+pub cut-same : (first second : ℕ) (old new : Pair) (w : World) → new.device ≡ old.device → new.standby.device ≡ old.standby.device → TellsTheSame old.sessions new.sessions
+    → PairStands first second old w → IsCut first second old new w
+cut-same first second old new w device device' same stands =
+    cut-near first second old new w stands same
+    (subst (NearOnly first w.calls w.committer.position old.device) (sym device) (still-primary first second old w stands))
+    (subst (NearOnly second w.calls w.standby.position old.standby.device) (sym device') (still-standby first second old w stands))
+
+tells : (sessions : Sessions) → TellsTheSame sessions sessions
+tells sessions = record { calls = refl; released = refl }
 
 -- ---- what the connections do
 
@@ -144,9 +139,9 @@ SessionsGo event change did old new =
 
 sessions-steps : (event : Event) (change : World → List Connection) → ((w : World) → Happens w event (with_connections (change w) w))
     → (old : Pair) (sessions : Sessions) (did : Bool) → SessionsGo event change did old.sessions sessions
-    → (first second : ℕ) (w : World) → PairStands first second old w → Steps first second w event did (with_sessions sessions old)
+    → (first second : ℕ) (w : World) → PairStands first second old w → Steps first second w event did old (with_sessions sessions old)
 sessions-steps event change happens old sessions did go first second w stands =
-    goes-steps first second w (with_connections (change w) w) event did (with_sessions sessions old) stands.sound (happens w)
+    goes-steps first second w (with_connections (change w) w) event did old (with_sessions sessions old) refl refl stands.sound (happens w)
     (goes-map (go w stands.parts.sessions)
     (sessions-parts first second old sessions (change w) w stands.parts)
     (sessions-parts first second old sessions w.connections w stands.parts))
@@ -155,12 +150,11 @@ pub sessions-do : (event : Event) (change : World → List Connection) → ((w :
     → (old : Pair) (sessions : Sessions) (result : Result Bool Refusal) → IfOk result (λ did. SessionsGo event change did old.sessions sessions)
     → OnErr result (TellsTheSame old.sessions sessions) → Does old event result (with_sessions sessions old)
 sessions-do event change happens old sessions (Ok did) go same =
-    record { steps = sessions-steps event change happens old sessions did go; cut = tt; moments = moments-same old (with_sessions sessions old) refl refl }
+    record { steps = sessions-steps event change happens old sessions did go; cut = tt }
 sessions-do event change happens old sessions (Err refusal) go same =
     record {
       steps = tt;
       cut = λ first second w stands. cut-same first second old (with_sessions sessions old) w refl refl same stands;
-      moments = moments-same old (with_sessions sessions old) refl refl;
     }
 
 -- a read needs the marks, which are the machine's
@@ -172,12 +166,11 @@ pub read-does : (event : Event) (change : World → List Connection) → ((w : W
 read-does event change happens old sessions did go =
     record {
       steps = λ first second w stands.
-          goes-steps first second w (with_connections (change w) w) event did (with_sessions sessions old) stands.sound (happens w)
+          goes-steps first second w (with_connections (change w) w) event did old (with_sessions sessions old) refl refl stands.sound (happens w)
           (goes-map (go w stands.parts.sessions stands.parts.committing.local_is stands.parts.link.remote)
           (sessions-parts first second old sessions (change w) w stands.parts)
           (sessions-parts first second old sessions w.connections w stands.parts));
       cut = tt;
-      moments = moments-same old (with_sessions sessions old) refl refl;
     }
 
 -- ---- the list grows
@@ -210,41 +203,44 @@ called-parts first second old sessions sequencer w c call stands sessions_stand 
 
 turn-steps : (first second : ℕ) (old : Pair) (sessions : Sessions) (sequencer : Sequencing) (w : World) (c : ℕ) (did : Bool) → PairStands first second old w
     → TakesTurn w c did sessions old.sequencer sequencer → ((contents : Contents) → StandsFor old.sequencer contents → StandsFor sequencer contents)
-    → Steps first second w (events.Turn c) did (with_turn sessions sequencer old)
+    → Steps first second w (events.Turn c) did old (with_turn sessions sequencer old)
 turn-steps first second old sessions sequencer w c true stands takes goes_on =
     let moved = takes.goes refl in
     let turns : Turns w c moved.0 = moved.1 in
     let w' = called c turns.call w in
+    let parts : PartsStand first second (with_turn sessions sequencer old) w' =
+    called-parts first second old sessions sequencer w c turns.call stands
+    (subst (λ (x : World). SessionsStand sessions x.connections x.calls) turns.now moved.2)
+    (subst (λ (x : World). SequencerStands x.calls x.committer.closed sequencer) turns.now moved.3) goes_on in
     let step : Step w (events.Turn c) true w' = record { done = takes.done; happens = λ did. subst (Turns w c) turns.now turns; stands = λ did. absurd (true≢false did) } in
     record {
       world = w';
       step = step;
       stands = record {
         sound = sound-step w (events.Turn c) true w' step stands.sound;
-        parts = called-parts first second old sessions sequencer w c turns.call stands
-            (subst (λ (x : World). SessionsStand sessions x.connections x.calls) turns.now moved.2)
-            (subst (λ (x : World). SequencerStands x.calls x.committer.closed sequencer) turns.now moved.3) goes_on;
+        parts = parts;
       };
+      moves = untouched first second old (with_turn sessions sequencer old) w w' refl refl parts;
     }
 turn-steps first second old sessions sequencer w c false stands takes goes_on =
     let stayed = takes.stays refl in
-    let parts = stands.parts in
+    let before = stands.parts in
+    let parts : PartsStand first second (with_turn sessions sequencer old) w =
+    record {
+      sessions = stayed.0;
+      sequencer = subst (SequencerStands w.calls w.committer.closed) (sym stayed.1) before.sequencer;
+      committing = before.committing;
+      engine = before.engine;
+      leads = record { groups_are = before.leads.groups_are; stands = goes_on _ before.leads.stands };
+      link = before.link;
+      arrivals = before.arrivals;
+      standby = before.standby;
+    } in
     record {
       world = w;
       step = record { done = takes.done; happens = λ did. absurd (true≢false (sym did)); stands = λ did. refl };
-      stands = record {
-        sound = stands.sound;
-        parts = record {
-          sessions = stayed.0;
-          sequencer = subst (SequencerStands w.calls w.committer.closed) (sym stayed.1) parts.sequencer;
-          committing = parts.committing;
-          engine = parts.engine;
-          leads = record { groups_are = parts.leads.groups_are; stands = goes_on _ parts.leads.stands };
-          link = parts.link;
-          arrivals = parts.arrivals;
-          standby = parts.standby;
-        };
-      };
+      stands = record { sound = stands.sound; parts = parts };
+      moves = untouched first second old (with_turn sessions sequencer old) w w refl refl parts;
     }
 
 pub turn-does : (old : Pair) (sessions : Sessions) (sequencer : Sequencing) (c : ℕ) (result : Result Bool Refusal)
@@ -256,13 +252,11 @@ turn-does old sessions sequencer c (Ok did) takes goes_on same =
     record {
       steps = λ first second w stands. turn-steps first second old sessions sequencer w c did stands (takes w stands.sound stands.parts.sessions stands.parts.sequencer) goes_on;
       cut = tt;
-      moments = moments-same old (with_turn sessions sequencer old) refl refl;
     }
 turn-does old sessions sequencer c (Err refusal) takes goes_on same =
     record {
       steps = tt;
       cut = λ first second w stands. cut-same first second old (with_turn sessions sequencer old) w refl refl same stands;
-      moments = moments-same old (with_turn sessions sequencer old) refl refl;
     }
 
 -- ---- the committer
@@ -281,13 +275,12 @@ close-does old committing sequencer (Err refusal) go leads =
     record {
       steps = tt;
       cut = λ first second w stands. cut-same first second old (with_group committing sequencer old) w refl refl (tells old.sessions) stands;
-      moments = moments-same old (with_group committing sequencer old) refl refl;
     }
 close-does old committing sequencer (Ok did) go leads =
     record {
       steps = λ first second w stands.
           let parts = stands.parts in
-          goes-steps first second w (with_committer (closed_group w.committer) w) events.CloseGroup did (with_group committing sequencer old) stands.sound refl
+          goes-steps first second w (with_committer (closed_group w.committer) w) events.CloseGroup did old (with_group committing sequencer old) refl refl stands.sound refl
           (goes-map (go w parts.committing parts.sequencer)
           (λ moved. record {
             sessions = parts.sessions;
@@ -310,7 +303,6 @@ close-does old committing sequencer (Ok did) go leads =
             standby = parts.standby;
           }));
       cut = tt;
-      moments = moments-same old (with_group committing sequencer old) refl refl;
     }
 
 -- the primary's engine, with the groups that wait for it
@@ -321,6 +313,36 @@ with_engine committing device contents is_faulted pair =
 leads_on : (old : Contents) (groups : List Group) (new : Contents) (rest : List Group) (sequencer : Sequencing) → LeadsOn old groups new rest → Leads old groups sequencer → Leads new rest sequencer
 leads_on old groups new rest sequencer on leads = record { groups_are = on.groups_are; stands = subst (StandsFor sequencer) (sym on.same) leads.stands }
 
+-- a group that waits is one change
+committed-next : (from to : ℕ) (groups : List Span) (committer : MachineCommitter) (ready room : Bool) → IsChain from groups to → true ≡ (ready && is_nonempty groups && room)
+    → (committed_first groups committer).position ≡ from + 1
+committed-next from to [] committer true room chain enabled = absurd (true≢false enabled)
+committed-next from to [] committer false room chain enabled = absurd (true≢false enabled)
+committed-next from to (group ∷ groups) committer ready room chain enabled = chain.1
+
+commit-steps : (first second : ℕ) (w : World) (did : Bool) (old new : Pair) → new.standby.device ≡ old.standby.device → Sound w
+    → (did ≡ false → new.device ≡ old.device) → new.device.failures ≡ old.device.failures → NearOnly first w.calls w.committer.position old.device new.device
+    → Goes (is_enabled w events.Commit) did
+    (PartsStand first second new (with_committer (committed_first w.committer.waiting w.committer) w)) (PartsStand first second new w)
+    → Steps first second w events.Commit did old new
+commit-steps first second w true old new device' sound still failures only goes =
+    let committer = committed_first w.committer.waiting w.committer in
+    let w' = with_committer committer w in
+    let parts = goes.goes refl in
+    let step : Step w events.Commit true w' = record { done = goes.done; happens = λ did. refl; stands = λ did. absurd (true≢false did) } in
+    let next = committed-next w.committer.position w.committer.closed w.committer.waiting w.committer (is_ready w.committer.stage) (has_room w.link.waiting) sound.committer.waiting goes.done in
+    record {
+      world = w';
+      step = step;
+      stands = record { sound = sound-step w events.Commit true w' step sound; parts = parts };
+      moves = record {
+        primary = near-moves first w.calls w.committer.position committer.position old.device new.device next failures only;
+        standby = moves-same second w.calls w.standby.position w.standby.position old.standby.device new.standby.device device' (Stands-engine _ _ _ _ _ _ parts.standby.engine);
+      };
+    }
+commit-steps first second w false old new device' sound still failures only goes =
+    goes-steps first second w (with_committer (committed_first w.committer.waiting w.committer) w) events.Commit false old new (still refl) device' sound refl goes
+
 pub commit-does : (old : Pair) (committing : Committing) (device : State) (contents : Contents) (is_faulted : Bool) (result : Result Bool Refusal)
     → IfOk result (λ did. (lines : ℕ) (w : World) → CommittingStands w.calls old.committing w.committer
     → EngineStands lines w.calls w.committer.position old.device old.contents old.is_faulted → AreGroupsOf w.calls old.link.waiting.items w.link.waiting
@@ -329,31 +351,27 @@ pub commit-does : (old : Pair) (committing : Committing) (device : State) (conte
     × EngineStands lines w.calls (committed_first w.committer.waiting w.committer).position device contents is_faulted)
     (CommittingStands w.calls committing w.committer × EngineStands lines w.calls w.committer.position device contents is_faulted))
     → IfOk result (λ _. LeadsOn old.contents old.committing.waiting.items contents committing.waiting.items)
+    → IfOk result (λ did. did ≡ false → device ≡ old.device) → OnOk result (device.failures ≡ old.device.failures)
     → ((lines : ℕ) (w : World) → Sound w → CommittingStands w.calls old.committing w.committer
     → EngineStands lines w.calls w.committer.position old.device old.contents old.is_faulted → NearOnly lines w.calls w.committer.position old.device device)
     → Does old events.Commit result (with_engine committing device contents is_faulted old)
-commit-does old committing device contents is_faulted (Err refusal) go leads only =
+commit-does old committing device contents is_faulted (Err refusal) go leads still failures only =
     record {
       steps = tt;
       cut = λ first second w stands.
           cut-near first second old (with_engine committing device contents is_faulted old) w stands (tells old.sessions)
-          (near-now first w.calls w.committer.position old.device device (only first w stands.sound stands.parts.committing stands.parts.engine))
-          (near-standby first second old w stands);
-      moments = λ first second w stands.
-          record { primary = only first w stands.sound stands.parts.committing stands.parts.engine; standby = still-standby first second old w stands };
+          (only first w stands.sound stands.parts.committing stands.parts.engine) (still-standby first second old w stands);
     }
-commit-does old committing device contents is_faulted (Ok did) go leads only =
+commit-does old committing device contents is_faulted (Ok did) go leads still failures only =
     record {
       steps = λ first second w stands.
           let parts = stands.parts in
-          let new = with_engine committing device contents is_faulted old in
-          goes-steps first second w (with_committer (committed_first w.committer.waiting w.committer) w) events.Commit did new stands.sound refl
+          commit-steps first second w did old (with_engine committing device contents is_faulted old) refl stands.sound still failures
+          (only first w stands.sound parts.committing parts.engine)
           (goes-map (go first w parts.committing parts.engine parts.link.waiting)
           (λ moved. committed-parts first second w (committed_first w.committer.waiting w.committer) parts moved.0 moved.1 (same_closed w.committer.waiting w))
           (λ stayed. committed-parts first second w w.committer parts stayed.0 stayed.1 refl));
       cut = tt;
-      moments = λ first second w stands.
-          record { primary = only first w stands.sound stands.parts.committing stands.parts.engine; standby = still-standby first second old w stands };
     }
   where
     same_closed : (groups : List Span) (w : World) → (committed_first groups w.committer).closed ≡ w.committer.closed
@@ -402,12 +420,11 @@ raise-does old committing did go waiting =
     record {
       steps = λ first second w stands.
           let parts = stands.parts in
-          goes-steps first second w (with_committer (raised_local w.committer) w) events.RaiseLocal did (with_committing committing old) stands.sound refl
+          goes-steps first second w (with_committer (raised_local w.committer) w) events.RaiseLocal did old (with_committing committing old) refl refl stands.sound refl
           (goes-map (go w parts.committing parts.engine.contents_at.at)
           (λ moved. shown-parts first second old committing w (raised_local w.committer) parts waiting moved refl refl)
           (λ stayed. shown-parts first second old committing w w.committer parts waiting stayed refl refl));
       cut = tt;
-      moments = moments-same old (with_committing committing old) refl refl;
     }
 
 -- ---- the link
@@ -427,7 +444,7 @@ hand-does old committing waiting did go same =
       steps = λ first second w stands.
           let parts = stands.parts in
           goes-steps first second w (with_link (handed_to (handed w.committer.stage) w.link) (with_committer (ready_again w.committer) w)) events.Hand did
-          (with_handed committing (record old.link { waiting = waiting }) old) stands.sound refl
+          old (with_handed committing (record old.link { waiting = waiting }) old) refl refl stands.sound refl
           (goes-map (go w stands.sound parts.committing parts.link.waiting)
           (λ moved.
           let shown = shown-parts first second old committing w (ready_again w.committer) parts same moved.0 refl refl in
@@ -454,7 +471,6 @@ hand-does old committing waiting did go same =
             standby = parts.standby;
           }));
       cut = tt;
-      moments = moments-same old (with_handed committing (record old.link { waiting = waiting }) old) refl refl;
     }
   where
     waits : (link : MachineLink) (w : World) → LinkStands w.calls old.link w.link → record w.link { waiting = link.waiting } ≡ link → AreGroupsOf w.calls waiting.items link.waiting
@@ -503,18 +519,16 @@ pub link-does : (event : Event) (change : World → MachineLink) → ((w : World
 link-does event change happens old link (Ok did) go keeps =
     record {
       steps = λ first second w stands.
-          goes-steps first second w (with_link (change w) w) event did (with_frames link old) stands.sound (happens w)
+          goes-steps first second w (with_link (change w) w) event did old (with_frames link old) refl refl stands.sound (happens w)
           (goes-map (go w stands.sound stands.parts.link)
           (link-parts first second old link w (change w) stands.parts keeps)
           (link-parts first second old link w w.link stands.parts keeps));
       cut = tt;
-      moments = moments-same old (with_frames link old) refl refl;
     }
 link-does event change happens old link (Err refusal) go keeps =
     record {
       steps = tt;
       cut = λ first second w stands. cut-same first second old (with_frames link old) w refl refl (tells old.sessions) stands;
-      moments = moments-same old (with_frames link old) refl refl;
     }
 
 -- ---- the standby
@@ -554,10 +568,9 @@ open-does old arrivals link ack position acknowledges opens keeps =
           let told = acknowledges old.link.epoch old.link.frames.items w parts.arrivals (position ∙ parts.standby.engine.contents_at.at) in
           let heard = arrivals-parts first second old arrivals w (acknowledged w.standby) parts refl told in
           let moved = link-parts first second (with_arrivals arrivals old) link (with_standby (acknowledged w.standby) w) (opened_link w.link) heard keeps (opens w parts.link) in
-          goes-steps first second w (with_link (opened_link w.link) (with_standby (acknowledged w.standby) w)) events.OpenLink true (with_opened arrivals link old) stands.sound refl
+          goes-steps first second w (with_link (opened_link w.link) (with_standby (acknowledged w.standby) w)) events.OpenLink true old (with_opened arrivals link old) refl refl stands.sound refl
           (record { done = refl; goes = λ did. moved; stays = λ did. absurd (true≢false did) });
       cut = tt;
-      moments = moments-same old (with_opened arrivals link old) refl refl;
     }
 
 pub open-cut : (old : Pair) (arrivals : Arrivals) (result : Result Bool Refusal) → IsErr result → Does old events.OpenLink result (with_arrivals arrivals old)
@@ -566,7 +579,6 @@ open-cut old arrivals (Err refusal) is =
     record {
       steps = tt;
       cut = λ first second w stands. cut-same first second old (with_arrivals arrivals old) w refl refl (tells old.sessions) stands;
-      moments = moments-same old (with_arrivals arrivals old) refl refl;
     }
 
 pub deliver-does : (old : Pair) (arrivals : Arrivals) (sent : List ℕ) (frame : ℕ) (result : Result Bool Refusal) → sent ≡ old.link.sent.items
@@ -581,26 +593,24 @@ deliver-does old arrivals sent frame (Ok did) same go =
       steps = λ first second w stands.
           let parts = stands.parts in
           let came = delivered (option_items (slice_get w.link.frames frame)) w.standby in
-          goes-steps first second w (with_standby came w) (events.Deliver frame) did (with_arrivals arrivals old) stands.sound refl
+          goes-steps first second w (with_standby came w) (events.Deliver frame) did old (with_arrivals arrivals old) refl refl stands.sound refl
           (goes-map (go old.link.epoch old.link.frames.items w parts.arrivals
           (subst (λ (places : List ℕ). AreFramesAt old.link.epoch w.calls old.link.frames.items places w.link.frames) (sym same) parts.link.sent))
           (arrivals-parts first second old arrivals w came parts refl)
           (arrivals-parts first second old arrivals w w.standby parts refl));
       cut = tt;
-      moments = moments-same old (with_arrivals arrivals old) refl refl;
     }
 deliver-does old arrivals sent frame (Err refusal) same go =
     record {
       steps = tt;
       cut = λ first second w stands. cut-same first second old (with_arrivals arrivals old) w refl refl (tells old.sessions) stands;
-      moments = moments-same old (with_arrivals arrivals old) refl refl;
     }
 
 abbrev pub with_node : Arrivals → Node → Pair → Pair
 with_node arrivals node pair = record pair { arrivals = arrivals; standby = node }
 
 apply-steps : (first second : ℕ) (old : Pair) (arrivals : Arrivals) (node : Node) (w : World) (did : Bool) → PairStands first second old w
-    → AppliesFirst second old.link.epoch old.link.frames.items w did arrivals old.standby node → Steps first second w events.Apply did (with_node arrivals node old)
+    → AppliesFirst second old.link.epoch old.link.frames.items w did arrivals old.standby node → Steps first second w events.Apply did old (with_node arrivals node old)
 apply-steps first second old arrivals node w true stands applies =
     let parts = stands.parts in
     let moved = applies.goes refl in
@@ -624,26 +634,30 @@ apply-steps first second old arrivals node w true stands applies =
           standby = subst (λ (x : World). StandbyStands second old.link.epoch w.calls x.standby.position node) applied.now moved.3;
         };
       };
+      moves = record {
+        primary = moves-same first w.calls w.committer.position w.committer.position old.device old.device refl (Stands-engine _ _ _ _ _ _ parts.engine);
+        standby = subst (λ (x : World). Moves second w.calls w.standby.position x.standby.position old.standby.device node.device) applied.now moved.4;
+      };
     }
 apply-steps first second old arrivals node w false stands applies =
-    let parts = stands.parts in
+    let before = stands.parts in
     let stayed = applies.stays refl in
+    let parts : PartsStand first second (with_node arrivals node old) w =
+    record {
+      sessions = before.sessions;
+      sequencer = before.sequencer;
+      committing = before.committing;
+      engine = before.engine;
+      leads = before.leads;
+      link = before.link;
+      arrivals = stayed.0;
+      standby = subst (StandbyStands second old.link.epoch w.calls w.standby.position) (sym stayed.1) before.standby;
+    } in
     record {
       world = w;
       step = record { done = applies.done; happens = λ did. absurd (true≢false (sym did)); stands = λ did. refl };
-      stands = record {
-        sound = stands.sound;
-        parts = record {
-          sessions = parts.sessions;
-          sequencer = parts.sequencer;
-          committing = parts.committing;
-          engine = parts.engine;
-          leads = parts.leads;
-          link = parts.link;
-          arrivals = stayed.0;
-          standby = subst (StandbyStands second old.link.epoch w.calls w.standby.position) (sym stayed.1) parts.standby;
-        };
-      };
+      stands = record { sound = stands.sound; parts = parts };
+      moves = untouched first second old (with_node arrivals node old) w w refl (ap (λ (n : Node). n.device) stayed.1) parts;
     }
 
 pub apply-does : (old : Pair) (arrivals : Arrivals) (node : Node) (frames : List Frame) (result : Result Bool Refusal) → frames ≡ old.link.frames.items
@@ -667,9 +681,6 @@ apply-does old arrivals node frames result same applies only = go result applies
     applied-only : (first second : ℕ) (w : World) → PairStands first second old w → NearOnly second w.calls w.standby.position old.standby.device node.device
     applied-only first second w stands = only second w stands.sound (arrive first second w stands) (stand first second w stands)
 
-    applied-moments : (first second : ℕ) (w : World) → PairStands first second old w → LeavesNear first second old (with_node arrivals node old) w
-    applied-moments first second w stands = record { primary = still-primary first second old w stands; standby = applied-only first second w stands }
-
     go : (result : Result Bool Refusal)
         → IfOk result (λ did. (lines : ℕ) (w : World) → Sound w → ArrivalsStand old.standby.epoch w.calls frames old.arrivals w.standby
         → StandbyStands lines old.standby.epoch w.calls w.standby.position old.standby
@@ -683,15 +694,12 @@ apply-does old arrivals node frames result same applies only = go result applies
               (subst (λ (all : List Frame). AppliesFirst second old.link.epoch all w did arrivals old.standby node) same
               (subst (λ e. AppliesFirst second e frames w did arrivals old.standby node) stands.parts.standby.epoch_is applied));
           cut = tt;
-          moments = applied-moments;
         }
     go (Err refusal) applies =
         record {
           steps = tt;
           cut = λ first second w stands.
-              cut-near first second old (with_node arrivals node old) w stands (tells old.sessions) (near-primary first second old w stands)
-              (near-now second w.calls w.standby.position old.standby.device node.device (applied-only first second w stands));
-          moments = applied-moments;
+              cut-near first second old (with_node arrivals node old) w stands (tells old.sessions) (still-primary first second old w stands) (applied-only first second w stands);
         }
 
 -- ---- acknowledgements
@@ -711,7 +719,7 @@ ack-does old n ack link stands_there knows keeps =
           let there : slice_get w.standby.acknowledgements n ≡ Some ack.position =
           ap (λ (all : List ℕ). slice_get all n) (sym parts.arrivals.acknowledged)
           ∙ slice_get-map (λ (a : Ack). a.position) old.arrivals.acknowledgements.items n ∙ ap (option_map (λ (a : Ack). a.position)) stands_there in
-          goes-steps first second w (with_link (told (slice_get w.standby.acknowledgements n) w.link) w) (events.AckDelivered n) true (with_frames link old) stands.sound refl
+          goes-steps first second w (with_link (told (slice_get w.standby.acknowledgements n) w.link) w) (events.AckDelivered n) true old (with_frames link old) refl refl stands.sound refl
           (record {
             done = sym (lt-ltb n (length w.standby.acknowledgements) (slice_get_within w.standby.acknowledgements n ack.position there));
             goes = λ did. link-parts first second old link w (told (slice_get w.standby.acknowledgements n) w.link) parts keeps
@@ -719,7 +727,6 @@ ack-does old n ack link stands_there knows keeps =
             stays = λ did. absurd (true≢false did);
           });
       cut = tt;
-      moments = moments-same old (with_frames link old) refl refl;
     }
 
 pub no-ack-does : (old : Pair) (n : ℕ) → length old.arrivals.acknowledgements.items ≤ n → Does old (events.AckDelivered n) (Ok false) old
@@ -734,7 +741,7 @@ no-ack-does old n past =
               stands = λ did. refl;
             };
             stands = stands;
+            moves = untouched first second old old w w refl refl stands.parts;
           };
       cut = tt;
-      moments = moments-same old old refl refl;
     }

@@ -1,203 +1,289 @@
--- A run goes on from event to event.
-use Rattle.std.proofs.Common.{◌≡◌, ◌⊎◌, ℕ, ◌+◌, ◌≤◌, Bool, List, [], ◌∷◌, ◌++◌, length, take, slice_index_or, Option, Some, None, refl, sym, ap, subst, ◌∙◌, arith, inl, inr}
+-- A run goes on from event to event, and what is told of it at its end.
+use Rattle.std.proofs.Common.{◌≡◌, ◌⊎◌, ℕ, ◌+◌, ◌≤◌, Bool, List, [], ◌∷◌, ◌++◌, length, take, slice_index_or, Option, Some, None, refl, sym, ap, subst, ◌∙◌, arith, le_refl, append_assoc, inl, inr}
 use Rattle.pmem.specs.Device.{State}
-use Rattle.pmem.specs.Runs.{LeavesOnly}
+use Rattle.kv_types.specs.declared.refusal.Refusal.{Refusal}
 use Rattle.pmem.proofs.Leaving.{none_leaves, LeavesOnly-then, LeavesOnly-weaken}
 use Rattle.model.specs.declared.call.Call.{Call}
-use Rattle.model.specs.declared.record.Role.{Role}
+use Rattle.model.specs.declared.record.Role.TheVariants.{Primary, Standby}
 use Rattle.model.specs.Calls.{IsPrefix, position_of}
 use Rattle.model.specs.Images.{Image}
-use Rattle.model.proofs.CallsLemmas.{position_of_grows}
-use Rattle.model.proofs.PrefixLemmas.{IsPrefix-itself}
+use Rattle.model.specs.Standing.{StandsAt}
 use Rattle.model.proofs.StandingLemmas.{StandsAt-append}
-use Rattle.wbl_engine.specs.Formatting.{IsFormatting}
 use Rattle.machine.specs.declared.event.Event.{Event}
-use Rattle.machine.specs.Events.{Run, World, start, last_world}
-use Rattle.machine.specs.Promises.{Tells}
-use Rattle.machine.proofs.GrowLemmas.{grows-step}
-use Rattle.machine.proofs.PromiseLemmas.{promised-told}
-use Rattle.machine.proofs.RunLemmas.{run-push, last_world-push}
-use Rattle.world.specs.Committings.{Stands, StandsNear, StandsAtOrNext, StandsSomewhere, NearOnly, SomewhereOnly}
 use Rattle.machine.specs.declared.event.TheConstants.{SEATS}
+use Rattle.machine.specs.Events.{Run, World, start, last_world}
+use Rattle.machine.specs.Laws.{Grows}
+use Rattle.machine.specs.Promises.{HasMarks, IsPromised, IsReleased, Tells, released_in}
+use Rattle.machine.specs.Sound.{Sound}
+use Rattle.machine.proofs.GrowLemmas.{grows-step, grows-from}
+use Rattle.machine.proofs.PromiseLemmas.{promised-told, released-covered}
+use Rattle.machine.proofs.RunLemmas.{run-push, last_world-push, some-last, sound-start, sound-run}
+use Rattle.machine.proofs.SoundEvents.{sound-step}
+use Rattle.world.specs.Committings.{Stands, StandsAtOrNext, NearOnly, FromOnly, Moves, Rests, FormattingOnly}
 use Rattle.world.specs.declared.trace.Ended.{Ended}
 use Rattle.world.specs.declared.trace.Ended.TheVariants.{AtFormatting, AtEvent}
-use Rattle.world.specs.Headline.{Reaches, IsCutAt, IsKept, KeepsItsWord, AtAnyMoment, Plays}
-use Rattle.world.specs.Pairs.{Pair, PairStands, HasWorld, IsCut, Steps, LeavesNear}
+use Rattle.world.specs.Headline.{Stretch, primary_position, standby_position, KeepsReleased, AreMoments, IsKept, IsPlayed, KeepsItsWord, PlaysOn, AreMoves, Reaches, StandsAfter, IsCutAfter, Plays}
+use Rattle.world.specs.Pairs.{Pair, PairStands, HasWorld, IsCut, Steps}
 use Rattle.world.specs.Sessions.{released_of}
 use Rattle.world.proofs.EngineLemmas.{Stands-engine}
 use Rattle.world.proofs.PairLemmas.{primary-within, standby-within}
 use Rattle.world.proofs.SessionLemmas.{length-connections, released-told}
 
--- ---- positions of the list
-
-somewhere-grows : (lines : ℕ) (old new : List Call) (image : Image) → IsPrefix old new → StandsSomewhere lines old image → StandsSomewhere lines new image
-somewhere-grows lines old new image prefix stands =
-    subst (λ (calls : List Call). StandsSomewhere lines calls image) prefix.joined
-    (stands.0, omega (arith, stands.1, position_of_grows old prefix.rest), StandsAt-append lines old prefix.rest stands.0 image stands.1 stands.2)
-
-somewhere-near : (lines : ℕ) (calls : List Call) (p : ℕ) (image : Image) → p ≤ position_of calls → StandsAtOrNext lines calls p image → StandsSomewhere lines calls image
-somewhere-near lines calls p image within (inl stands) = (p, within, stands)
-somewhere-near lines calls p image within (inr next) = (p + 1, omega (arith, next.0), next.1)
-
-somewhere-now : (lines : ℕ) (calls : List Call) (p : ℕ) (device : State) → p ≤ position_of calls → Stands lines calls p device → SomewhereOnly lines calls device device
-somewhere-now lines calls p device within stands = none_leaves device (StandsSomewhere lines calls) (λ image is. (p, within, stands image is))
-
--- what is told of the list before an event, and after it, is the machine's
-somewhere-next : (lines : ℕ) (told told' calls calls' : List Call) (p : ℕ) (began old new : State) → told ≡ calls → told' ≡ calls' → p ≤ position_of calls → IsPrefix calls calls'
-    → SomewhereOnly lines told began old → NearOnly lines calls p old new → SomewhereOnly lines told' began new
-somewhere-next lines told told' calls calls' p began old new same same' within prefix before now =
-    subst (λ (all : List Call). SomewhereOnly lines all began new) (sym same')
-    (LeavesOnly-weaken (StandsSomewhere lines calls') (λ image. somewhere-grows lines calls calls' image prefix)
-    (LeavesOnly-then (subst (λ (all : List Call). SomewhereOnly lines all began old) same before)
-    (LeavesOnly-weaken (StandsSomewhere lines calls) (λ image. somewhere-near lines calls p image within) now)))
-
 -- ---- from event to event
 
-pub reaches-world : (first second : ℕ) (began : Pair) (events : List Event) (done : List Bool) (pair : Pair) → Reaches first second began events done pair → HasWorld pair
-reaches-world first second began events done pair reaches = record { first = first; second = second; world = last_world start reaches.worlds; stands = reaches.stands }
+-- one event more
+moves-push : (position : World → ℕ) (lines : ℕ) (w : World) (worlds : List World) (w' : World) (old new new' : State) → AreMoves position lines w worlds old new
+    → Moves lines w'.calls (position (last_world w worlds)) (position w') new new' → AreMoves position lines w (worlds ++ w' ∷ []) old new'
+moves-push position lines w [] w' old new new' are moves = (new', subst (λ (d : State). Moves lines w'.calls (position w) (position w') d new') (sym are) moves, refl)
+moves-push position lines w (next ∷ worlds) w' old new new' are moves = (are.0, are.1, moves-push position lines next worlds w' are.0 new new' are.2 moves)
 
-pub reaches-start : (first second : ℕ) (done : List Bool) (pair : Pair) → done ≡ [] → PairStands first second pair start → Reaches first second pair [] done pair
+pub reaches-world : (first second : ℕ) (began : Pair) (events : List Event) (done : List Bool) (pair : Pair) → StandsAfter first second began events done pair → HasWorld pair
+reaches-world first second began events done pair after = record { first = first; second = second; world = last_world start after.reaches.worlds; stands = after.stands }
+
+pub reaches-start : (first second : ℕ) (done : List Bool) (pair : Pair) → done ≡ [] → PairStands first second pair start → StandsAfter first second pair [] done pair
 reaches-start first second done pair none stands =
-    let told = sym stands.parts.sessions.calls_are in
     record {
-      worlds = [];
-      run = subst (λ (d : List Bool). Run start [] d []) (sym none) tt;
+      reaches = record { worlds = []; run = subst (λ (d : List Bool). Run start [] d []) (sym none) tt; primary_moves = refl; standby_moves = refl };
       stands = stands;
-      primary_moments = subst (λ (calls : List Call). SomewhereOnly first calls pair.device pair.device) told
-          (somewhere-now first start.calls start.committer.position pair.device (primary-within start stands.sound) (Stands-engine _ _ _ _ _ _ stands.parts.engine));
-      standby_moments = subst (λ (calls : List Call). SomewhereOnly second calls pair.standby.device pair.standby.device) told
-          (somewhere-now second start.calls start.standby.position pair.standby.device (standby-within start stands.sound) (Stands-engine _ _ _ _ _ _ stands.parts.standby.engine));
     }
 
 pub reaches-next : (first second : ℕ) (began : Pair) (events : List Event) (done done' : List Bool) (pair pair' : Pair) (event : Event) (did : Bool) → done' ≡ done ++ did ∷ []
-    → ((first second : ℕ) (w : World) → PairStands first second pair w → Steps first second w event did pair')
-    → ((first second : ℕ) (w : World) → PairStands first second pair w → LeavesNear first second pair pair' w)
-    → Reaches first second began events done pair → Reaches first second began (events ++ event ∷ []) done' pair'
-reaches-next first second began events done done' pair pair' event did more steps moments reaches =
+    → ((first second : ℕ) (w : World) → PairStands first second pair w → Steps first second w event did pair pair')
+    → StandsAfter first second began events done pair → StandsAfter first second began (events ++ event ∷ []) done' pair'
+reaches-next first second began events done done' pair pair' event did more steps after =
+    let reaches = after.reaches in
     let w = last_world start reaches.worlds in
-    let next = steps first second w reaches.stands in
-    let leaves = moments first second w reaches.stands in
-    let sound = reaches.stands.sound in
-    let prefix = (grows-step w event did next.world next.step sound).calls in
-    let told = reaches.stands.parts.sessions.calls_are in
-    let told' = next.stands.parts.sessions.calls_are in
+    let next = steps first second w after.stands in
     record {
-      worlds = reaches.worlds ++ next.world ∷ [];
-      run = subst (λ (d : List Bool). Run start (events ++ event ∷ []) d (reaches.worlds ++ next.world ∷ [])) (sym more)
-          (run-push start events done reaches.worlds event did next.world reaches.run next.step);
+      reaches = record {
+        worlds = reaches.worlds ++ next.world ∷ [];
+        run = subst (λ (d : List Bool). Run start (events ++ event ∷ []) d (reaches.worlds ++ next.world ∷ [])) (sym more)
+            (run-push start events done reaches.worlds event did next.world reaches.run next.step);
+        primary_moves = moves-push primary_position first start reaches.worlds next.world began.device pair.device pair'.device reaches.primary_moves next.moves.primary;
+        standby_moves = moves-push standby_position second start reaches.worlds next.world began.standby.device pair.standby.device pair'.standby.device reaches.standby_moves next.moves.standby;
+      };
       stands = subst (PairStands first second pair') (sym (last_world-push start reaches.worlds next.world)) next.stands;
-      primary_moments = somewhere-next first pair.sessions.calls.items pair'.sessions.calls.items w.calls next.world.calls w.committer.position began.device pair.device pair'.device
-          told told' (primary-within w sound) prefix reaches.primary_moments leaves.primary;
-      standby_moments = somewhere-next second pair.sessions.calls.items pair'.sessions.calls.items w.calls next.world.calls w.standby.position began.standby.device pair.standby.device pair'.standby.device
-          told told' (standby-within w sound) prefix reaches.standby_moments leaves.standby;
     }
 
 pub reaches-cut : (first second : ℕ) (began : Pair) (events : List Event) (done : List Bool) (pair pair' : Pair)
-    → ((first second : ℕ) (w : World) → PairStands first second pair w → IsCut first second pair' w)
-    → ((first second : ℕ) (w : World) → PairStands first second pair w → LeavesNear first second pair pair' w)
-    → Reaches first second began events done pair → IsCutAt first second began events done pair'
-reaches-cut first second began events done pair pair' cuts moments reaches =
-    let w = last_world start reaches.worlds in
-    let cut = cuts first second w reaches.stands in
-    let leaves = moments first second w reaches.stands in
-    let sound = reaches.stands.sound in
-    let told = reaches.stands.parts.sessions.calls_are in
-    record {
-      worlds = reaches.worlds;
-      run = reaches.run;
-      cut = cut;
-      primary_moments = somewhere-next first pair.sessions.calls.items pair'.sessions.calls.items w.calls w.calls w.committer.position began.device pair.device pair'.device
-          told cut.calls (primary-within w sound) (IsPrefix-itself w.calls) reaches.primary_moments leaves.primary;
-      standby_moments = somewhere-next second pair.sessions.calls.items pair'.sessions.calls.items w.calls w.calls w.standby.position began.standby.device pair.standby.device pair'.standby.device
-          told cut.calls (standby-within w sound) (IsPrefix-itself w.calls) reaches.standby_moments leaves.standby;
-    }
+    → ((first second : ℕ) (w : World) → PairStands first second pair w → IsCut first second pair pair' w)
+    → StandsAfter first second began events done pair → IsCutAfter first second began events done pair'
+reaches-cut first second began events done pair pair' cuts after =
+    record { before = pair; reaches = after.reaches; cut = cuts first second (last_world start after.reaches.worlds) after.stands }
 
 -- ---- the connections are few
 
-few-reached : (first second : ℕ) (began : Pair) (events : List Event) (done : List Bool) (pair : Pair) → Reaches first second began events done pair → length pair.sessions.connections.items ≤ SEATS
-few-reached first second began events done pair reaches =
-    let w = last_world start reaches.worlds in
-    omega (arith, reaches.stands.sound.seats, length-connections w.calls 0 pair.sessions.connections.items w.connections reaches.stands.parts.sessions.connections_stand)
-
 pub few-played : (first second : ℕ) (began : Pair) (events : List Event) (ended : Option Ended) (done : List Bool) (pair : Pair) → Plays first second began events ended done pair
     → length pair.sessions.connections.items ≤ SEATS
-few-played first second began events None done pair plays = few-reached first second began events done pair plays
+few-played first second began events None done pair plays =
+    let w = last_world start plays.reaches.worlds in
+    omega (arith, plays.stands.sound.seats, length-connections w.calls 0 pair.sessions.connections.items w.connections plays.stands.parts.sessions.connections_stand)
 few-played first second began events (Some (AtFormatting refusal)) done pair plays = absurd plays
 few-played first second began events (Some (AtEvent place refusal)) done pair plays = plays.1.cut.few
 
+-- ---- the position of a node
+
+-- it never falls, it is one of the list, and what was released is up to it
+record IsOfNode (position : World → ℕ) : Type 0 where
+  rises : (old new : World) → Grows old new → position old ≤ position new
+  within : (w : World) → Sound w → position w ≤ position_of w.calls
+  holds : (w : World) → Sound w → (front : List Call) (call : Call) → IsReleased w.calls (released_in w) front call → position_of (front ++ call ∷ []) ≤ position w
+
+of_primary : IsOfNode primary_position
+of_primary =
+    record {
+      rises = λ old new grows. grows.primary_position;
+      within = primary-within;
+      holds = λ w s front call released. omega (arith, (released-covered w s front call released).0, s.committer.mark);
+    }
+
+of_standby : IsOfNode standby_position
+of_standby =
+    record {
+      rises = λ old new grows. grows.standby_position;
+      within = standby-within;
+      holds = λ w s front call released. omega (arith, (released-covered w s front call released).1, s.link.remote, s.standby.known);
+    }
+
+-- ---- the moments of a run
+
+-- what is said of the list of an event is so of the whole list
+moves-grow : (lines : ℕ) (calls all : List Call) (p q : ℕ) (old new : State) → IsPrefix calls all → p ≤ position_of calls → q ≤ position_of calls → Moves lines calls p q old new → Moves lines all p q old new
+moves-grow lines calls all p q old new prefix p_within q_within moves =
+    subst (λ (list : List Call). Moves lines list p q old new) prefix.joined
+    (record { leaves = LeavesOnly-weaken (λ image. StandsAt lines (calls ++ prefix.rest) p image ⊎ StandsAt lines (calls ++ prefix.rest) q image) either moves.leaves; failures = moves.failures })
+  where
+    either : (image : Image) → StandsAt lines calls p image ⊎ StandsAt lines calls q image → StandsAt lines (calls ++ prefix.rest) p image ⊎ StandsAt lines (calls ++ prefix.rest) q image
+    either image (inl before) = inl (StandsAt-append lines calls prefix.rest p image p_within before)
+    either image (inr after) = inr (StandsAt-append lines calls prefix.rest q image q_within after)
+
+moves-from : (lines : ℕ) (calls : List Call) (p q : ℕ) (old new : State) → p ≤ q → Moves lines calls p q old new → FromOnly lines calls p old new
+moves-from lines calls p q old new le moves = LeavesOnly-weaken (λ image. (n : ℕ) × (p ≤ n) × StandsAt lines calls n image) either moves.leaves
+  where
+    either : (image : Image) → StandsAt lines calls p image ⊎ StandsAt lines calls q image → (n : ℕ) × (p ≤ n) × StandsAt lines calls n image
+    either image (inl before) = (p, le_refl p, before)
+    either image (inr after) = (q, le, after)
+
+rests-from : (lines : ℕ) (calls : List Call) (p : ℕ) (old new : State) → Rests lines calls p old new → FromOnly lines calls p old new
+rests-from lines calls p old new rests = LeavesOnly-weaken (λ image. (n : ℕ) × (p ≤ n) × StandsAt lines calls n image) (λ image stands. (p, le_refl p, stands)) rests.leaves
+
+near-from : (lines : ℕ) (calls : List Call) (p : ℕ) (old new : State) → NearOnly lines calls p old new → FromOnly lines calls p old new
+near-from lines calls p old new near = LeavesOnly-weaken (λ image. (n : ℕ) × (p ≤ n) × StandsAt lines calls n image) either near
+  where
+    either : (image : Image) → StandsAtOrNext lines calls p image → (n : ℕ) × (p ≤ n) × StandsAt lines calls n image
+    either image (inl here) = (p, le_refl p, here)
+    either image (inr next) = (p + 1, omega arith, next.1)
+
+from-lower : (lines : ℕ) (calls : List Call) (p q : ℕ) (old new : State) → p ≤ q → FromOnly lines calls q old new → FromOnly lines calls p old new
+from-lower lines calls p q old new le only = LeavesOnly-weaken (λ image. (n : ℕ) × (p ≤ n) × StandsAt lines calls n image) (λ image from. (from.0, omega (arith, le, from.1), from.2)) only
+
+-- the moments from a world on, and that no crash leaves an image below where the node stands in it
+record MomentsFrom (last : Stretch) (position : World → ℕ) (lines : ℕ) (calls : List Call) (w : World) (worlds : List World) (old new : State) : Type 0 where
+  from : FromOnly lines calls (position w) old new
+  moments : AreMoments last position lines calls w worlds old new
+
+moments-from : (last : Stretch) (position : World → ℕ) (lines : ℕ) (calls : List Call) → IsOfNode position → ((p : ℕ) (old new : State) → last lines calls p old new → FromOnly lines calls p old new)
+    → (w : World) (events : List Event) (done : List Bool) (worlds : List World) (old reached new : State) → Run w events done worlds → Sound w → (last_world w worlds).calls ≡ calls
+    → AreMoves position lines w worlds old reached → last lines calls (position (last_world w worlds)) reached new → MomentsFrom last position lines calls w worlds old new
+moments-from last position lines calls node from w [] [] [] old reached new run sound told are ends =
+    let all : last lines calls (position w) old new = subst (λ (d : State). last lines calls (position w) d new) (sym are) ends in
+    let onward = from (position w) old new all in
+    record { from = onward; moments = (λ front call released. from-lower lines calls _ (position w) old new (node.holds w sound front call released) onward, all) }
+moments-from last position lines calls node from w (event ∷ events) (did ∷ done) (w' ∷ worlds) old reached new run sound told are ends =
+    let sound' = sound-step w event did w' run.0 sound in
+    let rises = node.rises w w' (grows-step w event did w' run.0 sound) in
+    let within = node.within w' sound' in
+    let prefix : IsPrefix w'.calls calls = subst (IsPrefix w'.calls) told (grows-from w' events done worlds run.1 sound').calls in
+    let rest = moments-from last position lines calls node from w' events done worlds are.0 reached new run.1 sound' told are.2 ends in
+    let moves = moves-grow lines w'.calls calls (position w) (position w') old are.0 prefix (omega (arith, rises, within)) within are.1 in
+    let onward : FromOnly lines calls (position w) old new =
+    LeavesOnly-then (moves-from lines calls (position w) (position w') old are.0 rises moves) (from-lower lines calls (position w) (position w') are.0 new rises rest.from) in
+    record {
+      from = onward;
+      moments = (are.0, λ front call released. from-lower lines calls _ (position w) old new (node.holds w sound front call released) onward, moves, rest.moments);
+    }
+moments-from last position lines calls node from w events done worlds old reached new run sound told are ends = absurd run
+
 -- ---- what is told at the end
 
-pub kept-reached : (first second : ℕ) (began : Pair) (events : List Event) (done : List Bool) (pair : Pair) (released : List (List ℕ)) → released ≡ released_of pair.sessions.connections.items
-    → Reaches first second began events done pair → IsKept Stands first second events done pair.sessions.calls.items released pair.device pair.standby.device
-kept-reached first second began events done pair released same reaches =
+-- the promise of what tells the last world, by these very worlds
+promised-by : (events : List Event) (done : List Bool) (worlds : List World) (calls : List Call) (released : ℕ → List ℕ) (primary standby : ℕ) → Run start events done worlds
+    → Tells (last_world start worlds) calls released primary standby → (promised : IsPromised events done calls released primary standby) × (promised.worlds ≡ worlds)
+promised-by events done worlds calls released primary standby run tells =
+    let w = last_world start worlds in
+    let promised = promised-told events done worlds calls released primary standby run tells in (
+      record {
+        worlds = worlds;
+        run = run;
+        tells = tells;
+        legal = promised.legal;
+        serves = promised.serves;
+        begins = promised.begins;
+        covered = λ front call out.
+            let in_last : IsReleased w.calls (released_in w) front call =
+            record { rest = out.rest; stands = sym tells.list ∙ out.stands; written = omega (arith, out.written, ap length (tells.bytes call.connection)) } in
+            let marks = released-covered w (sound-run events done worlds run) front call in_last in
+            some-last (HasMarks front call) start worlds
+            (record { made = record { rest = in_last.rest; joined = append_assoc front (call ∷ []) in_last.rest ∙ sym in_last.stands }; local = marks.0; remote = marks.1 });
+        held = promised.held;
+        behind = promised.behind;
+        within = promised.within;
+      },
+      refl,
+    )
+
+kept : (first_last second_last : Stretch) (first second : ℕ) (began : Pair) (events : List Event) (done : List Bool) (calls : List Call) (released : List (List ℕ)) (primary standby primary' standby' : State)
+    → ((p : ℕ) (old new : State) → first_last first calls p old new → FromOnly first calls p old new)
+    → ((p : ℕ) (old new : State) → second_last second calls p old new → FromOnly second calls p old new)
+    → (reaches : Reaches first second began events done primary standby)
+    → Tells (last_world start reaches.worlds) calls (λ c. slice_index_or released c []) (primary_position (last_world start reaches.worlds)) (standby_position (last_world start reaches.worlds))
+    → first_last first calls (primary_position (last_world start reaches.worlds)) primary primary'
+    → second_last second calls (standby_position (last_world start reaches.worlds)) standby standby'
+    → IsKept first_last second_last first second events done calls released began.device began.standby.device primary' standby'
+kept first_last second_last first second began events done calls released primary standby primary' standby' first_from second_from reaches tells primary_ends standby_ends =
     let w = last_world start reaches.worlds in
-    let parts = reaches.stands.parts in
-    let tells : Tells w pair.sessions.calls.items (λ c. slice_index_or released c []) w.committer.position w.standby.position =
+    let promised = promised-by events done reaches.worlds calls (λ c. slice_index_or released c []) (primary_position w) (standby_position w) reaches.run tells in
+    let primary_moments = moments-from first_last primary_position first calls of_primary first_from start events done reaches.worlds began.device primary primary' reaches.run sound-start (sym tells.list)
+    reaches.primary_moves primary_ends in
+    let standby_moments = moments-from second_last standby_position second calls of_standby second_from start events done reaches.worlds began.standby.device standby standby' reaches.run sound-start (sym tells.list)
+    reaches.standby_moves standby_ends in
     record {
-      list = parts.sessions.calls_are;
+      primary_at = primary_position w;
+      standby_at = standby_position w;
+      promised = promised.0;
+      primary_moments = subst (λ (worlds : List World). AreMoments first_last primary_position first calls start worlds began.device primary') (sym promised.1) primary_moments.moments;
+      standby_moments = subst (λ (worlds : List World). AreMoments second_last standby_position second calls start worlds began.standby.device standby') (sym promised.1) standby_moments.moments;
+    }
+
+-- nothing happened since the last event
+rests-now : (lines : ℕ) (calls : List Call) (p : ℕ) (device : State) → Stands lines calls p device → Rests lines calls p device device
+rests-now lines calls p device stands = record { leaves = none_leaves device (StandsAt lines calls p) stands; failures = refl }
+
+played-whole : (first second : ℕ) (began : Pair) (events : List Event) (done : List Bool) (pair : Pair) (released : List (List ℕ)) → released ≡ released_of pair.sessions.connections.items
+    → StandsAfter first second began events done pair
+    → IsKept Rests Rests first second events done pair.sessions.calls.items released began.device began.standby.device pair.device pair.standby.device
+played-whole first second began events done pair released same after =
+    let w = last_world start after.reaches.worlds in
+    let parts = after.stands.parts in
+    let told = parts.sessions.calls_are in
+    kept Rests Rests first second began events done pair.sessions.calls.items released pair.device pair.standby.device pair.device pair.standby.device
+    (rests-from first pair.sessions.calls.items) (rests-from second pair.sessions.calls.items) after.reaches
+    (record {
+      list = told;
       bytes = λ c. ap (λ (all : List (List ℕ)). slice_index_or all c []) same ∙ released-told w.calls 0 pair.sessions.connections.items w.connections parts.sessions.connections_stand c;
       primary_position = refl;
       standby_position = refl;
-    } in
-    record {
-      primary_position = w.committer.position;
-      standby_position = w.standby.position;
-      promised = promised-told events done reaches.worlds pair.sessions.calls.items (λ c. slice_index_or released c []) w.committer.position w.standby.position reaches.run tells;
-      primary_stands = subst (λ (calls : List Call). Stands first calls w.committer.position pair.device) (sym parts.sessions.calls_are) (Stands-engine _ _ _ _ _ _ parts.engine);
-      standby_stands = subst (λ (calls : List Call). Stands second calls w.standby.position pair.standby.device) (sym parts.sessions.calls_are) (Stands-engine _ _ _ _ _ _ parts.standby.engine);
-    }
+    })
+    (subst (λ (calls : List Call). Rests first calls w.committer.position pair.device pair.device) (sym told) (rests-now first w.calls w.committer.position pair.device (Stands-engine _ _ _ _ _ _ parts.engine)))
+    (subst (λ (calls : List Call). Rests second calls w.standby.position pair.standby.device pair.standby.device) (sym told)
+    (rests-now second w.calls w.standby.position pair.standby.device (Stands-engine _ _ _ _ _ _ parts.standby.engine)))
 
-pub kept-cut : (first second : ℕ) (began : Pair) (events : List Event) (done : List Bool) (pair : Pair) (released : List (List ℕ)) → released ≡ released_of pair.sessions.connections.items
-    → IsCutAt first second began events done pair → IsKept StandsNear first second events done pair.sessions.calls.items released pair.device pair.standby.device
-kept-cut first second began events done pair released same at =
-    let w = last_world start at.worlds in
-    let cut = at.cut in
-    let tells : Tells w pair.sessions.calls.items (λ c. slice_index_or released c []) w.committer.position w.standby.position =
-    record {
+played-cut : (first second : ℕ) (began : Pair) (events : List Event) (done : List Bool) (pair : Pair) (released : List (List ℕ)) → released ≡ released_of pair.sessions.connections.items
+    → IsCutAfter first second began events done pair
+    → IsKept NearOnly NearOnly first second events done pair.sessions.calls.items released began.device began.standby.device pair.device pair.standby.device
+played-cut first second began events done pair released same after =
+    let w = last_world start after.reaches.worlds in
+    let before = after.before in
+    let cut = after.cut in
+    kept NearOnly NearOnly first second began events done pair.sessions.calls.items released before.device before.standby.device pair.device pair.standby.device
+    (near-from first pair.sessions.calls.items) (near-from second pair.sessions.calls.items) after.reaches
+    (record {
       list = cut.calls;
       bytes = λ c. ap (λ (all : List (List ℕ)). slice_index_or all c []) same ∙ cut.released c;
       primary_position = refl;
       standby_position = refl;
-    } in
-    record {
-      primary_position = w.committer.position;
-      standby_position = w.standby.position;
-      promised = promised-told events done at.worlds pair.sessions.calls.items (λ c. slice_index_or released c []) w.committer.position w.standby.position at.run tells;
-      primary_stands = subst (λ (calls : List Call). StandsNear first calls w.committer.position pair.device) (sym cut.calls) cut.primary;
-      standby_stands = subst (λ (calls : List Call). StandsNear second calls w.standby.position pair.standby.device) (sym cut.calls) cut.standby;
-    }
+    })
+    (subst (λ (calls : List Call). NearOnly first calls w.committer.position before.device pair.device) (sym cut.calls) cut.primary)
+    (subst (λ (calls : List Call). NearOnly second calls w.standby.position before.standby.device pair.standby.device) (sym cut.calls) cut.standby)
 
-pub keeps-played : (first second : ℕ) (began : Pair) (events : List Event) (ended : Option Ended) (done : List Bool) (pair : Pair) (released : List (List ℕ)) (primary standby : State)
+pub plays-on : (first second : ℕ) (began : Pair) (events : List Event) (ended : Option Ended) (done : List Bool) (pair : Pair) (released : List (List ℕ)) (primary standby : State)
     → released ≡ released_of pair.sessions.connections.items → primary ≡ pair.device → standby ≡ pair.standby.device → Plays first second began events ended done pair
-    → KeepsItsWord first second events ended done pair.sessions.calls.items released primary standby
-keeps-played first second began events ended done pair released primary standby same primary_same standby_same plays =
-    subst (λ (d : State). KeepsItsWord first second events ended done pair.sessions.calls.items released d standby) (sym primary_same)
-    (subst (λ (d : State). KeepsItsWord first second events ended done pair.sessions.calls.items released pair.device d) (sym standby_same) (go ended plays))
-  where
-    go : (ended : Option Ended) → Plays first second began events ended done pair → KeepsItsWord first second events ended done pair.sessions.calls.items released pair.device pair.standby.device
-    go None plays = kept-reached first second began events done pair released same plays
-    go (Some (AtFormatting refusal)) plays = absurd plays
-    go (Some (AtEvent place refusal)) plays = (plays.0, kept-cut first second began (take place events) done pair released same plays.1)
-
--- ---- what a crash leaves at any moment
-
-pub moments-played : (first second : ℕ) (began : Pair) (events : List Event) (ended : Option Ended) (done : List Bool) (pair : Pair) (primary standby : State)
-    → primary ≡ pair.device → standby ≡ pair.standby.device → Plays first second began events ended done pair
-    → SomewhereOnly first pair.sessions.calls.items began.device primary × SomewhereOnly second pair.sessions.calls.items began.standby.device standby
-moments-played first second began events ended done pair primary standby primary_same standby_same plays =
-    let both = go ended plays in (
-      subst (SomewhereOnly first pair.sessions.calls.items began.device) (sym primary_same) both.0,
-      subst (SomewhereOnly second pair.sessions.calls.items began.standby.device) (sym standby_same) both.1,
-    )
+    → PlaysOn first second events ended done pair.sessions.calls.items released began.device began.standby.device primary standby
+plays-on first second began events ended done pair released primary standby same primary_same standby_same plays =
+    subst (λ (d : State). PlaysOn first second events ended done pair.sessions.calls.items released began.device began.standby.device d standby) (sym primary_same)
+    (subst (λ (d : State). PlaysOn first second events ended done pair.sessions.calls.items released began.device began.standby.device pair.device d) (sym standby_same) (go ended plays))
   where
     go : (ended : Option Ended) → Plays first second began events ended done pair
-        → SomewhereOnly first pair.sessions.calls.items began.device pair.device × SomewhereOnly second pair.sessions.calls.items began.standby.device pair.standby.device
-    go None plays = (plays.primary_moments, plays.standby_moments)
+        → PlaysOn first second events ended done pair.sessions.calls.items released began.device began.standby.device pair.device pair.standby.device
+    go None plays = played-whole first second began events done pair released same plays
     go (Some (AtFormatting refusal)) plays = absurd plays
-    go (Some (AtEvent place refusal)) plays = (plays.1.primary_moments, plays.1.standby_moments)
+    go (Some (AtEvent place refusal)) plays = (plays.0, played-cut first second began (take place events) done pair released same plays.1)
 
--- either way, all moments of the run at once
-pub any_moment-leaves : (role : Role) (calls : List Call) (old new : State) → AtAnyMoment role calls old new
-    → LeavesOnly old new (λ image. IsFormatting old.words old.lines role image ⊎ StandsSomewhere old.lines calls image)
-any_moment-leaves role calls old new (inl played) = LeavesOnly-then (LeavesOnly-weaken _ (λ image is. inl is) played.1) (LeavesOnly-weaken _ (λ image is. inr is) played.2)
-any_moment-leaves role calls old new (inr unplayed) = LeavesOnly-weaken _ (λ image is. inl is) unplayed.1
+-- ---- behind the formatting
+
+pub keeps-played : (events : List Event) (ended : Option Ended) (done : List Bool) (calls : List Call) (released : List (List ℕ)) (primary standby formatted formatted' primary' standby' : State)
+    → FormattingOnly Primary primary formatted → FormattingOnly Standby standby formatted'
+    → PlaysOn primary.lines standby.lines events ended done calls released formatted formatted' primary' standby' → KeepsItsWord events ended done calls released primary standby primary' standby'
+keeps-played events None done calls released primary standby formatted formatted' primary' standby' formatting formatting' plays =
+    record { primary_formatted = formatted; standby_formatted = formatted'; primary_formatting = formatting; standby_formatting = formatting'; kept = plays }
+keeps-played events (Some (AtFormatting refusal)) done calls released primary standby formatted formatted' primary' standby' formatting formatting' plays = absurd plays
+keeps-played events (Some (AtEvent place refusal)) done calls released primary standby formatted formatted' primary' standby' formatting formatting' plays =
+    (plays.0, record { primary_formatted = formatted; standby_formatted = formatted'; primary_formatting = formatting; standby_formatting = formatting'; kept = plays.1 })
+
+-- a run that ended before the first event
+pub keeps-unplayed : (events : List Event) (ended : Option Ended) (refusal : Refusal) (done : List Bool) (calls : List Call) (released : List (List ℕ)) (primary standby primary' standby' : State)
+    → ended ≡ Some (AtFormatting refusal) → done ≡ [] → calls ≡ [] → released ≡ [] → FormattingOnly Primary primary primary' → FormattingOnly Standby standby standby'
+    → KeepsItsWord events ended done calls released primary standby primary' standby'
+keeps-unplayed events ended refusal done calls released primary standby primary' standby' is done_none calls_none released_none formatting formatting' =
+    subst (λ (how : Option Ended). KeepsItsWord events how done calls released primary standby primary' standby') (sym is)
+    (record { done_none = done_none; calls_none = calls_none; released_none = released_none; primary_formatting = formatting; standby_formatting = formatting' })

@@ -20,10 +20,10 @@ use Rattle.machine.specs.Events.{Standby as Machine, Span, Takes, acknowledged, 
 use Rattle.standby.specs.declared.frame.Ack.{Ack}
 use Rattle.standby.specs.declared.frame.Frame.{Frame}
 use Rattle.standby.specs.Following.{Follows, IsNext, HasTaken, IsWhole, IsBeforeOrWhole}
-use Rattle.world.specs.Committings.{AreContentsAt, StandsAtOrNext, NearOnly}
+use Rattle.world.specs.Committings.{AreContentsAt, Moves, StandsAtOrNext, NearOnly}
 use Rattle.world.specs.Links.{IsFrameOf}
 use Rattle.world.specs.Standbys.{Node, StandbyStands}
-use Rattle.world.proofs.EngineLemmas.{keeps-stands, near-still, EngineStands-grows}
+use Rattle.world.proofs.EngineLemmas.{Stands-engine, keeps-stands, moves-same, near-still, EngineStands-grows}
 
 -- nothing happened to the standby
 pub StandbyStands-still : (lines epoch : ℕ) (calls : List Call) (p : ℕ) (node : Node) → StandbyStands lines epoch calls p node → NearOnly lines calls p node.device node.device
@@ -39,20 +39,21 @@ pub record Answers (frame : Frame) (old : Node) (result : Result Ack Refusal) (n
   pub taken : frame.epoch ≡ old.epoch → IsNext old.contents.current.position frame → OnOk result (HasTaken frame old.contents new.contents old.table new.table)
   pub causes : frame.epoch ≡ old.epoch → IsNext old.contents.current.position frame
       → IfErr result (λ refusal. (refusal ≡ Full) ⊎ (refusal ≡ Memory) ⊎ (refusal ≡ Fault) ⊎ (refusal ≡ Exhausted))
-  pub refused : (result ≡ Err Full) ⊎ (result ≡ Err Memory) → (new.contents ≡ old.contents) × (new.table ≡ old.table)
+  pub refused : (result ≡ Err Full) ⊎ (result ≡ Err Memory) → (new.contents ≡ old.contents) × (new.table ≡ old.table) × (new.device ≡ old.device)
   pub still : ¬ IsErrOf result Fault → ¬ IsErrOf result Exhausted → Follows new.contents new.table new.room
-  pub sound : ¬ IsErrOf result Fault → ¬ IsErrOf result Exhausted → new.is_faulted ≡ false
+  pub sound : ¬ IsErrOf result Fault → ¬ IsErrOf result Exhausted → (new.is_faulted ≡ false) × (new.device.failures ≡ old.device.failures)
   pub durable : ¬ IsErrOf result Fault → ¬ IsErrOf result Exhausted → IsDurable new.device new.contents
   pub epoch_stays : new.epoch ≡ old.epoch
   pub moments : frame.epoch ≡ old.epoch → IsNext old.contents.current.position frame → LeavesOnly old.device new.device (IsBeforeOrWhole frame old.contents old.table)
 
--- The machine's standby after it took the span, with the acknowledgements that it made, and the node that stands for it.
-pub record Took (lines epoch : ℕ) (calls : List Call) (span : Span) (old : Machine) (acks : List ℕ) (new : Node) : Type 0 where
+-- The machine's standby after it took the span, with the acknowledgements that it made, the node that stands for it, and what its device went through.
+pub record Took (lines epoch : ℕ) (calls : List Call) (span : Span) (old : Machine) (acks : List ℕ) (before new : Node) : Type 0 where
   pub standby : Machine
   pub takes : Takes span old standby
   pub waiting : standby.waiting ≡ old.waiting
   pub acknowledgements : old.acknowledgements ++ acks ≡ standby.acknowledgements
   pub stands : StandbyStands lines epoch calls standby.position new
+  pub moves : Moves lines calls old.position standby.position before.device new.device
 
 same_ok : {a b : Ack} {result : Result Ack Refusal} → result ≡ Ok a → result ≡ Ok b → a ≡ b
 same_ok in_a in_b = cc
@@ -125,7 +126,7 @@ module _ (lines epoch : ℕ) (calls : List Call) (machine : Machine) (frame : Fr
       }
 
   -- nothing of the contents or of the table changed
-  refused_stands : (new.contents ≡ old.contents) × (new.table ≡ old.table) → Follows new.contents new.table new.room → new.is_faulted ≡ false → IsDurable new.device new.contents → new.epoch ≡ old.epoch
+  refused_stands : (new.contents ≡ old.contents) × (new.table ≡ old.table) × (new.device ≡ old.device) → Follows new.contents new.table new.room → new.is_faulted ≡ false → IsDurable new.device new.contents → new.epoch ≡ old.epoch
       → StandbyStands lines epoch calls machine.position new
   refused_stands same follows sound durable epoch_stays = record {
     engine = record {
@@ -141,14 +142,43 @@ module _ (lines epoch : ℕ) (calls : List Call) (machine : Machine) (frame : Fr
   same_stands : new ≡ old → StandbyStands lines epoch calls machine.position new
   same_stands same = subst (StandbyStands lines epoch calls machine.position) (sym same) stands
 
+  -- the device was not touched
+  rests : (p : ℕ) → new.device ≡ old.device → StandbyStands lines epoch calls p new → Moves lines calls machine.position p old.device new.device
+  rests p same now = moves-same lines calls machine.position p old.device new.device same (Stands-engine _ _ _ _ _ _ now.engine)
+
+  -- an image that holds the whole frame stands at its end
+  whole_stands : (image : Image) → span.before ≡ machine.position → (after : Contents) × IsWhole frame old.contents old.table after × Keeps after image → StandsAt lines calls span.after image
+  whole_stands image e held =
+      let after = held.0 in
+      let contents_at : AreContentsAt lines calls span.after after = record {
+        at = held.1.position ∙ is.after;
+        lines_are = held.1.line_count ∙ stands.engine.contents_at.lines_are;
+        consistent = held.1.consistent;
+        map = subst (IsMapOf after.versions (entries_of_lines after.lines)) (keyspace_next e) held.1.map;
+      } in
+      keeps-stands lines calls span.after after image contents_at held.2
+
+  -- the whole frame was taken: at any moment a crash leaves what was before it or all of it
+  taken_moves : span.before ≡ machine.position → LeavesOnly old.device new.device (IsBeforeOrWhole frame old.contents old.table) → new.device.failures ≡ old.device.failures
+      → Moves lines calls machine.position span.after old.device new.device
+  taken_moves e only failures =
+      record {
+        leaves = LeavesOnly-weaken (λ image. StandsAt lines calls machine.position image ⊎ StandsAt lines calls span.after image) either only;
+        failures = failures;
+      }
+    where
+      either : (image : Image) → IsBeforeOrWhole frame old.contents old.table image → StandsAt lines calls machine.position image ⊎ StandsAt lines calls span.after image
+      either image (inl before) = inl (keeps-stands lines calls machine.position old.contents image stands.engine.contents_at before)
+      either image (inr held) = inr (whole_stands image e held)
+
   -- a frame that the standby acknowledged
-  pub takes_ok : (ack : Ack) → Answers frame old (Ok ack) new → Took lines epoch calls span machine (ack.position ∷ []) new
+  pub takes_ok : (ack : Ack) → Answers frame old (Ok ack) new → Took lines epoch calls span machine (ack.position ∷ []) old new
   takes_ok ack answers = ⊎_elim above below (cases_lt machine.position span.after)
     where
       no_fault : {refusal : Refusal} → ¬ IsErrOf (Ok ack) refusal
       no_fault e = cc
 
-      below : span.after ≤ machine.position → Took lines epoch calls span machine (ack.position ∷ []) new
+      below : span.after ≤ machine.position → Took lines epoch calls span machine (ack.position ∷ []) old new
       below le =
           let again = answers.again epoch_same (is_below le) in
           let told : ack ≡ record { epoch = old.epoch; position = old.contents.current.position } = same_ok refl again.0 in
@@ -158,9 +188,10 @@ module _ (lines epoch : ℕ) (calls : List Call) (machine : Machine) (frame : Fr
             waiting = refl;
             acknowledgements = ap (λ p. machine.acknowledgements ++ p ∷ []) (ap (λ (a : Ack). a.position) told ∙ at);
             stands = same_stands again.1;
+            moves = rests machine.position (ap (λ (n : Node). n.device) again.1) (same_stands again.1);
           }
 
-      joins : machine.position < span.after → span.before ≡ machine.position → Took lines epoch calls span machine (ack.position ∷ []) new
+      joins : machine.position < span.after → span.before ≡ machine.position → Took lines epoch calls span machine (ack.position ∷ []) old new
       joins lt e =
           let next = is_next lt e in
           record {
@@ -168,44 +199,49 @@ module _ (lines epoch : ℕ) (calls : List Call) (machine : Machine) (frame : Fr
             takes = inr (inl (lt, e, refl));
             waiting = refl;
             acknowledgements = ap (λ p. machine.acknowledgements ++ p ∷ []) (ap (λ (a : Ack). a.position) (answers.ack epoch_same next) ∙ is.after);
-            stands = taken_stands e (answers.taken epoch_same next) (answers.still no_fault no_fault) (answers.sound no_fault no_fault) (answers.durable no_fault no_fault) answers.epoch_stays;
+            stands = taken_stands e (answers.taken epoch_same next) (answers.still no_fault no_fault) (answers.sound no_fault no_fault).0 (answers.durable no_fault no_fault) answers.epoch_stays;
+            moves = taken_moves e (answers.moments epoch_same next) (answers.sound no_fault no_fault).1;
           }
 
-      above : machine.position < span.after → Took lines epoch calls span machine (ack.position ∷ []) new
+      above : machine.position < span.after → Took lines epoch calls span machine (ack.position ∷ []) old new
       above lt = ⊎_elim (joins lt) (λ (ne : span.before ≢ machine.position). absurd (not_both refl (answers.gap epoch_same (is_above lt) (is_apart ne)).0)) (cases_eq span.before machine.position)
 
   -- a frame that it refused, and went on
   pub takes_refused : (refusal : Refusal) → (refusal ≡ Full) ⊎ (refusal ≡ PositionGap) ⊎ (refusal ≡ WrongEpoch) → Answers frame old (Err refusal) new
-      → Took lines epoch calls span machine [] new
+      → Took lines epoch calls span machine [] old new
   takes_refused refusal goes_on answers = ⊎_elim above below (cases_lt machine.position span.after)
     where
-      below : span.after ≤ machine.position → Took lines epoch calls span machine [] new
+      below : span.after ≤ machine.position → Took lines epoch calls span machine [] old new
       below le = absurd (not_both (answers.again epoch_same (is_below le)).0 refl)
 
-      joins : machine.position < span.after → span.before ≡ machine.position → Took lines epoch calls span machine [] new
+      joins : machine.position < span.after → span.before ≡ machine.position → Took lines epoch calls span machine [] old new
       joins lt e =
           let full : refusal ≡ Full = is_full refusal goes_on (answers.causes epoch_same (is_next lt e)) in
           let no_fault : ¬ IsErrOf {T = Ack} (Err refusal) Fault = λ is. cc in
           let not_exhausted : ¬ IsErrOf {T = Ack} (Err refusal) Exhausted = λ is. cc in
+          let refused = answers.refused (inl (ap Err full)) in
+          let now : StandbyStands lines epoch calls machine.position new =
+          refused_stands refused (answers.still no_fault not_exhausted) (answers.sound no_fault not_exhausted).0 (answers.durable no_fault not_exhausted) answers.epoch_stays in
           record {
             standby = machine;
             takes = inr (inr (inl (lt, e, refl)));
             waiting = refl;
             acknowledgements = append-nil machine.acknowledgements;
-            stands = refused_stands (answers.refused (inl (ap Err full))) (answers.still no_fault not_exhausted) (answers.sound no_fault not_exhausted) (answers.durable no_fault not_exhausted)
-                answers.epoch_stays;
+            stands = now;
+            moves = rests machine.position refused.2 now;
           }
 
-      apart : machine.position < span.after → span.before ≢ machine.position → Took lines epoch calls span machine [] new
-      apart lt ne = record {
+      apart : machine.position < span.after → span.before ≢ machine.position → Took lines epoch calls span machine [] old new
+      apart lt ne = let same = (answers.gap epoch_same (is_above lt) (is_apart ne)).1 in record {
         standby = machine;
         takes = inr (inr (inr (lt, ne, refl)));
         waiting = refl;
         acknowledgements = append-nil machine.acknowledgements;
-        stands = same_stands (answers.gap epoch_same (is_above lt) (is_apart ne)).1;
+        stands = same_stands same;
+        moves = rests machine.position (ap (λ (n : Node). n.device) same) (same_stands same);
       }
 
-      above : machine.position < span.after → Took lines epoch calls span machine [] new
+      above : machine.position < span.after → Took lines epoch calls span machine [] old new
       above lt = ⊎_elim (joins lt) (apart lt) (cases_eq span.before machine.position)
 
   -- a frame of one change: at any moment of the call, a crash leaves what was before it or all of it
@@ -221,16 +257,7 @@ module _ (lines epoch : ℕ) (calls : List Call) (machine : Machine) (frame : Fr
       below le = still (answers.again epoch_same (is_below le)).1
 
       whole : (image : Image) → span.before ≡ machine.position → (after : Contents) × IsWhole frame old.contents old.table after × Keeps after image → StandsAt lines calls (machine.position + 1) image
-      whole image e held =
-          let after = held.0 in
-          let next : span.after ≡ machine.position + 1 = omega (arith, one, e) in
-          let contents_at : AreContentsAt lines calls span.after after = record {
-            at = held.1.position ∙ is.after;
-            lines_are = held.1.line_count ∙ stands.engine.contents_at.lines_are;
-            consistent = held.1.consistent;
-            map = subst (IsMapOf after.versions (entries_of_lines after.lines)) (keyspace_next e) held.1.map;
-          } in
-          subst (λ p. StandsAt lines calls p image) next (keeps-stands lines calls span.after after image contents_at held.2)
+      whole image e held = let next : span.after ≡ machine.position + 1 = omega (arith, one, e) in subst (λ p. StandsAt lines calls p image) next (whole_stands image e held)
 
       either : machine.position < span.after → span.before ≡ machine.position → (image : Image) → IsBeforeOrWhole frame old.contents old.table image → StandsAtOrNext lines calls machine.position image
       either lt e image (inl before) = inl (keeps-stands lines calls machine.position old.contents image stands.engine.contents_at before)

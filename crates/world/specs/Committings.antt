@@ -65,10 +65,6 @@ Stands lines calls position device = (image : Image) → IsImage device.words im
 abbrev pub StandsAtOrNext : ℕ → List Call → ℕ → Image → Type 0
 StandsAtOrNext lines calls position image = StandsAt lines calls position image ⊎ ((position < position_of calls) × StandsAt lines calls (position + 1) image)
 
--- the image stands at some position of the list
-abbrev pub StandsSomewhere : ℕ → List Call → Image → Type 0
-StandsSomewhere lines calls image = (p : ℕ) × (p ≤ position_of calls) × StandsAt lines calls p image
-
 -- each crash now leaves an image that stands at this position of the list, or at the next one
 abbrev pub StandsNear : ℕ → List Call → ℕ → State → Type 0
 StandsNear lines calls position device = (image : Image) → IsImage device.words image → StandsAtOrNext lines calls position image
@@ -77,9 +73,19 @@ StandsNear lines calls position device = (image : Image) → IsImage device.word
 abbrev pub NearOnly : ℕ → List Call → ℕ → State → State → Type 0
 NearOnly lines calls position old new = LeavesOnly old new (StandsAtOrNext lines calls position)
 
--- each crash between these two states of a device leaves an image that stands at some position of the list
-abbrev pub SomewhereOnly : ℕ → List Call → State → State → Type 0
-SomewhereOnly lines calls old new = LeavesOnly old new (StandsSomewhere lines calls)
+-- each crash between these two states of a device leaves an image that stands at this position of the list, or at a later one
+abbrev pub FromOnly : ℕ → List Call → ℕ → State → State → Type 0
+FromOnly lines calls position old new = LeavesOnly old new (λ image. (p : ℕ) × (position ≤ p) × StandsAt lines calls p image)
+
+-- each crash between these two states of a device leaves an image that stands at one of these two positions of the list, and no fence failed
+pub record Moves (lines : ℕ) (calls : List Call) (from to : ℕ) (old new : State) : Type 0 where
+  pub leaves : LeavesOnly old new (λ image. StandsAt lines calls from image ⊎ StandsAt lines calls to image)
+  pub failures : new.failures ≡ old.failures
+
+-- each crash between these two states of a device leaves an image that stands at this position of the list, and no fence failed
+pub record Rests (lines : ℕ) (calls : List Call) (position : ℕ) (old new : State) : Type 0 where
+  pub leaves : LeavesOnly old new (StandsAt lines calls position)
+  pub failures : new.failures ≡ old.failures
 
 -- each crash between these two states of a device leaves what is there while it is formatted for this role
 abbrev pub FormattingOnly : Role → State → State → Type 0

@@ -1,64 +1,110 @@
--- What a run keeps its word of: the promise, between any two events, and what a crash leaves of both images, after the run and at any moment of it.
-use Rattle.std.specs.Prelude.{◌≡◌, ◌⊎◌, ℕ, ◌<◌, Bool, List, [], length, take, slice_index_or, Option, Some, None}
+-- What a run keeps its word of: the promise, between any two events, and what a crash leaves of both images at any moment of the run.
+use Rattle.std.specs.Prelude.{◌≡◌, ◌⊎◌, ℕ, ◌<◌, Bool, List, [], ◌∷◌, ◌++◌, length, take, slice_index_or, Option, Some, None}
 use Rattle.pmem.specs.Device.{State}
 use Rattle.model.specs.declared.call.Call.{Call}
-use Rattle.model.specs.declared.record.Role.{Role}
+use Rattle.model.specs.declared.record.Role.TheVariants.{Primary, Standby}
+use Rattle.model.specs.Calls.{position_of}
 use Rattle.machine.specs.declared.event.Event.{Event}
 use Rattle.machine.specs.Events.{Run, World, start, last_world}
-use Rattle.machine.specs.Promises.{IsPromised}
-use Rattle.world.specs.Committings.{Stands, StandsNear, SomewhereOnly, FormattingOnly}
+use Rattle.machine.specs.Promises.{IsPromised, IsReleased, released_in}
+use Rattle.world.specs.Committings.{Rests, NearOnly, FromOnly, Moves, FormattingOnly}
 use Rattle.world.specs.Pairs.{Pair, PairStands, IsCut}
 use Rattle.world.specs.declared.trace.Ended.{Ended}
 use Rattle.world.specs.declared.trace.Ended.TheVariants.{AtFormatting, AtEvent}
 
--- what an image, of so many lines, has to do with a position of the list
-abbrev pub Standing : Type 1
-Standing = ℕ → List Call → ℕ → State → Type 0
+-- what leads a device, of so many lines, from one state to another has to do with a position of the list
+abbrev pub Stretch : Type 1
+Stretch = ℕ → List Call → ℕ → State → State → Type 0
 
--- These events, or some of them, did their step. The list of calls and the released bytes, by connection, are as promised, and each crash of
--- either device leaves an image that stands where its node does.
-pub record IsKept (standing : Standing) (first second : ℕ) (events : List Event) (done : List Bool) (calls : List Call) (released : List (List ℕ)) (primary standby : State) : Type 0 where
-  -- the positions of the two nodes
-  pub primary_position : ℕ
-  pub standby_position : ℕ
-  pub promised : IsPromised events done calls (λ c. slice_index_or released c []) primary_position standby_position
-  pub primary_stands : standing first calls primary_position primary
-  pub standby_stands : standing second calls standby_position standby
+-- the position of a node in a world
+abbrev pub primary_position : World → ℕ
+primary_position w = w.committer.position
 
--- A run over devices of so many lines that went to the end of the events; or that ended before the first one, when nothing was called yet; or that ended
--- in the middle of one, when each image may stand one change further on.
-abbrev pub KeepsItsWord : ℕ → ℕ → List Event → Option Ended → List Bool → List Call → List (List ℕ) → State → State → Type 0
-KeepsItsWord first second events None done calls released primary standby = IsKept Stands first second events done calls released primary standby
-KeepsItsWord first second events (Some (AtFormatting refusal)) done calls released primary standby = (done ≡ []) × (calls ≡ []) × (released ≡ [])
-KeepsItsWord first second events (Some (AtEvent place refusal)) done calls released primary standby =
-    (place < length events) × IsKept StandsNear first second (take place events) done calls released primary standby
+abbrev pub standby_position : World → ℕ
+standby_position w = w.standby.position
 
--- A run took a device of this role from old to new. A crash at any moment while it was formatted leaves an image from before, the new one, or one without
--- the magic; a crash at any moment from then on leaves one that stands at some position of the list. Where the run ended at the formatting, nothing was called.
-abbrev pub AtAnyMoment : Role → List Call → State → State → Type 0
-AtAnyMoment role calls old new =
-    ((formatted : State) × FormattingOnly role old formatted × SomewhereOnly old.lines calls formatted new) ⊎ ((calls ≡ []) × FormattingOnly role old new)
+-- each crash between these two states of a device leaves an image in which no call is missing that was released in this world
+abbrev pub KeepsReleased : ℕ → List Call → World → State → State → Type 0
+KeepsReleased lines calls w old new =
+    (front : List Call) (call : Call) → IsReleased w.calls (released_in w) front call → FromOnly lines calls (position_of (front ++ call ∷ [])) old new
+
+-- The moments of a device, cut by the events of a run from this world on. A crash during an event leaves an image that stands where the node stood before
+-- it or where it stood after it. What comes behind the last event is a stretch of its own. And from each cut on, up to the end, each crash keeps what was
+-- released by then.
+abbrev pub AreMoments : Stretch → (World → ℕ) → ℕ → List Call → World → List World → State → State → Type 0
+AreMoments last position lines calls w [] old new = KeepsReleased lines calls w old new × last lines calls (position w) old new
+AreMoments last position lines calls w (w' ∷ worlds) old new =
+    (next : State) × KeepsReleased lines calls w old new × Moves lines calls (position w) (position w') old next × AreMoments last position lines calls w' worlds next new
+
+-- These events, or some of them, did their step, and led the two devices on from where they were formatted. The list of calls and the released bytes, by
+-- connection, are as promised.
+pub record IsKept (first_last second_last : Stretch) (first second : ℕ) (events : List Event) (done : List Bool) (calls : List Call) (released : List (List ℕ)) (primary standby primary' standby' : State) : Type 0 where
+  -- the positions of the two nodes at the end
+  pub primary_at : ℕ
+  pub standby_at : ℕ
+  pub promised : IsPromised events done calls (λ c. slice_index_or released c []) primary_at standby_at
+  -- the moments of either device, cut by the same events
+  pub primary_moments : AreMoments first_last primary_position first calls start promised.worlds primary primary'
+  pub standby_moments : AreMoments second_last standby_position second calls start promised.worlds standby standby'
+
+-- The first device was formatted as primary and the second as standby, and then the events happened.
+pub record IsPlayed (first_last second_last : Stretch) (events : List Event) (done : List Bool) (calls : List Call) (released : List (List ℕ)) (primary standby primary' standby' : State) : Type 0 where
+  pub primary_formatted : State
+  pub standby_formatted : State
+  -- a crash leaves an image from before, the new one, or one without the magic
+  pub primary_formatting : FormattingOnly Primary primary primary_formatted
+  pub standby_formatting : FormattingOnly Standby standby standby_formatted
+  pub kept : IsKept first_last second_last primary.lines standby.lines events done calls released primary_formatted standby_formatted primary' standby'
+
+-- Nothing was called: what was done to the devices is of their formatting.
+pub record IsUnplayed (done : List Bool) (calls : List Call) (released : List (List ℕ)) (primary standby primary' standby' : State) : Type 0 where
+  pub done_none : done ≡ []
+  pub calls_none : calls ≡ []
+  pub released_none : released ≡ []
+  pub primary_formatting : FormattingOnly Primary primary primary'
+  pub standby_formatting : FormattingOnly Standby standby standby'
+
+-- A run that led these two devices from their old states to their new ones went to the end of the events; or it ended before the first one; or it ended in
+-- the middle of one, when each image may stand one change further on.
+abbrev pub KeepsItsWord : List Event → Option Ended → List Bool → List Call → List (List ℕ) → State → State → State → State → Type 0
+KeepsItsWord events None done calls released primary standby primary' standby' = IsPlayed Rests Rests events done calls released primary standby primary' standby'
+KeepsItsWord events (Some (AtFormatting refusal)) done calls released primary standby primary' standby' = IsUnplayed done calls released primary standby primary' standby'
+KeepsItsWord events (Some (AtEvent place refusal)) done calls released primary standby primary' standby' =
+    (place < length events) × IsPlayed NearOnly NearOnly (take place events) done calls released primary standby primary' standby'
 
 -- ---- how it is played
 
--- Since the pair began so, the machine's run over events, and that the pair stands for its last world. Each crash since then leaves either image at some
--- position of the list.
-pub record Reaches (first second : ℕ) (began : Pair) (events : List Event) (done : List Bool) (pair : Pair) : Type 0 where
-  pub worlds : List World
-  pub run : Run start events done worlds
-  pub stands : PairStands first second pair (last_world start worlds)
-  pub primary_moments : SomewhereOnly first pair.sessions.calls.items began.device pair.device
-  pub standby_moments : SomewhereOnly second pair.sessions.calls.items began.standby.device pair.standby.device
+-- the same of what is played on a pair of new nodes
+abbrev pub PlaysOn : ℕ → ℕ → List Event → Option Ended → List Bool → List Call → List (List ℕ) → State → State → State → State → Type 0
+PlaysOn first second events None done calls released primary standby primary' standby' = IsKept Rests Rests first second events done calls released primary standby primary' standby'
+PlaysOn first second events (Some (AtFormatting refusal)) done calls released primary standby primary' standby' = ⊥
+PlaysOn first second events (Some (AtEvent place refusal)) done calls released primary standby primary' standby' =
+    (place < length events) × IsKept NearOnly NearOnly first second (take place events) done calls released primary standby primary' standby'
 
--- the same up to an event that was cut
-pub record IsCutAt (first second : ℕ) (began : Pair) (events : List Event) (done : List Bool) (pair : Pair) : Type 0 where
+-- the events of a run from this world on, each over its own list of calls, led a device on
+abbrev pub AreMoves : (World → ℕ) → ℕ → World → List World → State → State → Type 0
+AreMoves position lines w [] old new = old ≡ new
+AreMoves position lines w (w' ∷ worlds) old new = (next : State) × Moves lines w'.calls (position w) (position w') old next × AreMoves position lines w' worlds next new
+
+-- since the pair began so, the machine's run over events led both devices to these states
+pub record Reaches (first second : ℕ) (began : Pair) (events : List Event) (done : List Bool) (primary standby : State) : Type 0 where
   pub worlds : List World
   pub run : Run start events done worlds
-  pub cut : IsCut first second pair (last_world start worlds)
-  pub primary_moments : SomewhereOnly first pair.sessions.calls.items began.device pair.device
-  pub standby_moments : SomewhereOnly second pair.sessions.calls.items began.standby.device pair.standby.device
+  pub primary_moves : AreMoves primary_position first start worlds began.device primary
+  pub standby_moves : AreMoves standby_position second start worlds began.standby.device standby
+
+-- and the pair stands for the last world
+pub record StandsAfter (first second : ℕ) (began : Pair) (events : List Event) (done : List Bool) (pair : Pair) : Type 0 where
+  pub reaches : Reaches first second began events done pair.device pair.standby.device
+  pub stands : PairStands first second pair (last_world start reaches.worlds)
+
+-- or it was cut in the event behind them
+pub record IsCutAfter (first second : ℕ) (began : Pair) (events : List Event) (done : List Bool) (pair : Pair) : Type 0 where
+  pub before : Pair
+  pub reaches : Reaches first second began events done before.device before.standby.device
+  pub cut : IsCut first second before pair (last_world start reaches.worlds)
 
 abbrev pub Plays : ℕ → ℕ → Pair → List Event → Option Ended → List Bool → Pair → Type 0
-Plays first second began events None done pair = Reaches first second began events done pair
+Plays first second began events None done pair = StandsAfter first second began events done pair
 Plays first second began events (Some (AtFormatting refusal)) done pair = ⊥
-Plays first second began events (Some (AtEvent place refusal)) done pair = (place < length events) × IsCutAt first second began (take place events) done pair
+Plays first second began events (Some (AtEvent place refusal)) done pair = (place < length events) × IsCutAfter first second began (take place events) done pair

@@ -9,7 +9,7 @@ use Rattle.machine.specs.declared.event.TheConstants.{SEATS}
 use Rattle.machine.specs.Events.{World, Step}
 use Rattle.machine.specs.Promises.{released_in}
 use Rattle.machine.specs.Sound.{Sound}
-use Rattle.world.specs.Committings.{EngineStands, Leads, StandsNear, NearOnly, CommittingStands}
+use Rattle.world.specs.Committings.{EngineStands, Leads, NearOnly, Moves, CommittingStands}
 use Rattle.world.specs.Links.{LinkStands}
 use Rattle.world.specs.Sessions.{SessionsStand, SequencerStands, released_of}
 use Rattle.world.specs.Standbys.{Node, StandbyStands, ArrivalsStand}
@@ -54,28 +54,28 @@ pub record HasWorld (pair : Pair) : Type 0 where
   pub world : World
   pub stands : PairStands first second pair world
 
--- An event was cut: the list of calls and the released bytes are those of the world before it, and each image stands where it stood or one change
--- further on.
-pub record IsCut (first second : ℕ) (pair : Pair) (w : World) : Type 0 where
-  pub calls : pair.sessions.calls.items ≡ w.calls
-  pub released : (c : ℕ) → slice_index_or (released_of pair.sessions.connections.items) c [] ≡ released_in w c
-  pub few : length pair.sessions.connections.items ≤ SEATS
-  pub primary : StandsNear first w.calls w.committer.position pair.device
-  pub standby : StandsNear second w.calls w.standby.position pair.standby.device
-
--- the machine's step, and what the pair stands for after it
-pub record Steps (first second : ℕ) (old : World) (event : Event) (did : Bool) (pair : Pair) : Type 0 where
-  pub world : World
-  pub step : Step old event did world
-  pub stands : PairStands first second pair world
-
--- a crash at any moment of what led from one pair to the other leaves each image where it stood, or one change further on
-pub record LeavesNear (first second : ℕ) (old new : Pair) (w : World) : Type 0 where
+-- An event was cut: the list of calls and the released bytes are those of the world before it, and at any moment of it each image stands where it stood
+-- or one change further on.
+pub record IsCut (first second : ℕ) (old new : Pair) (w : World) : Type 0 where
+  pub calls : new.sessions.calls.items ≡ w.calls
+  pub released : (c : ℕ) → slice_index_or (released_of new.sessions.connections.items) c [] ≡ released_in w c
+  pub few : length new.sessions.connections.items ≤ SEATS
   pub primary : NearOnly first w.calls w.committer.position old.device new.device
   pub standby : NearOnly second w.calls w.standby.position old.standby.device new.standby.device
 
+-- what led from one pair to the other moved either device from where its node stands in one world to where it stands in the other
+pub record MovesBoth (first second : ℕ) (old new : Pair) (w w' : World) : Type 0 where
+  pub primary : Moves first w'.calls w.committer.position w'.committer.position old.device new.device
+  pub standby : Moves second w'.calls w.standby.position w'.standby.position old.standby.device new.standby.device
+
+-- the machine's step, what the pair stands for after it, and what it did to the devices
+pub record Steps (first second : ℕ) (w : World) (event : Event) (did : Bool) (old new : Pair) : Type 0 where
+  pub world : World
+  pub step : Step w event did world
+  pub stands : PairStands first second new world
+  pub moves : MovesBoth first second old new w world
+
 -- what an event did to a pair: a step, or it was cut
 pub record Does (old : Pair) (event : Event) (result : Result Bool Refusal) (new : Pair) : Type 0 where
-  pub steps : IfOk result (λ did. (first second : ℕ) (w : World) → PairStands first second old w → Steps first second w event did new)
-  pub cut : OnErr result ((first second : ℕ) (w : World) → PairStands first second old w → IsCut first second new w)
-  pub moments : (first second : ℕ) (w : World) → PairStands first second old w → LeavesNear first second old new w
+  pub steps : IfOk result (λ did. (first second : ℕ) (w : World) → PairStands first second old w → Steps first second w event did old new)
+  pub cut : OnErr result ((first second : ℕ) (w : World) → PairStands first second old w → IsCut first second old new w)

@@ -10,7 +10,7 @@ use Rattle.machine.specs.declared.event.Event.TheVariants.{Apply}
 use Rattle.machine.specs.Events.{Standby as Machine, World, Span, Applies, is_enabled}
 use Rattle.standby.specs.declared.frame.Frame.{Frame}
 use Rattle.standby.specs.Following.{Follows}
-use Rattle.world.specs.Committings.{EngineStands}
+use Rattle.world.specs.Committings.{EngineStands, Moves}
 use Rattle.world.specs.Links.{AreFramesAt}
 use Rattle.world.specs.declared.arrivals.Arrivals.{Arrivals}
 
@@ -39,4 +39,5 @@ pub record ArrivalsStand (epoch : ℕ) (calls : List Call) (frames : List Frame)
 pub record AppliesFirst (lines epoch : ℕ) (frames : List Frame) (w : World) (did : Bool) (arrivals : Arrivals) (old new : Node) : Type 0 where
   pub done : did ≡ is_enabled w Apply
   pub goes : did ≡ true → (w' : World) × Applies w w' × ArrivalsStand epoch w.calls frames arrivals w'.standby × StandbyStands lines epoch w.calls w'.standby.position new
+      × Moves lines w.calls w.standby.position w'.standby.position old.device new.device
   pub stays : did ≡ false → ArrivalsStand epoch w.calls frames arrivals w.standby × (new ≡ old)

@@ -1,5 +1,5 @@
 //! The primary's committer: a group is committed, then shown, then handed on, in three turns.
-ghost use Rattle.std.specs.Prelude.{◌≡◌, ◌≢◌, ◌<◌, ◌↔◌, ℕ, [], ◌++◌, length, IfOk, IsTrue};
+ghost use Rattle.std.specs.Prelude.{◌≡◌, ◌≢◌, ◌<◌, ◌↔◌, ℕ, false, [], ◌++◌, length, IfOk, OnOk, IsTrue};
 ghost use Rattle.model.specs.Groups.{Contents};
 ghost use Rattle.machine.specs.declared.event.Event.TheVariants.{CloseGroup, Commit, RaiseLocal, Hand};
 ghost use Rattle.machine.specs.Events.{World, is_enabled, start, closed_group, committed_first, raised_local, ready_again, handed};
@@ -94,6 +94,8 @@ impl Committing {
             (CommittingStands w.calls self.new w.committer
             × EngineStands lines w.calls w.committer.position (E.device engine.new) (E.contents engine.new) (E.is_faulted engine.new))) }
         ensures leads { IfOk result (λ _. LeadsOn (E.contents engine.old) self.old.waiting.items (E.contents engine.new) self.new.waiting.items) }
+        ensures stays { IfOk result (λ did. did ≡ false → engine.new ≡ engine.old) }
+        ensures failures { OnOk result ((E.device engine.new).failures ≡ (E.device engine.old).failures) }
         // at any moment of the call
         ensures moments { (lines : ℕ) (w : World) → Sound w → CommittingStands w.calls self.old w.committer
             → EngineStands lines w.calls w.committer.position (E.device engine.old) (E.contents engine.old) (E.is_faulted engine.old)

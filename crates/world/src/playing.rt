@@ -1,10 +1,8 @@
 //! A run of any list of events over two devices.
 ghost use Rattle.std.specs.Prelude.{◌≡◌, ℕ, ◌≤◌, ◌∷◌, [], List, map, length, vec_len, vec_capacity, Some, IfOk};
 ghost use Rattle.world.specs.declared.trace.Ended.TheVariants.{AtFormatting};
-ghost use Rattle.model.specs.declared.record.Role.TheVariants.{Primary, Standby};
 ghost use Rattle.machine.specs.Events.{start};
-ghost use Rattle.world.specs.Committings.{SomewhereOnly};
-ghost use Rattle.world.specs.Headline.{KeepsItsWord, AtAnyMoment, Plays};
+ghost use Rattle.world.specs.Headline.{KeepsItsWord, PlaysOn, Plays};
 ghost use Rattle.world.specs.Pairs.{PairStands};
 ghost use Rattle.world.specs.Sessions.{released_of};
 
@@ -28,17 +26,14 @@ use wbl_engine::{Durable, WblEngine};
 ///
 /// This is the promise of the whole server, for any devices and any list of events: one sequential Redis answers the list of calls, which takes each
 /// connection's requests in order; the bytes released to each connection begin its replies; each released call was covered, and is in what both
-/// images hold; and a crash, after the run or at any moment of it since the devices were formatted, leaves either image at a position of the list.
+/// images hold; and a crash during an event leaves either image where its node stood in the list before the event or after it, with each call that was
+/// released by then.
 pub fn run<P: Crashing>(alloc: Global, devices: Vec<P>, events: &[Event]) -> Trace<P>
     requires { 2 ≤ vec_len devices }
     ensures kept { (primary standby : P) (others : List P) → devices.items ≡ primary ∷ standby ∷ others
         → (primary' : P) × (standby' : P) × (result.devices.items ≡ primary' ∷ standby' ∷ others)
-        × KeepsItsWord (P.state primary).lines (P.state standby).lines events.now result.ended result.done.items result.calls.items
-        (map (λ bytes. bytes.items) result.released.items) (P.state primary') (P.state standby') }
-    ensures moments { (primary standby : P) (others : List P) → devices.items ≡ primary ∷ standby ∷ others
-        → (primary' : P) × (standby' : P) × (result.devices.items ≡ primary' ∷ standby' ∷ others)
-        × AtAnyMoment Primary result.calls.items (P.state primary) (P.state primary')
-        × AtAnyMoment Standby result.calls.items (P.state standby) (P.state standby') }
+        × KeepsItsWord events.now result.ended result.done.items result.calls.items (map (λ bytes. bytes.items) result.released.items)
+        (P.state primary) (P.state standby) (P.state primary') (P.state standby') }
 {
     let mut devices = devices;
     let primary = devices.remove(0);
@@ -81,10 +76,8 @@ struct Played<P> {
 
 /// Plays the events over a primary and a standby.
 fn play_over<P: Pmem>(alloc: Global, primary: P, standby: P, events: &[Event]) -> Played<P>
-    ensures kept { KeepsItsWord (P.state primary).lines (P.state standby).lines events.now result.ended result.done.items result.calls.items
-        (map (λ bytes. bytes.items) result.released.items) (P.state result.primary) (P.state result.standby) }
-    ensures moments { AtAnyMoment Primary result.calls.items (P.state primary) (P.state result.primary)
-        × AtAnyMoment Standby result.calls.items (P.state standby) (P.state result.standby) }
+    ensures { KeepsItsWord events.now result.ended result.done.items result.calls.items (map (λ bytes. bytes.items) result.released.items)
+        (P.state primary) (P.state standby) (P.state result.primary) (P.state result.standby) }
 {
     let (done, released) = match room_for(alloc, events.len()) {
         Ok(room) => room,
@@ -137,12 +130,10 @@ fn play_on<P: Pmem, K: Keyspace + Drop>(
     requires none_released { released.items ≡ [] }
     requires room_released { SEATS ≤ vec_capacity released }
     requires stands { (first : ℕ) × (second : ℕ) × PairStands first second (⟦<Pair<WblEngine<P>, K> as Stepper>⟧.parts pair) start }
-    ensures kept { (first second : ℕ) → PairStands first second (⟦<Pair<WblEngine<P>, K> as Stepper>⟧.parts pair) start
-        → KeepsItsWord first second events.now result.ended result.done.items result.calls.items
-        (map (λ bytes. bytes.items) result.released.items) (P.state result.primary) (P.state result.standby) }
-    ensures moments { (first second : ℕ) → PairStands first second (⟦<Pair<WblEngine<P>, K> as Stepper>⟧.parts pair) start
-        → SomewhereOnly first result.calls.items (⟦<Pair<WblEngine<P>, K> as Stepper>⟧.parts pair).device (P.state result.primary)
-        × SomewhereOnly second result.calls.items (⟦<Pair<WblEngine<P>, K> as Stepper>⟧.parts pair).standby.device (P.state result.standby) }
+    ensures { (first second : ℕ) → PairStands first second (⟦<Pair<WblEngine<P>, K> as Stepper>⟧.parts pair) start
+        → PlaysOn first second events.now result.ended result.done.items result.calls.items (map (λ bytes. bytes.items) result.released.items)
+        (⟦<Pair<WblEngine<P>, K> as Stepper>⟧.parts pair).device (⟦<Pair<WblEngine<P>, K> as Stepper>⟧.parts pair).standby.device
+        (P.state result.primary) (P.state result.standby) }
 {
     let mut pair = pair;
     let mut done = done;

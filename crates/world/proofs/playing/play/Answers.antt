@@ -1,7 +1,7 @@
 use Rattle.std.proofs.Common.{rules, ◌≡◌, ◌<◌, List, [], ◌∷◌, ◌++◌, length, take, sym, ap, subst, ◌∙◌, arith}
 use Rattle.std.proofs.lemmas.List.{take_more, take_all}
 use Rattle.machine.specs.declared.event.Event.{Event}
-use Rattle.world.specs.Headline.{Reaches, IsCutAt}
+use Rattle.world.specs.Headline.{StandsAfter, IsCutAfter}
 use Rattle.world.proofs.RunningLemmas.{reaches-start, reaches-world, reaches-next, reaches-cut}
 use Rattle.world.proofs.playing.play.Goals as goal
 
@@ -21,8 +21,8 @@ pub returns-in-Err : goal.returns-in-Err
 returns-in-Err g c = λ first second stands.
     let same : c.len.result ≡ c.loop-event.event-index = c.len.ensures ∙ c.loop-event.invariant.count in (
       subst (λ n. n < length c.args.events.now) (sym same) c.loop-event-test.true,
-      subst (λ n. IsCutAt first second (g.S.Stepper.parts c.args.stepper.now) (take n c.args.events.now) c.loop-event.done.items (g.S.Stepper.parts c.step.new.self)) (sym same)
-          (reaches-cut first second _ _ _ _ _ c.in-Err.ensures.cut c.in-Err.ensures.moments (c.loop-event.invariant.reaches first second stands)),
+      subst (λ n. IsCutAfter first second (g.S.Stepper.parts c.args.stepper.now) (take n c.args.events.now) c.loop-event.done.items (g.S.Stepper.parts c.step.new.self)) (sym same)
+          (reaches-cut first second _ _ _ _ _ c.in-Err.ensures.cut (c.loop-event.invariant.reaches first second stands)),
     )
 
 pub loop-event-preserved : goal.loop-event-preserved
@@ -30,13 +30,13 @@ loop-event-preserved g c = record {
   count = omega (arith, c.push_reserved.ensures.len, c.loop-event.invariant.count);
   room = omega (arith, c.push_reserved.ensures.capacity, c.loop-event.invariant.room);
   reaches = λ first second stands.
-      subst (λ (passed : List Event). Reaches first second (g.S.Stepper.parts c.args.stepper.now) passed c.push_reserved.new.self.items (g.S.Stepper.parts c.step.new.self))
+      subst (λ (passed : List Event). StandsAfter first second (g.S.Stepper.parts c.args.stepper.now) passed c.push_reserved.new.self.items (g.S.Stepper.parts c.step.new.self))
       (ap (λ event. take c.loop-event.event-index c.args.events.now ++ event ∷ []) c.event-item.is ∙ sym (take_more c.args.events.now c.loop-event.event-index c.event-item.result c.loop-event-test.true))
       (reaches-next first second (g.S.Stepper.parts c.args.stepper.now) (take c.loop-event.event-index c.args.events.now) c.loop-event.done.items c.push_reserved.new.self.items (g.S.Stepper.parts c.loop-event.stepper) (g.S.Stepper.parts c.step.new.self)
-      c.event-item.result c.in-Ok.did c.push_reserved.ensures.items c.in-Ok.ensures.steps c.in-Ok.ensures.moments (c.loop-event.invariant.reaches first second stands));
+      c.event-item.result c.in-Ok.did c.push_reserved.ensures.items c.in-Ok.ensures.steps (c.loop-event.invariant.reaches first second stands));
 }
 
 pub returns : goal.returns
 returns g c = λ first second stands.
-    subst (λ (passed : List Event). Reaches first second (g.S.Stepper.parts c.args.stepper.now) passed c.loop-event.done.items (g.S.Stepper.parts c.loop-event.stepper))
+    subst (λ (passed : List Event). StandsAfter first second (g.S.Stepper.parts c.args.stepper.now) passed c.loop-event.done.items (g.S.Stepper.parts c.loop-event.stepper))
     (take_all c.loop-event.event-index c.args.events.now c.loop-event-test.false) (c.loop-event.invariant.reaches first second stands)

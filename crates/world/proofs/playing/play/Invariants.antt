@@ -2,7 +2,7 @@ use Rattle.std.proofs.Common.{◌≡◌, ◌≤◌, ℕ, take, length, vec_len}
 use Rattle.std.specs.Vec.{vec_capacity}
 use Rattle.machine.specs.Events.{start}
 use Rattle.world.specs.Pairs.{PairStands}
-use Rattle.world.specs.Headline.{Reaches}
+use Rattle.world.specs.Headline.{StandsAfter}
 use Rattle.world.proofs.playing.play.Given as goal
 
 abbrev pub invariant-loop-event : goal.invariant-loop-event
@@ -10,5 +10,5 @@ invariant-loop-event g l = record {
   count : vec_len l.done ≡ l.event-index;
   room : length l.events ≤ vec_capacity l.done;
   reaches : (first second : ℕ) → PairStands first second (g.S.Stepper.parts l.initial.stepper) start
-      → Reaches first second (g.S.Stepper.parts l.initial.stepper) (take l.event-index l.events) l.done.items (g.S.Stepper.parts l.stepper);
+      → StandsAfter first second (g.S.Stepper.parts l.initial.stepper) (take l.event-index l.events) l.done.items (g.S.Stepper.parts l.stepper);
 }

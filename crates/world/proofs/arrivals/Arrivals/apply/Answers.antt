@@ -30,9 +30,9 @@ answers g c = record {
   ack = c.on_frame.ensures.ack;
   taken = c.on_frame.ensures.taken;
   causes = c.on_frame.ensures.causes;
-  refused = λ cause. let same = c.on_frame.ensures.refused cause in (ap g.E.Durable.contents same.0, same.1);
+  refused = λ cause. let same = c.on_frame.ensures.refused cause in (ap g.E.Durable.contents same.0, same.1, ap g.E.Durable.device same.0);
   still = c.on_frame.ensures.still;
-  sound = λ fault exhausted. (c.on_frame.ensures.sound fault exhausted).0;
+  sound = c.on_frame.ensures.sound;
   durable = c.on_frame.ensures.durable;
   epoch_stays = c.on_frame.ensures.epoch_stays;
   moments = c.on_frame.ensures.moments;
