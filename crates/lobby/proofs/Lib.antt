@@ -1,3 +1,5 @@
+pub mod AttendanceLemmas
 pub mod BookLemmas
 pub mod Numbers
 pub mod SlotsLemmas
+pub mod Waiting

@@ -6,23 +6,23 @@ use Rattle.pipes.specs.declared.limits.TheConstants.{MAX_SEATS}
 use Rattle.lobby.specs.Book.{Status, free, taken, free_numbers, taken_numbers, IsEachOnce}
 
 -- how often a number stands in a list
-occurrences : ℕ → List ℕ → ℕ
+unfoldable pub occurrences : ℕ → List ℕ → ℕ
 occurrences number xs = count_by (λ n. eqb n number) xs
 
-occurrences-none : (number : ℕ) → occurrences number [] ≡ 0
+pub occurrences-none : (number : ℕ) → occurrences number [] ≡ 0
 unfolding occurrences
 occurrences-none number = refl
 
-occurrences-cons : (number x : ℕ) (xs : List ℕ) → occurrences number (x ∷ xs) ≡ cond (eqb x number) 1 0 + occurrences number xs
+pub occurrences-cons : (number x : ℕ) (xs : List ℕ) → occurrences number (x ∷ xs) ≡ cond (eqb x number) 1 0 + occurrences number xs
 unfolding occurrences
 occurrences-cons number x xs = sum_by-cons (λ n. cond (eqb n number) 1 0) x xs
 
-occurrences-append : (number : ℕ) (xs ys : List ℕ) → occurrences number (xs ++ ys) ≡ occurrences number xs + occurrences number ys
+pub occurrences-append : (number : ℕ) (xs ys : List ℕ) → occurrences number (xs ++ ys) ≡ occurrences number xs + occurrences number ys
 unfolding occurrences
 occurrences-append number xs ys = sum_by-append (λ n. cond (eqb n number) 1 0) xs ys
 
 -- 1 for the count numbers from first on, and else 0
-within : ℕ → ℕ → ℕ → ℕ
+pub within : ℕ → ℕ → ℕ → ℕ
 within first count number = cond (leb first number && ltb number (first + count)) 1 0
 
 within-none : (first number : ℕ) → 0 ≡ within first 0 number
@@ -33,11 +33,11 @@ within-suc : (first count number : ℕ) → cond (eqb first number) 1 0 + within
 unfolding within
 within-suc first count number = grind (arith, nat_tests)
 
-within-all : (count number : ℕ) → within 0 count number ≡ cond (ltb number count) 1 0
+pub within-all : (count number : ℕ) → within 0 count number ≡ cond (ltb number count) 1 0
 unfolding within
 within-all count number = grind (arith, nat_tests)
 
-occurrences-numbers : (first : ℕ) (statuses : List Status) (number : ℕ)
+pub occurrences-numbers : (first : ℕ) (statuses : List Status) (number : ℕ)
     → occurrences number (free_numbers first statuses) + occurrences number (taken_numbers first statuses) ≡ within first (length statuses) number
 occurrences-numbers first [] number =
     let none = occurrences-none number in let outside = within-none first number in omega arith

@@ -1,2 +1,3 @@
+pub mod Attendance
 pub mod Book
 pub mod Slots

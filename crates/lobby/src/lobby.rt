@@ -1,5 +1,5 @@
 //! The lobby and its book of seats.
-ghost use Rattle.std.specs.Prelude.{◌≡◌, ◌≢◌, ℕ, ◌<◌, ◌↔◌, All, IfOk, IfErr, IsErrOf, Some, map, slice_get, slice_set, vec_len};
+ghost use Rattle.std.specs.Prelude.{◌≡◌, ◌≢◌, ℕ, ◌<◌, ◌↔◌, All, IsTrue, IfOk, IfErr, IsErrOf, Some, map, slice_get, slice_set, vec_len};
 ghost use Rattle.lobby.specs.Book.{Moves, free, taken};
 ghost use Rattle.lobby.specs.Slots.{IsSound, TakesLowest};
 
@@ -59,6 +59,13 @@ impl Lobby {
         ensures unchanged { slice_get self.old.statuses seat ≢ Some taken → self.new ≡ self.old }
     {
         put_back(&mut self.slots, seat);
+    }
+
+    // Whether the number of this seat is taken here.
+    pub(crate) fn is_taken(&self, seat: &Seat) -> bool
+        ensures { IsTrue result ↔ (slice_get self.now.statuses seat.now ≡ Some taken) }
+    {
+        self.slots[seat.number()].is_none()
     }
 }
 

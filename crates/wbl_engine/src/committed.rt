@@ -26,4 +26,11 @@ impl Committed {
     {
         Committed { position }
     }
+
+    /// The position that it names.
+    pub fn position(&self) -> u64
+        ensures { result ≡ self.now }
+    {
+        self.position
+    }
 }

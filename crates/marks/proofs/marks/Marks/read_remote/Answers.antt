@@ -1,0 +1,6 @@
+use Rattle.std.proofs.Common.{rules}
+use Rattle.marks.proofs.Keeps.{finds_remote}
+use Rattle.marks.proofs.marks.Marks.read_remote.Goals as goal
+
+pub load-remote-requires : goal.load-remote-requires
+load-remote-requires c = (search rules, search rules, finds_remote _ _ _ _)

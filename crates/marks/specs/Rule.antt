@@ -1,0 +1,65 @@
+-- The mark rule, which holds between any two steps, and what each step tells.
+use Rattle.std.specs.Prelude.{◌≡◌, ℕ, ◌≤◌, Bool, List, [], ◌∷◌, max, true}
+use mathlib.Core.Option.{some}
+use lib.ListN.{get_elem?}
+use Rattle.atomic_table.specs.Table.{State, Me, Step}
+use Rattle.marks.specs.declared.view.MarkView.{MarkView}
+
+-- What a seat knows is at most the words. What the committer knows of the local word is the word, and what the link knows of the remote word.
+pub record Suits (committer link local remote stop seat : ℕ) (v : MarkView) : Type 0 where
+  pub below_local : v.local ≤ local
+  pub below_remote : v.remote ≤ remote
+  pub below_stop : v.stop ≤ stop
+  pub raising_local : v.raises_local ≡ true → (seat ≡ committer) × (v.local ≡ local)
+  pub raising_remote : v.raises_remote ≡ true → (seat ≡ link) × (v.remote ≡ remote)
+
+abbrev pub Table : Type 0
+Table = State (Unit {0}) MarkView
+
+-- This seat is there, and has that raise.
+abbrev pub Has : (MarkView → Bool) → List MarkView → ℕ → Type 0
+Has raise views seat = (v : MarkView) × (get_elem? views seat ≡ some v) × (raise v ≡ true)
+
+-- There are three numbers, which are the words, the last of them 0 or 1, and a committer and a link, such that what each seat knows suits them. So the local word is what the committer knows of it, and the remote word what the link knows.
+pub record Marked (t : Table) : Type 0 where
+  pub committer : ℕ
+  pub link : ℕ
+  pub local : ℕ
+  pub remote : ℕ
+  pub stop : ℕ
+  pub words : t.words ≡ local ∷ remote ∷ stop ∷ []
+  pub stops_once : stop ≤ 1
+  pub has_committer : Has (λ v. v.raises_local) t.views committer
+  pub has_link : Has (λ v. v.raises_remote) t.views link
+  pub each : (seat : ℕ) (v : MarkView) → get_elem? t.views seat ≡ some v → Suits committer link local remote stop seat v
+
+abbrev Seat : Type 0
+Seat = Me (Unit {0}) MarkView
+
+abbrev At : Type 0
+At = Step (Unit {0})
+
+-- afterwards the seat knows this
+abbrev pub Learns : Seat → Seat → MarkView → Type 0
+Learns m m' v = (m'.0 ≡ v) × (m'.1 ≡ m.1)
+
+-- the seat raised the local word to this number, if it was below
+abbrev pub RaisesLocal : At → Seat → ℕ → Seat → Type 0
+RaisesLocal step m found m' = Learns m m' (record m.0 { local = max m.0.local step.first })
+
+abbrev pub RaisesRemote : At → Seat → ℕ → Seat → Type 0
+RaisesRemote step m found m' = Learns m m' (record m.0 { remote = max m.0.remote step.first })
+
+-- the seat found the local word no lower than it knew, and just as it knew where it raises that word
+abbrev pub FindsLocal : At → Seat → ℕ → Seat → Type 0
+FindsLocal step m found m' = (m.0.local ≤ found) × (m.0.raises_local ≡ true → found ≡ m.0.local) × Learns m m' (record m.0 { local = found })
+
+abbrev pub FindsRemote : At → Seat → ℕ → Seat → Type 0
+FindsRemote step m found m' = (m.0.remote ≤ found) × (m.0.raises_remote ≡ true → found ≡ m.0.remote) × Learns m m' (record m.0 { remote = found })
+
+-- the stop word is 1
+abbrev pub Stops : At → Seat → ℕ → Seat → Type 0
+Stops step m found m' = Learns m m' (record m.0 { stop = 1 })
+
+abbrev pub FindsStop : At → Seat → ℕ → Seat → Type 0
+FindsStop step m found m' = (m.0.stop ≤ found) × (found ≤ 1) × Learns m m' (record m.0 { stop = found })

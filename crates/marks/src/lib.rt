@@ -1,0 +1,11 @@
+//! The marks: how far each node holds the list of calls, and whether to stop, in three words that threads share.
+#![tactic(auto)]
+
+mod marks;
+mod rule;
+mod seat;
+mod view;
+
+pub use marks::Marks;
+pub use seat::MarkSeat;
+pub use view::{Committer, Cut, Link, MarkView, Reader};

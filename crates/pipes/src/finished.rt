@@ -1,0 +1,101 @@
+//! The two ends of a pipe between threads once they have finished, and what is left in the pipe where they come together again.
+ghost use Rattle.std.specs.Prelude.{◌≡◌, ◌==◌, List, [], ◌++◌, length};
+ghost use mathlib.Core.List.{IsPrefix};
+ghost use Rattle.pipes.specs.Ring.{AreEndsOfOne, offered_at, taken_at};
+
+use crate::ends::Inlet;
+use crate::ring_pipe::{RingInlet, RingOutlet};
+use rtrb::Consumer;
+use std::marker::Model;
+
+/// An outlet that offers no more. A clause sees the outlet that it was.
+#[derive(Drop)]
+pub struct FinishedOutlet<T> {
+    pub(crate) outlet: RingOutlet<T>,
+}
+
+impl<T> Model for FinishedOutlet<T> {
+    ghost use Rattle.pipes.specs.declared.ring_pipe.RingOutlet.{RingOutlet};
+
+    ghost Value = { RingOutlet T };
+
+    ghost view = { λ finished. finished.outlet };
+}
+
+/// An inlet that takes no more. A clause sees the inlet that it was.
+#[derive(Drop)]
+pub struct FinishedInlet<T> {
+    pub(crate) inlet: RingInlet<T>,
+}
+
+impl<T> Model for FinishedInlet<T> {
+    ghost use Rattle.pipes.specs.declared.ring_pipe.RingInlet.{RingInlet};
+
+    ghost Value = { RingInlet T };
+
+    ghost view = { λ finished. finished.inlet };
+}
+
+/// What is left in a pipe whose ends have both finished. A clause sees the items, oldest first.
+#[derive(Drop)]
+pub struct LeftItems<T> {
+    consumer: Consumer<T>,
+}
+
+impl<T> Model for LeftItems<T> {
+    ghost use Rattle.std.specs.Prelude.{List};
+    ghost use Rattle.rtrb.specs.Ring.{known_items};
+
+    ghost Value = { List T };
+
+    ghost view = { λ left. known_items left.consumer };
+}
+
+/// Brings the two ends of one pipe together. What was taken, and then what is left, is what was offered: in order, and each once. So what
+/// had been taken at any earlier moment was a beginning of what was offered.
+pub fn join<T: Drop>(outlet: FinishedOutlet<T>, inlet: FinishedInlet<T>) -> LeftItems<T>
+    requires { AreEndsOfOne outlet inlet }
+    ensures each_once { taken_at inlet ++ result ≡ offered_at outlet }
+    ensures beginning { (earlier : List T) → IsPrefix earlier (taken_at inlet) → IsPrefix earlier (offered_at outlet) }
+{
+    let FinishedOutlet { mut outlet } = outlet;
+    let FinishedInlet { mut inlet } = inlet;
+    inlet.consumer.slots_beside(&mut outlet.producer);
+    let RingInlet { consumer } = inlet;
+    LeftItems { consumer }
+}
+
+impl<T> LeftItems<T> {
+    /// How many items are left.
+    pub fn len(&self) -> usize
+        ensures { result ≡ length self.now }
+    {
+        self.consumer.cached_slots()
+    }
+
+    /// Whether none is left.
+    pub fn is_empty(&self) -> bool
+        ensures { result ≡ (length self.now == 0) }
+    {
+        self.len() == 0
+    }
+}
+
+impl<T> Inlet for LeftItems<T> {
+    ghost use Rattle.pipes.specs.Ring.{LeftTakes, LeftTakes-known};
+
+    type Item = T;
+
+    ghost known_items = { λ left. left };
+
+    ghost take_gives = { LeftTakes };
+
+    fn take(&mut self) -> Option<T> {
+        if self.is_empty() {
+            return None;
+        }
+        Some(self.consumer.pop_known())
+    }
+
+    ghost known_first = { LeftTakes-known };
+}
