@@ -6,7 +6,6 @@ mod outcome;
 mod perform;
 mod places;
 mod sequencer;
-
 mod turn;
 
 pub use sequencer::Sequencer;
