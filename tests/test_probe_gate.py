@@ -40,7 +40,7 @@ class Gate(Probing):
             pending(b"\n$-1\r\n"),
             *release(2, 2, True),
             pending(b"\n$-1\r\n+OK\r\n:7\r\n"),
-            ("gate sent 16", "done"),
+            ("gate sent 15", "done"),
             pending(b""),
         ])
 

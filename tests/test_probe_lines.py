@@ -11,7 +11,7 @@ class Lines(common.Cases):
     # Lines, of which the last is not answered; what the others were answered; and the cause.
     CASES = [
         ("seat", "", "no such call"),
-        ("", "", "no such call"),
+        ("\n", "", "no such call"),
         ("integer", "", "no such call"),
         ("integer read", "", "no such call"),
         ("integer  read 31", "", "no such call"),
