@@ -11,18 +11,19 @@ use Rattle.model.specs.declared.call.Call.{Call}
 use Rattle.model.specs.declared.call.TheConstants.{MAX_CHANGE_BYTES}
 use Rattle.model.specs.declared.outcome.Outcome.{Outcome as Computed}
 use Rattle.model.specs.Commands.{Command, Get, Set, Misuse, Outcome, does, bulk_or_null, refusing, outcome_of_reading, outcome_of, read_command}
-use Rattle.model.specs.Calls.{MayReply, unless_error, changes_of, IsLegal, keyspace_after, position_of, is_nonempty}
-use Rattle.model.specs.RightCalls.{right_outcome, right_call, Gives}
+use Rattle.model.specs.States.{State}
+use Rattle.model.specs.Calls.{MayStand, MayReply, unless_error, outcome_at, changes_of, IsLegal, state_after, keyspace_after, position_of, is_nonempty}
+use Rattle.model.specs.RightCalls.{within_limit, right_outcome, right_call, Gives}
 use Rattle.model.specs.Kept.{IsKept}
 use Rattle.model.proofs.CallsLemmas.{IsLegal-push, keyspace_after-push, position_of-push}
 
-right_or_too_large : (outcome : Outcome) (b : Bool) → nat_le (changes_size outcome.changes) MAX_CHANGE_BYTES ≡ b → MayReply outcome (cond b outcome (refusing (codes "ERR change is too large"))).reply
+right_or_too_large : (outcome : Outcome) (b : Bool) → nat_le (changes_size outcome.changes) MAX_CHANGE_BYTES ≡ b → MayStand outcome (cond b outcome (refusing (codes "ERR change is too large"))).reply
 right_or_too_large outcome true e = inr (inr (inl (leb-true (changes_size outcome.changes) MAX_CHANGE_BYTES e, refl)))
 right_or_too_large outcome false e = inr (inl (leb-false (changes_size outcome.changes) MAX_CHANGE_BYTES e, refl))
 
 -- the right reply may stand
-pub MayReply-right : (s : Keyspace) (item : Item) → MayReply (outcome_of s item) (right_outcome s item).reply
-MayReply-right s item = let outcome = outcome_of s item in right_or_too_large outcome (nat_le (changes_size outcome.changes) MAX_CHANGE_BYTES) refl
+pub MayReply-right : (s : State) (connection : ℕ) (item : Item) → MayReply s (right_call s connection item)
+MayReply-right s connection item = let outcome = outcome_at s connection item in right_or_too_large outcome (nat_le (changes_size outcome.changes) MAX_CHANGE_BYTES) refl
 
 -- ---- an error changes nothing
 
@@ -45,17 +46,17 @@ outcome_of-error s (Request words) = outcome_of_reading-error s (read_command wo
 outcome_of-error s (Fault fault) = refl
 
 -- what the right call changes
-pub changes_of-right_call : (s : Keyspace) (connection : ℕ) (item : Item) → changes_of s (right_call s connection item) ≡ (right_outcome s item).changes
+pub changes_of-right_call : (s : State) (connection : ℕ) (item : Item) → changes_of s (right_call s connection item) ≡ (right_outcome s connection item).changes
 changes_of-right_call s connection item =
-    let outcome = outcome_of s item in
+    let outcome = outcome_at s connection item in
     let too_large = refusing (codes "ERR change is too large") in
     elim (nat_le (changes_size outcome.changes) MAX_CHANGE_BYTES) as (λ b. unless_error (cond b outcome too_large).reply outcome.changes ≡ (cond b outcome too_large).changes) [
-      | true ↦ outcome_of-error s item
+      | true ↦ outcome_of-error s.keyspace item
       | false ↦ refl
     ]
 
-pub IsLegal-right_call : (calls : List Call) (connection : ℕ) (item : Item) → IsLegal calls → IsLegal (calls ++ right_call (keyspace_after calls) connection item ∷ [])
-IsLegal-right_call calls connection item legal = IsLegal-push calls (right_call (keyspace_after calls) connection item) legal (MayReply-right (keyspace_after calls) item)
+pub IsLegal-right_call : (calls : List Call) (connection : ℕ) (item : Item) → IsLegal calls → IsLegal (calls ++ right_call (state_after calls) connection item ∷ [])
+IsLegal-right_call calls connection item legal = IsLegal-push calls (right_call (state_after calls) connection item) legal (MayReply-right (state_after calls) connection item)
 
 -- ---- what a Redis keeps
 
@@ -68,17 +69,16 @@ bool_byte_le true = omega arith
 bool_byte_le false = omega arith
 
 -- a Redis that made the right call keeps what it should
-pub IsKept-call : (calls more : List Call) (s new : Keyspace) (p : ℕ) (connection : ℕ) (item : Item) (computed : Computed) (changing : Bool) → IsKept calls s p → Gives computed (right_outcome s item)
-    → more ≡ calls ++ record { connection = connection; item = item; reply = computed.reply } ∷ [] → new ≡ play_all s computed.changes.items → changing ≡ is_nonempty computed.changes.items → IsKept more new (p + bool_byte changing)
-IsKept-call calls more s new p connection item computed changing kept gives pushed played changing_is =
-    let before = kept.keyspace_is in
+pub IsKept-call : (calls more : List Call) (k new : Keyspace) (p : ℕ) (connection : ℕ) (item : Item) (computed : Computed) (changing : Bool) → IsKept calls k p → Gives computed (within_limit (outcome_of k item))
+    → more ≡ calls ++ record { connection = connection; item = item; reply = computed.reply } ∷ [] → new ≡ play_all k computed.changes.items → changing ≡ is_nonempty computed.changes.items → IsKept more new (p + bool_byte changing)
+IsKept-call calls more k new p connection item computed changing kept gives pushed played changing_is =
+    let s = state_after calls in
     let call = right_call s connection item in
-    let same : more ≡ calls ++ call ∷ [] = pushed ∙ ap (λ (reply : Reply). calls ++ record { connection = connection; item = item; reply = reply } ∷ []) gives.reply in
-    let here : more ≡ calls ++ right_call (keyspace_after calls) connection item ∷ [] = same ∙ ap (λ t. calls ++ right_call t connection item ∷ []) before in
-    let changes : computed.changes.items ≡ changes_of s call = gives.changes ∙ sym (changes_of-right_call s connection item) in
-    let here_changes : computed.changes.items ≡ changes_of (keyspace_after calls) call = changes ∙ ap (λ t. changes_of t call) before in
+    let here : Gives computed (right_outcome s connection item) = subst (λ t. Gives computed (within_limit (outcome_of t item))) kept.keyspace_is gives in
+    let same : more ≡ calls ++ call ∷ [] = pushed ∙ ap (λ (reply : Reply). calls ++ record { connection = connection; item = item; reply = reply } ∷ []) here.reply in
+    let changes : computed.changes.items ≡ changes_of s call = here.changes ∙ sym (changes_of-right_call s connection item) in
     record {
-      legal = subst IsLegal (sym here) (IsLegal-right_call calls connection item kept.legal);
-      keyspace_is = played ∙ ap (play_all s) here_changes ∙ ap (λ t. play_all t (changes_of (keyspace_after calls) call)) before ∙ sym (keyspace_after-push calls call) ∙ ap keyspace_after (sym same);
-      position_is = ap (λ n. n + bool_byte changing) kept.position_is ∙ ap (λ n. position_of calls + n) (bool_byte_is changing ∙ ap (λ b. cond b 1 0) (changing_is ∙ ap is_nonempty here_changes)) ∙ sym (position_of-push calls call) ∙ ap position_of (sym same);
+      legal = subst IsLegal (sym same) (IsLegal-right_call calls connection item kept.legal);
+      keyspace_is = played ∙ ap (play_all k) changes ∙ ap (λ t. play_all t (changes_of s call)) kept.keyspace_is ∙ sym (keyspace_after-push calls call) ∙ ap keyspace_after (sym same);
+      position_is = ap (λ n. n + bool_byte changing) kept.position_is ∙ ap (λ n. position_of calls + n) (bool_byte_is changing ∙ ap (λ b. cond b 1 0) (changing_is ∙ ap is_nonempty changes)) ∙ sym (position_of-push calls call) ∙ ap position_of (sym same);
     }

@@ -9,7 +9,8 @@ use Rattle.kv_types.specs.declared.reply.Reply.{Reply, Simple, Bulk, NullBulk}
 use Rattle.kv_types.specs.Keyspaces.{Keyspace}
 use Rattle.model.specs.declared.call.Call.{Call}
 use Rattle.model.specs.Commands.{outcome_of, refusing}
-use Rattle.model.specs.Calls.{memory_reply, full_reply, IsLegal, keyspace_after, position_of, cut_at, replies_to, up_to_closing}
+use Rattle.model.specs.States.{idle_session}
+use Rattle.model.specs.Calls.{memory_reply, full_reply, IsLegal, state_after, keyspace_after, position_of, cut_at, replies_to, up_to_closing}
 use Rattle.model.specs.Positions.{changes_at}
 
 -- ---- what a command answers and changes
@@ -80,6 +81,10 @@ worked_list_legal =
 
 worked_list_keyspace : keyspace_after worked_list ≡ (Str (codes "a"), codes "4") ∷ []
 worked_list_keyspace = refl
+
+-- neither a write nor a refusal begins a transaction
+worked_list_sessions : (connection : ℕ) → (state_after worked_list).sessions connection ≡ idle_session
+worked_list_sessions connection = refl
 
 -- reads and refused writes do not count
 worked_list_position : position_of worked_list ≡ 2

@@ -11,6 +11,7 @@ use Rattle.kv_types.specs.Replies.{text_of}
 use Rattle.model.specs.declared.call.Call.{Call}
 use Rattle.model.specs.declared.call.TheConstants.{MAX_CHANGE_BYTES}
 use Rattle.model.specs.Commands.{Outcome, outcome_of, closes}
+use Rattle.model.specs.States.{Session, idle_session, State, start_state}
 
 -- the change makes a new version
 abbrev pub is_put : Change → Bool
@@ -35,8 +36,8 @@ too_large_reply = Error (codes "ERR change is too large")
 
 -- What may be answered where this is the outcome. Memory may be refused for any call. Else a change text above the limit is refused; else
 -- the right reply stands, or, for a command that writes, that there was no room.
-abbrev pub MayReply : Outcome → Reply → Type 0
-MayReply outcome reply =
+abbrev pub MayStand : Outcome → Reply → Type 0
+MayStand outcome reply =
     (reply ≡ memory_reply)
     ⊎ ((MAX_CHANGE_BYTES < changes_size outcome.changes) × (reply ≡ too_large_reply))
     ⊎ ((changes_size outcome.changes ≤ MAX_CHANGE_BYTES) × (reply ≡ outcome.reply))
@@ -52,60 +53,91 @@ unless_error NullBulk changes = changes
 unless_error (Array' shape replies) changes = changes
 unless_error NullArray changes = changes
 
--- what a call changed, made at this keyspace
-abbrev pub changes_of : Keyspace → Call → List Change
-changes_of s call = unless_error call.reply (outcome_of s call.item).changes
+-- ---- one call
 
-abbrev pub after_call : Keyspace → Call → Keyspace
-after_call s call = play_all s (changes_of s call)
+-- what an item of this connection asks for at this state; no command looks at the session yet
+abbrev pub outcome_at : State → ℕ → Item → Outcome
+outcome_at state connection item = outcome_of state.keyspace item
 
--- each reply is one that may stand at its place in the list
-abbrev pub IsLegalFrom : Keyspace → List Call → Type 0
-IsLegalFrom s [] = Unit {0}
-IsLegalFrom s (call ∷ calls) = MayReply (outcome_of s call.item) call.reply × IsLegalFrom (after_call s call) calls
+-- the call, made at this state, may have been answered so
+abbrev pub MayReply : State → Call → Type 0
+MayReply state call = MayStand (outcome_at state call.connection call.item) call.reply
 
--- the list is what one sequential Redis answers, from the empty keyspace
-abbrev pub IsLegal : List Call → Type 0
-IsLegal = IsLegalFrom []
+-- what a call changed, made at this state
+abbrev pub changes_of : State → Call → List Change
+changes_of state call = unless_error call.reply (outcome_at state call.connection call.item).changes
 
-abbrev pub keyspace_from : Keyspace → List Call → Keyspace
-keyspace_from s [] = s
-keyspace_from s (call ∷ calls) = keyspace_from (after_call s call) calls
+-- What a call leaves of the session of a connection. No command opens a transaction, queues a request or watches a key yet, so every session
+-- is idle, and there is no watched key for the call's changes to mark.
+abbrev pub session_after : State → Call → ℕ → Session
+session_after state call connection = idle_session
 
--- the keyspace after all the calls
-abbrev pub keyspace_after : List Call → Keyspace
-keyspace_after = keyspace_from []
+abbrev pub after_call : State → Call → State
+after_call state call = record { keyspace = play_all state.keyspace (changes_of state call); sessions = session_after state call }
 
 abbrev pub is_nonempty : {X : Type 0} → List X → Bool
 is_nonempty [] = false
 is_nonempty (x ∷ xs) = true
 
--- whether a call, made at this keyspace, modified a key
-abbrev pub is_changing : Keyspace → Call → Bool
-is_changing s call = is_nonempty (changes_of s call)
+-- whether a call, made at this state, modified a key
+abbrev pub is_changing : State → Call → Bool
+is_changing state call = is_nonempty (changes_of state call)
 
-abbrev pub position_from : Keyspace → List Call → ℕ
-position_from s [] = 0
-position_from s (call ∷ calls) = (if is_changing s call then 1 else 0) + position_from (after_call s call) calls
+-- Two calls, each made at a state of its own, that are the same but for the number of the connection: the keyspace, the session of the
+-- connection that calls, the item and the reply.
+pub record AreAlike (s : State) (a : Call) (t : State) (b : Call) : Type 0 where
+  pub keyspace : s.keyspace ≡ t.keyspace
+  pub session : s.sessions a.connection ≡ t.sessions b.connection
+  pub item : a.item ≡ b.item
+  pub reply : a.reply ≡ b.reply
 
--- the position of the list: how many of its calls changed something
+-- ---- the list
+
+-- each call was answered as it may be at its place in the list
+abbrev pub IsLegalFrom : State → List Call → Type 0
+IsLegalFrom state [] = Unit {0}
+IsLegalFrom state (call ∷ calls) = MayReply state call × IsLegalFrom (after_call state call) calls
+
+-- the list is what one sequential Redis answers, from the empty keyspace and with every session idle
+abbrev pub IsLegal : List Call → Type 0
+IsLegal = IsLegalFrom start_state
+
+abbrev pub state_from : State → List Call → State
+state_from state [] = state
+state_from state (call ∷ calls) = state_from (after_call state call) calls
+
+-- the state after all the calls
+abbrev pub state_after : List Call → State
+state_after = state_from start_state
+
+-- the keyspace after all the calls
+abbrev pub keyspace_after : List Call → Keyspace
+keyspace_after calls = (state_after calls).keyspace
+
+abbrev pub position_from : State → List Call → ℕ
+position_from state [] = 0
+position_from state (call ∷ calls) = (if is_changing state call then 1 else 0) + position_from (after_call state call) calls
+
+-- The position of the list: how many of its calls changed something. A call counts once, however many changes it made.
 abbrev pub position_of : List Call → ℕ
-position_of = position_from []
+position_of = position_from start_state
 
 -- a changing call, and what follows it where one change fewer is left
 abbrev pub cut_changing : Call → (ℕ → List Call) → ℕ → List Call
 cut_changing call following zero = []
 cut_changing call following (suc p) = call ∷ following p
 
-abbrev pub cut_from : Keyspace → List Call → ℕ → List Call
-cut_from s [] p = []
-cut_from s (call ∷ calls) p =
-    if is_changing s call then cut_changing call (cut_from (after_call s call) calls) p
-    else call ∷ cut_from (after_call s call) calls p
+abbrev pub cut_from : State → List Call → ℕ → List Call
+cut_from state [] p = []
+cut_from state (call ∷ calls) p =
+    if is_changing state call then cut_changing call (cut_from (after_call state call) calls) p
+    else call ∷ cut_from (after_call state call) calls p
 
 -- the longest beginning with at most p changing calls
 abbrev pub cut_at : List Call → ℕ → List Call
-cut_at = cut_from []
+cut_at = cut_from start_state
+
+-- ---- one connection
 
 -- the calls of one connection, in order
 abbrev pub calls_of : ℕ → List Call → List Call

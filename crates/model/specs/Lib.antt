@@ -1,4 +1,5 @@
 pub mod Commands
+pub mod States
 pub mod Calls
 pub mod Positions
 pub mod RightCalls

@@ -5,8 +5,8 @@ ghost use Rattle.kv_types.specs.Keyspaces.{Keyspace, IsKeyspace, play_all};
 ghost use Rattle.model.specs.declared.call.Call.{Call};
 ghost use Rattle.model.specs.declared.group.Group.{Group};
 ghost use Rattle.model.specs.declared.record.Record.{Record};
-ghost use Rattle.model.specs.Commands.{outcome_of};
-ghost use Rattle.model.specs.Calls.{MayReply, after_call, IsLegal, keyspace_after, is_changing, position_of, cut_at, IsPrefix};
+ghost use Rattle.model.specs.States.{State};
+ghost use Rattle.model.specs.Calls.{MayReply, changes_of, after_call, is_changing, AreAlike, IsLegal, state_after, keyspace_after, position_of, cut_at, IsPrefix};
 ghost use Rattle.model.specs.Positions.{changes_at};
 ghost use Rattle.model.specs.Images.{Image, Version, IsMapOf, map_below, Holds, entries_of_lines};
 ghost use Rattle.model.specs.Groups.{Contents, IsGroup, IsConsistent, after_group, changes_of_group};
@@ -14,21 +14,30 @@ ghost use Rattle.model.specs.Standing.{StandsAt};
 
 use crate::record::MAX_GAPS;
 
-/// What one call more makes of a list: it is legal where the call's reply may stand at its place, its keyspace is that after the call, and its
-/// position rises by one exactly where the call changed something. A beginning of a legal list is legal.
+/// What one call more makes of a list: it is legal where the call's reply may stand at its place, its state is that after the call, its keyspace
+/// the one that the call's changes make, and its position rises by one exactly where there are any. A beginning of a legal list is legal.
 pub fn list_grows()
-    ensures legal { (calls : List Call) (call : Call) → IsLegal calls
-        → MayReply (outcome_of (keyspace_after calls) call.item) call.reply → IsLegal (calls ++ call ∷ []) }
+    ensures legal { (calls : List Call) (call : Call) → IsLegal calls → MayReply (state_after calls) call → IsLegal (calls ++ call ∷ []) }
     ensures beginning { (front rest : List Call) → IsLegal (front ++ rest) → IsLegal front }
-    ensures keyspace { (calls : List Call) (call : Call) → keyspace_after (calls ++ call ∷ []) ≡ after_call (keyspace_after calls) call }
+    ensures state { (calls : List Call) (call : Call) → state_after (calls ++ call ∷ []) ≡ after_call (state_after calls) call }
+    ensures keyspace { (calls : List Call) (call : Call)
+        → keyspace_after (calls ++ call ∷ []) ≡ play_all (keyspace_after calls) (changes_of (state_after calls) call) }
     ensures position { (calls : List Call) (call : Call)
-        → position_of (calls ++ call ∷ []) ≡ position_of calls + (if is_changing (keyspace_after calls) call then 1 else 0) }
+        → position_of (calls ++ call ∷ []) ≡ position_of calls + (if is_changing (state_after calls) call then 1 else 0) }
 {}
 
 /// A call that was answered an error changes nothing, and neither does any that is not counted in the position.
 pub fn refused_calls_change_nothing()
-    ensures error { (s : Keyspace) (call : Call) (text : List ℕ) → call.reply ≡ Error text → after_call s call ≡ s }
-    ensures uncounted { (s : Keyspace) (call : Call) → is_changing s call ≡ false → after_call s call ≡ s }
+    ensures error { (state : State) (call : Call) (text : List ℕ) → call.reply ≡ Error text → (after_call state call).keyspace ≡ state.keyspace }
+    ensures uncounted { (state : State) (call : Call) → is_changing state call ≡ false → (after_call state call).keyspace ≡ state.keyspace }
+{}
+
+/// What a call may be answered, what it changes and how it leaves the session of its connection depend on the keyspace and on that session
+/// alone: neither on the number that the connection has, nor on the other sessions.
+pub fn calls_see_their_own_session()
+    ensures reply { (s t : State) (a b : Call) → AreAlike s a t b → MayReply s a → MayReply t b }
+    ensures changes { (s t : State) (a b : Call) → AreAlike s a t b → changes_of s a ≡ changes_of t b }
+    ensures session { (s t : State) (a b : Call) → AreAlike s a t b → (after_call s a).sessions a.connection ≡ (after_call t b).sessions b.connection }
 {}
 
 /// The cut at a position is the longest beginning of the list with at most so many changing calls: it is one, and every other begins it.

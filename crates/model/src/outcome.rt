@@ -4,7 +4,7 @@ ghost use Rattle.std.specs.List.{AllByRecursion};
 ghost use Rattle.std.specs.Option.{option_copied};
 ghost use Rattle.kv_types.specs.Words.{AreWords};
 ghost use Rattle.model.specs.Commands as meaning;
-ghost use Rattle.model.specs.RightCalls.{Gives, right_outcome as the_right_outcome};
+ghost use Rattle.model.specs.RightCalls.{Gives, within_limit};
 
 use crate::call::MAX_CHANGE_BYTES;
 use bytes::Bytes;
@@ -26,7 +26,7 @@ pub fn right_outcome(
     keyspace: &PlainKeyspace,
     item: &Item,
 ) -> Result<Outcome, AllocError>
-    ensures { IfOk result (λ o. Gives o (the_right_outcome keyspace.now item.now)) }
+    ensures { IfOk result (λ o. Gives o (within_limit (meaning.outcome_of keyspace.now item.now))) }
 {
     let outcome = outcome_at(alloc, keyspace, item)?;
     if changes_fit(&outcome.changes, MAX_CHANGE_BYTES) {

@@ -1,7 +1,7 @@
 //! One sequential Redis: the plain, slow program with which every faster one is compared.
 ghost use Rattle.std.specs.Prelude.{◌≡◌, ◌≤◌, [], ◌∷◌, ◌++◌, length, OnOk, OnErr, IfOk};
 ghost use Rattle.kv_types.specs.Keyspaces.{play_all};
-ghost use Rattle.model.specs.Calls.{IsLegal, keyspace_after, position_of, is_nonempty};
+ghost use Rattle.model.specs.Calls.{IsLegal, state_after, keyspace_after, position_of, is_nonempty};
 ghost use Rattle.model.specs.RightCalls.{right_call};
 
 use crate::call::Call;
@@ -71,7 +71,7 @@ impl Redis {
 
     /// Answers one item of a connection. Where memory is refused, nothing changed.
     pub fn call(&mut self, alloc: Global, connection: u64, item: Item) -> Result<(), AllocError>
-        ensures ok { OnOk result (self.new ≡ self.old ++ right_call (keyspace_after self.old) connection item ∷ []) }
+        ensures ok { OnOk result (self.new ≡ self.old ++ right_call (state_after self.old) connection item ∷ []) }
         ensures err { OnErr result (self.new ≡ self.old) }
     {
         let Outcome { reply, changes } = right_outcome(alloc, &self.keyspace, &item)?;
