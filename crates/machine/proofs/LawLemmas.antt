@@ -1,6 +1,7 @@
 -- The laws of every run, from what holds between any two events.
 use Rattle.std.proofs.Common.{◌≡◌, ℕ, ◌+◌, Bool, true, false, List, [], ◌∷◌, ◌++◌, length, refl, sym, ap, ◌∙◌, arith, append_assoc, le-ltb, Option, Some, None, slice_get}
-use Rattle.model.specs.Calls.{keyspace_after, position_of}
+use Rattle.model.specs.States.{start_state}
+use Rattle.model.specs.Calls.{state_after, position_of}
 use Rattle.machine.specs.declared.event.Event.{Event}
 use Rattle.machine.specs.declared.event.Event.TheVariants.{Enter, Feed, Offer, Turn, CloseGroup, Commit, RaiseLocal, Hand, OpenLink, Send, Deliver, Apply, AckDelivered, RaiseRemote, Hold, Read, Release, Write}
 use Rattle.machine.specs.Events.{World, Link, told, Happens, Step, Run, start, last_world}
@@ -38,9 +39,9 @@ answers_bear_positions front call rest =
     let c = call.connection in
     let calls = front ++ call ∷ [] in
     record {
-      rest = answers_from (keyspace_after calls) (0 + position_of calls) c rest;
-      joined = ap (λ answers. answers ++ answers_from (keyspace_after calls) (0 + position_of calls) c rest) (sym (answers_to-push_own c front call refl))
-          ∙ sym (answers_from-append [] 0 c calls rest) ∙ ap (answers_to c) (append_assoc front (call ∷ []) rest);
+      rest = answers_from (state_after calls) (0 + position_of calls) c rest;
+      joined = ap (λ answers. answers ++ answers_from (state_after calls) (0 + position_of calls) c rest) (sym (answers_to-push_own c front call refl))
+          ∙ sym (answers_from-append start_state 0 c calls rest) ∙ ap (answers_to c) (append_assoc front (call ∷ []) rest);
     }
 
 -- ---- without RaiseRemote

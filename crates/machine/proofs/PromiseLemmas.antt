@@ -7,7 +7,8 @@ use Rattle.kv_types.specs.declared.reply.Held.{Held}
 use Rattle.kv_types.specs.Reading.{items_at}
 use Rattle.kv_types.specs.Replies.{text_of}
 use Rattle.model.specs.declared.call.Call.{Call}
-use Rattle.model.specs.Calls.{Serves, items_of, keyspace_after, position_of, replies_to}
+use Rattle.model.specs.States.{start_state}
+use Rattle.model.specs.Calls.{Serves, items_of, position_of, replies_to, state_after}
 use Rattle.machine.specs.declared.event.Event.{Event}
 use Rattle.machine.specs.Events.{World, Run, start, last_world, connection_of, asked, texts_of}
 use Rattle.machine.specs.Promises.{Tells, IsReleased, HasMarks, IsPromised, EveryRunIsPromised, released_in, fed_to}
@@ -38,9 +39,9 @@ released-covered w s front call released =
     let outbound = (connection_of w c).outbound in
     let o = s.outbound c in
     let reply : Held = record { reply = call.reply; position = position_of (front ++ call ∷ []) } in
-    let more = answers_from (keyspace_after (front ++ call ∷ [])) (0 + position_of (front ++ call ∷ [])) c released.rest in
+    let more = answers_from (state_after (front ++ call ∷ [])) (0 + position_of (front ++ call ∷ [])) c released.rest in
     let all : o.out ++ (outbound.held ++ outbound.made) ≡ answers_to c front ++ reply ∷ more =
-    o.replies ∙ ap (answers_to c) (released.stands ∙ sym (append_assoc front (call ∷ []) released.rest)) ∙ answers_from-append [] 0 c (front ++ call ∷ []) released.rest
+    o.replies ∙ ap (answers_to c) (released.stands ∙ sym (append_assoc front (call ∷ []) released.rest)) ∙ answers_from-append start_state 0 c (front ++ call ∷ []) released.rest
     ∙ ap (λ answers. answers ++ more) (answers_to-push_own c front call refl) ∙ append_assoc (answers_to c front) (reply ∷ []) more in
     let before = ap length (texts_of-answers_to c front) in
     let let_out = length-append outbound.released outbound.pending in

@@ -3,8 +3,7 @@ use Rattle.std.proofs.Common.{◌≡◌, ℕ, ◌+◌, ◌<◌, ◌≤◌, max, 
 use Rattle.std.proofs.lemmas.Bool.{ltb-true, not-true}
 use Rattle.std.proofs.lemmas.List.Elements.{All-head}
 use Rattle.model.specs.declared.call.Call.{Call}
-use Rattle.model.specs.Commands.{outcome_of}
-use Rattle.model.specs.Calls.{MayReply, is_nonempty, is_changing, keyspace_after, position_of}
+use Rattle.model.specs.Calls.{MayReply, is_nonempty, is_changing, state_after, position_of}
 use Rattle.model.proofs.CallsLemmas.{IsLegal-push, position_of-push, position_of_grows}
 use Rattle.machine.specs.declared.event.TheConstants.{SEATS, PIPE_ITEMS, OPEN_CHANGES}
 use Rattle.machine.specs.declared.event.Event.{Event}
@@ -93,10 +92,10 @@ sound-Offer w c e s =
 
 position_of-push_le : (calls : List Call) (call : Call) → position_of (calls ++ call ∷ []) ≤ position_of calls + 1
 position_of-push_le calls call =
-    let one : cond (is_changing (keyspace_after calls) call) 1 0 ≤ 1 = elim (is_changing (keyspace_after calls) call) as (λ b. cond b 1 0 ≤ 1) [ true ↦ omega arith | false ↦ omega arith ] in
+    let one : cond (is_changing (state_after calls) call) 1 0 ≤ 1 = elim (is_changing (state_after calls) call) as (λ b. cond b 1 0 ≤ 1) [ true ↦ omega arith | false ↦ omega arith ] in
     omega (arith, position_of-push calls call, one)
 
-sound-called : (w : World) (c : ℕ) (call : Call) → call.connection ≡ c → take 1 (connection_of w c).inbound.waiting ≡ call.item ∷ [] → MayReply (outcome_of (keyspace_after w.calls) call.item) call.reply
+sound-called : (w : World) (c : ℕ) (call : Call) → call.connection ≡ c → take 1 (connection_of w c).inbound.waiting ≡ call.item ∷ [] → MayReply (state_after w.calls) call
     → is_enabled w (Turn c) ≡ true → Sound w → Sound (called c call w)
 sound-called w c call own first may e s =
     let connection = connection_of w c in

@@ -7,8 +7,7 @@ use Rattle.kv_types.specs.declared.reply.Reply.{Reply, Simple}
 use Rattle.kv_types.specs.declared.reply.Held.{Held}
 use Rattle.kv_types.specs.Reading.{items_at}
 use Rattle.model.specs.declared.call.Call.{Call}
-use Rattle.model.specs.Commands.{outcome_of}
-use Rattle.model.specs.Calls.{MayReply, keyspace_after}
+use Rattle.model.specs.Calls.{MayReply, state_after}
 use Rattle.machine.specs.declared.event.Event.TheVariants.{Feed, Offer, Turn, Apply}
 use Rattle.machine.specs.Events.{Inbound, Outbound, Span, Stage, Ready, Durable, Shown, Committer, Link, Standby, World, Step, Run, start}
 use Rattle.machine.specs.Promises.{released_in}
@@ -123,7 +122,7 @@ offers : Step (idle (inbound set_request 0 [])) (Offer 0) true (idle (inbound se
 unfolding items_at
 offers = step-does refl refl
 
-may_reply : MayReply (outcome_of (keyspace_after []) item) ok
+may_reply : MayReply (state_after []) call
 may_reply = inr (inr (inl (omega arith, refl)))
 
 turns : Step (idle (inbound set_request 1 (item ∷ []))) (Turn 0) true called_once

@@ -4,8 +4,7 @@ pub use Rattle.machine.specs.Worlds.{Inbound, Outbound, Connection, Span, Stage,
 use Rattle.std.specs.Prelude.{◌≡◌, ◌⊎◌, ℕ, ◌+◌, ◌<◌, ◌≤◌, Bool, true, false, not, ◌&&◌, ◌||◌, nat_lt, nat_le, max, List, [], ◌∷◌, ◌++◌, length, take, drop, filter, ◌≢◌, slice_get, Option, Some, None}
 use Rattle.kv_types.specs.declared.reply.Held.{Held}
 use Rattle.model.specs.declared.call.Call.{Call}
-use Rattle.model.specs.Commands.{outcome_of}
-use Rattle.model.specs.Calls.{MayReply, is_nonempty, keyspace_after, position_of}
+use Rattle.model.specs.Calls.{MayReply, is_nonempty, position_of, state_after}
 use Rattle.machine.specs.declared.event.Event.{Event}
 use Rattle.machine.specs.declared.event.Event.TheVariants.{Enter, Feed, Offer, Turn, CloseGroup, Commit, RaiseLocal, Hand, OpenLink, Send, Deliver, Apply, AckDelivered, RaiseRemote, Hold, Read, Release, Write}
 use Rattle.machine.specs.declared.event.Mark.{Mark}
@@ -81,7 +80,7 @@ pub record Turns (w : World) (c : ℕ) (new : World) : Type 0 where
   pub call : Call
   pub connection : call.connection ≡ c
   pub first : take 1 (connection_of w c).inbound.waiting ≡ call.item ∷ []
-  pub reply : MayReply (outcome_of (keyspace_after w.calls) call.item) call.reply
+  pub reply : MayReply (state_after w.calls) call
   pub now : new ≡ called c call w
 
 -- the next changing command is a group

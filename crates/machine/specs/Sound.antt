@@ -1,29 +1,29 @@
 -- What holds of the pair of nodes between any two events (this project's profile): the facts from which the promise follows.
 use Rattle.std.specs.Prelude.{◌≡◌, ℕ, ◌+◌, ◌<◌, ◌≤◌, nat_eq, if◌then◌else◌, List, [], ◌∷◌, ◌++◌, length, take, All}
 use Rattle.kv_types.specs.declared.reply.Held.{Held}
-use Rattle.kv_types.specs.Keyspaces.{Keyspace}
 use Rattle.model.specs.declared.call.Call.{Call}
+use Rattle.model.specs.States.{State, start_state}
 use Rattle.model.specs.Calls.{IsLegal, after_call, is_changing, items_of, position_of}
 use Rattle.machine.specs.declared.event.TheConstants.{SEATS, PIPE_ITEMS, OPEN_CHANGES, KEPT_GROUPS}
 use Rattle.machine.specs.Events.{Span, Stage, Ready, Durable, Shown, Inbound, Outbound, Committer, Link, Standby, World, asked, connection_of, texts_of}
 
 -- ---- replies
 
--- the position of the list after a call
-abbrev pub position_with : Keyspace → ℕ → Call → ℕ
-position_with s p call = p + (if is_changing s call then 1 else 0)
+-- the position of the list after a call that was made at this state and this position
+abbrev pub position_with : State → ℕ → Call → ℕ
+position_with state p call = p + (if is_changing state call then 1 else 0)
 
 -- the reply of a call of this connection, with the position after the call; nothing for a call of another one
-abbrev pub answer_at : Keyspace → ℕ → ℕ → Call → List Held
-answer_at s p c call = if nat_eq call.connection c then record { reply = call.reply; position = position_with s p call } ∷ [] else []
+abbrev pub answer_at : State → ℕ → ℕ → Call → List Held
+answer_at state p c call = if nat_eq call.connection c then record { reply = call.reply; position = position_with state p call } ∷ [] else []
 
-abbrev pub answers_from : Keyspace → ℕ → ℕ → List Call → List Held
-answers_from s p c [] = []
-answers_from s p c (call ∷ calls) = answer_at s p c call ++ answers_from (after_call s call) (position_with s p call) c calls
+abbrev pub answers_from : State → ℕ → ℕ → List Call → List Held
+answers_from state p c [] = []
+answers_from state p c (call ∷ calls) = answer_at state p c call ++ answers_from (after_call state call) (position_with state p call) c calls
 
 -- the replies of one connection's calls, in order, each with the position of the list after its call
 abbrev pub answers_to : ℕ → List Call → List Held
-answers_to = answers_from [] 0
+answers_to = answers_from start_state 0
 
 -- both marks cover the reply
 pub record IsCoveredBy (local remote : ℕ) (reply : Held) : Type 0 where
