@@ -1,6 +1,7 @@
 -- What one change does to a table and to the entries of its records, and all changes one after another.
 use Rattle.std.proofs.Common.{◌≡◌, ◌↔◌, ℕ, ◌⊎◌, ⊎_elim, inl, inr, Bool, true, false, cond, not, ◌||◌, List, [], ◌∷◌, ◌++◌, Option, Some, None, Contains, IsTrue, T, nat_eq, refl, sym, ap, subst, ◌∙◌, eqb-true, eq-eqb, arith}
 use Rattle.std.proofs.lemmas.List.Elements.{Contains-append_left, Contains-append_right, Contains-append_cases}
+use Rattle.std.specs.List.{IsDistinct}
 use Rattle.std.specs.FinMap.Entries.{where_key, find-where_key, same_entries, is_sorted, is_sorted-where_key, is_sorted-put}
 use Rattle.kv_types.specs.declared.record_id.RecordId.{RecordId}
 use Rattle.kv_types.specs.declared.record_id.RecordId.TheVariants.{Str, Field}
@@ -16,10 +17,11 @@ use Rattle.model.specs.declared.group.PlacedChange.{PlacedChange}
 use Rattle.model.specs.declared.group.PlacedChange.TheVariants as placed
 use Rattle.model.specs.Groups.{change_of, put_of, ends_record, is_put_at}
 use Rattle.model.proofs.VersionsLemmas.{ends_record-own}
-use Rattle.mv_keyspace.specs.Tables.{Cell, Table, records, cell_at, with_cell, entries_of, cell_of_put, placed_at, place, place_all, puts_of, AreFresh, IsLawful}
+use Rattle.mv_keyspace.specs.Tables.{Cell, Table, records, cell_at, with_cell, entries_of, cell_of_put, placed_at, place, place_all, puts_of, AreFresh, IsLawful, AreNumbersEnded}
 use Rattle.mv_keyspace.specs.Rows.{ended_rows, spared_rows}
 use Rattle.mv_keyspace.proofs.TableLemmas.{cell_at-with_cell, records-place}
 use Rattle.mv_keyspace.proofs.TableMembers.{IsEntryOf, IsSortedTable, entry-from_found, found-from_entry, is_sorted-records}
+use Rattle.mv_keyspace.proofs.DistinctLemmas.{distinct-none, distinct-append, entries-distinct}
 use Rattle.mv_keyspace.proofs.VersionTables.{cell_at-placed_at}
 use Rattle.mv_keyspace.proofs.PartTables.{put_at-split}
 
@@ -72,45 +74,45 @@ none_spared : (table : Table) → spared_rows change.Clear table ≡ []
 none_spared [] = refl
 none_spared (row ∷ table) = none_spared table
 
-pub place-made : (put : Put) (table : Table) → IsSortedTable table → with_cell put.id (cell_of_put put) (spared_rows (change_of (placed.Put put)) table) ≡ place table (placed.Put put)
-place-made put table h = place-put put.id (cell_of_put put) put.value table h
+pub place-made : (position : ℕ) (put : Put) (table : Table) → IsSortedTable table → with_cell put.id (cell_of_put position put) (spared_rows (change_of (placed.Put put)) table) ≡ place position table (placed.Put put)
+place-made position put table h = place-put put.id (cell_of_put position put) put.value table h
 
 -- what a change makes, at most one row
 abbrev pub MakesNone : PlacedChange → Type 0
 MakesNone c = put_of c ≡ []
 
-pub place-spared : (c : PlacedChange) (table : Table) → MakesNone c → spared_rows (change_of c) table ≡ place table c
-place-spared (placed.Put put) table e = cc
-place-spared (placed.Drop id) table e = refl
-place-spared (placed.DropKey key) table e = refl
-place-spared placed.Clear table e = none_spared table
+pub place-spared : (position : ℕ) (c : PlacedChange) (table : Table) → MakesNone c → spared_rows (change_of c) table ≡ place position table c
+place-spared position (placed.Put put) table e = cc
+place-spared position (placed.Drop id) table e = refl
+place-spared position (placed.DropKey key) table e = refl
+place-spared position placed.Clear table e = none_spared table
 
 -- ---- a record that stands after a change was made by it, or stood before and was spared
 
-pub data Stands (c : PlacedChange) (table : Table) (id : RecordId) (cell : Cell) : Type 0 where
-  made : (put : Put) (makes : put_of c ≡ put ∷ []) (id_is : id ≡ put.id) (cell_is : cell ≡ cell_of_put put) → Stands c table id cell
-  spared : (is_spared : ends_record (change_of c) id ≡ false) (found : cell_at table id ≡ Some cell) → Stands c table id cell
+pub data Stands (position : ℕ) (c : PlacedChange) (table : Table) (id : RecordId) (cell : Cell) : Type 0 where
+  made : (put : Put) (makes : put_of c ≡ put ∷ []) (id_is : id ≡ put.id) (cell_is : cell ≡ cell_of_put position put) → Stands position c table id cell
+  spared : (is_spared : ends_record (change_of c) id ≡ false) (found : cell_at table id ≡ Some cell) → Stands position c table id cell
 
-spared_by : (c : PlacedChange) (table : Table) (id : RecordId) (cell : Cell) (b : Bool) → ends_record (change_of c) id ≡ b → cond b None (cell_at table id) ≡ Some cell → Stands c table id cell
-spared_by c table id cell true ended e = cc
-spared_by c table id cell false is_spared e = spared is_spared e
+spared_by : (position : ℕ) (c : PlacedChange) (table : Table) (id : RecordId) (cell : Cell) (b : Bool) → ends_record (change_of c) id ≡ b → cond b None (cell_at table id) ≡ Some cell → Stands position c table id cell
+spared_by position c table id cell true ended e = cc
+spared_by position c table id cell false is_spared e = spared is_spared e
 
-made_or_spared : (put : Put) (table : Table) (id : RecordId) (cell : Cell) (b : Bool) → is_same id put.id ≡ b → cond b (Some (cell_of_put put)) (cond (ends_record (change.Put put.id put.value) id) None (cell_at table id)) ≡ Some cell
-    → Stands (placed.Put put) table id cell
-made_or_spared put table id cell true same e = made put refl (same_record id put.id same) cc
-made_or_spared put table id cell false same e = spared_by (placed.Put put) table id cell (ends_record (change.Put put.id put.value) id) refl e
+made_or_spared : (position : ℕ) (put : Put) (table : Table) (id : RecordId) (cell : Cell) (b : Bool) → is_same id put.id ≡ b → cond b (Some (cell_of_put position put)) (cond (ends_record (change.Put put.id put.value) id) None (cell_at table id)) ≡ Some cell
+    → Stands position (placed.Put put) table id cell
+made_or_spared position put table id cell true same e = made put refl (same_record id put.id same) cc
+made_or_spared position put table id cell false same e = spared_by position (placed.Put put) table id cell (ends_record (change.Put put.id put.value) id) refl e
 
-stands : (c : PlacedChange) (table : Table) (id : RecordId) (cell : Cell) → cell_at (place table c) id ≡ Some cell → Stands c table id cell
-stands (placed.Put put) table id cell e =
-    made_or_spared put table id cell (is_same id put.id) refl (sym (cell_at-placed_at table put.id (cell_of_put put) put.value id) ∙ e)
-stands (placed.Drop other) table id cell e = spared_by (placed.Drop other) table id cell (ends_record (change.Drop other) id) refl (sym (cell_at-spared (change.Drop other) table id) ∙ e)
-stands (placed.DropKey key) table id cell e = spared_by (placed.DropKey key) table id cell (ends_record (change.DropKey key) id) refl (sym (cell_at-spared (change.DropKey key) table id) ∙ e)
-stands placed.Clear table id cell e = cc
+stands : (position : ℕ) (c : PlacedChange) (table : Table) (id : RecordId) (cell : Cell) → cell_at (place position table c) id ≡ Some cell → Stands position c table id cell
+stands position (placed.Put put) table id cell e =
+    made_or_spared position put table id cell (is_same id put.id) refl (sym (cell_at-placed_at table put.id (cell_of_put position put) put.value id) ∙ e)
+stands position (placed.Drop other) table id cell e = spared_by position (placed.Drop other) table id cell (ends_record (change.Drop other) id) refl (sym (cell_at-spared (change.Drop other) table id) ∙ e)
+stands position (placed.DropKey key) table id cell e = spared_by position (placed.DropKey key) table id cell (ends_record (change.DropKey key) id) refl (sym (cell_at-spared (change.DropKey key) table id) ∙ e)
+stands position placed.Clear table id cell e = cc
 
-found_made : (put : Put) (table : Table) → cell_at (place table (placed.Put put)) put.id ≡ Some (cell_of_put put)
-found_made put table =
-    cell_at-placed_at table put.id (cell_of_put put) put.value put.id
-    ∙ ap (λ b. cond b (Some (cell_of_put put)) (cond (ends_record (change.Put put.id put.value) put.id) None (cell_at table put.id))) (record_itself put.id)
+found_made : (position : ℕ) (put : Put) (table : Table) → cell_at (place position table (placed.Put put)) put.id ≡ Some (cell_of_put position put)
+found_made position put table =
+    cell_at-placed_at table put.id (cell_of_put position put) put.value put.id
+    ∙ ap (λ b. cond b (Some (cell_of_put position put)) (cond (ends_record (change.Put put.id put.value) put.id) None (cell_at table put.id))) (record_itself put.id)
 
 no_own : (put : Put) (id : RecordId) (b : Bool) → is_same id put.id ≡ b → ends_record (change.Put put.id put.value) id ≡ false → b ≡ false
 no_own put id true same is_spared =
@@ -118,14 +120,14 @@ no_own put id true same is_spared =
     cc
 no_own put id false same is_spared = refl
 
-found_spared : (c : PlacedChange) (table : Table) (id : RecordId) (cell : Cell) → ends_record (change_of c) id ≡ false → cell_at table id ≡ Some cell → cell_at (place table c) id ≡ Some cell
-found_spared (placed.Put put) table id cell is_spared found =
-    cell_at-placed_at table put.id (cell_of_put put) put.value id
-    ∙ ap (λ b. cond b (Some (cell_of_put put)) (cond (ends_record (change.Put put.id put.value) id) None (cell_at table id))) (no_own put id (is_same id put.id) refl is_spared)
+found_spared : (position : ℕ) (c : PlacedChange) (table : Table) (id : RecordId) (cell : Cell) → ends_record (change_of c) id ≡ false → cell_at table id ≡ Some cell → cell_at (place position table c) id ≡ Some cell
+found_spared position (placed.Put put) table id cell is_spared found =
+    cell_at-placed_at table put.id (cell_of_put position put) put.value id
+    ∙ ap (λ b. cond b (Some (cell_of_put position put)) (cond (ends_record (change.Put put.id put.value) id) None (cell_at table id))) (no_own put id (is_same id put.id) refl is_spared)
     ∙ ap (λ b. cond b None (cell_at table id)) is_spared ∙ found
-found_spared (placed.Drop other) table id cell is_spared found = cell_at-spared (change.Drop other) table id ∙ ap (λ b. cond b None (cell_at table id)) is_spared ∙ found
-found_spared (placed.DropKey key) table id cell is_spared found = cell_at-spared (change.DropKey key) table id ∙ ap (λ b. cond b None (cell_at table id)) is_spared ∙ found
-found_spared placed.Clear table id cell is_spared found = cc
+found_spared position (placed.Drop other) table id cell is_spared found = cell_at-spared (change.Drop other) table id ∙ ap (λ b. cond b None (cell_at table id)) is_spared ∙ found
+found_spared position (placed.DropKey key) table id cell is_spared found = cell_at-spared (change.DropKey key) table id ∙ ap (λ b. cond b None (cell_at table id)) is_spared ∙ found
+found_spared position placed.Clear table id cell is_spared found = cc
 
 -- ---- fresh puts
 
@@ -191,71 +193,69 @@ put_at-later (placed.Drop id) changes i t = t
 put_at-later (placed.DropKey key) changes i t = t
 put_at-later placed.Clear changes i t = t
 
-found_own : (c : PlacedChange) (table : Table) (put : Put) → put_of c ≡ put ∷ [] → cell_at (place table c) put.id ≡ Some (cell_of_put put)
-found_own (placed.Put own) table put e = let same : own ≡ put = cc in subst (λ (p : Put). cell_at (place table (placed.Put own)) p.id ≡ Some (cell_of_put p)) same (found_made own table)
-found_own (placed.Drop id) table put e = cc
-found_own (placed.DropKey key) table put e = cc
-found_own placed.Clear table put e = cc
+found_own : (position : ℕ) (c : PlacedChange) (table : Table) (put : Put) → put_of c ≡ put ∷ [] → cell_at (place position table c) put.id ≡ Some (cell_of_put position put)
+found_own position (placed.Put own) table put e = let same : own ≡ put = cc in subst (λ (p : Put). cell_at (place position table (placed.Put own)) p.id ≡ Some (cell_of_put position p)) same (found_made position own table)
+found_own position (placed.Drop id) table put e = cc
+found_own position (placed.DropKey key) table put e = cc
+found_own position placed.Clear table put e = cc
 
 one_put : (c : PlacedChange) (put other : Put) → put_of c ≡ put ∷ [] → put_of c ≡ other ∷ [] → put ≡ other
 one_put c put other e e' = let both : put ∷ [] ≡ other ∷ [] = sym e ∙ e' in cc
 
 -- ---- a change keeps a table lawful and later puts fresh
 
-module _ (c : PlacedChange) (changes : List PlacedChange) (table : Table) (lawful : IsLawful table) (fresh : AreFresh table (puts_of (c ∷ changes))) where
-  apart : (put : Put) (other : RecordId) (cell cell' : Cell) → put_of c ≡ put ∷ [] → cell ≡ cell_of_put put → cell_at table other ≡ Some cell' → cell.entry ≡ cell'.entry → ⊥
+module _ (position : ℕ) (c : PlacedChange) (changes : List PlacedChange) (table : Table) (lawful : IsLawful table) (fresh : AreFresh table (puts_of (c ∷ changes))) where
+  apart : (put : Put) (other : RecordId) (cell cell' : Cell) → put_of c ≡ put ∷ [] → cell ≡ cell_of_put position put → cell_at table other ≡ Some cell' → cell.entry ≡ cell'.entry → ⊥
   apart put other cell cell' makes is found same =
       fresh_own c changes table fresh put makes (subst (λ k. Contains (entries_of table) k) (sym same ∙ ap (λ (x : Cell). x.entry) is) (entry-from_found table other cell' found))
 
-  once : (id other : RecordId) (cell cell' : Cell) → Stands c table id cell → Stands c table other cell' → cell.entry ≡ cell'.entry → id ≡ other
+  once : (id other : RecordId) (cell cell' : Cell) → Stands position c table id cell → Stands position c table other cell' → cell.entry ≡ cell'.entry → id ≡ other
   once id other cell cell' (made put makes id_is cell_is) (made put' makes' id_is' cell_is') same = id_is ∙ ap (λ (p : Put). p.id) (one_put c put put' makes makes') ∙ sym id_is'
   once id other cell cell' (made put makes id_is cell_is) (spared is_spared found) same = absurd (apart put other cell cell' makes cell_is found same)
   once id other cell cell' (spared is_spared found) (made put makes id_is cell_is) same = absurd (apart put id cell' cell makes cell_is found (sym same))
   once id other cell cell' (spared is_spared found) (spared is_spared' found') same = lawful.once id other cell cell' found found' same
 
-  pub lawful-place : IsLawful (place table c)
+  pub lawful-place : IsLawful (place position table c)
   lawful-place = record {
-    keyspace = subst IsKeyspace (sym (records-place table c)) (is_keyspace-play (records table) (change_of c) lawful.keyspace);
-    once = λ id other cell cell' e e' same. once id other cell cell' (stands c table id cell e) (stands c table other cell' e') same;
+    keyspace = subst IsKeyspace (sym (records-place position table c)) (is_keyspace-play (records table) (change_of c) lawful.keyspace);
+    once = λ id other cell cell' e e' same. once id other cell cell' (stands position c table id cell e) (stands position c table other cell' e') same;
   }
 
   abbrev Was : ℕ → Type 0
   Was i = Contains (entries_of table) i ⊎ ((put : Put) × (put_of c ≡ put ∷ []) × (i ≡ put.entry.0))
 
-  was_standing : (i : ℕ) (id : RecordId) (cell : Cell) → cell.entry ≡ i → Stands c table id cell → Was i
+  was_standing : (i : ℕ) (id : RecordId) (cell : Cell) → cell.entry ≡ i → Stands position c table id cell → Was i
   was_standing i id cell at (made put makes id_is cell_is) = inr (put, makes, sym at ∙ ap (λ (x : Cell). x.entry) cell_is)
   was_standing i id cell at (spared is_spared found) = inl (subst (λ k. Contains (entries_of table) k) at (entry-from_found table id cell found))
 
-  was : (i : ℕ) → Contains (entries_of (place table c)) i → Was i
-  was i m = let of = found-from_entry (place table c) i (sorted-lawful (place table c) lawful-place) m in was_standing i of.id of.cell of.entry (stands c table of.id of.cell of.found)
+  was : (i : ℕ) → Contains (entries_of (place position table c)) i → Was i
+  was i m = let of = found-from_entry (place position table c) i (sorted-lawful (place position table c) lawful-place) m in was_standing i of.id of.cell of.entry (stands position c table of.id of.cell of.found)
 
-  pub fresh-place : AreFresh (place table c) (puts_of changes)
-  fresh-place = fresh_moves table (place table c) (puts_of changes) back (fresh_rest c changes table fresh)
+  pub fresh-place : AreFresh (place position table c) (puts_of changes)
+  fresh-place = fresh_moves table (place position table c) (puts_of changes) back (fresh_rest c changes table fresh)
     where
-      back : (i : ℕ) → Contains (entries_of (place table c)) i → IsTrue (is_put_at i (puts_of changes)) → Contains (entries_of table) i
+      back : (i : ℕ) → Contains (entries_of (place position table c)) i → IsTrue (is_put_at i (puts_of changes)) → Contains (entries_of table) i
       back i m t = ⊎_elim (λ (h : Contains (entries_of table) i). h)
           (λ (h : (put : Put) × (put_of c ≡ put ∷ []) × (i ≡ put.entry.0)). absurd (fresh_later c changes table fresh h.0 h.1 (subst (λ k. IsTrue (is_put_at k (puts_of changes))) h.2 t)))
           (was i m)
 
 -- ---- the entries after all changes
 
-made_before : (table : Table) (changes : List PlacedChange) (i : ℕ) → IsLawful table → AreFresh table (puts_of changes) → Contains (entries_of (place_all table changes)) i
+made_before : (position : ℕ) (table : Table) (changes : List PlacedChange) (i : ℕ) → IsLawful table → AreFresh table (puts_of changes) → Contains (entries_of (place_all position table changes)) i
     → Contains (entries_of table) i ⊎ IsTrue (is_put_at i (puts_of changes))
-made_before table [] i lawful fresh m = inl m
-made_before table (c ∷ changes) i lawful fresh m =
-    ⊎_elim (λ (h : Contains (entries_of (place table c)) i). ⊎_elim (λ (h : Contains (entries_of table) i). inl h)
+made_before position table [] i lawful fresh m = inl m
+made_before position table (c ∷ changes) i lawful fresh m =
+    ⊎_elim (λ (h : Contains (entries_of (place position table c)) i). ⊎_elim (λ (h : Contains (entries_of table) i). inl h)
     (λ (h : (put : Put) × (put_of c ≡ put ∷ []) × (i ≡ put.entry.0)). inr (subst (λ k. IsTrue (is_put_at k (puts_of (c ∷ changes)))) (sym h.2) (put_at-own c changes h.0 h.1)))
-    (was c changes table lawful fresh i h))
+    (was position c changes table lawful fresh i h))
     (λ (h : IsTrue (is_put_at i (puts_of changes))). inr (put_at-later c changes i h))
-    (made_before (place table c) changes i (lawful-place c changes table lawful fresh) (fresh-place c changes table lawful fresh) m)
+    (made_before position (place position table c) changes i (lawful-place position c changes table lawful fresh) (fresh-place position c changes table lawful fresh) m)
 
--- the numbers of just the entries that the changes ended
-abbrev pub AreNumbersEnded : Table → List PlacedChange → List ℕ → Type 0
-AreNumbersEnded table changes numbers =
-    (i : ℕ) → Contains numbers i ↔ ((Contains (entries_of table) i ⊎ IsTrue (is_put_at i (puts_of changes))) × (¬ Contains (entries_of (place_all table changes)) i))
-
-pub none-ended : (table : Table) → AreNumbersEnded table [] []
-none-ended table i = (λ m. absurd (omega (arith, m.1)), λ h. absurd (⊎_elim (λ (m : Contains (entries_of table) i). h.1 m) (λ (t : IsTrue false). cc) h.0))
+pub none-ended : (position : ℕ) (table : Table) → AreNumbersEnded position table [] []
+none-ended position table = record {
+  once = distinct-none;
+  these = λ i. (λ m. absurd (omega (arith, m.1)), λ h. absurd (⊎_elim (λ (m : Contains (entries_of table) i). h.1 m) (λ (t : IsTrue false). cc) h.0));
+}
 
 -- a row that the change ends
 record EndedRow (c : PlacedChange) (table : Table) (i : ℕ) : Type 0 where
@@ -280,70 +280,94 @@ named_row c table id cell is_ended found =
     entry-from_found (ended_rows (change_of c) table) id cell (cell_at-ended (change_of c) table id ∙ ap (λ b. cond b (cell_at table id) None) is_ended ∙ found)
 
 -- the entries that a change ends, and those that the later changes end
-module _ (c : PlacedChange) (changes : List PlacedChange) (table : Table) (lawful : IsLawful table) (fresh : AreFresh table (puts_of (c ∷ changes))) (i : ℕ) where
+module _ (position : ℕ) (c : PlacedChange) (changes : List PlacedChange) (table : Table) (lawful : IsLawful table) (fresh : AreFresh table (puts_of (c ∷ changes))) (i : ℕ) where
   -- an entry of a row that the change ends is of no row after it
-  gone_then : (row : EndedRow c table i) (id : RecordId) (cell : Cell) → cell.entry ≡ i → Stands c table id cell → ⊥
-  gone_then row id cell at (made put makes id_is cell_is) = apart c changes table lawful fresh put row.id cell row.cell makes cell_is row.found (at ∙ sym row.at)
+  gone_then : (row : EndedRow c table i) (id : RecordId) (cell : Cell) → cell.entry ≡ i → Stands position c table id cell → ⊥
+  gone_then row id cell at (made put makes id_is cell_is) = apart position c changes table lawful fresh put row.id cell row.cell makes cell_is row.found (at ∙ sym row.at)
   gone_then row id cell at (spared is_spared found) =
       let same = lawful.once row.id id row.cell cell row.found found (row.at ∙ sym at) in
       let ended = row.is_ended in
       let ended' : ends_record (change_of c) id ≡ true = ap (ends_record (change_of c)) (sym same) ∙ ended in
       cc
 
-  gone : EndedRow c table i → ¬ Contains (entries_of (place table c)) i
+  gone : EndedRow c table i → ¬ Contains (entries_of (place position table c)) i
   gone row m =
-      let of = found-from_entry (place table c) i (sorted-lawful (place table c) (lawful-place c changes table lawful fresh)) m in
-      gone_then row of.id of.cell of.entry (stands c table of.id of.cell of.found)
+      let of = found-from_entry (place position table c) i (sorted-lawful (place position table c) (lawful-place position c changes table lawful fresh)) m in
+      gone_then row of.id of.cell of.entry (stands position c table of.id of.cell of.found)
 
   before_ended : EndedRow c table i → Contains (entries_of table) i
   before_ended row = subst (λ k. Contains (entries_of table) k) row.at (entry-from_found table row.id row.cell row.found)
 
-  gone_all : EndedRow c table i → ¬ Contains (entries_of (place_all (place table c) changes)) i
+  gone_all : EndedRow c table i → ¬ Contains (entries_of (place_all position (place position table c) changes)) i
   gone_all row m =
-      ⊎_elim (λ (h : Contains (entries_of (place table c)) i). gone row h)
+      ⊎_elim (λ (h : Contains (entries_of (place position table c)) i). gone row h)
       (λ (t : IsTrue (is_put_at i (puts_of changes))). fresh_not table (puts_of changes) i (fresh_rest c changes table fresh) (before_ended row) t)
-      (made_before (place table c) changes i (lawful-place c changes table lawful fresh) (fresh-place c changes table lawful fresh) m)
+      (made_before position (place position table c) changes i (lawful-place position c changes table lawful fresh) (fresh-place position c changes table lawful fresh) m)
 
   abbrev Before : Type 0
   Before = Contains (entries_of table) i ⊎ IsTrue (is_put_at i (puts_of (c ∷ changes)))
 
-  before_rest : Contains (entries_of (place table c)) i ⊎ IsTrue (is_put_at i (puts_of changes)) → Before
+  before_rest : Contains (entries_of (place position table c)) i ⊎ IsTrue (is_put_at i (puts_of changes)) → Before
   before_rest (inl m) =
       ⊎_elim (λ (h : Contains (entries_of table) i). inl h)
       (λ (h : (put : Put) × (put_of c ≡ put ∷ []) × (i ≡ put.entry.0)). inr (subst (λ k. IsTrue (is_put_at k (puts_of (c ∷ changes)))) (sym h.2) (put_at-own c changes h.0 h.1)))
-      (was c changes table lawful fresh i m)
+      (was position c changes table lawful fresh i m)
   before_rest (inr t) = inr (put_at-later c changes i t)
 
-  standing_own : IsTrue (is_put_at i (put_of c)) → Contains (entries_of (place table c)) i
+  standing_own : IsTrue (is_put_at i (put_of c)) → Contains (entries_of (place position table c)) i
   standing_own t =
       let own = own_put c i t in
-      subst (λ k. Contains (entries_of (place table c)) k) (sym own.2) (entry-from_found (place table c) own.0.id (cell_of_put own.0) (found_own c table own.0 own.1))
+      subst (λ k. Contains (entries_of (place position table c)) k) (sym own.2) (entry-from_found (place position table c) own.0.id (cell_of_put position own.0) (found_own position c table own.0 own.1))
 
-  ended_or_standing : (of : IsEntryOf table i) (b : Bool) → ends_record (change_of c) of.id ≡ b → Contains (entries_of (ended_rows (change_of c) table)) i ⊎ Contains (entries_of (place table c)) i
+  ended_or_standing : (of : IsEntryOf table i) (b : Bool) → ends_record (change_of c) of.id ≡ b → Contains (entries_of (ended_rows (change_of c) table)) i ⊎ Contains (entries_of (place position table c)) i
   ended_or_standing of true e = inl (subst (λ k. Contains (entries_of (ended_rows (change_of c) table)) k) of.entry (named_row c table of.id of.cell e of.found))
-  ended_or_standing of false e = inr (subst (λ k. Contains (entries_of (place table c)) k) of.entry (entry-from_found (place table c) of.id of.cell (found_spared c table of.id of.cell e of.found)))
+  ended_or_standing of false e = inr (subst (λ k. Contains (entries_of (place position table c)) k) of.entry (entry-from_found (place position table c) of.id of.cell (found_spared position c table of.id of.cell e of.found)))
 
   -- where an entry from before goes: it is ended now, or it is there for the later changes
-  goes : Before → Contains (entries_of (ended_rows (change_of c) table)) i ⊎ (Contains (entries_of (place table c)) i ⊎ IsTrue (is_put_at i (puts_of changes)))
+  goes : Before → Contains (entries_of (ended_rows (change_of c) table)) i ⊎ (Contains (entries_of (place position table c)) i ⊎ IsTrue (is_put_at i (puts_of changes)))
   goes (inl m) =
       let of = found-from_entry table i (sorted-lawful table lawful) m in
-      ⊎_elim (λ (h : Contains (entries_of (ended_rows (change_of c) table)) i). inl h) (λ (h : Contains (entries_of (place table c)) i). inr (inl h))
+      ⊎_elim (λ (h : Contains (entries_of (ended_rows (change_of c) table)) i). inl h) (λ (h : Contains (entries_of (place position table c)) i). inr (inl h))
       (ended_or_standing of (ends_record (change_of c) of.id) refl)
   goes (inr t) =
       ⊎_elim (λ (h : IsTrue (is_put_at i (put_of c))). inr (inl (standing_own h))) (λ (h : IsTrue (is_put_at i (puts_of changes))). inr (inr h)) (put_at-split c changes i t)
 
-pub ended-first : (c : PlacedChange) (changes : List PlacedChange) (table : Table) → IsLawful table → AreFresh table (puts_of (c ∷ changes)) → (more : List ℕ) → AreNumbersEnded (place table c) changes more
-    → AreNumbersEnded table (c ∷ changes) (entries_of (ended_rows (change_of c) table) ++ more)
-ended-first c changes table lawful fresh more rest i = (told, named)
+-- the entries of the rows that the change ends stand once each
+ended_once : (c : PlacedChange) (table : Table) → IsLawful table → IsDistinct nat_eq (entries_of (ended_rows (change_of c) table))
+ended_once c table lawful =
+    entries-distinct (ended_rows (change_of c) table) (true_from _ (sorted-where (ends_record (change_of c)) table (sorted-lawful table lawful)))
+    (λ id other cell cell' found found' same. lawful.once id other cell cell' (among id cell found) (among other cell' found') same)
   where
-    told : Contains (entries_of (ended_rows (change_of c) table) ++ more) i → (Contains (entries_of table) i ⊎ IsTrue (is_put_at i (puts_of (c ∷ changes)))) × (¬ Contains (entries_of (place_all (place table c) changes)) i)
-    told m =
-        ⊎_elim (λ (h : Contains (entries_of (ended_rows (change_of c) table)) i). let row = ended_row c table i (sorted-lawful table lawful) h in (inl (before_ended c changes table lawful fresh i row), gone_all c changes table lawful fresh i row))
-        (λ (h : Contains more i). let k = (rest i).0 h in (before_rest c changes table lawful fresh i k.0, k.1))
-        (Contains-append_cases (entries_of (ended_rows (change_of c) table)) more i m)
+    among : (id : RecordId) (cell : Cell) → cell_at (ended_rows (change_of c) table) id ≡ Some cell → cell_at table id ≡ Some cell
+    among id cell found = (split_ended (ends_record (change_of c) id) (cell_at table id) cell (sym (cell_at-ended (change_of c) table id) ∙ found)).1
 
-    named : (Contains (entries_of table) i ⊎ IsTrue (is_put_at i (puts_of (c ∷ changes)))) × (¬ Contains (entries_of (place_all (place table c) changes)) i) → Contains (entries_of (ended_rows (change_of c) table) ++ more) i
-    named h =
-        ⊎_elim (λ (m : Contains (entries_of (ended_rows (change_of c) table)) i). Contains-append_left (entries_of (ended_rows (change_of c) table)) more i m)
-        (λ (b : Contains (entries_of (place table c)) i ⊎ IsTrue (is_put_at i (puts_of changes))). Contains-append_right (entries_of (ended_rows (change_of c) table)) more i ((rest i).1 (b, h.1)))
-        (goes c changes table lawful fresh i h.0)
+module _ (position : ℕ) (c : PlacedChange) (changes : List PlacedChange) (table : Table) (lawful : IsLawful table) (fresh : AreFresh table (puts_of (c ∷ changes))) (more : List ℕ)
+    (rest : AreNumbersEnded position (place position table c) changes more) where
+  abbrev first : List ℕ
+  first = entries_of (ended_rows (change_of c) table)
+
+  row_at : (i : ℕ) → Contains first i → EndedRow c table i
+  row_at i m = ended_row c table i (sorted-lawful table lawful) m
+
+  -- what the change ended is not there for the later ones to end
+  apart_from_more : (i : ℕ) → Contains first i → ¬ Contains more i
+  apart_from_more i m later =
+      let row = row_at i m in
+      ⊎_elim (λ (h : Contains (entries_of (place position table c)) i). gone position c changes table lawful fresh i row h)
+      (λ (t : IsTrue (is_put_at i (puts_of changes))). fresh_not table (puts_of changes) i (fresh_rest c changes table fresh) (before_ended position c changes table lawful fresh i row) t)
+      ((rest.these i).0 later).0
+
+  told : (i : ℕ) → Contains (first ++ more) i → (Contains (entries_of table) i ⊎ IsTrue (is_put_at i (puts_of (c ∷ changes)))) × (¬ Contains (entries_of (place_all position (place position table c) changes)) i)
+  told i m =
+      ⊎_elim (λ (h : Contains first i). let row = row_at i h in (inl (before_ended position c changes table lawful fresh i row), gone_all position c changes table lawful fresh i row))
+      (λ (h : Contains more i). let k = (rest.these i).0 h in (before_rest position c changes table lawful fresh i k.0, k.1))
+      (Contains-append_cases first more i m)
+
+  named : (i : ℕ) → (Contains (entries_of table) i ⊎ IsTrue (is_put_at i (puts_of (c ∷ changes)))) × (¬ Contains (entries_of (place_all position (place position table c) changes)) i) → Contains (first ++ more) i
+  named i h =
+      ⊎_elim (λ (m : Contains first i). Contains-append_left first more i m)
+      (λ (b : Contains (entries_of (place position table c)) i ⊎ IsTrue (is_put_at i (puts_of changes))). Contains-append_right first more i ((rest.these i).1 (b, h.1)))
+      (goes position c changes table lawful fresh i h.0)
+
+  pub ended-first : AreNumbersEnded position table (c ∷ changes) (entries_of (ended_rows (change_of c) table) ++ more)
+  ended-first = record { once = distinct-append first more (ended_once c table lawful) rest.once apart_from_more; these = λ i. (told i, named i) }

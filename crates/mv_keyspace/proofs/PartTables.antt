@@ -16,7 +16,7 @@ use Rattle.model.proofs.MapLemmas.{not_live}
 use Rattle.mv_keyspace.specs.Tables.{Cell, Table, records, cell_at, entries_of, place, place_all, puts_of, AreEnded, AreFresh, IsLawful, IsTable}
 use Rattle.mv_keyspace.proofs.TableLemmas.{value_at-records}
 use Rattle.mv_keyspace.proofs.TableMembers.{IsSortedTable, entry-from_found, found-from_entry, is_sorted-records}
-use Rattle.mv_keyspace.proofs.VersionTables.{AreEmpty, IsTable-change}
+use Rattle.mv_keyspace.proofs.VersionTables.{AreEmpty, IsTable-change, cell-of_live}
 
 -- no two of the puts have one entry
 abbrev pub AreDistinct : List Put → Type 0
@@ -58,22 +58,22 @@ none_apart (put ∷ puts) = (refl, none_apart puts)
 -- ---- all changes
 
 pub IsTable-changes : (position : ℕ) (versions : Versions) (table : Table) (changes : List PlacedChange) → AreEmpty versions (puts_of changes) → AreDistinct (puts_of changes) → IsTable versions table
-    → IsTable (changes_versions position versions changes) (place_all table changes)
+    → IsTable (changes_versions position versions changes) (place_all position table changes)
 IsTable-changes position versions table [] empty distinct is = is
 IsTable-changes position versions table (placed.Put put ∷ changes) empty distinct is =
-    IsTable-changes position (change_versions position versions (placed.Put put)) (place table (placed.Put put)) changes
+    IsTable-changes position (change_versions position versions (placed.Put put)) (place position table (placed.Put put)) changes
     (rest_empty (placed.Put put) position versions (puts_of changes) (all_apart put (puts_of changes) distinct.0) empty.1) distinct.1
     (IsTable-change position versions table (placed.Put put) (empty.0, tt) is)
 IsTable-changes position versions table (placed.Drop id ∷ changes) empty distinct is =
-    IsTable-changes position (change_versions position versions (placed.Drop id)) (place table (placed.Drop id)) changes
+    IsTable-changes position (change_versions position versions (placed.Drop id)) (place position table (placed.Drop id)) changes
     (rest_empty (placed.Drop id) position versions (puts_of changes) (none_apart (puts_of changes)) empty) distinct
     (IsTable-change position versions table (placed.Drop id) tt is)
 IsTable-changes position versions table (placed.DropKey key ∷ changes) empty distinct is =
-    IsTable-changes position (change_versions position versions (placed.DropKey key)) (place table (placed.DropKey key)) changes
+    IsTable-changes position (change_versions position versions (placed.DropKey key)) (place position table (placed.DropKey key)) changes
     (rest_empty (placed.DropKey key) position versions (puts_of changes) (none_apart (puts_of changes)) empty) distinct
     (IsTable-change position versions table (placed.DropKey key) tt is)
 IsTable-changes position versions table (placed.Clear ∷ changes) empty distinct is =
-    IsTable-changes position (change_versions position versions placed.Clear) (place table placed.Clear) changes
+    IsTable-changes position (change_versions position versions placed.Clear) (place position table placed.Clear) changes
     (rest_empty placed.Clear position versions (puts_of changes) (none_apart (puts_of changes)) empty) distinct
     (IsTable-change position versions table placed.Clear tt is)
 
@@ -97,12 +97,17 @@ live-from_version versions i (Some version) e live =
 pub live-from_entry : (versions : Versions) (table : Table) (i : ℕ) → IsTable versions table → Contains (entries_of table) i → IsTrue (is_live_version (versions i))
 live-from_entry versions table i is m =
     let of = found-from_entry table i (sorted-from_table versions table is) m in
-    subst (λ k. IsTrue (is_live_version (versions k))) of.entry (live-version versions of.cell.entry of.id of.cell.value (is.live of.id of.cell of.found))
+    subst (λ k. IsTrue (is_live_version (versions k))) of.entry (live-version versions of.cell.entry of.id of.cell.value (is.live of.id of.cell of.found).live)
+
+found_live : (versions : Versions) (table : Table) → IsTable versions table → (i : ℕ) (id : RecordId) (value : List ℕ) → IsLive versions i id value → Contains (entries_of table) i
+found_live versions table is i id value live =
+    let cell : Cell = record { value = value; entry = i; position = live.version.position } in
+    entry-from_found table id cell (is.found id cell (cell-of_live versions i id value live))
 
 pub entry-from_live : (versions : Versions) (table : Table) (i : ℕ) → IsTable versions table → IsTrue (is_live_version (versions i)) → Contains (entries_of table) i
 entry-from_live versions table i is live =
     let l = live-from_version versions i (versions i) refl live in
-    entry-from_found table l.0 (record { value = l.1; entry = i }) (is.found i l.0 l.1 l.2)
+    found_live versions table is i l.0 l.1 l.2
 
 -- ---- lawful and fresh
 
@@ -110,8 +115,8 @@ pub lawful-from_table : (versions : Versions) (table : Table) → IsTable versio
 lawful-from_table versions table is = record {
   keyspace = is.keyspace;
   once = λ id other cell cell' e e' same.
-      let l = is.live id cell e in
-      let l' = subst (λ k. IsLive versions k other cell'.value) (sym same) (is.live other cell' e') in
+      let l = (is.live id cell e).live in
+      let l' = subst (λ k. IsLive versions k other cell'.value) (sym same) (is.live other cell' e').live in
       let begun = l.begun in
       let begun' = l'.begun in
       let version : l.version ≡ l'.version = cc in
@@ -135,10 +140,13 @@ fresh-from_table versions table (put ∷ puts) is empty distinct = (
 pub map-from_table : (versions : Versions) (entries : ℕ) (table : Table) → ((i : ℕ) → entries ≤ i → versions i ≡ None) → IsTable versions table → IsMapOf versions entries (records table)
 map-from_table versions entries table beyond is = record {
   held = λ id value e. held id value (cell_at table id) refl (sym (value_at-records table id) ∙ e);
-  found = λ i id value lt live. value_at-records table id ∙ ap (option_map (λ cell. cell.value)) (is.found i id value live);
-  once = λ i j id v w lt lt' a b. ap (λ (c : Cell). c.entry) (same_some (sym (is.found i id v a) ∙ is.found j id w b));
+  found = λ i id value lt live. value_at-records table id ∙ ap (option_map (λ cell. cell.value)) (at i id value live);
+  once = λ i j id v w lt lt' a b. ap (λ (c : Cell). c.entry) (same_some (sym (at i id v a) ∙ at j id w b));
 }
   where
+    at : (i : ℕ) (id : RecordId) (value : List ℕ) (live : IsLive versions i id value) → cell_at table id ≡ Some (record { value = value; entry = i; position = live.version.position })
+    at i id value live = is.found id (record { value = value; entry = i; position = live.version.position }) (cell-of_live versions i id value live)
+
     same_some : {a b : Cell} → Some a ≡ Some b → a ≡ b
     same_some e = cc
 
@@ -148,12 +156,12 @@ map-from_table versions entries table beyond is = record {
     held : (id : RecordId) (value : List ℕ) (found : Option Cell) → cell_at table id ≡ found → option_map (λ cell. cell.value) found ≡ Some value → (i : ℕ) × (i < entries) × IsLive versions i id value
     held id value None e h = cc
     held id value (Some cell) e h =
-        let live : IsLive versions cell.entry id cell.value = is.live id cell e in
+        let live = (is.live id cell e).live in
         let same : cell.value ≡ value = cc in
         (cell.entry, below cell.entry id cell.value live, subst (λ v. IsLive versions cell.entry id v) same live)
 
 pub table-none : (versions : Versions) → ((i : ℕ) → versions i ≡ None) → IsTable versions []
-table-none versions none = record { keyspace = is_keyspace-empty; live = λ id cell e. cc; found = λ i id value live. absurd (not_live (none i) live) }
+table-none versions none = record { keyspace = is_keyspace-empty; live = λ id cell e. cc; found = λ id cell is. absurd (not_live (none cell.entry) is.live) }
 
 -- ---- the entries that the changes ended
 
@@ -224,10 +232,10 @@ or_from false b (inr h) = h
 
 -- the entries that the table says were ended are those of the versions that were
 pub names-ended : (versions : Versions) (table : Table) (part : Part) → AreEmpty versions (puts_of part.changes.items) → AreDistinct (puts_of part.changes.items) → IsTable versions table
-    → AreEnded table part.changes.items part.ended.items → NamesEnded versions part
+    → AreEnded part.position table part.changes.items part.ended.items → NamesEnded versions part
 names-ended versions table part empty distinct is ended i = (
-  λ m. let h = (ended i).0 m in (made h.0, dead h.0 h.1),
-  λ h. (ended i).1 (before h.0, λ m. not_both (after i) (live-from_entry after (place_all table changes) i is_after m) h.1),
+  λ m. let h = (ended.these i).0 m in (made h.0, dead h.0 h.1),
+  λ h. (ended.these i).1 (before h.0, λ m. not_both (after i) (live-from_entry after (place_all part.position table changes) i is_after m) h.1),
 )
   where
     changes : List PlacedChange
@@ -236,7 +244,7 @@ names-ended versions table part empty distinct is ended i = (
     after : Versions
     after = part_versions versions part
 
-    is_after : IsTable (part_versions versions part) (place_all table part.changes.items)
+    is_after : IsTable (part_versions versions part) (place_all part.position table part.changes.items)
     is_after = IsTable-changes part.position versions table part.changes.items empty distinct is
 
     made : Contains (entries_of table) i ⊎ IsTrue (is_put_at i (puts_of part.changes.items)) → IsTrue (is_live_version (versions i) || is_put_at i (puts_of part.changes.items))
@@ -247,8 +255,8 @@ names-ended versions table part empty distinct is ended i = (
     begun (inl m) = begun-changes part.position versions part.changes.items i (inl (begun-live (versions i) (live-from_entry versions table i is m)))
     begun (inr t) = begun-changes part.position versions part.changes.items i (inr t)
 
-    dead : Contains (entries_of table) i ⊎ IsTrue (is_put_at i (puts_of part.changes.items)) → ¬ Contains (entries_of (place_all table part.changes.items)) i → IsTrue (is_ended_version (part_versions versions part i))
-    dead h gone = ended-where_not_live (part_versions versions part i) (begun h) (λ live. gone (entry-from_live (part_versions versions part) (place_all table part.changes.items) i is_after live))
+    dead : Contains (entries_of table) i ⊎ IsTrue (is_put_at i (puts_of part.changes.items)) → ¬ Contains (entries_of (place_all part.position table part.changes.items)) i → IsTrue (is_ended_version (part_versions versions part i))
+    dead h gone = ended-where_not_live (part_versions versions part i) (begun h) (λ live. gone (entry-from_live (part_versions versions part) (place_all part.position table part.changes.items) i is_after live))
 
     before : IsTrue (is_live_version (versions i) || is_put_at i (puts_of part.changes.items)) → Contains (entries_of table) i ⊎ IsTrue (is_put_at i (puts_of part.changes.items))
     before t = ⊎_elim (λ (h : IsTrue (is_live_version (versions i))). inl (entry-from_live versions table i is h)) (λ (h : IsTrue (is_put_at i (puts_of part.changes.items))). inr h)

@@ -56,15 +56,15 @@ records-placed_at : (id : RecordId) (cell : Cell) (table : Table) → records (p
 records-placed_at (Str key) cell table = records-with_cell (Str key) cell (without_rows key table) ∙ ap (with_record (Str key) cell.value) (records-without_rows key table)
 records-placed_at (Field key field) cell table = records-with_cell (Field key field) cell (without_row (Str key) table) ∙ ap (with_record (Field key field) cell.value) (records-without_row (Str key) table)
 
-pub records-place : (table : Table) (change : PlacedChange) → records (place table change) ≡ play (records table) (change_of change)
-records-place table (placed.Put put) = records-placed_at put.id (cell_of_put put) table
-records-place table (placed.Drop id) = records-without_row id table
-records-place table (placed.DropKey key) = records-without_rows key table
-records-place table placed.Clear = refl
+pub records-place : (position : ℕ) (table : Table) (change : PlacedChange) → records (place position table change) ≡ play (records table) (change_of change)
+records-place position table (placed.Put put) = records-placed_at put.id (cell_of_put position put) table
+records-place position table (placed.Drop id) = records-without_row id table
+records-place position table (placed.DropKey key) = records-without_rows key table
+records-place position table placed.Clear = refl
 
-pub records-place_all : (table : Table) (changes : List PlacedChange) → records (place_all table changes) ≡ play_all (records table) (map change_of changes)
-records-place_all table [] = refl
-records-place_all table (change ∷ changes) = records-place_all (place table change) changes ∙ ap (λ s. play_all s (map change_of changes)) (records-place table change)
+pub records-place_all : (position : ℕ) (table : Table) (changes : List PlacedChange) → records (place_all position table changes) ≡ play_all (records table) (map change_of changes)
+records-place_all position table [] = refl
+records-place_all position table (change ∷ changes) = records-place_all position (place position table change) changes ∙ ap (λ s. play_all s (map change_of changes)) (records-place position table change)
 
 -- ---- what is found in a table
 

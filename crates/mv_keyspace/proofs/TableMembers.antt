@@ -30,11 +30,23 @@ is_sorted-records (row ∷ table) =
     ap (λ b. b && is_sorted record_cmp (records table)) (below_all-records row.0 table)
     ∙ ap (λ b. below_all record_cmp row.0 table && b) (is_sorted-records table)
 
-cell_at-below_all : (id : RecordId) (table : Table) → IsTrue (below_all record_cmp id table) → cell_at table id ≡ None
-cell_at-below_all id [] h = refl
-cell_at-below_all id (row ∷ table) h =
+-- a record below all of a table is none of it
+pub missed-below : (id : RecordId) (table : Table) → IsTrue (below_all record_cmp id table) → cell_at table id ≡ None
+missed-below id [] h = refl
+missed-below id (row ∷ table) h =
     let parts = and_parts (is_lt (record_cmp id row.0)) (below_all record_cmp id table) h in
-    ap (λ b. cond b (Some row.1) (cell_at table id)) (is_lt-no_eq (record_cmp id row.0) parts.0) ∙ cell_at-below_all id table parts.1
+    ap (λ b. cond b (Some row.1) (cell_at table id)) (is_lt-no_eq (record_cmp id row.0) parts.0) ∙ missed-below id table parts.1
+
+pub found-first : (row : RecordId × Cell) (table : Table) → cell_at (row ∷ table) row.0 ≡ Some row.1
+found-first row table = ap (λ b. cond b (Some row.1) (cell_at table row.0)) (record_itself row.0)
+
+-- what is found in the rest of a table in order is found in all of it
+pub found-later : (row : RecordId × Cell) (table : Table) (id : RecordId) (cell : Cell) → IsTrue (below_all record_cmp row.0 table) → cell_at table id ≡ Some cell → cell_at (row ∷ table) id ≡ Some cell
+found-later row table id cell below found =
+    elim (is_same id row.0) as (λ b. is_same id row.0 ≡ b → cond b (Some row.1) (cell_at table id) ≡ Some cell) [
+      | true ↦ λ t. let missed : cell_at table id ≡ None = ap (cell_at table) (same_record id row.0 t) ∙ missed-below row.0 table below in cc
+      | false ↦ λ t. found
+    ] refl
 
 -- an entry is that of a row
 pub record IsEntryOf (table : Table) (i : ℕ) : Type 0 where
@@ -52,20 +64,11 @@ entry-from_found (row ∷ table) id cell e =
     ] e
 
 one_later : (row : RecordId × Cell) (table : Table) (i : ℕ) → IsTrue (below_all record_cmp row.0 table) → IsEntryOf table i → IsEntryOf (row ∷ table) i
-one_later row table i below of = record {
-  id = of.id;
-  cell = of.cell;
-  entry = of.entry;
-  found =
-      elim (is_same of.id row.0) as (λ b. is_same of.id row.0 ≡ b → cond b (Some row.1) (cell_at table of.id) ≡ Some of.cell) [
-        | true ↦ λ t. let missed : cell_at table of.id ≡ None = ap (cell_at table) (same_record of.id row.0 t) ∙ cell_at-below_all row.0 table below in let there = of.found in cc
-        | false ↦ λ t. of.found
-      ] refl;
-}
+one_later row table i below of = record { id = of.id; cell = of.cell; entry = of.entry; found = found-later row table of.id of.cell below of.found }
 
 entry_at : (table : Table) (i k : ℕ) → IsSortedTable table → k < length (entries_of table) → get_or (entries_of table) k i ≡ i → IsEntryOf table i
 entry_at [] i k h lt e = absurd (omega arith)
-entry_at (row ∷ table) i zero h lt e = record { id = row.0; cell = row.1; found = ap (λ b. cond b (Some row.1) (cell_at table row.0)) (record_itself row.0); entry = e }
+entry_at (row ∷ table) i zero h lt e = record { id = row.0; cell = row.1; found = found-first row table; entry = e }
 entry_at (row ∷ table) i (suc k) h lt e =
     let parts = and_parts (below_all record_cmp row.0 table) (is_sorted record_cmp table) h in
     one_later row table i parts.0 (entry_at table i k parts.1 (omega arith) e)

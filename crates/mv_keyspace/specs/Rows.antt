@@ -10,14 +10,14 @@ use Rattle.mv_keyspace.specs.declared.list_keyspace.Row.{Row}
 use Rattle.mv_keyspace.specs.Tables.{Cell, Table, cell_of_put}
 
 abbrev pub cell_of_row : Row → Cell
-cell_of_row row = record { value = row.value; entry = row.entry.0 }
+cell_of_row row = record { value = row.value; entry = row.entry.0; position = row.position }
 
 abbrev pub table_of : List Row → Table
 table_of rows = map (λ row. (row.id, cell_of_row row)) rows
 
--- the rows that the puts make
-abbrev pub rows_of_puts : List Put → Table
-rows_of_puts puts = map (λ put. (put.id, cell_of_put put)) puts
+-- the rows that the puts make at this position
+abbrev pub rows_of_puts : ℕ → List Put → Table
+rows_of_puts position puts = map (λ put. (put.id, cell_of_put position put)) puts
 
 abbrev pub numbers_of : List EntryNo → List ℕ
 numbers_of entries = map (λ entry. entry.0) entries

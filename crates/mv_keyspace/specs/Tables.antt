@@ -1,6 +1,6 @@
--- The table of a node: each live record with its value and the directory entry that holds it, in the order of records.
+-- The table of a node: each live record with its value, the directory entry that holds it and the position of its change, in the order of records.
 use Rattle.std.specs.Prelude.{◌≡◌, ℕ, not, ◌⊎◌, ◌↔◌, List, [], ◌∷◌, map, Option, Some, Contains, IsTrue}
-use Rattle.std.specs.List.{flat_map}
+use Rattle.std.specs.List.{IsDistinct, flat_map}
 use Rattle.std.specs.Ordering.{eq_by_cmp}
 use Rattle.std.specs.Cmp.Lexicographic.{pointwise}
 use Rattle.std.specs.Prelude.{nat_eq}
@@ -20,6 +20,8 @@ pub record Cell : Type 0 where
   pub value : List ℕ
   -- the number of its entry
   pub entry : ℕ
+  -- the position of the list at which it was put
+  pub position : ℕ
 
 abbrev pub Table : Type 0
 Table = List (RecordId × Cell)
@@ -40,24 +42,26 @@ without_row id = where_key record_cmp (λ other. not (eq_by_cmp record_cmp other
 abbrev pub without_rows : List ℕ → Table → Table
 without_rows key = where_key record_cmp (λ other. not (pointwise nat_eq (key_of other) key))
 
-abbrev pub cell_of_put : Put → Cell
-cell_of_put put = record { value = put.value; entry = put.entry.0 }
+-- what a put at this position makes
+abbrev pub cell_of_put : ℕ → Put → Cell
+cell_of_put position put = record { value = put.value; entry = put.entry.0; position = position }
 
 -- the table after a put of this record
 abbrev pub placed_at : RecordId → Cell → Table → Table
 placed_at (Str key) cell table = with_cell (Str key) cell (without_rows key table)
 placed_at (Field key field) cell table = with_cell (Field key field) cell (without_row (Str key) table)
 
--- the table after a change: as `play` of keyspaces, with the places
-abbrev pub place : Table → PlacedChange → Table
-place table (placed.Put put) = placed_at put.id (cell_of_put put) table
-place table (placed.Drop id) = without_row id table
-place table (placed.DropKey key) = without_rows key table
-place table placed.Clear = []
+-- the table after a change that is made at this position: as `play` of keyspaces, with the places
+abbrev pub place : ℕ → Table → PlacedChange → Table
+place position table (placed.Put put) = placed_at put.id (cell_of_put position put) table
+place position table (placed.Drop id) = without_row id table
+place position table (placed.DropKey key) = without_rows key table
+place position table placed.Clear = []
 
-abbrev pub place_all : Table → List PlacedChange → Table
-place_all table [] = table
-place_all table (change ∷ changes) = place_all (place table change) changes
+-- the table after changes that are made at one position
+abbrev pub place_all : ℕ → Table → List PlacedChange → Table
+place_all position table [] = table
+place_all position table (change ∷ changes) = place_all position (place position table change) changes
 
 -- the entries of the live records
 abbrev pub entries_of : Table → List ℕ
@@ -78,14 +82,24 @@ AreFresh table [] = Unit {0}
 AreFresh table (put ∷ puts) =
     (¬ Contains (entries_of table) put.entry.0) × (¬ IsTrue (is_put_at put.entry.0 puts)) × AreFresh table puts
 
--- These are just the entries that the changes ended: those that were live before, or that the changes made, and are not live after them.
-abbrev pub AreEnded : Table → List PlacedChange → List EntryNo → Type 0
-AreEnded table changes ended =
-    (i : ℕ) → Contains (map (λ entry. entry.0) ended) i
-    ↔ ((Contains (entries_of table) i ⊎ IsTrue (is_put_at i (puts_of changes))) × (¬ Contains (entries_of (place_all table changes)) i))
+-- Of the numbers of entries each is named once, and they are just those that the changes ended: those that were live before, or that the changes
+-- made, and are not live after them.
+pub record AreNumbersEnded (position : ℕ) (table : Table) (changes : List PlacedChange) (numbers : List ℕ) : Type 0 where
+  pub once : IsDistinct nat_eq numbers
+  pub these : (i : ℕ) → Contains numbers i
+      ↔ ((Contains (entries_of table) i ⊎ IsTrue (is_put_at i (puts_of changes))) × (¬ Contains (entries_of (place_all position table changes)) i))
 
--- The table has just the versions that are live, each with its entry.
+-- These are just the entries that the changes ended, each named once.
+abbrev pub AreEnded : ℕ → Table → List PlacedChange → List EntryNo → Type 0
+AreEnded position table changes ended = AreNumbersEnded position table changes (map (λ entry. entry.0) ended)
+
+-- the cell's entry holds the record now: it has a live version of this value, made at this position
+pub record IsCellOf (versions : Versions) (id : RecordId) (cell : Cell) : Type 0 where
+  pub live : IsLive versions cell.entry id cell.value
+  pub position_is : cell.position ≡ live.version.position
+
+-- The table has just the versions that are live, each with its entry and its position.
 pub record IsTable (versions : Versions) (table : Table) : Type 0 where
   pub keyspace : IsKeyspace (records table)
-  pub live : (id : RecordId) (cell : Cell) → cell_at table id ≡ Some cell → IsLive versions cell.entry id cell.value
-  pub found : (i : ℕ) (id : RecordId) (value : List ℕ) → IsLive versions i id value → cell_at table id ≡ Some (record { value = value; entry = i })
+  pub live : (id : RecordId) (cell : Cell) → cell_at table id ≡ Some cell → IsCellOf versions id cell
+  pub found : (id : RecordId) (cell : Cell) → IsCellOf versions id cell → cell_at table id ≡ Some cell

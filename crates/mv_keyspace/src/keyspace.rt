@@ -10,9 +10,9 @@ use kv_types::{EntryNo, Refusal, Value};
 use model::PlacedChange;
 use std::alloc::Global;
 
-/// The live records of a node, each with its value and its entry.
+/// The live records of a node, each with its value, its entry and the position of its change.
 pub trait Keyspace {
-    /// Each live record with its value and its entry, in the order of records.
+    /// Each live record with its value, its entry and the position at which it was put, in the order of records.
     ghost table: { Self → Table };
 
     /// The string at a key, or `None` where there is none.
@@ -29,8 +29,8 @@ pub trait Keyspace {
     ) -> Result<Vec<EntryNo>, Refusal>
         requires lawful { IsLawful (table self.old) }
         requires fresh { AreFresh (table self.old) (puts_of changes.now) }
-        ensures table { OnOk result (table self.new ≡ place_all (table self.old) changes.now) }
-        ensures ended { IfOk result (λ ended. AreEnded (table self.old) changes.now ended.items) }
+        ensures table { OnOk result (table self.new ≡ place_all position (table self.old) changes.now) }
+        ensures ended { IfOk result (λ ended. AreEnded position (table self.old) changes.now ended.items) }
         ensures err { OnErr result (table self.new ≡ table self.old) }
         ensures cause { IfErr result (λ refusal. refusal ≡ Memory) };
 }

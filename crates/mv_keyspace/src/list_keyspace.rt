@@ -103,7 +103,7 @@ fn is_string_at(id: &RecordId, key: &[u8]) -> bool
 
 /// The rows that the puts among the changes make, in order.
 fn stage(alloc: Global, changes: &[PlacedChange], position: u64) -> Result<Vec<Row>, Refusal>
-    ensures ok { IfOk result (λ staged. table_of staged.items ≡ rows_of_puts (puts_of changes.now)) }
+    ensures ok { IfOk result (λ staged. table_of staged.items ≡ rows_of_puts position (puts_of changes.now)) }
     ensures cause { IfErr result (λ refusal. refusal ≡ Refusal.Memory) }
 {
     let mut staged = Vec::new(alloc);
@@ -117,8 +117,7 @@ fn stage(alloc: Global, changes: &[PlacedChange], position: u64) -> Result<Vec<R
 
 fn row_of(put: &Put, position: u64) -> Result<Row, AllocError>
     ensures id { IfOk result (λ row. row.id ≡ put.now.id) }
-    ensures cell { IfOk result (λ row. cell_of_row row ≡ cell_of_put put.now) }
-    ensures position { IfOk result (λ row. row.position ≡ position) }
+    ensures cell { IfOk result (λ row. cell_of_row row ≡ cell_of_put position put.now) }
 {
     Ok(Row {
         id: put.id.clone()?,
@@ -128,16 +127,18 @@ fn row_of(put: &Put, position: u64) -> Result<Row, AllocError>
     })
 }
 
-/// Makes the changes. There is room for all that they add.
+/// Makes the changes, whose puts have their rows staged. There is room for all that they add.
 fn play(rows: &mut Vec<Row>, changes: &[PlacedChange], staged: Vec<Row>, ended: &mut Vec<EntryNo>)
     requires lawful { IsLawful (table_of rows.old.items) }
     requires fresh { AreFresh (table_of rows.old.items) (puts_of changes.now) }
-    requires staged { table_of staged.items ≡ rows_of_puts (puts_of changes.now) }
+    requires staged { (position : ℕ) × (table_of staged.items ≡ rows_of_puts position (puts_of changes.now)) }
     requires none { ended.old.items ≡ [] }
     requires room { vec_len rows.old + vec_len staged ≤ vec_capacity rows.old }
     requires room_for_ended { vec_len rows.old + vec_len staged ≤ vec_capacity ended.old }
-    ensures table { table_of rows.new.items ≡ place_all (table_of rows.old.items) changes.now }
-    ensures ended { AreEnded (table_of rows.old.items) changes.now ended.new.items }
+    ensures table { (position : ℕ) → table_of staged.items ≡ rows_of_puts position (puts_of changes.now)
+        → table_of rows.new.items ≡ place_all position (table_of rows.old.items) changes.now }
+    ensures ended { (position : ℕ) → table_of staged.items ≡ rows_of_puts position (puts_of changes.now)
+        → AreEnded position (table_of rows.old.items) changes.now ended.new.items }
 {
     let mut staged = staged.into_iter();
     for change in changes {

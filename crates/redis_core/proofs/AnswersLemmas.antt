@@ -134,7 +134,7 @@ keyspace_moved [] old new moves = ap records moves.table
 keyspace_moved (change ∷ changes) old new moves =
     let part = moves.0 in
     let performs = moves.1.performs in
-    ap records performs.table_is ∙ records-place_all old.table part.changes.items ∙ ap (play_all (records old.table)) performs.changes_are
+    ap records performs.table_is ∙ records-place_all part.position old.table part.changes.items ∙ ap (play_all (records old.table)) performs.changes_are
 
 position_moved : (changes : List Change) (old new : Sequencing) → Moves changes old new → new.position ≡ old.position + (if is_nonempty changes then 1 else 0)
 position_moved [] old new moves = omega (arith, moves.position)

@@ -33,11 +33,11 @@ module _ (table : Table) (room : Room) (is : IsBeside table room) (changes : Lis
   pub beside_fresh : AreFresh table (puts_of changes)
   beside_fresh = fresh-from_table is.versions table (puts_of changes) is.table_is puts_empty puts_distinct
 
-  pub beside_after : IsBeside (place_all table changes) left
-  beside_after = record {
-    versions = changes_versions 0 is.versions changes;
-    table_is = IsTable-changes 0 is.versions table changes puts_empty puts_distinct is.table_is;
+  pub beside_after : (position : ℕ) → IsBeside (place_all position table changes) left
+  beside_after position = record {
+    versions = changes_versions position is.versions changes;
+    table_is = IsTable-changes position is.versions table changes puts_empty puts_distinct is.table_is;
     empty = λ i free.
-        changes_versions-none 0 is.versions changes i (is.empty i ((places_within room (puts_of changes) left takes).entries i free))
+        changes_versions-none position is.versions changes i (is.empty i ((places_within room (puts_of changes) left takes).entries i free))
         (not_put_at left (puts_of changes) i (places_taken room (puts_of changes) left takes) free);
   }

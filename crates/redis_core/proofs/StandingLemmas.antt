@@ -89,8 +89,8 @@ module _ (s : Sequencing) (contents : Contents) (stands : StandsFor s contents) 
   new_distinct : AreDistinct (puts_of_part part)
   new_distinct = AreDistinct-from_apart (puts_of_part part) (places_apart s.room (puts_of_part part) room takes)
 
-  pub StandsFor-part : (closed : List Bool) → part.position ≡ s.position + 1 → AreEnded s.table part.changes.items part.ended.items
-      → StandsFor (record { table = place_all s.table part.changes.items; room = room; position = part.position; before = s.before; waiting = s.waiting ++ part ∷ []; closed = closed }) contents
+  pub StandsFor-part : (closed : List Bool) → part.position ≡ s.position + 1 → AreEnded part.position s.table part.changes.items part.ended.items
+      → StandsFor (record { table = place_all part.position s.table part.changes.items; room = room; position = part.position; before = s.before; waiting = s.waiting ++ part ∷ []; closed = closed }) contents
   StandsFor-part closed next ended =
       let old = puts_of_parts s.waiting in
       let new = puts_of_part part in
@@ -109,7 +109,7 @@ module _ (s : Sequencing) (contents : Contents) (stands : StandsFor s contents) 
         apart = subst AreAllApart (sym puts) (AreAllApart-append s.room old new stands.apart (places_apart s.room new room takes) stands.taken new_free);
         taken = All (IsTaken room) (All-map (IsTaken s.room) (IsTaken room) (λ put. taken_within room s.room put within) old stands.taken) (places_taken s.room new room takes);
         left = left_within contents room s.room within stands.left;
-        table = subst (λ versions. IsTable versions (place_all s.table part.changes.items)) (sym (parts_versions-append contents.versions s.waiting part))
+        table = subst (λ versions. IsTable versions (place_all part.position s.table part.changes.items)) (sym (parts_versions-append contents.versions s.waiting part))
             (IsTable-changes part.position (parts_versions contents.versions s.waiting) s.table part.changes.items new_empty new_distinct stands.table);
       }
 

@@ -24,8 +24,8 @@ pub record Performs (old : Table) (room : Room) (position : ℕ) (changes : List
   pub changes_are : changes_of_part part ≡ changes
   pub position_is : part.position ≡ position
   pub places : TakesPlaces room (puts_of_part part) left
-  pub table_is : new ≡ place_all old part.changes.items
-  pub ended : AreEnded old part.changes.items part.ended.items
+  pub table_is : new ≡ place_all part.position old part.changes.items
+  pub ended : AreEnded part.position old part.changes.items part.ended.items
 
 -- One more part waits, which is these changes, made at the next position.
 pub record AddsPart (old : Sequencing) (part : Part) (changes : List Change) (new : Sequencing) : Type 0 where

@@ -99,7 +99,7 @@ still_free a b free none = ap (λ x. x && not b) free ∙ ap not none
 
 -- places were taken for the puts of a part, and its ended entries are those of the table
 module _ (contents : Contents) (table : Table) (room : Room) (follows : Follows contents table room) (part : Part) (left : Room) (takes : TakesPlaces room (puts_of_part part) left)
-    (ended : AreEnded table part.changes.items part.ended.items) where
+    (ended : AreEnded part.position table part.changes.items part.ended.items) where
   abbrev puts : List Put
   puts = puts_of_part part
 
@@ -177,11 +177,11 @@ module _ (contents : Contents) (table : Table) (room : Room) (follows : Follows 
   }
 
   -- the tables follow what the commit makes of the contents
-  pub Follows-after : (group : Group) → group.parts.items ≡ part ∷ [] → IsGroup contents group → Follows (after_group contents group) (place_all table part.changes.items) left
+  pub Follows-after : (group : Group) → group.parts.items ≡ part ∷ [] → IsGroup contents group → Follows (after_group contents group) (place_all part.position table part.changes.items) left
   Follows-after group one is = record {
     consistent = IsConsistent-after_group contents group follows.consistent is;
     left = subst (λ items. IsLeftOf (after_parts items) left) (sym one) left_after;
-    table_is = subst (λ items. IsTable (parts_versions contents.versions items) (place_all table part.changes.items)) (sym one)
+    table_is = subst (λ items. IsTable (parts_versions contents.versions items) (place_all part.position table part.changes.items)) (sym one)
         (IsTable-changes part.position contents.versions table part.changes.items empty distinct follows.table_is);
   }
 
@@ -217,10 +217,10 @@ module _ (contents : Contents) (table : Table) (frame : Frame) (part : Part) (sa
   position_after : (after_group contents group).current.position ≡ frame.after
   position_after = ap (last_position contents.current.position) one ∙ at
 
-  keyspace_after : records (place_all table part.changes.items) ≡ play_all (records table) frame.changes.items
-  keyspace_after = records-place_all table part.changes.items ∙ ap (play_all (records table)) same
+  keyspace_after : records (place_all part.position table part.changes.items) ≡ play_all (records table) frame.changes.items
+  keyspace_after = records-place_all part.position table part.changes.items ∙ ap (play_all (records table)) same
 
-  pub HasTaken-group : (after : Contents) (table' : Table) → Same (after_group contents group) after → table' ≡ place_all table part.changes.items → HasTaken frame contents after table table'
+  pub HasTaken-group : (after : Contents) (table' : Table) → Same (after_group contents group) after → table' ≡ place_all part.position table part.changes.items → HasTaken frame contents after table table'
   HasTaken-group after table' stays is = record {
     position = ap (λ (r : Record). r.position) stays.current ∙ position_after;
     keyspace = ap records is ∙ keyspace_after;
@@ -229,7 +229,7 @@ module _ (contents : Contents) (table : Table) (frame : Frame) (part : Part) (sa
     epoch = ap (λ (r : Record). r.epoch) stays.current;
   }
 
-  pub IsWhole-group : (room : Room) → Follows (after_group contents group) (place_all table part.changes.items) room → IsWhole frame contents table (after_group contents group)
+  pub IsWhole-group : (room : Room) → Follows (after_group contents group) (place_all part.position table part.changes.items) room → IsWhole frame contents table (after_group contents group)
   IsWhole-group room follows = record {
     position = position_after;
     line_count = refl;
@@ -237,11 +237,11 @@ module _ (contents : Contents) (table : Table) (frame : Frame) (part : Part) (sa
     epoch = refl;
     consistent = follows.consistent;
     map = subst (IsMapOf (after_group contents group).versions (entries_of_lines contents.lines)) keyspace_after
-        (map-from_table (after_group contents group).versions (entries_of_lines contents.lines) (place_all table part.changes.items) follows.consistent.beyond follows.table_is);
+        (map-from_table (after_group contents group).versions (entries_of_lines contents.lines) (place_all part.position table part.changes.items) follows.consistent.beyond follows.table_is);
   }
 
   -- at each moment of the commit
-  pub LeavesOnly-group : (device device' : State) (room : Room) → Follows (after_group contents group) (place_all table part.changes.items) room
+  pub LeavesOnly-group : (device device' : State) (room : Room) → Follows (after_group contents group) (place_all part.position table part.changes.items) room
       → LeavesOnly device device' (λ image. Keeps contents image ⊎ Keeps (after_group contents group) image) → LeavesOnly device device' (IsBeforeOrWhole frame contents table)
   LeavesOnly-group device device' room follows run = LeavesOnly-weaken (IsBeforeOrWhole frame contents table) (λ image. whole image) run
     where

@@ -61,12 +61,12 @@ module _ (versions : Versions) (position : ℕ) (start : Room) (parts : List Par
   pub grown-beside : IsBeside table room
   grown-beside = record { versions = parts_versions versions parts; table_is = grown.table_is; empty = empty }
 
-  pub grown-more : (part : Part) (left : Room) → TakesPlaces room (puts_of_part part) left → AreEnded table part.changes.items part.ended.items → last_position position parts < part.position
-      → IsGrown versions position start (parts ++ part ∷ []) (place_all table part.changes.items) left
+  pub grown-more : (part : Part) (left : Room) → TakesPlaces room (puts_of_part part) left → AreEnded part.position table part.changes.items part.ended.items → last_position position parts < part.position
+      → IsGrown versions position start (parts ++ part ∷ []) (place_all part.position table part.changes.items) left
   grown-more part left takes ended later = record {
     takes = subst (λ puts. TakesPlaces start puts left) (sym (puts-more parts part)) (TakesPlaces-append start (flat_map puts_of_part parts) (puts_of_part part) room left grown.takes takes);
     parts_are = AreParts-more position versions parts part grown.parts_are later (names-ended now table part puts_empty puts_distinct grown.table_is ended);
-    table_is = subst (λ (v : Versions). IsTable v (place_all table part.changes.items)) (sym (versions-more versions parts part)) (IsTable-changes part.position now table part.changes.items puts_empty puts_distinct grown.table_is);
+    table_is = subst (λ (v : Versions). IsTable v (place_all part.position table part.changes.items)) (sym (versions-more versions parts part)) (IsTable-changes part.position now table part.changes.items puts_empty puts_distinct grown.table_is);
   }
     where
       now : Versions

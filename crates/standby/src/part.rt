@@ -25,8 +25,8 @@ pub(crate) fn make_part<K: Keyspace>(
     ensures position { IfOk result (λ part. part.position ≡ frame.now.after) }
     ensures same { IfOk result (λ part. map change_of part.changes.items ≡ frame.now.changes.items) }
     ensures places { IfOk result (λ part. TakesPlaces heap.old (puts_of part.changes.items) heap.new) }
-    ensures table { IfOk result (λ part. K.table keyspace.new ≡ place_all (K.table keyspace.old) part.changes.items) }
-    ensures ended { IfOk result (λ part. AreEnded (K.table keyspace.old) part.changes.items part.ended.items) }
+    ensures table { IfOk result (λ part. K.table keyspace.new ≡ place_all part.position (K.table keyspace.old) part.changes.items) }
+    ensures ended { IfOk result (λ part. AreEnded part.position (K.table keyspace.old) part.changes.items part.ended.items) }
     ensures err { OnErr result ((heap.new ≡ heap.old) × (K.table keyspace.new ≡ K.table keyspace.old)) }
     ensures causes { IfErr result (λ refusal. (refusal ≡ Refusal.Full) ⊎ (refusal ≡ Refusal.Memory)) }
     ensures full_only { IsErrOf result Refusal.Full → ¬ HasRoomFor heap.old frame.now.changes.items }

@@ -12,8 +12,9 @@ loop-change-init c = record {
       let table = table_of c.args.rows.now.items in
       let changes = c.args.changes.now in
       let staged = table_of (into_iter_items c.into_iter-staged.result) in
-      subst (λ ended. Playing table changes table changes staged ended) (sym (ap numbers_of c.requires.none))
-      (playing-start table changes staged c.requires.lawful c.requires.fresh (ap table_of c.into_iter-staged.ensures.rest ∙ c.requires.staged));
+      λ position is.
+      subst (λ ended. Playing position table changes table changes staged ended) (sym (ap numbers_of c.requires.none))
+      (playing-start position table changes staged c.requires.lawful c.requires.fresh (ap table_of c.into_iter-staged.ensures.rest ∙ is));
   room = omega (arith, c.into_iter-staged.ensures.len, c.requires.room);
   room_for_ended =
       let none = ap length c.requires.none in
@@ -23,8 +24,8 @@ loop-change-init c = record {
 pub put_row-requires-clause-absent : goal.put_row-requires-clause-absent
 put_row-requires-clause-absent c =
     let row = c.unwrap-row.result in
-    absent-step (table_of c.args.rows.now.items) c.args.changes.now (table_of c.loop-change.rows.items) c.loop-change.change-index c.change-item.result (table_of (into_iter_items c.loop-change.staged)) (numbers_of c.loop-change.ended.items)
-    c.loop-change.invariant.playing c.loop-change-test.true c.change-item.is c.in-Put.field-0 c.in-Put.is row.id (cell_of_row row) (table_of (into_iter_items c.next.new.self))
+    absent-step c.requires.staged.0 (table_of c.args.rows.now.items) c.args.changes.now (table_of c.loop-change.rows.items) c.loop-change.change-index c.change-item.result (table_of (into_iter_items c.loop-change.staged)) (numbers_of c.loop-change.ended.items)
+    (c.loop-change.invariant.playing c.requires.staged.0 c.requires.staged.1) c.loop-change-test.true c.change-item.is c.in-Put.field-0 c.in-Put.is row.id (cell_of_row row) (table_of (into_iter_items c.next.new.self))
     (ap table_of (c.next.ensures.items ∙ ap (λ r. option_to_list r ++ into_iter_items c.next.new.self) c.unwrap-row.ensures))
     (table_of c.end_rows.new.rows.items) c.end_rows.ensures.table
 
@@ -47,9 +48,9 @@ loop-change-preserved c =
           let rows_room = ap (λ v. vec_capacity v) w.rows-is in
           let left_len = ap (λ s. into_iter_len s) w.staged-is in
           record {
-            playing =
-                subst₂ (λ t s. Playing start changes t (drop (n + 1) changes) s named) (ap (λ v. table_of v.items) (sym w.rows-is)) (ap (λ s. table_of (into_iter_items s)) (sym w.staged-is))
-                (put-step start changes (table_of c.loop-change.rows.items) n change waiting ended c.loop-change.invariant.playing c.loop-change-test.true c.change-item.is w.in-Put.field-0 w.in-Put.is
+            playing = λ position is.
+                subst₂ (λ t s. Playing position start changes t (drop (n + 1) changes) s named) (ap (λ v. table_of v.items) (sym w.rows-is)) (ap (λ s. table_of (into_iter_items s)) (sym w.staged-is))
+                (put-step position start changes (table_of c.loop-change.rows.items) n change waiting ended (c.loop-change.invariant.playing position is) c.loop-change-test.true c.change-item.is w.in-Put.field-0 w.in-Put.is
                 row.id (cell_of_row row) (table_of (into_iter_items w.next.new.self)) (ap table_of (w.next.ensures.items ∙ ap (λ r. option_to_list r ++ into_iter_items w.next.new.self) w.unwrap-row.ensures))
                 left (table_of w.put_row.new.rows.items) c.end_rows.ensures.table w.put_row.ensures.table named c.end_rows.ensures.ended);
             room = omega (arith, taken, rows_len, rows_room, left_len, w.next.ensures.len, w.put_row.ensures.len, w.put_row.ensures.capacity, c.end_rows.ensures.rows_len, c.end_rows.ensures.capacity, c.loop-change.invariant.room);
@@ -60,9 +61,9 @@ loop-change-preserved c =
           let rows_room = ap (λ v. vec_capacity v) w.rows-is in
           let left_len = ap (λ s. into_iter_len s) w.staged-is in
           record {
-            playing =
-                subst₂ (λ t s. Playing start changes t (drop (n + 1) changes) s named) (ap (λ v. table_of v.items) (sym w.rows-is)) (ap (λ s. table_of (into_iter_items s)) (sym w.staged-is))
-                (other-step start changes (table_of c.loop-change.rows.items) n change waiting ended c.loop-change.invariant.playing c.loop-change-test.true c.change-item.is
+            playing = λ position is.
+                subst₂ (λ t s. Playing position start changes t (drop (n + 1) changes) s named) (ap (λ v. table_of v.items) (sym w.rows-is)) (ap (λ s. table_of (into_iter_items s)) (sym w.staged-is))
+                (other-step position start changes (table_of c.loop-change.rows.items) n change waiting ended (c.loop-change.invariant.playing position is) c.loop-change-test.true c.change-item.is
                 (makes_none change w.in_default.not-Put) left c.end_rows.ensures.table named c.end_rows.ensures.ended);
             room = omega (arith, rows_len, rows_room, left_len, c.end_rows.ensures.rows_len, c.end_rows.ensures.capacity, c.loop-change.invariant.room);
             room_for_ended = omega (arith, lent, rows_len, left_len, c.end_rows.ensures.capacity_for_ended, c.loop-change.invariant.room_for_ended);
@@ -70,11 +71,11 @@ loop-change-preserved c =
     ]
 
 pub returns-clause-ended : goal.returns-clause-ended
-returns-clause-ended c =
+returns-clause-ended c = λ position is.
     let changes = c.args.changes.now in
     let start = table_of c.args.rows.now.items in
     let table = table_of c.loop-change.rows.items in
     let waiting = table_of (into_iter_items c.loop-change.staged) in
     let ended = numbers_of c.loop-change.ended.items in
-    (playing-end start changes table waiting ended
-    (subst (λ rest. Playing start changes table rest waiting ended) (drop_of_length-le changes c.loop-change-test.false) c.loop-change.invariant.playing)).1
+    (playing-end position start changes table waiting ended
+    (subst (λ rest. Playing position start changes table rest waiting ended) (drop_of_length-le changes c.loop-change-test.false) (c.loop-change.invariant.playing position is))).1

@@ -4,4 +4,4 @@ use Rattle.mv_keyspace.specs.Rows.{table_of, rows_of_puts}
 use Rattle.mv_keyspace.proofs.list_keyspace.stage.Given as goal
 
 abbrev pub invariant-loop-change : goal.invariant-loop-change
-invariant-loop-change l = table_of l.staged.items ++ rows_of_puts (puts_of (drop l.change-index l.changes)) ≡ rows_of_puts (puts_of l.changes)
+invariant-loop-change l = table_of l.staged.items ++ rows_of_puts l.position (puts_of (drop l.change-index l.changes)) ≡ rows_of_puts l.position (puts_of l.changes)

@@ -20,12 +20,12 @@ returns-in-Ok-clause-ok g c =
       changes_are = c.in_ok-changes.ensures.same;
       position_is = refl;
       places = c.in_ok-changes.ensures.places;
-      table_is = subst (λ changes. g.K.Keyspace.table c.apply.new.self ≡ place_all table changes) c.as_slice.ensures.value c.in-Ok.ensures.table;
-      ended = subst (λ changes. AreEnded table changes c.in-Ok.ended.items) c.as_slice.ensures.value c.in-Ok.ensures.ended;
+      table_is = subst (λ changes. g.K.Keyspace.table c.apply.new.self ≡ place_all c.args.position table changes) c.as_slice.ensures.value c.in-Ok.ensures.table;
+      ended = subst (λ changes. AreEnded c.args.position table changes c.in-Ok.ended.items) c.as_slice.ensures.value c.in-Ok.ensures.ended;
     }
 
 pub returns-in-Ok-clause-beside : goal.returns-in-Ok-clause-beside
 returns-in-Ok-clause-beside g c =
     let table = g.K.Keyspace.table c.args.keyspace.now in
-    subst (λ after. IsBeside after c.place_all.new.heap) (sym (subst (λ changes. g.K.Keyspace.table c.apply.new.self ≡ place_all table changes) c.as_slice.ensures.value c.in-Ok.ensures.table))
-    (beside_after table c.args.heap.now c.requires c.in_ok-changes.changes.items c.place_all.new.heap c.in_ok-changes.ensures.places)
+    subst (λ after. IsBeside after c.place_all.new.heap) (sym (subst (λ changes. g.K.Keyspace.table c.apply.new.self ≡ place_all c.args.position table changes) c.as_slice.ensures.value c.in-Ok.ensures.table))
+    (beside_after table c.args.heap.now c.requires c.in_ok-changes.changes.items c.place_all.new.heap c.in_ok-changes.ensures.places c.args.position)

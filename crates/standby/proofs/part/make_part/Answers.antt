@@ -14,4 +14,4 @@ apply-requires-clause-fresh g c =
 
 pub returns-in-Ok-clause-ended : goal.returns-in-Ok-clause-ended
 returns-in-Ok-clause-ended g c =
-    subst (λ changes. AreEnded (g.K.Keyspace.table c.args.keyspace.now) changes c.in-Ok.ended.items) c.deref-2.ensures.value c.in-Ok.ensures.ended
+    subst (λ changes. AreEnded c.args.frame.now.after (g.K.Keyspace.table c.args.keyspace.now) changes c.in-Ok.ended.items) c.deref-2.ensures.value c.in-Ok.ensures.ended

@@ -26,7 +26,7 @@ is_group g c =
 
 -- the tables after the part are those of the contents after the group
 follows_after : (g : Over) (c : After-push_reserved g)
-    → Follows (after_group (g.E.Durable.contents c.args.self.now.engine) (the_group g c)) (place_all (g.K.Keyspace.table c.args.self.now.keyspace) c.in_ok-part.part.changes.items) c.make_part.new.heap
+    → Follows (after_group (g.E.Durable.contents c.args.self.now.engine) (the_group g c)) (place_all c.in_ok-part.part.position (g.K.Keyspace.table c.args.self.now.keyspace) c.in_ok-part.part.changes.items) c.make_part.new.heap
 follows_after g c =
     Follows-after (g.E.Durable.contents c.args.self.now.engine) (g.K.Keyspace.table c.args.self.now.keyspace) c.args.self.now.heap c.requires.follows c.in_ok-part.part c.make_part.new.heap
     c.in_ok-part.ensures.places c.in_ok-part.ensures.ended (the_group g c) (one g c) (is_group g c)

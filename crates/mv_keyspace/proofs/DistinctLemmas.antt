@@ -1,0 +1,67 @@
+-- Numbers of entries that stand once each.
+use Rattle.std.proofs.Common.{◌≡◌, ℕ, Bool, false, cond, List, [], ◌∷◌, ◌++◌, Some, None, Contains, IsTrue, nat_eq, refl, sym, ap, subst, ◌∙◌, ne_eqb, arith}
+use Rattle.std.proofs.lemmas.Bool.{and_parts}
+use Rattle.std.proofs.lemmas.Option.{none-some}
+use Rattle.std.specs.List.{AllByRecursion, IsDistinct}
+use Rattle.std.specs.FinMap.Entries.{is_sorted, below_all}
+use Rattle.kv_types.specs.declared.record_id.RecordId.{RecordId}
+use Rattle.kv_types.specs.Keyspaces.{record_cmp}
+use Rattle.mv_keyspace.specs.Tables.{Cell, Table, cell_at, entries_of}
+use Rattle.mv_keyspace.proofs.TableMembers.{IsSortedTable, found-from_entry, found-first, found-later, missed-below}
+
+-- ---- lists of numbers
+
+here : (x : ℕ) (xs : List ℕ) → Contains (x ∷ xs) x
+here x xs = (0, omega arith, refl)
+
+later : (x y : ℕ) (xs : List ℕ) → Contains xs y → Contains (x ∷ xs) y
+later x y xs m = (m.0 + 1, omega (arith, m.1), m.2)
+
+all_other : (x : ℕ) (xs : List ℕ) → ¬ Contains xs x → AllByRecursion (λ y. nat_eq x y ≡ false) xs
+all_other x [] none = tt
+all_other x (y ∷ xs) none = (ne_eqb x y (λ same. none (subst (λ z. Contains (y ∷ xs) z) (sym same) (here y xs))), all_other x xs (λ m. none (later y x xs m)))
+
+all_append : (P : ℕ → Type 0) (xs ys : List ℕ) → AllByRecursion P xs → AllByRecursion P ys → AllByRecursion P (xs ++ ys)
+all_append P [] ys h k = k
+all_append P (x ∷ xs) ys h k = (h.0, all_append P xs ys h.1 k)
+
+pub distinct-none : IsDistinct nat_eq []
+unfolding IsDistinct
+distinct-none = tt
+
+distinct-more : (x : ℕ) (xs : List ℕ) → AllByRecursion (λ y. nat_eq x y ≡ false) xs → IsDistinct nat_eq xs → IsDistinct nat_eq (x ∷ xs)
+unfolding IsDistinct
+distinct-more x xs others distinct = (others, distinct)
+
+distinct-parts : (x : ℕ) (xs : List ℕ) → IsDistinct nat_eq (x ∷ xs) → AllByRecursion (λ y. nat_eq x y ≡ false) xs × IsDistinct nat_eq xs
+unfolding IsDistinct
+distinct-parts x xs distinct = (distinct.0, distinct.1)
+
+-- two lists that share no number
+pub distinct-append : (xs ys : List ℕ) → IsDistinct nat_eq xs → IsDistinct nat_eq ys → ((i : ℕ) → Contains xs i → ¬ Contains ys i) → IsDistinct nat_eq (xs ++ ys)
+distinct-append [] ys distinct distinct' apart = distinct'
+distinct-append (x ∷ xs) ys distinct distinct' apart =
+    let parts = distinct-parts x xs distinct in
+    distinct-more x (xs ++ ys) (all_append (λ y. nat_eq x y ≡ false) xs ys parts.0 (all_other x ys (apart x (here x xs))))
+    (distinct-append xs ys parts.1 distinct' (λ i m. apart i (later x i xs m)))
+
+-- ---- the entries of a table
+
+-- no two rows have one entry
+abbrev pub HasEachOnce : Table → Type 0
+HasEachOnce table = (id other : RecordId) (cell cell' : Cell) → cell_at table id ≡ Some cell → cell_at table other ≡ Some cell' → cell.entry ≡ cell'.entry → id ≡ other
+
+pub entries-distinct : (table : Table) → IsSortedTable table → HasEachOnce table → IsDistinct nat_eq (entries_of table)
+entries-distinct [] sorted once = distinct-none
+entries-distinct (row ∷ table) sorted once =
+    distinct-more row.1.entry (entries_of table) (all_other row.1.entry (entries_of table) first_alone)
+    (entries-distinct table parts.1 (λ id other cell cell' found found' same. once id other cell cell' (found-later row table id cell parts.0 found) (found-later row table other cell' parts.0 found') same))
+  where
+    parts : IsTrue (below_all record_cmp row.0 table) × IsTrue (is_sorted record_cmp table)
+    parts = and_parts (below_all record_cmp row.0 table) (is_sorted record_cmp table) sorted
+
+    first_alone : ¬ Contains (entries_of table) row.1.entry
+    first_alone m =
+        let of = found-from_entry table row.1.entry parts.1 m in
+        let same = once row.0 of.id row.1 of.cell (found-first row table) (found-later row table of.id of.cell parts.0 of.found) (sym of.entry) in
+        none-some of.cell (sym (ap (cell_at table) (sym same) ∙ missed-below row.0 table parts.0) ∙ of.found)
