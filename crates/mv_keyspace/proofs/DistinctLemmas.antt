@@ -1,5 +1,5 @@
 -- Numbers of entries that stand once each.
-use Rattle.std.proofs.Common.{◌≡◌, ℕ, Bool, false, cond, List, [], ◌∷◌, ◌++◌, Some, None, Contains, IsTrue, nat_eq, refl, sym, ap, subst, ◌∙◌, ne_eqb, arith}
+use Rattle.std.proofs.Common.{◌≡◌, ℕ, suc, Bool, false, cond, List, [], ◌∷◌, ◌++◌, Some, None, Contains, IsTrue, nat_eq, refl, sym, ap, subst, ◌∙◌, ne_eqb, arith}
 use Rattle.std.proofs.lemmas.Bool.{and_parts}
 use Rattle.std.proofs.lemmas.Option.{none-some}
 use Rattle.std.specs.List.{AllByRecursion, IsDistinct}
@@ -15,7 +15,7 @@ here : (x : ℕ) (xs : List ℕ) → Contains (x ∷ xs) x
 here x xs = (0, omega arith, refl)
 
 later : (x y : ℕ) (xs : List ℕ) → Contains xs y → Contains (x ∷ xs) y
-later x y xs m = (m.0 + 1, omega (arith, m.1), m.2)
+later x y xs m = (suc m.0, omega (arith, m.1), m.2)
 
 all_other : (x : ℕ) (xs : List ℕ) → ¬ Contains xs x → AllByRecursion (λ y. nat_eq x y ≡ false) xs
 all_other x [] none = tt

@@ -20,7 +20,7 @@ use Rattle.model.specs.Commands.{Command, Get, Set, Misuse, UnknownName, WrongNu
 use Rattle.mv_keyspace.specs.Tables.{records}
 use Rattle.mv_keyspace.proofs.TableLemmas.{records-place_all}
 use Rattle.extent_heap.specs.Room.{Room}
-use Rattle.redis_core.specs.Places.{HasRoomFor}
+use Rattle.placing.specs.Places.{HasRoomFor}
 use Rattle.redis_core.specs.Sequencing.{Sequencing}
 use Rattle.redis_core.specs.Serving.{outcome_at, Serves, IsTooFull, refusal_reply, reply_of}
 use Rattle.redis_core.specs.Turns.{call_of, AddsPart, Moves, Answers}

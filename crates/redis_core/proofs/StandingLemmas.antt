@@ -1,75 +1,23 @@
 -- A sequencer goes on standing for the contents of an engine: where a part begins to wait, and where the oldest leaves as a group.
-use Rattle.std.proofs.Common.{◌≡◌, ℕ, ◌+◌, ◌-◌, ◌<◌, ◌≤◌, inl, inr, Bool, true, false, not, ◌&&◌, ◌||◌, cond, IsTrue, List, [], ◌∷◌, ◌++◌, length, nat_eq, Option, Some, None, refl, sym, ap, subst, ◌∙◌, arith, append-nil, ne_eqb}
-use Rattle.std.proofs.lemmas.Grind.{flat_map-append}
+use Rattle.std.proofs.Common.{◌≡◌, ℕ, ◌+◌, ◌<◌, Bool, false, ◌||◌, List, [], ◌∷◌, ◌++◌, None, refl, sym, ap, subst, ◌∙◌, arith, append-nil, ne_eqb}
 use Rattle.std.specs.List.{AllByRecursion}
 use Rattle.kv_types.specs.declared.change.Change.{Change}
 use Rattle.model.specs.declared.group.Group.{Group}
 use Rattle.model.specs.declared.group.Part.{Part}
 use Rattle.model.specs.declared.group.Put.{Put}
-use Rattle.model.specs.declared.group.PlacedChange.{PlacedChange}
-use Rattle.model.specs.declared.group.PlacedChange.TheVariants as placed
-use Rattle.model.specs.declared.group.TheConstants.{MAX_PARTS}
-use Rattle.model.specs.declared.image.TheConstants.{STAMP_WINDOW}
-use Rattle.model.specs.Images.{Version}
-use Rattle.model.specs.Groups.{Contents, Versions, IsGroup, after_group, change_of, put_of, puts_of_part, change_versions, changes_versions, part_versions, parts_versions, ended_where_begun, version_of_put, AreParts, NamesEnded, last_position, IsPlaced, IsApartFrom, IsUnused, AreApart, AreAllApart, HasItsLines, is_put_at}
-use Rattle.model.proofs.GroupsLemmas.{parts_versions-none, changes_versions-none, AreAllApart-front, AreAllApart-rest}
+use Rattle.model.specs.Groups.{Contents, IsGroup, after_group, puts_of_part, parts_versions, IsPlaced, IsApartFrom, IsUnused, AreApart, AreAllApart, HasItsLines, is_put_at}
+use Rattle.model.proofs.GroupsLemmas.{parts_versions-none, AreAllApart-front, AreAllApart-rest}
 use Rattle.extent_heap.specs.Room.{Room}
-use Rattle.mv_keyspace.specs.Tables.{Table, IsTable, AreEnded, puts_of, place_all}
+use Rattle.mv_keyspace.specs.Tables.{Table, IsTable, AreEnded, place_all}
 use Rattle.mv_keyspace.proofs.VersionTables.{AreEmpty}
 use Rattle.mv_keyspace.proofs.PartTables.{AreDistinct, IsTable-changes, names-ended}
-use Rattle.redis_core.specs.Places.{TakesPlaces}
-use Rattle.redis_core.specs.Sequencing.{Sequencing, puts_of_parts, HasNoFreeLine, IsTaken, IsLeftOf, StandsFor, Underlies, HandsOut, starts}
+use Rattle.placing.specs.Left.{IsTaken, IsLeftOf}
+use Rattle.placing.specs.Places.{TakesPlaces}
+use Rattle.placing.proofs.TakenLemmas.{All-map, All-both, All-front, All-rest, All-append, IsFree, taken_within, places_within, places_free, places_taken, places_fitting, places_apart, AreAllApart-append, not_put_at, AreDistinct-from_apart}
+use Rattle.placing.proofs.LeftLemmas.{placed_of_free, unused_of_free, swapped, left_within, HasGood, good_changes, after_parts, still_free, left-after}
+use Rattle.placing.proofs.PartsLemmas.{parts_versions-append, last_position-append, AreParts-append, puts_of_parts-append, IsGroup-alone}
+use Rattle.redis_core.specs.Sequencing.{Sequencing, puts_of_parts, StandsFor, Underlies, HandsOut, starts}
 use Rattle.redis_core.specs.Turns.{Moves}
-use Rattle.redis_core.proofs.TakenLemmas.{All-map, All-both, All-front, All-rest, All-append, IsFree, IsWithin, lines_within, lines_apart, taken_within, places_within, places_free, places_taken, places_fitting, places_apart, AreAllApart-append, not_put_at, AreDistinct-from_apart}
-
--- ---- one part more
-
-pub parts_versions-append : (versions : Versions) (parts : List Part) (part : Part) → parts_versions versions (parts ++ part ∷ []) ≡ part_versions (parts_versions versions parts) part
-parts_versions-append versions [] part = refl
-parts_versions-append versions (first ∷ parts) part = parts_versions-append (part_versions versions first) parts part
-
-last_position-append : (before : ℕ) (parts : List Part) (part : Part) → last_position before (parts ++ part ∷ []) ≡ part.position
-last_position-append before [] part = refl
-last_position-append before (first ∷ parts) part = last_position-append first.position parts part
-
-AreParts-append : (before : ℕ) (versions : Versions) (parts : List Part) (part : Part) → AreParts before versions parts → last_position before parts < part.position → NamesEnded (parts_versions versions parts) part → AreParts before versions (parts ++ part ∷ [])
-AreParts-append before versions [] part are later names = (later, names, tt)
-AreParts-append before versions (first ∷ parts) part are later names = (are.0, are.1, AreParts-append first.position (part_versions versions first) parts part are.2 later names)
-
-puts_of_parts-append : (parts : List Part) (part : Part) → puts_of_parts (parts ++ part ∷ []) ≡ puts_of_parts parts ++ puts_of_part part
-puts_of_parts-append parts part = flat_map-append puts_of_part parts (part ∷ []) ∙ ap (λ puts. puts_of_parts parts ++ puts) (append-nil (puts_of_part part))
-
--- ---- what is free of the heap is free in the contents
-
-placed_of_free : (contents : Contents) (room : Room) (put : Put) → IsLeftOf contents room → IsFree room put → IsPlaced contents.lines put
-placed_of_free contents room put left free =
-    let first = left.lines put.extent.first_line (free.run put.extent.first_line (omega arith) (omega (arith, free.some))) in
-    let end = put.extent.first_line + (put.extent.lines - 1) in
-    let last = left.lines end (free.run end (omega arith) (omega (arith, free.some))) in
-    record {
-      entry = (left.entries put.entry.0 free.entry).0;
-      above = first.0;
-      within = omega (arith, free.some, last.1);
-    }
-
-swapped : (first lines first' lines' : ℕ) → AreApart first lines first' lines' → AreApart first' lines' first lines
-swapped first lines first' lines' (inl h) = inr h
-swapped first lines first' lines' (inr h) = inl h
-
-unused_of_free : (contents : Contents) (room : Room) (put : Put) → IsLeftOf contents room → IsFree room put → IsUnused contents.versions contents.is_free put
-unused_of_free contents room put left free = record {
-  entry = (left.entries put.entry.0 free.entry).1;
-  lines = λ i version begun.
-      swapped version.first_line version.lines put.extent.first_line put.extent.lines
-      (lines_apart room version.first_line version.lines put.extent.first_line put.extent.lines (left.apart i version begun) free.some free.run);
-}
-
-left_within : (contents : Contents) (small large : Room) → IsWithin small large → IsLeftOf contents large → IsLeftOf contents small
-left_within contents small large within left = record {
-  entries = λ i free. left.entries i (within.entries i free);
-  lines = λ line free. left.lines line (within.lines line free);
-  apart = λ i version begun. lines_within small large version.first_line version.lines within (left.apart i version begun);
-}
 
 -- the entries of new puts hold nothing, also after the parts that wait
 empty_of_free : (contents : Contents) (room : Room) (waiting : List Part) (put : Put) → IsLeftOf contents room → AllByRecursion (IsTaken room) (puts_of_parts waiting) → IsFree room put
@@ -143,45 +91,6 @@ StandsFor-starts table room position closed contents under = record {
   table = under.table_is;
 }
 
--- ---- the lines of versions
-
-module _ (Good : ℕ → ℕ → Type 0) where
-  abbrev AllGood : Versions → Type 0
-  AllGood versions = (i : ℕ) (version : Version) → versions i ≡ Some version → Good version.first_line version.lines
-
-  abbrev HasGood : Put → Type 0
-  HasGood put = Good put.extent.first_line put.extent.lines
-
-  good_where_begun : (versions : Versions) (c : PlacedChange) → AllGood versions → (i : ℕ) (entry : Option Version) (version : Version) → versions i ≡ entry → ended_where_begun (change_of c) entry ≡ Some version
-      → Good version.first_line version.lines
-  good_where_begun versions c good i None version is begun = cc
-  good_where_begun versions c good i (Some old) version is begun =
-      let first : old.first_line ≡ version.first_line = cc in
-      let lines : old.lines ≡ version.lines = cc in
-      subst (Good version.first_line) lines (subst (λ n. Good n old.lines) first (good i old is))
-
-  good_with_put : (position : ℕ) (put : Put) (versions : Versions) → AllGood versions → HasGood put → (i : ℕ) (here : Bool) (version : Version) → cond here (Some (version_of_put position put)) (versions i) ≡ Some version
-      → Good version.first_line version.lines
-  good_with_put position put versions good new i true version begun =
-      let first : put.extent.first_line ≡ version.first_line = cc in
-      let lines : put.extent.lines ≡ version.lines = cc in
-      subst (Good version.first_line) lines (subst (λ n. Good n put.extent.lines) first new)
-  good_with_put position put versions good new i false version begun = good i version begun
-
-  good_change : (position : ℕ) (versions : Versions) (c : PlacedChange) → AllGood versions → AllByRecursion HasGood (put_of c) → AllGood (change_versions position versions c)
-  good_change position versions (placed.Put put) good new i version begun =
-      let ended = λ (j : ℕ). ended_where_begun (change_of (placed.Put put)) (versions j) in
-      good_with_put position put ended (λ j v e. good_where_begun versions (placed.Put put) good j (versions j) v refl e) new.0 i (nat_eq i put.entry.0) version begun
-  good_change position versions (placed.Drop id) good new i version begun = good_where_begun versions (placed.Drop id) good i (versions i) version refl begun
-  good_change position versions (placed.DropKey key) good new i version begun = good_where_begun versions (placed.DropKey key) good i (versions i) version refl begun
-  good_change position versions placed.Clear good new i version begun = good_where_begun versions placed.Clear good i (versions i) version refl begun
-
-  -- versions have lines that they had before, or those of a put
-  good_changes : (position : ℕ) (versions : Versions) (changes : List PlacedChange) → AllGood versions → AllByRecursion HasGood (puts_of changes) → AllGood (changes_versions position versions changes)
-  good_changes position versions [] good new = good
-  good_changes position versions (c ∷ changes) good new =
-      good_changes position (change_versions position versions c) changes (good_change position versions c good (All-front HasGood (put_of c) (puts_of changes) new)) (All-rest HasGood (put_of c) (puts_of changes) new)
-
 -- ---- the oldest part leaves
 
 -- each of the later puts is apart from all of the earlier ones
@@ -198,26 +107,6 @@ beside : (xs : List Put) (y : Put) → AllByRecursion (λ x. IsApartFrom x y) xs
 beside [] y apart = refl
 beside (x ∷ xs) y apart = ap (λ b. b || is_put_at y.entry.0 xs) (ne_eqb y.entry.0 x.entry.0 (λ same. apart.0.entries (sym same))) ∙ beside xs y apart.1
 
-abbrev after_parts : Contents → List Part → Contents
-after_parts contents parts =
-    record {
-      current = record {
-        number = contents.current.number + 1;
-        position = last_position contents.current.position parts;
-        cp = contents.current.cp + length parts;
-        cd = contents.current.cp + length parts + 1 + STAMP_WINDOW;
-        epoch = contents.current.epoch;
-        role = contents.current.role;
-        gaps = contents.current.gaps;
-      };
-      lines = contents.lines;
-      versions = parts_versions contents.versions parts;
-      is_free = λ i. contents.is_free i && not (is_put_at i (puts_of_parts parts));
-    }
-
-still_free : (a b : Bool) → IsTrue a → b ≡ false → IsTrue (a && not b)
-still_free a b free none = ap (λ x. x && not b) free ∙ ap not none
-
 module _ (s : Sequencing) (contents : Contents) (part : Part) (rest : List Part) (stands : StandsFor (record s { waiting = part ∷ rest }) contents) where
   abbrev first : List Put
   first = puts_of_part part
@@ -231,21 +120,11 @@ module _ (s : Sequencing) (contents : Contents) (part : Part) (rest : List Part)
   taken_first : AllByRecursion (IsTaken s.room) first
   taken_first = All-front (IsTaken s.room) first others stands.taken
 
-  alone : first ++ [] ≡ first
-  alone = append-nil first
-
   none_at : (i : ℕ) → is_put_at i first ≡ false → is_put_at i (first ++ []) ≡ false
-  none_at i none = ap (is_put_at i) alone ∙ none
+  none_at i none = ap (is_put_at i) (append-nil first) ∙ none
 
   left_next : IsLeftOf next s.room
-  left_next = record {
-    entries = λ i free.
-        let before = stands.left.entries i free in
-        let none = not_put_at s.room first i taken_first free in
-        (before.0, still_free (contents.is_free i) (is_put_at i (first ++ [])) before.1 (none_at i none), changes_versions-none part.position contents.versions part.changes.items i before.2 none);
-    lines = stands.left.lines;
-    apart = good_changes (HasNoFreeLine s.room) part.position contents.versions part.changes.items stands.left.apart (All-map (IsTaken s.room) (HasGood (HasNoFreeLine s.room)) (λ put taken. taken.lines) first taken_first);
-  }
+  left_next = left-after contents s.room part stands.left taken_first
 
   unused_next : (put : Put) → IsUnused contents.versions contents.is_free put → AllByRecursion (λ x. IsApartFrom x put) first → IsUnused next.versions next.is_free put
   unused_next put unused apart =
@@ -271,20 +150,14 @@ module _ (s : Sequencing) (contents : Contents) (part : Part) (rest : List Part)
     table = stands.table;
   }
 
-  puts_alone : (P : Put → Type 0) → AllByRecursion P (first ++ others) → AllByRecursion P (puts_of_parts (part ∷ []))
-  puts_alone P h = subst (AllByRecursion P) (sym alone) (All-front P first others h)
+  front_only : (P : Put → Type 0) → AllByRecursion P (first ++ others) → AllByRecursion P first
+  front_only P h = All-front P first others h
 
   group_next : (group : Group) → group.parts.items ≡ part ∷ [] → group.before ≡ s.before → IsGroup contents group
-  group_next group one before = record {
-    before = before ∙ stands.before;
-    some = subst (λ (items : List Part). 0 < length items) (sym one) (omega arith);
-    few = subst (λ (items : List Part). length items ≤ MAX_PARTS) (sym one) (omega arith);
-    parts = subst (λ first. AreParts first contents.versions group.parts.items) (sym before) (subst (AreParts s.before contents.versions) (sym one) (stands.parts.0, stands.parts.1, tt));
-    placed = subst (λ items. AllByRecursion (IsPlaced contents.lines) (puts_of_parts items)) (sym one) (puts_alone (IsPlaced contents.lines) stands.placed);
-    fitting = subst (λ items. AllByRecursion HasItsLines (puts_of_parts items)) (sym one) (puts_alone HasItsLines stands.fitting);
-    unused = subst (λ items. AllByRecursion (IsUnused contents.versions contents.is_free) (puts_of_parts items)) (sym one) (puts_alone (IsUnused contents.versions contents.is_free) stands.unused);
-    apart = subst (λ items. AreAllApart (puts_of_parts items)) (sym one) (subst AreAllApart (sym alone) (AreAllApart-front first others stands.apart));
-  }
+  group_next group one before =
+      IsGroup-alone contents part group one (before ∙ stands.before) (subst (λ first. first < part.position) stands.before stands.parts.0)
+      stands.parts.1 (front_only (IsPlaced contents.lines) stands.placed) (front_only HasItsLines stands.fitting)
+      (front_only (IsUnused contents.versions contents.is_free) stands.unused) (AreAllApart-front first others stands.apart)
 
 -- what is handed out is what a commit asks for, and the sequencer stands for what the commit makes of the contents
 pub StandsFor-group : (old : Sequencing) (group : Group) (new : Sequencing) → HandsOut old group new → (contents : Contents) → StandsFor old contents → IsGroup contents group × StandsFor new (after_group contents group)

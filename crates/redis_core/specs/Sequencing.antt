@@ -1,13 +1,13 @@
 -- What a sequencer holds, and that its tables say what an engine will hold once the waiting parts have committed.
-use Rattle.std.specs.Prelude.{◌≡◌, ℕ, ◌+◌, ◌<◌, ◌≤◌, Bool, false, List, [], ◌∷◌, Some, None, IsTrue, slice_index_or}
+use Rattle.std.specs.Prelude.{◌≡◌, ℕ, Bool, false, List, [], ◌∷◌, slice_index_or}
 use Rattle.std.specs.List.{flat_map, AllByRecursion}
 use Rattle.model.specs.declared.group.Group.{Group}
 use Rattle.model.specs.declared.group.Part.{Part}
 use Rattle.model.specs.declared.group.Put.{Put}
-use Rattle.model.specs.Images.{Version, entries_of_lines, first_extent_line}
 use Rattle.model.specs.Groups.{Contents, AreAllApart, AreParts, HasItsLines, IsPlaced, IsUnused, last_position, parts_versions, puts_of_part}
-use Rattle.extent_heap.specs.Room.{Room, is_free_entry, is_free_line}
+use Rattle.extent_heap.specs.Room.{Room}
 use Rattle.mv_keyspace.specs.Tables.{Table, IsTable}
+use Rattle.placing.specs.Left.{IsTaken, IsLeftOf}
 
 pub record Sequencing : Type 0 where
   -- each live record with its value and its entry
@@ -28,22 +28,6 @@ is_closed s seat = slice_index_or s.closed seat false
 
 abbrev pub puts_of_parts : List Part → List Put
 puts_of_parts = flat_map puts_of_part
-
--- there are lines, and none of them is free
-pub record HasNoFreeLine (room : Room) (first lines : ℕ) : Type 0 where
-  pub some : 0 < lines
-  pub none : (line : ℕ) → first ≤ line → line < first + lines → is_free_line room line ≡ false
-
--- neither the entry nor a line of the put is free
-pub record IsTaken (room : Room) (put : Put) : Type 0 where
-  pub entry : is_free_entry room put.entry.0 ≡ false
-  pub lines : HasNoFreeLine room put.extent.first_line put.extent.lines
-
--- What the heap has left is free in the contents.
-pub record IsLeftOf (contents : Contents) (room : Room) : Type 0 where
-  pub entries : (i : ℕ) → IsTrue (is_free_entry room i) → (i < entries_of_lines contents.lines) × IsTrue (contents.is_free i) × (contents.versions i ≡ None)
-  pub lines : (line : ℕ) → IsTrue (is_free_line room line) → (first_extent_line contents.lines ≤ line) × (line < contents.lines)
-  pub apart : (i : ℕ) (version : Version) → contents.versions i ≡ Some version → HasNoFreeLine room version.first_line version.lines
 
 -- The sequencer is ahead of an engine with these contents by the parts that wait, and by nothing else: what commits will ask of these parts
 -- holds, and the table is that of the versions after them.

@@ -9,7 +9,7 @@ use Rattle.model.specs.declared.call.TheConstants.{MAX_CHANGE_BYTES}
 use Rattle.model.specs.Calls.{MayReply, changes_of, full_reply, memory_reply}
 use Rattle.model.specs.Commands.{Outcome, outcome_of}
 use Rattle.mv_keyspace.specs.Tables.{records}
-use Rattle.redis_core.specs.Places.{HasRoomFor}
+use Rattle.placing.specs.Places.{HasRoomFor}
 use Rattle.redis_core.specs.Sequencing.{Sequencing}
 use Rattle.redis_core.specs.Turns.{Moves, call_of}
 

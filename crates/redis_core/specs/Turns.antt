@@ -7,10 +7,9 @@ use Rattle.model.specs.declared.call.Call.{Call}
 use Rattle.model.specs.declared.group.Part.{Part}
 use Rattle.model.specs.Calls.{MayReply, after_call, changes_of, full_reply, is_changing}
 use Rattle.model.specs.Commands.{outcome_of, closes}
-use Rattle.model.specs.Groups.{changes_of_part, puts_of_part}
-use Rattle.extent_heap.specs.Room.{Room}
-use Rattle.mv_keyspace.specs.Tables.{Table, records, place_all, AreEnded}
-use Rattle.redis_core.specs.Places.{HasRoomFor, TakesPlaces}
+use Rattle.mv_keyspace.specs.Tables.{records}
+use Rattle.placing.specs.Places.{HasRoomFor}
+use Rattle.placing.specs.Performs.{Performs}
 use Rattle.redis_core.specs.Sequencing.{Sequencing}
 use Rattle.redis_core.specs.declared.turn.Turn.{Turn}
 use Rattle.redis_core.specs.declared.turn.Turn.TheVariants.{Served, Idle, Blocked, GroupFull, Ended}
@@ -18,14 +17,6 @@ use Rattle.redis_core.specs.declared.turn.Turn.TheVariants.{Served, Idle, Blocke
 -- the call that an item of a seat and its reply are
 abbrev pub call_of : ℕ → Item → Reply → Call
 call_of seat item reply = record { connection = seat; item = item; reply = reply }
-
--- The part is these changes, made at this position on a table: each put has its place from the heap in turn, and nothing else was taken.
-pub record Performs (old : Table) (room : Room) (position : ℕ) (changes : List Change) (part : Part) (new : Table) (left : Room) : Type 0 where
-  pub changes_are : changes_of_part part ≡ changes
-  pub position_is : part.position ≡ position
-  pub places : TakesPlaces room (puts_of_part part) left
-  pub table_is : new ≡ place_all part.position old part.changes.items
-  pub ended : AreEnded part.position old part.changes.items part.ended.items
 
 -- One more part waits, which is these changes, made at the next position.
 pub record AddsPart (old : Sequencing) (part : Part) (changes : List Change) (new : Sequencing) : Type 0 where

@@ -3,8 +3,6 @@
 
 mod command;
 mod outcome;
-mod perform;
-mod places;
 mod sequencer;
 mod turn;
 

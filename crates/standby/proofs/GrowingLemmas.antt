@@ -1,12 +1,11 @@
 -- A group that grows by one part after another, each with places of the heap that the last one left.
-use Rattle.std.proofs.Common.{◌≡◌, ℕ, suc, add-one, ◌+◌, ◌<◌, ◌≤◌, IsTrue, List, [], ◌∷◌, ◌++◌, length, None, refl, sym, ap, subst, ◌∙◌, append-nil}
+use Rattle.std.proofs.Common.{◌≡◌, ℕ, suc, add-one, ◌+◌, ◌<◌, ◌≤◌, IsTrue, List, [], ◌∷◌, ◌++◌, length, None, refl, sym, ap, subst, ◌∙◌}
 use Rattle.std.specs.List.{flat_map, AllByRecursion}
-use Rattle.std.proofs.lemmas.Grind.{flat_map-append}
 use Rattle.model.specs.declared.group.Group.{Group}
 use Rattle.model.specs.declared.group.Part.{Part}
 use Rattle.model.specs.declared.group.Put.{Put}
 use Rattle.model.specs.declared.group.TheConstants.{MAX_PARTS}
-use Rattle.model.specs.Groups.{Contents, Versions, IsGroup, puts_of_part, part_versions, parts_versions, NamesEnded, AreParts, last_position, IsPlaced, IsUnused}
+use Rattle.model.specs.Groups.{Contents, Versions, IsGroup, puts_of_part, parts_versions, AreParts, last_position, IsPlaced, IsUnused}
 use Rattle.model.proofs.GroupsLemmas.{parts_versions-none}
 use Rattle.extent_heap.specs.Room.{Room, is_free_entry}
 use Rattle.mv_keyspace.specs.Tables.{Table, IsTable, AreEnded, place_all}
@@ -14,34 +13,19 @@ use Rattle.mv_keyspace.proofs.VersionTables.{AreEmpty}
 use Rattle.mv_keyspace.proofs.PartTables.{AreDistinct, IsTable-changes, names-ended, table-none}
 use Rattle.model.specs.declared.record.Role.{Role}
 use Rattle.wbl_engine.specs.Contents.{IsNew}
-use Rattle.standby.specs.Places.{TakesPlaces}
-use Rattle.standby.specs.Following.{IsBeside, IsLeftOf}
-use Rattle.standby.proofs.PlacesLemmas.{TakesPlaces-append}
-use Rattle.standby.proofs.TakenLemmas.{All-map, IsFree, places_free, places_taken, places_fitting, places_apart, not_put_at, AreDistinct-from_apart}
-use Rattle.standby.proofs.FollowingLemmas.{placed_of_free, unused_of_free}
+use Rattle.placing.specs.Places.{TakesPlaces}
+use Rattle.placing.specs.Left.{IsBeside, IsLeftOf}
+use Rattle.placing.proofs.PlacesLemmas.{TakesPlaces-append}
+use Rattle.placing.proofs.LeftLemmas.{placed_of_free, unused_of_free}
+use Rattle.placing.proofs.PartsLemmas.{parts_versions-append, AreParts-append, puts_of_parts-append}
+use Rattle.placing.proofs.TakenLemmas.{All-map, IsFree, places_free, places_taken, places_fitting, places_apart, not_put_at, AreDistinct-from_apart}
 use Rattle.standby.proofs.NewLemmas.{HasAll, left-new}
 
 -- ---- one part more
 
-pub last-more : (position : ℕ) (parts : List Part) (part : Part) → last_position position (parts ++ part ∷ []) ≡ part.position
-last-more position [] part = refl
-last-more position (first ∷ parts) part = last-more first.position parts part
-
 pub count-more : (parts : List Part) (part : Part) → length (parts ++ part ∷ []) ≡ length parts + 1
 count-more [] part = refl
 count-more (first ∷ parts) part = ap suc (count-more parts part) ∙ ap suc (add-one (length parts)) ∙ sym (add-one (suc (length parts)))
-
-versions-more : (versions : Versions) (parts : List Part) (part : Part) → parts_versions versions (parts ++ part ∷ []) ≡ part_versions (parts_versions versions parts) part
-versions-more versions [] part = refl
-versions-more versions (first ∷ parts) part = versions-more (part_versions versions first) parts part
-
-AreParts-more : (position : ℕ) (versions : Versions) (parts : List Part) (part : Part) → AreParts position versions parts → last_position position parts < part.position → NamesEnded (parts_versions versions parts) part
-    → AreParts position versions (parts ++ part ∷ [])
-AreParts-more position versions [] part are later names = (later, names, tt)
-AreParts-more position versions (first ∷ parts) part are later names = (are.0, are.1, AreParts-more first.position (part_versions versions first) parts part are.2 later names)
-
-puts-more : (parts : List Part) (part : Part) → flat_map puts_of_part (parts ++ part ∷ []) ≡ flat_map puts_of_part parts ++ puts_of_part part
-puts-more parts part = flat_map-append puts_of_part parts (part ∷ []) ∙ subst (λ puts. flat_map puts_of_part parts ++ (puts_of_part part ++ []) ≡ flat_map puts_of_part parts ++ puts) (append-nil (puts_of_part part)) refl
 
 -- ---- the group so far
 
@@ -64,9 +48,9 @@ module _ (versions : Versions) (position : ℕ) (start : Room) (parts : List Par
   pub grown-more : (part : Part) (left : Room) → TakesPlaces room (puts_of_part part) left → AreEnded part.position table part.changes.items part.ended.items → last_position position parts < part.position
       → IsGrown versions position start (parts ++ part ∷ []) (place_all part.position table part.changes.items) left
   grown-more part left takes ended later = record {
-    takes = subst (λ puts. TakesPlaces start puts left) (sym (puts-more parts part)) (TakesPlaces-append start (flat_map puts_of_part parts) (puts_of_part part) room left grown.takes takes);
-    parts_are = AreParts-more position versions parts part grown.parts_are later (names-ended now table part puts_empty puts_distinct grown.table_is ended);
-    table_is = subst (λ (v : Versions). IsTable v (place_all part.position table part.changes.items)) (sym (versions-more versions parts part)) (IsTable-changes part.position now table part.changes.items puts_empty puts_distinct grown.table_is);
+    takes = subst (λ puts. TakesPlaces start puts left) (sym (puts_of_parts-append parts part)) (TakesPlaces-append start (flat_map puts_of_part parts) (puts_of_part part) room left grown.takes takes);
+    parts_are = AreParts-append position versions parts part grown.parts_are later (names-ended now table part puts_empty puts_distinct grown.table_is ended);
+    table_is = subst (λ (v : Versions). IsTable v (place_all part.position table part.changes.items)) (sym (parts_versions-append versions parts part)) (IsTable-changes part.position now table part.changes.items puts_empty puts_distinct grown.table_is);
   }
     where
       now : Versions

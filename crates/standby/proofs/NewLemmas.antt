@@ -9,14 +9,15 @@ use Rattle.extent_heap.specs.Room.{Room, is_free_entry, is_free_line}
 use Rattle.mv_keyspace.specs.Tables.{Table, IsTable}
 use Rattle.mv_keyspace.proofs.PartTables.{table-none}
 use Rattle.wbl_engine.specs.Contents.{IsNew, Same}
-use Rattle.standby.specs.Following.{Follows, IsLeftOf}
+use Rattle.placing.specs.Left.{IsLeftOf}
+use Rattle.standby.specs.Following.{Follows}
 
 -- the heap has all lines and entries of a new image
 pub record HasAll (lines : ℕ) (room : Room) : Type 0 where
   pub lines_free : (line : ℕ) → IsTrue (is_free_line room line) ↔ ((first_extent_line lines ≤ line) × (line < lines))
   pub entries_free : (i : ℕ) → IsTrue (is_free_entry room i) ↔ (i < entries_of_lines lines)
 
-new-table : (lines : ℕ) (role : Role) (contents : Contents) (table : Table) → IsNew lines role contents → table ≡ [] → IsTable contents.versions table
+pub new-table : (lines : ℕ) (role : Role) (contents : Contents) (table : Table) → IsNew lines role contents → table ≡ [] → IsTable contents.versions table
 new-table lines role contents table new empty = subst (IsTable contents.versions) (sym empty) (table-none contents.versions new.versions)
 
 entries-left : (lines : ℕ) (role : Role) (contents : Contents) (room : Room) → IsNew lines role contents → HasAll lines room
@@ -37,7 +38,7 @@ left-new lines role contents room new all = record {
   apart = λ i version begun. absurd (none-some version (sym (new.versions i) ∙ begun));
 }
 
-new-consistent : (lines : ℕ) (role : Role) (contents : Contents) → IsNew lines role contents → IsConsistent contents
+pub new-consistent : (lines : ℕ) (role : Role) (contents : Contents) → IsNew lines role contents → IsConsistent contents
 new-consistent lines role contents new = record { free = λ i free. new.versions i; beyond = λ i past. new.versions i }
 
 pub follows-new : (lines : ℕ) (role : Role) (contents : Contents) (table : Table) (room : Room) → IsNew lines role contents → HasAll lines room → table ≡ [] → Follows contents table room

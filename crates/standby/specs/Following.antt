@@ -1,38 +1,16 @@
 -- What a standby holds, and what a frame does to it.
-use Rattle.std.specs.Prelude.{◌≡◌, ℕ, ◌+◌, ◌<◌, ◌≤◌, ◌⊎◌, false, None, Some, IsTrue}
+use Rattle.std.specs.Prelude.{◌≡◌, ℕ, ◌+◌, ◌<◌, ◌≤◌, ◌⊎◌}
 use Rattle.kv_types.specs.Keyspaces.{play_all}
-use Rattle.extent_heap.specs.Room.{Room, is_free_entry, is_free_line}
+use Rattle.extent_heap.specs.Room.{Room}
 use Rattle.model.specs.declared.image.TheConstants.{COUNTER_LIMIT, STAMP_WINDOW}
-use Rattle.model.specs.declared.group.Put.{Put}
-use Rattle.model.specs.Images.{Image, IsMapOf, Version, entries_of_lines, first_extent_line}
-use Rattle.model.specs.Groups.{Contents, IsConsistent, Versions}
+use Rattle.model.specs.Images.{Image, IsMapOf, entries_of_lines}
+use Rattle.model.specs.Groups.{Contents, IsConsistent}
 use Rattle.mv_keyspace.specs.Tables.{Table, IsTable, records}
+use Rattle.placing.specs.Left.{IsLeftOf}
 use Rattle.wbl_engine.specs.Contents.{Keeps}
 use Rattle.standby.specs.declared.frame.Frame.{Frame}
 
 -- ---- what it keeps true
-
--- there are lines, and none of them is free
-pub record HasNoFreeLine (room : Room) (first lines : ℕ) : Type 0 where
-  pub some : 0 < lines
-  pub none : (line : ℕ) → first ≤ line → line < first + lines → is_free_line room line ≡ false
-
--- neither the entry nor a line of the put is free
-pub record IsTaken (room : Room) (put : Put) : Type 0 where
-  pub entry : is_free_entry room put.entry.0 ≡ false
-  pub lines : HasNoFreeLine room put.extent.first_line put.extent.lines
-
--- What the heap has left is free in the contents.
-pub record IsLeftOf (contents : Contents) (room : Room) : Type 0 where
-  pub entries : (i : ℕ) → IsTrue (is_free_entry room i) → (i < entries_of_lines contents.lines) × IsTrue (contents.is_free i) × (contents.versions i ≡ None)
-  pub lines : (line : ℕ) → IsTrue (is_free_line room line) → (first_extent_line contents.lines ≤ line) × (line < contents.lines)
-  pub apart : (i : ℕ) (version : Version) → contents.versions i ≡ Some version → HasNoFreeLine room version.first_line version.lines
-
--- the table is that of some versions, and no free entry has one
-pub record IsBeside (table : Table) (room : Room) : Type 0 where
-  pub versions : Versions
-  pub table_is : IsTable versions table
-  pub empty : (i : ℕ) → IsTrue (is_free_entry room i) → versions i ≡ None
 
 -- The keyspace and the heap of a node are those of the contents of its engine.
 pub record Follows (contents : Contents) (table : Table) (room : Room) : Type 0 where

@@ -3,7 +3,6 @@
 
 mod frame;
 mod part;
-mod places;
 mod standby;
 #[cfg(test)]
 mod tests;

@@ -3,8 +3,8 @@ ghost use Rattle.std.specs.Prelude.{◌≡◌, ◌≢◌, ◌⊎◌, ◌<◌, �
 ghost use Rattle.kv_types.specs.declared.refusal.Refusal.TheVariants.{WrongEpoch, PositionGap, Full, Memory, Fault, Exhausted};
 ghost use Rattle.pmem.specs.Runs.{LeavesOnly};
 ghost use Rattle.wbl_engine.specs.Contents.{IsDurable, Same};
+ghost use Rattle.placing.specs.Places.{HasRoomFor};
 ghost use Rattle.standby.specs.Following.{Follows, IsNext, HasTaken, WouldExhaust, IsBeforeOrWhole};
-ghost use Rattle.standby.specs.Places.{HasRoomFor};
 
 use crate::frame::{Ack, Frame};
 use crate::part::make_part;

@@ -1,22 +1,18 @@
 -- New images, and the tables and heaps with which they begin.
-use Rattle.std.proofs.Common.{◌≡◌, ℕ, zero, suc, ◌<◌, ◌≤◌, ◌↔◌, Bool, false, List, [], replicate, slice_index_or, None, IsTrue, refl, sym, ap, subst, ◌∙◌, true≢false, inl}
-use Rattle.std.proofs.lemmas.Option.{none-some}
-use Rattle.model.specs.Images.{entries_of_lines, first_extent_line}
-use Rattle.model.specs.Groups.{Contents, IsConsistent}
+use Rattle.std.proofs.Common.{◌≡◌, ℕ, zero, suc, Bool, false, List, [], replicate, slice_index_or, refl, sym, ap, subst, ◌∙◌, true≢false, inl}
+use Rattle.model.specs.Images.{entries_of_lines}
+use Rattle.model.specs.Groups.{Contents}
 use Rattle.model.specs.declared.group.Group.{Group}
 use Rattle.model.specs.declared.record.Role.{Role}
 use Rattle.model.proofs.MapLemmas.{IsMapOf-none}
 use Rattle.pmem.specs.Device.{State}
 use Rattle.pmem.proofs.Leaving.{none_leaves}
-use Rattle.extent_heap.specs.Room.{Room, is_free_entry, is_free_line}
-use Rattle.mv_keyspace.specs.Tables.{Table, IsTable, records}
-use Rattle.mv_keyspace.proofs.PartTables.{table-none}
+use Rattle.extent_heap.specs.Room.{Room}
+use Rattle.mv_keyspace.specs.Tables.{Table, records}
 use Rattle.wbl_engine.specs.Contents.{IsNew, IsDurable}
 use Rattle.wbl_engine.specs.Formatting.{IsFormatting}
-use Rattle.redis_core.specs.Keeping.{IsBeside}
-use Rattle.redis_core.proofs.KeepingLemmas.{beside_none}
 use Rattle.redis_core.specs.Sequencing.{Sequencing, StandsFor, Underlies, starts}
-use Rattle.standby.specs.Following.{Follows}
+use Rattle.standby.proofs.NewLemmas.{HasAll, new-table, left-new, new-consistent, follows-new}
 use Rattle.machine.specs.Events.{start}
 use Rattle.machine.proofs.RunLemmas.{sound-start}
 use Rattle.world.specs.Committings.{FormattingOnly, CommittingStands, EngineStands, Leads}
@@ -44,56 +40,11 @@ sequencer-starts n s table room empty same =
       seats = λ c closed. absurd (true≢false (sym closed ∙ none_closed n c));
     })
 
-pub beside-empty : (table : Table) (room : Room) → table ≡ [] → IsBeside table room
-beside-empty table room empty = subst (λ (t : Table). IsBeside t room) (sym empty) (beside_none room)
-
 -- ---- new contents
-
--- the heap has all lines and entries of a new image
-pub record HasAll (lines : ℕ) (room : Room) : Type 0 where
-  pub lines_free : (line : ℕ) → IsTrue (is_free_line room line) ↔ ((first_extent_line lines ≤ line) × (line < lines))
-  pub entries_free : (i : ℕ) → IsTrue (is_free_entry room i) ↔ (i < entries_of_lines lines)
-
-new-table : (lines : ℕ) (role : Role) (contents : Contents) (table : Table) → IsNew lines role contents → table ≡ [] → IsTable contents.versions table
-new-table lines role contents table new empty = subst (IsTable contents.versions) (sym empty) (table-none contents.versions new.versions)
-
-entries-left : (lines : ℕ) (role : Role) (contents : Contents) (room : Room) → IsNew lines role contents → HasAll lines room
-    → (i : ℕ) → IsTrue (is_free_entry room i) → (i < entries_of_lines contents.lines) × IsTrue (contents.is_free i) × (contents.versions i ≡ None)
-entries-left lines role contents room new all i free =
-    let within = (all.entries_free i).0 free in
-    (subst (λ n. i < entries_of_lines n) (sym new.line_count) within, new.is_free i within, new.versions i)
-
-lines-left : (lines : ℕ) (role : Role) (contents : Contents) (room : Room) → IsNew lines role contents → HasAll lines room
-    → (line : ℕ) → IsTrue (is_free_line room line) → (first_extent_line contents.lines ≤ line) × (line < contents.lines)
-lines-left lines role contents room new all line free =
-    subst (λ n. (first_extent_line n ≤ line) × (line < n)) (sym new.line_count) ((all.lines_free line).0 free)
 
 pub underlies-new : (lines : ℕ) (role : Role) (contents : Contents) (table : Table) (room : Room) → IsNew lines role contents → HasAll lines room → table ≡ [] → Underlies contents table room 0
 underlies-new lines role contents table room new all empty =
-    record {
-      position_is = sym new.position;
-      left = record {
-        entries = entries-left lines role contents room new all;
-        lines = lines-left lines role contents room new all;
-        apart = λ i version begun. absurd (none-some version (sym (new.versions i) ∙ begun));
-      };
-      table_is = new-table lines role contents table new empty;
-    }
-
-new-consistent : (lines : ℕ) (role : Role) (contents : Contents) → IsNew lines role contents → IsConsistent contents
-new-consistent lines role contents new = record { free = λ i free. new.versions i; beyond = λ i past. new.versions i }
-
-pub follows-new : (lines : ℕ) (role : Role) (contents : Contents) (table : Table) (room : Room) → IsNew lines role contents → HasAll lines room → table ≡ [] → Follows contents table room
-follows-new lines role contents table room new all empty =
-    record {
-      consistent = new-consistent lines role contents new;
-      left = record {
-        entries = entries-left lines role contents room new all;
-        lines = lines-left lines role contents room new all;
-        apart = λ i version begun. absurd (none-some version (sym (new.versions i) ∙ begun));
-      };
-      table_is = new-table lines role contents table new empty;
-    }
+    record { position_is = sym new.position; left = left-new lines role contents room new all; table_is = new-table lines role contents table new empty }
 
 pub engine-new : (lines : ℕ) (role : Role) (device : State) (contents : Contents) (is_faulted : Bool) → IsNew lines role contents → IsDurable device contents → is_faulted ≡ false
     → EngineStands lines [] 0 device contents is_faulted

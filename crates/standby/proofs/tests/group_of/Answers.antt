@@ -3,7 +3,8 @@ use Rattle.model.specs.declared.group.Part.{Part}
 use Rattle.model.specs.declared.record.Role.TheVariants.{Primary}
 use Rattle.model.specs.Groups.{last_position}
 use Rattle.mv_keyspace.specs.Tables.{Table}
-use Rattle.standby.proofs.GrowingLemmas.{IsGrown, grown-none, grown-beside, grown-more, group-new, last-more, count-more}
+use Rattle.standby.proofs.GrowingLemmas.{IsGrown, grown-none, grown-beside, grown-more, group-new, count-more}
+use Rattle.placing.proofs.PartsLemmas.{last_position-append}
 use Rattle.standby.proofs.tests.group_of.Goals as goal
 
 pub loop-before-init : goal.loop-before-init
@@ -31,14 +32,14 @@ loop-before-preserved g c =
     let new = g.K.Keyspace.table c.make_part.new.keyspace in
     let left = c.make_part.new.heap in
     let more : c.push.new.self.items ≡ parts ++ part ∷ [] = c.in_ok-push.ensures.items in
-    let at : part.position ≡ c.loop-before.before + 1 = omega (arith, c.in_ok-part.ensures.position, c.in_ok-frame.ensures.after, c.from.ensures) in
+    let at : part.position ≡ c.loop-before.before + 1 = omega (arith, c.in_ok-part.ensures.ok.position_is, c.in_ok-frame.ensures.after, c.from.ensures) in
     let later : last_position 0 parts < part.position = omega (arith, before.last, at) in
     record {
       grown = λ versions none.
           subst (λ (items : List Part). IsGrown versions 0 start items new left) (sym more)
-          (subst (λ (table : Table). IsGrown versions 0 start (parts ++ part ∷ []) table left) (sym c.in_ok-part.ensures.table)
-          (grown-more versions 0 start parts old c.loop-before.heap none (before.grown versions none) part left c.in_ok-part.ensures.places c.in_ok-part.ensures.ended later));
-      last = ap (last_position 0) more ∙ last-more 0 parts part ∙ at;
+          (subst (λ (table : Table). IsGrown versions 0 start (parts ++ part ∷ []) table left) (sym c.in_ok-part.ensures.ok.table_is)
+          (grown-more versions 0 start parts old c.loop-before.heap none (before.grown versions none) part left c.in_ok-part.ensures.ok.places c.in_ok-part.ensures.ok.ended later));
+      last = ap (last_position 0) more ∙ last_position-append 0 parts part ∙ at;
       count = ap (λ (items : List Part). length items) more ∙ count-more parts part ∙ ap (λ n. n + 1) before.count;
     }
 

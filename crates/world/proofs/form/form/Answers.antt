@@ -1,6 +1,7 @@
 use Rattle.std.proofs.Common.{sym, subst}
 use Rattle.model.specs.declared.record.Role.TheVariants.{Primary, Standby}
-use Rattle.world.proofs.FormLemmas.{HasAll, engine-new, formatting-none, new-own, pair-starts, standby-new}
+use Rattle.standby.proofs.NewLemmas.{HasAll}
+use Rattle.world.proofs.FormLemmas.{engine-new, formatting-none, new-own, pair-starts, standby-new}
 use Rattle.world.proofs.form.form.Goals as goal
 
 pub returns-in-Err-clause-moments : goal.returns-in-Err-clause-moments

@@ -1,6 +1,8 @@
 use Rattle.std.proofs.Common.{◌≡◌}
 use Rattle.pipes.specs.declared.limits.TheConstants.{MAX_SEATS}
-use Rattle.world.proofs.FormLemmas.{HasAll, beside-empty, sequencer-starts, underlies-new}
+use Rattle.placing.proofs.BesideLemmas.{beside-empty}
+use Rattle.standby.proofs.NewLemmas.{HasAll}
+use Rattle.world.proofs.FormLemmas.{sequencer-starts, underlies-new}
 use Rattle.world.proofs.form.make_between.Goals as goal
 
 pub new-requires-2 : goal.new-requires-2

@@ -1,7 +1,7 @@
 use Rattle.std.proofs.Common.{sym, subst}
 use Rattle.mv_keyspace.specs.Tables.{Table}
-use Rattle.redis_core.specs.Keeping.{IsBeside}
-use Rattle.redis_core.proofs.KeepingLemmas.{beside_none}
+use Rattle.placing.specs.Left.{IsBeside}
+use Rattle.placing.proofs.BesideLemmas.{beside_none}
 use Rattle.probe.proofs.sequencer.Node.new.Goals as goal
 
 pub new-requires-2 : goal.new-requires-2

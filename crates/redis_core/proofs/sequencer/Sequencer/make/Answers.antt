@@ -1,7 +1,7 @@
 use Rattle.std.proofs.Common.{◌+◌, [], ◌∷◌, ◌++◌, vec_len, sym, ap, subst, ◌∙◌, eqb-true}
 use Rattle.std.proofs.lemmas.Bool.{eqb-false}
 use Rattle.redis_core.specs.Sequencing.{Sequencing}
-use Rattle.redis_core.specs.Turns.{Performs}
+use Rattle.placing.specs.Performs.{Performs}
 use Rattle.redis_core.proofs.AnswersLemmas.{moves_none, moves_part}
 use Rattle.redis_core.proofs.sequencer.Sequencer.make.Goals as goal
 

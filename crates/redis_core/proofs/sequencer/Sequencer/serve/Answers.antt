@@ -5,7 +5,7 @@ use Rattle.kv_types.specs.Changes.{changes_size}
 use Rattle.model.specs.declared.call.TheConstants.{MAX_CHANGE_BYTES}
 use Rattle.model.specs.Commands.{outcome_of}
 use Rattle.mv_keyspace.specs.Tables.{records}
-use Rattle.redis_core.specs.Places.{HasRoomFor}
+use Rattle.placing.specs.Places.{HasRoomFor}
 use Rattle.redis_core.specs.Readings.{IsOutcome}
 use Rattle.redis_core.specs.Sequencing.{Sequencing}
 use Rattle.redis_core.proofs.AnswersLemmas.{serves_outcome}

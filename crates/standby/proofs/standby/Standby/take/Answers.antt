@@ -20,16 +20,16 @@ one g c = c.push_reserved.ensures.items ∙ ap (λ (parts : List Part). parts ++
 is_group : (g : Over) (c : After-push_reserved g) → IsGroup (g.E.Durable.contents c.args.self.now.engine) (the_group g c)
 is_group g c =
     let contents = g.E.Durable.contents c.args.self.now.engine in
-    let later : contents.current.position < c.in_ok-part.part.position = subst (λ n. contents.current.position < n) (sym c.in_ok-part.ensures.position) c.requires.next.later in
+    let later : contents.current.position < c.in_ok-part.part.position = subst (λ n. contents.current.position < n) (sym c.in_ok-part.ensures.ok.position_is) c.requires.next.later in
     IsGroup-one contents (g.K.Keyspace.table c.args.self.now.keyspace) c.args.self.now.heap c.requires.follows c.in_ok-part.part c.make_part.new.heap
-    c.in_ok-part.ensures.places c.in_ok-part.ensures.ended (the_group g c) (one g c) c.requires.next.joined later
+    c.in_ok-part.ensures.ok.places c.in_ok-part.ensures.ok.ended (the_group g c) (one g c) c.requires.next.joined later
 
 -- the tables after the part are those of the contents after the group
 follows_after : (g : Over) (c : After-push_reserved g)
     → Follows (after_group (g.E.Durable.contents c.args.self.now.engine) (the_group g c)) (place_all c.in_ok-part.part.position (g.K.Keyspace.table c.args.self.now.keyspace) c.in_ok-part.part.changes.items) c.make_part.new.heap
 follows_after g c =
     Follows-after (g.E.Durable.contents c.args.self.now.engine) (g.K.Keyspace.table c.args.self.now.keyspace) c.args.self.now.heap c.requires.follows c.in_ok-part.part c.make_part.new.heap
-    c.in_ok-part.ensures.places c.in_ok-part.ensures.ended (the_group g c) (one g c) (is_group g c)
+    c.in_ok-part.ensures.ok.places c.in_ok-part.ensures.ok.ended (the_group g c) (one g c) (is_group g c)
 
 pub commit-requires : goal.commit-requires
 commit-requires g c = is_group g (goal.at.commit-requires g c).After-push_reserved
@@ -43,20 +43,20 @@ returns-in_err-part-clause-moments g c = none_leaves _ _ (λ image is. inl (c.re
 pub returns-in_err-commit-clause-moments : goal.returns-in_err-commit-clause-moments
 returns-in_err-commit-clause-moments g c =
     let front = (goal.at.returns-in_err-commit-clause-moments g c).After-push_reserved in
-    LeavesOnly-group (g.E.Durable.contents c.args.self.now.engine) (g.K.Keyspace.table c.args.self.now.keyspace) c.args.frame.now c.in_ok-part.part c.in_ok-part.ensures.same c.in_ok-part.ensures.position
+    LeavesOnly-group (g.E.Durable.contents c.args.self.now.engine) (g.K.Keyspace.table c.args.self.now.keyspace) c.args.frame.now c.in_ok-part.part c.in_ok-part.ensures.ok.changes_are c.in_ok-part.ensures.ok.position_is
     (the_group g front) (one g front) (g.E.Durable.device c.args.self.now.engine) (g.E.Durable.device c.commit.new.self) c.make_part.new.heap (follows_after g front) (c.commit.ensures.moments c.requires.sound)
 
 pub returns-clause-moments : goal.returns-clause-moments
 returns-clause-moments g c =
     let front = (goal.at.returns-clause-moments g c).After-push_reserved in
-    LeavesOnly-group (g.E.Durable.contents c.args.self.now.engine) (g.K.Keyspace.table c.args.self.now.keyspace) c.args.frame.now c.in_ok-part.part c.in_ok-part.ensures.same c.in_ok-part.ensures.position
+    LeavesOnly-group (g.E.Durable.contents c.args.self.now.engine) (g.K.Keyspace.table c.args.self.now.keyspace) c.args.frame.now c.in_ok-part.part c.in_ok-part.ensures.ok.changes_are c.in_ok-part.ensures.ok.position_is
     (the_group g front) (one g front) (g.E.Durable.device c.args.self.now.engine) (g.E.Durable.device c.commit.new.self) c.make_part.new.heap (follows_after g front) (c.commit.ensures.moments c.requires.sound)
 
 pub returns-clause-taken : goal.returns-clause-taken
 returns-clause-taken g c =
     let front = (goal.at.returns-clause-taken g c).After-push_reserved in
-    HasTaken-group (g.E.Durable.contents c.args.self.now.engine) (g.K.Keyspace.table c.args.self.now.keyspace) c.args.frame.now c.in_ok-part.part c.in_ok-part.ensures.same c.in_ok-part.ensures.position
-    (the_group g front) (one g front) (g.E.Durable.contents c.commit.new.self) (g.K.Keyspace.table c.make_part.new.keyspace) c.in_ok-commit.ensures.moved c.in_ok-part.ensures.table
+    HasTaken-group (g.E.Durable.contents c.args.self.now.engine) (g.K.Keyspace.table c.args.self.now.keyspace) c.args.frame.now c.in_ok-part.part c.in_ok-part.ensures.ok.changes_are c.in_ok-part.ensures.ok.position_is
+    (the_group g front) (one g front) (g.E.Durable.contents c.commit.new.self) (g.K.Keyspace.table c.make_part.new.keyspace) c.in_ok-commit.ensures.moved c.in_ok-part.ensures.ok.table_is
 
 pub returns-clause-still : goal.returns-clause-still
 returns-clause-still g c = λ _ _.
@@ -64,4 +64,4 @@ returns-clause-still g c = λ _ _.
     let contents = g.E.Durable.contents c.args.self.now.engine in
     let after = g.E.Durable.contents c.commit.new.self in
     Follows-same (after_group contents (the_group g front)) after (g.K.Keyspace.table c.make_part.new.keyspace) c.make_part.new.heap c.in_ok-commit.ensures.moved
-    (subst (λ table. Follows (after_group contents (the_group g front)) table c.make_part.new.heap) (sym c.in_ok-part.ensures.table) (follows_after g front))
+    (subst (λ table. Follows (after_group contents (the_group g front)) table c.make_part.new.heap) (sym c.in_ok-part.ensures.ok.table_is) (follows_after g front))

@@ -1,0 +1,124 @@
+-- What a heap has left is free in the contents, and stays so where a commit makes a part durable that was taken from it.
+use Rattle.std.proofs.Common.{◌≡◌, ℕ, ◌+◌, ◌-◌, ◌<◌, ◌≤◌, inl, inr, Bool, true, false, not, ◌&&◌, cond, IsTrue, List, [], ◌∷◌, ◌++◌, length, nat_eq, Option, Some, None, refl, sym, ap, subst, ◌∙◌, arith, append-nil}
+use Rattle.std.specs.List.{flat_map, AllByRecursion}
+use Rattle.model.specs.declared.group.Part.{Part}
+use Rattle.model.specs.declared.group.Put.{Put}
+use Rattle.model.specs.declared.group.PlacedChange.{PlacedChange}
+use Rattle.model.specs.declared.group.PlacedChange.TheVariants as placed
+use Rattle.model.specs.declared.image.TheConstants.{STAMP_WINDOW}
+use Rattle.model.specs.Images.{Version}
+use Rattle.model.specs.Groups.{Contents, Versions, change_of, put_of, puts_of_part, change_versions, changes_versions, parts_versions, ended_where_begun, version_of_put, last_position, IsPlaced, IsUnused, AreApart, is_put_at}
+use Rattle.model.proofs.GroupsLemmas.{changes_versions-none}
+use Rattle.extent_heap.specs.Room.{Room}
+use Rattle.mv_keyspace.specs.Tables.{puts_of}
+use Rattle.placing.specs.Left.{HasNoFreeLine, IsTaken, IsLeftOf}
+use Rattle.placing.proofs.TakenLemmas.{All-map, All-front, All-rest, IsFree, IsWithin, lines_within, lines_apart, not_put_at}
+
+-- ---- what is free of the heap is free in the contents
+
+pub placed_of_free : (contents : Contents) (room : Room) (put : Put) → IsLeftOf contents room → IsFree room put → IsPlaced contents.lines put
+placed_of_free contents room put left free =
+    let first = left.lines put.extent.first_line (free.run put.extent.first_line (omega arith) (omega (arith, free.some))) in
+    let end = put.extent.first_line + (put.extent.lines - 1) in
+    let last = left.lines end (free.run end (omega arith) (omega (arith, free.some))) in
+    record {
+      entry = (left.entries put.entry.0 free.entry).0;
+      above = first.0;
+      within = omega (arith, free.some, last.1);
+    }
+
+pub swapped : (first lines first' lines' : ℕ) → AreApart first lines first' lines' → AreApart first' lines' first lines
+swapped first lines first' lines' (inl h) = inr h
+swapped first lines first' lines' (inr h) = inl h
+
+pub unused_of_free : (contents : Contents) (room : Room) (put : Put) → IsLeftOf contents room → IsFree room put → IsUnused contents.versions contents.is_free put
+unused_of_free contents room put left free = record {
+  entry = (left.entries put.entry.0 free.entry).1;
+  lines = λ i version begun.
+      swapped version.first_line version.lines put.extent.first_line put.extent.lines
+      (lines_apart room version.first_line version.lines put.extent.first_line put.extent.lines (left.apart i version begun) free.some free.run);
+}
+
+pub left_within : (contents : Contents) (small large : Room) → IsWithin small large → IsLeftOf contents large → IsLeftOf contents small
+left_within contents small large within left = record {
+  entries = λ i free. left.entries i (within.entries i free);
+  lines = λ line free. left.lines line (within.lines line free);
+  apart = λ i version begun. lines_within small large version.first_line version.lines within (left.apart i version begun);
+}
+
+-- ---- the lines of versions
+
+module _ (Good : ℕ → ℕ → Type 0) where
+  abbrev pub AllGood : Versions → Type 0
+  AllGood versions = (i : ℕ) (version : Version) → versions i ≡ Some version → Good version.first_line version.lines
+
+  abbrev pub HasGood : Put → Type 0
+  HasGood put = Good put.extent.first_line put.extent.lines
+
+  good_where_begun : (versions : Versions) (c : PlacedChange) → AllGood versions → (i : ℕ) (entry : Option Version) (version : Version) → versions i ≡ entry → ended_where_begun (change_of c) entry ≡ Some version
+      → Good version.first_line version.lines
+  good_where_begun versions c good i None version is begun = cc
+  good_where_begun versions c good i (Some old) version is begun =
+      let first : old.first_line ≡ version.first_line = cc in
+      let lines : old.lines ≡ version.lines = cc in
+      subst (Good version.first_line) lines (subst (λ n. Good n old.lines) first (good i old is))
+
+  good_with_put : (position : ℕ) (put : Put) (versions : Versions) → AllGood versions → HasGood put → (i : ℕ) (here : Bool) (version : Version) → cond here (Some (version_of_put position put)) (versions i) ≡ Some version
+      → Good version.first_line version.lines
+  good_with_put position put versions good new i true version begun =
+      let first : put.extent.first_line ≡ version.first_line = cc in
+      let lines : put.extent.lines ≡ version.lines = cc in
+      subst (Good version.first_line) lines (subst (λ n. Good n put.extent.lines) first new)
+  good_with_put position put versions good new i false version begun = good i version begun
+
+  good_change : (position : ℕ) (versions : Versions) (c : PlacedChange) → AllGood versions → AllByRecursion HasGood (put_of c) → AllGood (change_versions position versions c)
+  good_change position versions (placed.Put put) good new i version begun =
+      let ended = λ (j : ℕ). ended_where_begun (change_of (placed.Put put)) (versions j) in
+      good_with_put position put ended (λ j v e. good_where_begun versions (placed.Put put) good j (versions j) v refl e) new.0 i (nat_eq i put.entry.0) version begun
+  good_change position versions (placed.Drop id) good new i version begun = good_where_begun versions (placed.Drop id) good i (versions i) version refl begun
+  good_change position versions (placed.DropKey key) good new i version begun = good_where_begun versions (placed.DropKey key) good i (versions i) version refl begun
+  good_change position versions placed.Clear good new i version begun = good_where_begun versions placed.Clear good i (versions i) version refl begun
+
+  -- versions have lines that they had before, or those of a put
+  pub good_changes : (position : ℕ) (versions : Versions) (changes : List PlacedChange) → AllGood versions → AllByRecursion HasGood (puts_of changes) → AllGood (changes_versions position versions changes)
+  good_changes position versions [] good new = good
+  good_changes position versions (c ∷ changes) good new =
+      good_changes position (change_versions position versions c) changes (good_change position versions c good (All-front HasGood (put_of c) (puts_of changes) new)) (All-rest HasGood (put_of c) (puts_of changes) new)
+
+-- ---- the contents after a part
+
+abbrev pub after_parts : Contents → List Part → Contents
+after_parts contents parts =
+    record {
+      current = record {
+        number = contents.current.number + 1;
+        position = last_position contents.current.position parts;
+        cp = contents.current.cp + length parts;
+        cd = contents.current.cp + length parts + 1 + STAMP_WINDOW;
+        epoch = contents.current.epoch;
+        role = contents.current.role;
+        gaps = contents.current.gaps;
+      };
+      lines = contents.lines;
+      versions = parts_versions contents.versions parts;
+      is_free = λ i. contents.is_free i && not (is_put_at i (flat_map puts_of_part parts));
+    }
+
+pub still_free : (a b : Bool) → IsTrue a → b ≡ false → IsTrue (a && not b)
+still_free a b free none = ap (λ x. x && not b) free ∙ ap not none
+
+module _ (contents : Contents) (room : Room) (part : Part) (left : IsLeftOf contents room) (taken : AllByRecursion (IsTaken room) (puts_of_part part)) where
+  none_alone : (i : ℕ) → is_put_at i (puts_of_part part) ≡ false → is_put_at i (puts_of_part part ++ []) ≡ false
+  none_alone i none = ap (is_put_at i) (append-nil (puts_of_part part)) ∙ none
+
+  -- what is left beside the part is free after it
+  pub left-after : IsLeftOf (after_parts contents (part ∷ [])) room
+  left-after = record {
+    entries = λ i free.
+        let before = left.entries i free in
+        let none = not_put_at room (puts_of_part part) i taken free in
+        (before.0, still_free (contents.is_free i) (is_put_at i (puts_of_part part ++ [])) before.1 (none_alone i none), changes_versions-none part.position contents.versions part.changes.items i before.2 none);
+    lines = left.lines;
+    apart = good_changes (HasNoFreeLine room) part.position contents.versions part.changes.items left.apart
+        (All-map (IsTaken room) (HasGood (HasNoFreeLine room)) (λ put is. is.lines) (puts_of_part part) taken);
+  }

@@ -1,0 +1,5 @@
+pub mod PlacesLemmas
+pub mod TakenLemmas
+pub mod BesideLemmas
+pub mod LeftLemmas
+pub mod PartsLemmas

@@ -1,0 +1,112 @@
+//! The places of new versions: each put takes an entry and an extent from the heap, or none does.
+ghost use Rattle.std.specs.Prelude.{◌≡◌, ◌+◌, ◌⊎◌, ℕ, List, map, length, OnOk, OnErr, IfOk, IfErr, IsErrOf};
+ghost use Rattle.extent_heap.specs.Room.{Room};
+ghost use Rattle.mv_keyspace.specs.Tables.{puts_of};
+ghost use Rattle.model.specs.Groups.{change_of, put_of, bytes_of_id};
+ghost use Rattle.model.specs.Images.{lines_of_bytes};
+ghost use Rattle.placing.specs.Places.{TakesPlace, TakesPlaces, HasRoomFor};
+ghost use Rattle.model.specs.declared.group.Put.{Put};
+ghost use Rattle.model.specs.declared.group.PlacedChange.{PlacedChange};
+
+use extent_heap::ExtentHeap;
+use kv_types::{Change, RecordId, Refusal, Value};
+use model::{PlacedChange, Put};
+use std::alloc::Global;
+
+/// A line of an image has so many bytes.
+const LINE_BYTES: usize = 64;
+
+/// The changes, each put with a place taken from the heap, in turn. `Refusal::Full` where the heap has no room for all of them, `Refusal::Memory`
+/// where the growth of the list was refused; then the heap is as it was.
+pub(crate) fn place_all(
+    alloc: Global,
+    heap: &mut ExtentHeap,
+    changes: Vec<Change>,
+) -> Result<Vec<PlacedChange>, Refusal>
+    ensures same { IfOk result (λ placed. map change_of placed.items ≡ changes.items) }
+    ensures places { IfOk result (λ placed. TakesPlaces heap.old (puts_of placed.items) heap.new) }
+    ensures err { OnErr result (heap.new ≡ heap.old) }
+    ensures causes { IfErr result (λ refusal. (refusal ≡ Refusal.Full) ⊎ (refusal ≡ Refusal.Memory)) }
+    ensures full_only { IsErrOf result Refusal.Full → ¬ HasRoomFor heap.old changes.items }
+{
+    let mut placed = Vec::with_capacity(alloc, changes.len())?;
+    for change in changes {
+        match place(heap, change) {
+            Ok(change) => placed.push_reserved(change),
+            Err(refusal) => {
+                give_back(heap, placed);
+                return Err(refusal);
+            }
+        }
+    }
+    Ok(placed)
+}
+
+/// The change with its place, if it is a put. `Refusal::Full` where the heap has no room for it, and then the heap is as it was.
+fn place(heap: &mut ExtentHeap, change: Change) -> Result<PlacedChange, Refusal>
+    ensures same { IfOk result (λ placed. change_of placed ≡ change) }
+    ensures places { IfOk result (λ placed. TakesPlaces heap.old (put_of placed) heap.new) }
+    ensures err { OnErr result (heap.new ≡ heap.old) }
+    ensures cause { IfErr result (λ refusal. refusal ≡ Refusal.Full) }
+    ensures full_only { OnErr result ((placed : PlacedChange) (left : Room) → change_of placed ≡ change → ¬ TakesPlaces heap.old (put_of placed) left) }
+{
+    match change {
+        Change::Put(id, value) => Ok(PlacedChange::Put(place_put(heap, id, value)?)),
+        Change::Drop(id) => Ok(PlacedChange::Drop(id)),
+        Change::DropKey(key) => Ok(PlacedChange::DropKey(key)),
+        Change::Clear => Ok(PlacedChange::Clear),
+    }
+}
+
+/// The lowest free entry and the lowest run of lines that the record wants.
+fn place_put(heap: &mut ExtentHeap, id: RecordId, value: Value) -> Result<Put, Refusal>
+    ensures same { IfOk result (λ put. (put.id ≡ id) × (put.value ≡ value)) }
+    ensures place { IfOk result (λ put. TakesPlace heap.old put heap.new) }
+    ensures err { OnErr result (heap.new ≡ heap.old) }
+    ensures cause { IfErr result (λ refusal. refusal ≡ Refusal.Full) }
+    ensures full_only { OnErr result ((put : Put) (left : Room) → put.id ≡ id → put.value ≡ value → ¬ TakesPlace heap.old put left) }
+{
+    let entry = heap.take_entry()?;
+    match heap.take(lines_for(&id, &value)) {
+        Ok(extent) => Ok(Put {
+            id,
+            value,
+            entry,
+            extent,
+        }),
+        Err(refusal) => {
+            heap.give_entry(entry);
+            Err(refusal)
+        }
+    }
+}
+
+/// Gives the places back, last first. The heap is as it was before they were taken.
+pub(crate) fn give_back(heap: &mut ExtentHeap, mut placed: Vec<PlacedChange>)
+    requires { (before : Room) × TakesPlaces before (puts_of placed.items) heap.old }
+    ensures { (before : Room) → TakesPlaces before (puts_of placed.items) heap.old → heap.new ≡ before }
+{
+    while let Some(change) = placed.pop() {
+        give_place_back(heap, change);
+    }
+}
+
+/// Gives back the place of a change, which was the last to be taken.
+fn give_place_back(heap: &mut ExtentHeap, change: PlacedChange)
+    requires { (before : Room) × TakesPlaces before (put_of change) heap.old }
+    ensures { (before : Room) → TakesPlaces before (put_of change) heap.old → heap.new ≡ before }
+{
+    if let PlacedChange::Put(put) = change {
+        heap.give(put.extent);
+        heap.give_entry(put.entry);
+    }
+}
+
+/// How many lines a record takes: at least one.
+fn lines_for(id: &RecordId, value: &Value) -> u64
+    ensures { result ≡ lines_of_bytes (bytes_of_id id.now + length value.now) }
+{
+    let name = id.key().len() + id.field().map_or(0, |field| field.len());
+    let bytes = name + value.len();
+    bytes.div_ceil(LINE_BYTES).max(1) as u64
+}
