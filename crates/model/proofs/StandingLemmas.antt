@@ -6,7 +6,7 @@ use Rattle.model.specs.declared.record.Record.{Record}
 use Rattle.model.specs.declared.record.TheConstants.{MAX_GAPS}
 use Rattle.model.specs.Calls.{keyspace_after, cut_at, position_of}
 use Rattle.model.specs.Images.{Image, Version, entries_of_lines, HasSuperblock, HasRecord, version_at, IsMapOf, map_below, Holds}
-use Rattle.model.specs.Standing.{StandsAt}
+use Rattle.model.specs.Standing.{Holder, StandsAt}
 use Rattle.model.proofs.CallsLemmas.{keyspace_after-cut_at-append}
 use Rattle.model.proofs.MapLemmas.{IsMapOf-unique, IsMapOf-same, map_below-map}
 use Rattle.model.proofs.RecordLemmas.{HasRecord-unique}
@@ -31,13 +31,11 @@ map_below-Holds lawful held = map_below-map held.map lawful
 -- ---- standing
 
 -- an image that stands at a position stands there while the list grows
-pub StandsAt-append : (lines : ℕ) (calls more : List Call) (p : ℕ) (image : Image) → p ≤ position_of calls → StandsAt lines calls p image → StandsAt lines (calls ++ more) p image
-StandsAt-append lines calls more p image le stands = record {
+pub StandsAt-append : (holder : Holder) (calls more : List Call) (p : ℕ) (image : Image) → p ≤ position_of calls → StandsAt holder calls p image → StandsAt holder (calls ++ more) p image
+StandsAt-append holder calls more p image le stands = record {
   current = stands.current;
   position = stands.position;
-  holds = subst (λ s. Holds lines stands.current s image) (sym (keyspace_after-cut_at-append calls more p le)) stands.holds;
+  role = stands.role;
+  epoch = stands.epoch;
+  holds = subst (λ s. Holds holder.lines stands.current s image) (sym (keyspace_after-cut_at-append calls more p le)) stands.holds;
 }
-
--- an image with a record of this position and the keyspace of the cut there
-pub StandsAt-holds : (lines : ℕ) (calls : List Call) (r : Record) (s : Keyspace) (image : Image) → keyspace_after (cut_at calls r.position) ≡ s → Holds lines r s image → StandsAt lines calls r.position image
-StandsAt-holds lines calls r s image e held = record { current = r; position = refl; holds = subst (λ t. Holds lines r t image) (sym e) held }

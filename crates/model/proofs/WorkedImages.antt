@@ -8,11 +8,10 @@ use Rattle.kv_types.specs.declared.record_id.RecordId.TheVariants.{Str, Field}
 use Rattle.kv_types.specs.declared.reply.Reply.{Simple}
 use Rattle.kv_types.specs.Keyspaces.{Keyspace}
 use Rattle.model.specs.declared.call.Call.{Call}
-use Rattle.model.specs.declared.image.TheConstants.{MAGIC}
 use Rattle.model.specs.declared.record.Record.{Record}
 use Rattle.model.specs.declared.record.Role.TheVariants.{Primary}
 use Rattle.model.specs.Images.{Image, Version, IsLive, IsMapOf, counts, version_at, map_below, Holds}
-use Rattle.model.specs.Standing.{StandsAt}
+use Rattle.model.specs.Standing.{Holder, StandsAt}
 use Rattle.model.proofs.MapLemmas.{OnceBelow, IsMapOf-map_below, not_live}
 
 -- the image that has these words, and zeros elsewhere
@@ -59,7 +58,7 @@ map_of_first versions n s e computed = subst (IsMapOf versions n) computed (IsMa
 -- the superblock, record 2 in slot 0, record 1 in slot 1, entry 0, and the extent at line 520
 abbrev set_words : ℕ → List (ℕ × ℕ)
 set_words root =
-    (0, MAGIC) ∷ (1, 1) ∷ (2, 4096) ∷ (3, 512) ∷ (4, root) ∷ (8, 2) ∷ (9, 1) ∷ (10, 1) ∷ (11, 4098) ∷ (12, 1) ∷ (30, 1) ∷ (32, 1) ∷ (35, 4097) ∷ (36, 1) ∷ (54, 1)
+    (0, 3544411304008368727) ∷ (1, 1) ∷ (2, 4096) ∷ (3, 512) ∷ (4, root) ∷ (8, 2) ∷ (9, 1) ∷ (10, 1) ∷ (11, 4098) ∷ (12, 1) ∷ (30, 1) ∷ (32, 1) ∷ (35, 4097) ∷ (36, 1) ∷ (54, 1)
     ∷ (64, 1) ∷ (66, 1) ∷ (67, 520) ∷ (68, 1) ∷ (69, 1) ∷ (70, 1) ∷ (71, 1) ∷ (4160, 12641) ∷ []
 
 abbrev set_image : Image
@@ -85,9 +84,13 @@ set_holds = record {
   map = map_of_first (version_at record_two set_image) 512 ((Str (codes "a"), codes "1") ∷ []) refl set_map;
 }
 
+-- the primary of the first epoch, with the least image
+abbrev first_primary : Holder
+first_primary = record { lines = 4096; role = Primary; epoch = 1 }
+
 -- the image stands at position 1 of the list of that one call
-set_stands : StandsAt 4096 set_list 1 set_image
-set_stands = record { current = record_two; position = refl; holds = set_holds }
+set_stands : StandsAt first_primary set_list 1 set_image
+set_stands = record { current = record_two; position = refl; role = refl; epoch = refl; holds = set_holds }
 
 -- ---- the root of the commit was lost
 
@@ -109,8 +112,8 @@ lost_holds = record {
 }
 
 -- it stands at the position before
-lost_stands : StandsAt 4096 set_list 0 lost_image
-lost_stands = record { current = record_one; position = refl; holds = lost_holds }
+lost_stands : StandsAt first_primary set_list 0 lost_image
+lost_stands = record { current = record_one; position = refl; role = refl; epoch = refl; holds = lost_holds }
 
 -- ---- HSET h f 1
 

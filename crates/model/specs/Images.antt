@@ -1,12 +1,12 @@
 -- The image of version 1: what its words mean (this project's profile of write-behind logging: Arulraj, Perron, Pavlo, PVLDB 10(4), 2016).
 -- An image gives each word by its number; a line is 8 words.
-use Rattle.std.specs.Prelude.{◌≡◌, ℕ, zero, suc, ◌+◌, ◌*◌, ◌/◌, ◌%◌, ◌<◌, Bool, false, not, ◌&&◌, ◌==◌, nat_lt, nat_le, if◌then◌else◌, List, [], ◌∷◌, ◌++◌, length, take, drop, replicate, Option, Some, None}
+use Rattle.std.specs.Prelude.{◌≡◌, ℕ, zero, suc, ◌+◌, ◌*◌, ◌/◌, ◌%◌, ◌<◌, Bool, false, not, ◌&&◌, ◌==◌, nat_lt, nat_le, if◌then◌else◌, List, [], ◌∷◌, ◌++◌, length, take, drop, replicate, Option, Some, None, codes}
 use Rattle.std.specs.List.{list_any, flat_map}
-use Rattle.std.specs.Int.{w64, to_le_bytes}
+use Rattle.std.specs.Int.{w64, to_le_bytes, from_le_bytes}
 use Rattle.kv_types.specs.declared.record_id.RecordId.{RecordId}
 use Rattle.kv_types.specs.declared.record_id.RecordId.TheVariants.{Str, Field}
 use Rattle.kv_types.specs.Keyspaces.{Keyspace, value_at, with_record}
-use Rattle.model.specs.declared.image.TheConstants.{MAGIC, VERSION}
+use Rattle.model.specs.declared.image.TheConstants.{VERSION}
 use Rattle.model.specs.declared.record.Gap.{Gap}
 use Rattle.model.specs.declared.record.Record.{Record}
 use Rattle.model.specs.declared.record.Role.{Role}
@@ -27,6 +27,10 @@ words_from image first (suc count) = image first ∷ words_from image (first + 1
 
 -- ---- the superblock, line 0
 
+-- the first word of an image: these eight bytes, as they lie in it, the lowest first
+abbrev pub magic_number : ℕ
+magic_number = from_le_bytes w64 (codes "WBLIMG01")
+
 -- an eighth of the lines are directory entries
 abbrev pub entries_of_lines : ℕ → ℕ
 entries_of_lines lines = lines / 8
@@ -35,7 +39,7 @@ abbrev pub root_word : ℕ
 root_word = 4
 
 pub record HasSuperblock (lines : ℕ) (image : Image) : Type 0 where
-  pub magic : image 0 ≡ MAGIC
+  pub magic : image 0 ≡ magic_number
   pub version : image 1 ≡ VERSION
   pub line_count : image 2 ≡ lines
   pub entry_count : image 3 ≡ entries_of_lines lines

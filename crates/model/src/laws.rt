@@ -10,7 +10,7 @@ ghost use Rattle.model.specs.Calls.{MayReply, changes_of, after_call, is_changin
 ghost use Rattle.model.specs.Positions.{changes_at};
 ghost use Rattle.model.specs.Images.{Image, Version, IsMapOf, map_below, Holds, entries_of_lines};
 ghost use Rattle.model.specs.Groups.{Contents, IsGroup, IsConsistent, after_group, changes_of_group};
-ghost use Rattle.model.specs.Standing.{StandsAt};
+ghost use Rattle.model.specs.Standing.{Holder, StandsAt};
 
 use crate::record::MAX_GAPS;
 
@@ -97,6 +97,6 @@ pub fn map_moves_by_the_group()
 
 /// An image that stands at a position of a list stands there while the list grows.
 pub fn images_stand_while_the_list_grows()
-    ensures { (lines : ℕ) (calls more : List Call) (p : ℕ) (image : Image) → p ≤ position_of calls
-        → StandsAt lines calls p image → StandsAt lines (calls ++ more) p image }
+    ensures { (holder : Holder) (calls more : List Call) (p : ℕ) (image : Image) → p ≤ position_of calls
+        → StandsAt holder calls p image → StandsAt holder (calls ++ more) p image }
 {}

@@ -22,5 +22,5 @@ pub use laws::{
     keyspace_of_a_cut_is_stable, list_grows, lists_leave_keyspaces, map_is_computed,
     map_moves_by_the_group, refused_calls_change_nothing,
 };
-pub use record::{Gap, MAX_GAPS, Record, Role};
+pub use record::{FIRST_EPOCH, Gap, MAX_GAPS, Record, Role};
 pub use redis::Redis;

@@ -4,6 +4,9 @@ use arrayvec::ArrayVec;
 /// How many gaps a record holds at most.
 pub const MAX_GAPS: usize = 8;
 
+/// The epoch of new images. Each promotion adds one.
+pub const FIRST_EPOCH: u64 = 1;
+
 /// Whether a node serves clients or stands by.
 #[derive(Clone, Copy, Debug, PartialEq, Eq)]
 pub enum Role {

@@ -7,10 +7,10 @@ use Rattle.pmem.specs.Crash.{IsImage, image_of}
 use Rattle.pmem.specs.Runs.{LeavesOnly, Staged, StageFailed, IsPartlyStored, IsStored, IsOutside, written, lines_from}
 use Rattle.pmem.proofs.Leaving.{LeavesOnly-then, LeavesOnly-weaken}
 use Rattle.pmem.proofs.Staging.{written-outside, stored_or_outside, same_or_other, IsLine-lines_from}
-use Rattle.model.specs.declared.image.TheConstants.{MAGIC, MIN_LINES, MAX_LINES, COUNTER_LIMIT}
+use Rattle.model.specs.declared.image.TheConstants.{MIN_LINES, MAX_LINES, COUNTER_LIMIT}
 use Rattle.model.specs.declared.record.Record.{Record}
 use Rattle.model.specs.declared.record.Role.{Role}
-use Rattle.model.specs.Images.{Image, HasSuperblock, HasRecord, root_word, entry_word, entries_of_lines, first_extent_line, record_words, version_at, counts}
+use Rattle.model.specs.Images.{Image, HasSuperblock, HasRecord, magic_number, root_word, entry_word, entries_of_lines, first_extent_line, record_words, version_at, counts}
 use Rattle.wbl_engine.specs.AtRest.{contents_of, IsSound, IsWhole, IsAtRest, Matters}
 use Rattle.wbl_engine.specs.Contents.{Keeps, IsNew}
 use Rattle.wbl_engine.specs.Formatting.{first_record, superblock_words, new_contents, new_pairs, IsFormatting}
@@ -30,7 +30,7 @@ magic_stored x word y (inr none) = absurd none
 magic_other : (x word : ℕ) → word ≢ 0 → IsOutside (magic_pairs x) word
 magic_other x word other y stored = other (magic_stored x word y stored).0
 
-no_magic : (image : Image) → image 0 ≡ 0 → image 0 ≢ MAGIC
+no_magic : (image : Image) → image 0 ≡ 0 → image 0 ≢ magic_number
 no_magic image none is = omega (arith, none, is)
 
 -- the image has all words of a new one but the magic
@@ -39,7 +39,7 @@ record HasNew (lines : ℕ) (role : Role) (image : Image) : Type 0 where
   first : (k : ℕ) → k < 24 → image (32 + k) ≡ get_or (record_words (first_record role)) k 0
   entry : (i k : ℕ) → i < entries_of_lines lines → k < 8 → image (entry_word i k) ≡ 0
 
-new_superblock : (lines : ℕ) (role : Role) (image : Image) → image 0 ≡ MAGIC → HasNew lines role image → HasSuperblock lines image
+new_superblock : (lines : ℕ) (role : Role) (image : Image) → image 0 ≡ magic_number → HasNew lines role image → HasSuperblock lines image
 new_superblock lines role image magic has =
     record {
       magic = magic;
@@ -57,7 +57,7 @@ no_version lines role image has i within =
     cond-false _ _ _ (ap (counts (first_record role)) (has.entry i 0 within (omega arith)) ∙ counts-zero (first_record role))
 
 -- with the magic it is the new image
-new_keeps : (lines : ℕ) (role : Role) (image : Image) → image 0 ≡ MAGIC → HasNew lines role image → Keeps (new_contents lines role) image
+new_keeps : (lines : ℕ) (role : Role) (image : Image) → image 0 ≡ magic_number → HasNew lines role image → Keeps (new_contents lines role) image
 new_keeps lines role image magic has =
     record {
       superblock = new_superblock lines role image magic has;
@@ -113,18 +113,18 @@ second_leaves {a} {b} lines role image first partly =
     ])))
 
 pub third_leaves : {a b c : State} (lines : ℕ) (role : Role) (image : Image) → Staged a b (magic_pairs 0) (0 ∷ [])
-    → Staged b c (new_pairs lines role) (lines_from 0 (first_extent_line lines)) → IsPartlyStored (magic_pairs MAGIC) c.words image
+    → Staged b c (new_pairs lines role) (lines_from 0 (first_extent_line lines)) → IsPartlyStored (magic_pairs magic_number) c.words image
     → IsFormatting a.words lines role image
 third_leaves {a} {b} {c} lines role image first second partly =
     elim (partly 0) [
       | inl may ↦ inr (inr (no_magic image (magic_gone lines role first second (image 0) may)))
       | inr stored ↦
-          inr (inl (new_keeps lines role image (magic_stored MAGIC 0 (image 0) stored).1
+          inr (inl (new_keeps lines role image (magic_stored magic_number 0 (image 0) stored).1
           (written_new lines role image second
           (λ word other below.
           elim (partly word) [
             | inl may ↦ may
-            | inr there ↦ absurd (other (magic_stored MAGIC word (image word) there).0)
+            | inr there ↦ absurd (other (magic_stored magic_number word (image word) there).0)
           ]))))
     ]
 
@@ -140,7 +140,7 @@ second_moments {a} {b} {c} lines role first moments =
     (LeavesOnly-weaken (IsFormatting a.words lines role) (λ image partly. second_leaves lines role image first partly) moments)
 
 pub third_moments : {a b c d : State} (lines : ℕ) (role : Role) → Staged a b (magic_pairs 0) (0 ∷ [])
-    → Staged b c (new_pairs lines role) (lines_from 0 (first_extent_line lines)) → LeavesOnly c d (IsPartlyStored (magic_pairs MAGIC) c.words)
+    → Staged b c (new_pairs lines role) (lines_from 0 (first_extent_line lines)) → LeavesOnly c d (IsPartlyStored (magic_pairs magic_number) c.words)
     → LeavesOnly a d (IsFormatting a.words lines role)
 third_moments {a} {b} {c} {d} lines role first second moments =
     LeavesOnly-then (second_moments lines role first second.moments)
@@ -150,12 +150,12 @@ third_moments {a} {b} {c} {d} lines role first second moments =
 
 -- what a crash leaves of the finished image
 finished : {b c d : State} (lines : ℕ) (role : Role) → Staged b c (new_pairs lines role) (lines_from 0 (first_extent_line lines))
-    → Staged c d (magic_pairs MAGIC) (0 ∷ []) → (image : Image)
-    → ((word : ℕ) → word < 8 * first_extent_line lines → MayBe (d.words word) (image word)) → (image 0 ≡ MAGIC) × HasNew lines role image
+    → Staged c d (magic_pairs magic_number) (0 ∷ []) → (image : Image)
+    → ((word : ℕ) → word < 8 * first_extent_line lines → MayBe (d.words word) (image word)) → (image 0 ≡ magic_number) × HasNew lines role image
 finished {b} {c} {d} lines role second third image may = (
   (third.certain 0 (inl refl)).only (image 0) (may 0 (omega arith)),
   written_new lines role image second
-      (λ word other below. third.elsewhere word (image word) (magic_other MAGIC word other) (may word below)),
+      (λ word other below. third.elsewhere word (image word) (magic_other magic_number word other) (may word below)),
 )
 
 -- what matters lies before the extents
@@ -172,22 +172,22 @@ only_newest : (word : Word) (x : ℕ) → ((y : ℕ) → MayBe word y → y ≡ 
 only_newest word x one = record { only = λ y may. one y may ∙ sym (one word.newest (inl refl)) }
 
 certain_below : {b c d : State} (lines : ℕ) (role : Role) → Staged b c (new_pairs lines role) (lines_from 0 (first_extent_line lines))
-    → Staged c d (magic_pairs MAGIC) (0 ∷ []) → (word : ℕ) → word < 8 * first_extent_line lines → Only (d.words word) (image_of d.words word)
+    → Staged c d (magic_pairs magic_number) (0 ∷ []) → (word : ℕ) → word < 8 * first_extent_line lines → Only (d.words word) (image_of d.words word)
 certain_below {b} {c} {d} lines role second third word below =
     elim (same_or_other word 0) [
       | inl zeroth ↦
-          only_newest (d.words word) (written (magic_pairs MAGIC) (image_of c.words) word)
+          only_newest (d.words word) (written (magic_pairs magic_number) (image_of c.words) word)
           (λ y may. (third.certain word (inl (omega (arith, zeroth)))).only y may)
       | inr other ↦
           only_newest (d.words word) (written (new_pairs lines role) (image_of b.words) word)
           (λ y may.
           (second.certain word (IsLine-lines_from 0 (first_extent_line lines) (word / 8) (omega arith) (omega (arith, below)))).only y
-          (third.elsewhere word y (magic_other MAGIC word other) may))
+          (third.elsewhere word y (magic_other magic_number word other) may))
     ]
 
 -- The device is at rest with the first record.
 pub format_rest : {a b c d : State} (role : Role) → MIN_LINES ≤ a.lines → a.lines ≤ MAX_LINES → Staged a b (magic_pairs 0) (0 ∷ [])
-    → Staged b c (new_pairs a.lines role) (lines_from 0 (first_extent_line a.lines)) → Staged c d (magic_pairs MAGIC) (0 ∷ [])
+    → Staged b c (new_pairs a.lines role) (lines_from 0 (first_extent_line a.lines)) → Staged c d (magic_pairs magic_number) (0 ∷ [])
     → IsAtRest (first_record role) d
 format_rest {a} {b} {c} {d} role many few first second third =
     let lines : d.lines ≡ a.lines = third.stays.lines ∙ second.stays.lines ∙ first.stays.lines in

@@ -5,6 +5,7 @@ use Rattle.pmem.specs.Crash.{IsImage, image_of}
 use Rattle.model.specs.declared.group.Group.{Group}
 use Rattle.model.specs.declared.image.TheConstants.{COUNTER_LIMIT, STAMP_WINDOW}
 use Rattle.model.specs.declared.record.Record.{Record}
+use Rattle.model.specs.declared.record.TheConstants.{FIRST_EPOCH}
 use Rattle.model.specs.declared.record.Role.{Role}
 use Rattle.model.specs.Images.{Image, HasSuperblock, HasRecord, entries_of_lines, entry_word, version_at}
 use Rattle.model.specs.Groups.{Contents, next_record}
@@ -41,7 +42,7 @@ pub record IsNew (lines : ℕ) (role : Role) (contents : Contents) : Type 0 wher
   pub position : contents.current.position ≡ 0
   pub cp : contents.current.cp ≡ 0
   pub cd : contents.current.cd ≡ 1 + STAMP_WINDOW
-  pub epoch : contents.current.epoch ≡ 1
+  pub epoch : contents.current.epoch ≡ FIRST_EPOCH
   pub role_is : contents.current.role ≡ role
   pub gaps : contents.current.gaps.items ≡ []
   pub line_count : contents.lines ≡ lines

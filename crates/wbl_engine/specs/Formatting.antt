@@ -3,10 +3,11 @@ use Rattle.std.specs.Prelude.{◌≡◌, ◌≢◌, ◌⊎◌, ℕ, ◌+◌, ◌
 use Rattle.pmem.specs.Device.{Word}
 use Rattle.pmem.specs.Crash.{IsImage}
 use Rattle.pmem.specs.Runs.{pairs_from}
-use Rattle.model.specs.declared.image.TheConstants.{MAGIC, VERSION, STAMP_WINDOW}
+use Rattle.model.specs.declared.image.TheConstants.{VERSION, STAMP_WINDOW}
 use Rattle.model.specs.declared.record.Record.{Record}
+use Rattle.model.specs.declared.record.TheConstants.{FIRST_EPOCH}
 use Rattle.model.specs.declared.record.Role.{Role}
-use Rattle.model.specs.Images.{Image, entries_of_lines, record_words}
+use Rattle.model.specs.Images.{Image, magic_number, entries_of_lines, record_words}
 use Rattle.model.specs.Groups.{Contents}
 use Rattle.wbl_engine.specs.Contents.{Keeps}
 
@@ -18,7 +19,7 @@ first_record role =
       position = 0;
       cp = 0;
       cd = 1 + STAMP_WINDOW;
-      epoch = 1;
+      epoch = FIRST_EPOCH;
       role = role;
       gaps = record { items = [] };
     }
@@ -48,4 +49,4 @@ new_pairs lines role =
 
 -- What a crash leaves of a device of these words that is being formatted: an image from before, the new one whole, or one without the magic.
 abbrev pub IsFormatting : (ℕ → Word) → ℕ → Role → Image → Type 0
-IsFormatting words lines role image = IsImage words image ⊎ (Keeps (new_contents lines role) image ⊎ (image 0 ≢ MAGIC))
+IsFormatting words lines role image = IsImage words image ⊎ (Keeps (new_contents lines role) image ⊎ (image 0 ≢ magic_number))

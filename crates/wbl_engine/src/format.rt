@@ -8,7 +8,7 @@ ghost use Rattle.wbl_engine.specs.Formatting.{first_record, new_pairs, IsFormatt
 
 use crate::record::words_of;
 use arrayvec::ArrayVec;
-use model::{MAGIC, Record, Role, STAMP_WINDOW, VERSION};
+use model::{FIRST_EPOCH, MAGIC, Record, Role, STAMP_WINDOW, VERSION};
 use pmem::{Fault, Pmem, flush_lines, persist, store_words};
 
 /// Formats a device: the magic goes first, then everything else is written, then the magic comes.
@@ -68,7 +68,7 @@ pub fn first_record(role: Role) -> Record
         position: 0,
         cp: 0,
         cd: 1 + STAMP_WINDOW,
-        epoch: 1,
+        epoch: FIRST_EPOCH,
         role,
         gaps: ArrayVec::new(),
     }

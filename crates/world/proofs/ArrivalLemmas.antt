@@ -5,6 +5,7 @@ use Rattle.std.proofs.lemmas.Option.{slice_get_within, get_or_from_slice_get}
 use Rattle.std.proofs.lemmas.Bool.{lt-ltb, le-ltb}
 use Rattle.model.specs.declared.call.Call.{Call}
 use Rattle.model.specs.Calls.{is_nonempty}
+use Rattle.model.specs.Standing.{Holder}
 use Rattle.machine.specs.Events.{Standby as Machine, World, Span, delivered, option_items, with_standby, without_first}
 use Rattle.machine.specs.Sound.{Sound}
 use Rattle.machine.proofs.StandbyLemmas.{standby-first}
@@ -121,11 +122,11 @@ pub one_change : (epoch : ℕ) (frames : List Frame) (w : World) (frame : Frame)
 one_change epoch frames w frame places sound first = (standby-first sound.sent w.link.known first.span w.standby (ap (take 1) first.all) sound.standby).one
 
 -- the standby took the first frame
-pub applies : (lines epoch : ℕ) (frames : List Frame) (w : World) (frame : Frame) (acks : List Ack) (old new : Arrivals) (before after : Node)
+pub applies : (holder : Holder) (epoch : ℕ) (frames : List Frame) (w : World) (frame : Frame) (acks : List Ack) (old new : Arrivals) (before after : Node)
     → new.delivered.items ≡ drop 1 old.delivered.items → new.acknowledgements.items ≡ old.acknowledgements.items ++ acks
     → ArrivalsStand epoch w.calls frames old w.standby → (first : FirstFrame epoch w.calls frames frame (drop 1 old.delivered.items) w.standby.waiting)
-    → Took lines epoch w.calls first.span (without_first w.standby) (map (λ (ack : Ack). ack.position) acks) before after → AppliesFirst lines epoch frames w true new before after
-applies lines epoch frames w frame acks old new before after items told stands first took =
+    → Took holder epoch w.calls first.span (without_first w.standby) (map (λ (ack : Ack). ack.position) acks) before after → AppliesFirst holder epoch frames w true new before after
+applies holder epoch frames w frame acks old new before after items told stands first took =
     let positions : List Ack → List ℕ = map (λ (ack : Ack). ack.position) in
     record {
       done = sym (ap is_nonempty first.all);

@@ -9,6 +9,7 @@ use Rattle.model.specs.declared.group.Group.{Group}
 use Rattle.model.specs.Calls.{is_nonempty}
 use Rattle.model.specs.Images.{Image}
 use Rattle.model.specs.Groups.{Contents, IsGroup, after_group}
+use Rattle.model.specs.Standing.{Holder}
 use Rattle.wbl_engine.specs.Contents.{Keeps, IsDurable, Same}
 use Rattle.pipes.specs.Waiting.{Waiting}
 use Rattle.machine.specs.declared.event.TheConstants.{PIPE_ITEMS}
@@ -89,20 +90,20 @@ Same-is old new same = grind arith
 -- ---- a commit
 
 -- the first group that waits is the next one of the list: the contents after it are those at the end of its span
-record NextGroup (lines : ℕ) (calls : List Call) (position : ℕ) (contents : Contents) (group : Group) (rest : List Group) (spans : List Span) : Type 0 where
+record NextGroup (holder : Holder) (calls : List Call) (position : ℕ) (contents : Contents) (group : Group) (rest : List Group) (spans : List Span) : Type 0 where
   pub firsts : FirstGroup calls group rest spans
   pub begins : firsts.first.before ≡ position
-  pub after : AreContentsAt lines calls firsts.first.after (after_group contents group)
+  pub after : AreContentsAt holder calls firsts.first.after (after_group contents group)
 
-next-group : (lines : ℕ) (calls : List Call) (position : ℕ) (contents : Contents) (group : Group) (rest : List Group) (spans : List Span) → AreContentsAt lines calls position contents → IsGroup contents group
-    → AreGroupsOf calls (group ∷ rest) spans → NextGroup lines calls position contents group rest spans
-next-group lines calls position contents group rest spans at lawful are =
+next-group : (holder : Holder) (calls : List Call) (position : ℕ) (contents : Contents) (group : Group) (rest : List Group) (spans : List Span) → AreContentsAt holder calls position contents → IsGroup contents group
+    → AreGroupsOf calls (group ∷ rest) spans → NextGroup holder calls position contents group rest spans
+next-group holder calls position contents group rest spans at lawful are =
     let firsts = first-group calls group rest spans are in
     let begins : firsts.first.before ≡ position = sym firsts.is.before ∙ lawful.before ∙ at.at in
     record {
       firsts = firsts;
       begins = begins;
-      after = AreContentsAt-after_group lines calls contents group firsts.first (subst (λ p. AreContentsAt lines calls p contents) (sym begins) at) lawful firsts.is;
+      after = AreContentsAt-after_group holder calls contents group firsts.first (subst (λ p. AreContentsAt holder calls p contents) (sym begins) at) lawful firsts.is;
     }
 
 all_three : (a b c : Bool) → a ≡ true → b ≡ true → c ≡ true → true ≡ (a && b && c)
@@ -122,30 +123,30 @@ commit-full w link full are =
     not_third (is_ready w.committer.stage) (is_nonempty w.committer.waiting) (has_room w.link.waiting) (has_room-groups w.calls link w.link.waiting are ∙ le-ltb (length link) PIPE_ITEMS (omega arith))
 
 -- the first group that waits is committed
-pub commit-goes : (lines : ℕ) (w : World) (old new : Committing) (group : Group) (link : List Group) (device device' : State) (contents contents' : Contents) (is_faulted is_faulted' : Bool)
+pub commit-goes : (holder : Holder) (w : World) (old new : Committing) (group : Group) (link : List Group) (device device' : State) (contents contents' : Contents) (is_faulted is_faulted' : Bool)
     → old.stage ≡ Ready → length link < PIPE_ITEMS → old.waiting.items ≡ group ∷ new.waiting.items → new.stage ≡ Durable group → new.local ≡ old.local
     → IsGroup contents group → Same (after_group contents group) contents' → IsDurable device' contents' → is_faulted' ≡ false
-    → CommittingStands w.calls old w.committer → EngineStands lines w.calls w.committer.position device contents is_faulted → AreGroupsOf w.calls link w.link.waiting
+    → CommittingStands w.calls old w.committer → EngineStands holder w.calls w.committer.position device contents is_faulted → AreGroupsOf w.calls link w.link.waiting
     → Goes (is_enabled w Commit) true
-    (CommittingStands w.calls new (committed_first w.committer.waiting w.committer) × EngineStands lines w.calls (committed_first w.committer.waiting w.committer).position device' contents' is_faulted')
-    (CommittingStands w.calls new w.committer × EngineStands lines w.calls w.committer.position device' contents' is_faulted')
-commit-goes lines w old new group link device device' contents contents' is_faulted is_faulted' ready room waits durable local lawful moved leaves sound stands engine are =
+    (CommittingStands w.calls new (committed_first w.committer.waiting w.committer) × EngineStands holder w.calls (committed_first w.committer.waiting w.committer).position device' contents' is_faulted')
+    (CommittingStands w.calls new w.committer × EngineStands holder w.calls w.committer.position device' contents' is_faulted')
+commit-goes holder w old new group link device device' contents contents' is_faulted is_faulted' ready room waits durable local lawful moved leaves sound stands engine are =
     let calls = w.calls in
-    let next = next-group lines calls w.committer.position contents group new.waiting.items w.committer.waiting engine.contents_at lawful
+    let next = next-group holder calls w.committer.position contents group new.waiting.items w.committer.waiting engine.contents_at lawful
     (subst (λ groups. AreGroupsOf calls groups w.committer.waiting) waits stands.groups) in
     let span = next.firsts.first in
     let is_ready_now : w.committer.stage ≡ machine_stage.Ready = ready-ready calls w.committer.stage (subst (λ stage. StageStands calls stage w.committer.stage) ready stands.stage_is) in
     record {
       done = all_three (is_ready w.committer.stage) (is_nonempty w.committer.waiting) (has_room w.link.waiting)
           (ap is_ready is_ready_now) (ap is_nonempty next.firsts.all) (has_room-groups calls link w.link.waiting are ∙ lt-ltb (length link) PIPE_ITEMS room);
-      goes = λ did. subst (λ spans. CommittingStands calls new (committed_first spans w.committer) × EngineStands lines calls (committed_first spans w.committer).position device' contents' is_faulted') (sym next.firsts.all) (
+      goes = λ did. subst (λ spans. CommittingStands calls new (committed_first spans w.committer) × EngineStands holder calls (committed_first spans w.committer).position device' contents' is_faulted') (sym next.firsts.all) (
         record {
           groups = next.firsts.are;
           stage_is = subst (λ stage. StageStands calls stage (machine_stage.Durable span)) (sym durable) next.firsts.is;
           local_is = local ∙ stands.local_is;
         },
         record {
-          contents_at = subst (AreContentsAt lines calls span.after) (sym (Same-is (after_group contents group) contents' moved)) next.after;
+          contents_at = subst (AreContentsAt holder calls span.after) (sym (Same-is (after_group contents group) contents' moved)) next.after;
           sound = sound;
           durable = leaves;
         },
@@ -154,26 +155,26 @@ commit-goes lines w old new group link device device' contents contents' is_faul
     }
 
 -- at any moment of the engine's call, a crash leaves what was before it or what is after it
-pub commit-moments : (lines : ℕ) (w : World) (code : Committing) (group : Group) (rest : List Group) (device device' : State) (contents : Contents) (is_faulted : Bool)
+pub commit-moments : (holder : Holder) (w : World) (code : Committing) (group : Group) (rest : List Group) (device device' : State) (contents : Contents) (is_faulted : Bool)
     → code.waiting.items ≡ group ∷ rest → IsGroup contents group
     → (is_faulted ≡ false → LeavesOnly device device' (λ image. Keeps contents image ⊎ Keeps (after_group contents group) image))
-    → Sound w → CommittingStands w.calls code w.committer → EngineStands lines w.calls w.committer.position device contents is_faulted
-    → NearOnly lines w.calls w.committer.position device device'
-commit-moments lines w code group rest device device' contents is_faulted waits lawful moments sound stands engine =
-    LeavesOnly-weaken (StandsAtOrNext lines w.calls w.committer.position) (λ image. either image) (moments engine.sound)
+    → Sound w → CommittingStands w.calls code w.committer → EngineStands holder w.calls w.committer.position device contents is_faulted
+    → NearOnly holder w.calls w.committer.position device device'
+commit-moments holder w code group rest device device' contents is_faulted waits lawful moments sound stands engine =
+    LeavesOnly-weaken (StandsAtOrNext holder w.calls w.committer.position) (λ image. either image) (moments engine.sound)
   where
-    next : NextGroup lines w.calls w.committer.position contents group rest w.committer.waiting
-    next = next-group lines w.calls w.committer.position contents group rest w.committer.waiting engine.contents_at lawful (subst (λ groups. AreGroupsOf w.calls groups w.committer.waiting) waits stands.groups)
+    next : NextGroup holder w.calls w.committer.position contents group rest w.committer.waiting
+    next = next-group holder w.calls w.committer.position contents group rest w.committer.waiting engine.contents_at lawful (subst (λ groups. AreGroupsOf w.calls groups w.committer.waiting) waits stands.groups)
 
     chain : IsChain w.committer.position (next.firsts.first ∷ next.firsts.others) w.committer.closed
     chain = subst (λ spans. IsChain w.committer.position spans w.committer.closed) next.firsts.all sound.committer.waiting
 
-    either : (image : Image) → Keeps contents image ⊎ Keeps (after_group contents group) image → StandsAtOrNext lines w.calls w.committer.position image
-    either image (inl keeps) = inl (keeps-stands lines w.calls w.committer.position contents image engine.contents_at keeps)
+    either : (image : Image) → Keeps contents image ⊎ Keeps (after_group contents group) image → StandsAtOrNext holder w.calls w.committer.position image
+    either image (inl keeps) = inl (keeps-stands holder w.calls w.committer.position contents image engine.contents_at keeps)
     either image (inr keeps) =
         inr (
           omega (arith, chain.1, next.firsts.is.span_within.within),
-          keeps-stands lines w.calls (w.committer.position + 1) (after_group contents group) image (subst (λ p. AreContentsAt lines w.calls p (after_group contents group)) chain.1 next.after) keeps,
+          keeps-stands holder w.calls (w.committer.position + 1) (after_group contents group) image (subst (λ p. AreContentsAt holder w.calls p (after_group contents group)) chain.1 next.after) keeps,
         )
 
 -- ---- a group handed on

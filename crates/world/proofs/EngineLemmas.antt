@@ -8,7 +8,7 @@ use Rattle.model.specs.declared.group.Group.{Group}
 use Rattle.model.specs.Calls.{keyspace_after, cut_at, position_of}
 use Rattle.model.specs.Images.{Image, IsMapOf, Holds, entries_of_lines}
 use Rattle.model.specs.Groups.{Contents, IsGroup, after_group, changes_of_group, last_position}
-use Rattle.model.specs.Standing.{StandsAt}
+use Rattle.model.specs.Standing.{Holder, StandsAt}
 use Rattle.model.proofs.CallsLemmas.{keyspace_after-cut_at-append}
 use Rattle.model.proofs.GroupsLemmas.{IsMapOf-after_group, IsConsistent-after_group}
 use Rattle.model.proofs.PositionsLemmas.{keyspace_after-cut_at-since}
@@ -21,51 +21,55 @@ use Rattle.world.specs.Committings.{AreContentsAt, EngineStands, Moves, Stands, 
 -- ---- what a crash leaves
 
 -- an image that holds contents at a position stands at it
-pub keeps-stands : (lines : ℕ) (calls : List Call) (p : ℕ) (contents : Contents) (image : Image) → AreContentsAt lines calls p contents → Keeps contents image → StandsAt lines calls p image
-keeps-stands lines calls p contents image are keeps =
+pub keeps-stands : (holder : Holder) (calls : List Call) (p : ℕ) (contents : Contents) (image : Image) → AreContentsAt holder calls p contents → Keeps contents image → StandsAt holder calls p image
+keeps-stands holder calls p contents image are keeps =
     let s = keyspace_after (cut_at calls p) in
     record {
       current = contents.current;
       position = are.at;
+      role = are.role_is;
+      epoch = are.epoch_is;
       holds = subst (λ n. Holds n contents.current s image) are.lines_are
           (Holds-versions contents.lines contents.current contents.versions s image keeps.superblock keeps.has_record keeps.versions are.map);
     }
 
-pub Stands-engine : (lines : ℕ) (calls : List Call) (p : ℕ) (device : State) (contents : Contents) (is_faulted : Bool) → EngineStands lines calls p device contents is_faulted → Stands lines calls p device
-Stands-engine lines calls p device contents is_faulted stands = λ image is. keeps-stands lines calls p contents image stands.contents_at (stands.durable image is)
+pub Stands-engine : (holder : Holder) (calls : List Call) (p : ℕ) (device : State) (contents : Contents) (is_faulted : Bool) → EngineStands holder calls p device contents is_faulted → Stands holder calls p device
+Stands-engine holder calls p device contents is_faulted stands = λ image is. keeps-stands holder calls p contents image stands.contents_at (stands.durable image is)
 
 -- nothing happened to the device
-pub near-still : (lines : ℕ) (calls : List Call) (p : ℕ) (device : State) (contents : Contents) (is_faulted : Bool) → EngineStands lines calls p device contents is_faulted → NearOnly lines calls p device device
-near-still lines calls p device contents is_faulted stands =
-    none_leaves device (StandsAtOrNext lines calls p) (λ image is. inl (Stands-engine lines calls p device contents is_faulted stands image is))
+pub near-still : (holder : Holder) (calls : List Call) (p : ℕ) (device : State) (contents : Contents) (is_faulted : Bool) → EngineStands holder calls p device contents is_faulted → NearOnly holder calls p device device
+near-still holder calls p device contents is_faulted stands =
+    none_leaves device (StandsAtOrNext holder calls p) (λ image is. inl (Stands-engine holder calls p device contents is_faulted stands image is))
 
 -- nothing happened to the device, wherever its node was said to stand before
-pub moves-same : (lines : ℕ) (calls : List Call) (p q : ℕ) (old new : State) → new ≡ old → Stands lines calls q new → Moves lines calls p q old new
-moves-same lines calls p q old new same stands = subst (λ (d : State). Moves lines calls p q d new) same
-    (record { leaves = none_leaves new (λ image. StandsAt lines calls p image ⊎ StandsAt lines calls q image) (λ image is. inr (stands image is)); failures = refl })
+pub moves-same : (holder : Holder) (calls : List Call) (p q : ℕ) (old new : State) → new ≡ old → Stands holder calls q new → Moves holder calls p q old new
+moves-same holder calls p q old new same stands = subst (λ (d : State). Moves holder calls p q d new) same
+    (record { leaves = none_leaves new (λ image. StandsAt holder calls p image ⊎ StandsAt holder calls q image) (λ image is. inr (stands image is)); failures = refl })
 
 -- the node moved by one change
-pub near-moves : (lines : ℕ) (calls : List Call) (p q : ℕ) (old new : State) → q ≡ p + 1 → new.failures ≡ old.failures → NearOnly lines calls p old new → Moves lines calls p q old new
-near-moves lines calls p q old new next failures only = record { leaves = LeavesOnly-weaken (λ image. StandsAt lines calls p image ⊎ StandsAt lines calls q image) either only; failures = failures }
+pub near-moves : (holder : Holder) (calls : List Call) (p q : ℕ) (old new : State) → q ≡ p + 1 → new.failures ≡ old.failures → NearOnly holder calls p old new → Moves holder calls p q old new
+near-moves holder calls p q old new next failures only = record { leaves = LeavesOnly-weaken (λ image. StandsAt holder calls p image ⊎ StandsAt holder calls q image) either only; failures = failures }
   where
-    either : (image : Image) → StandsAtOrNext lines calls p image → StandsAt lines calls p image ⊎ StandsAt lines calls q image
+    either : (image : Image) → StandsAtOrNext holder calls p image → StandsAt holder calls p image ⊎ StandsAt holder calls q image
     either image (inl here) = inl here
-    either image (inr there) = inr (subst (λ n. StandsAt lines calls n image) (sym next) there.1)
+    either image (inr there) = inr (subst (λ n. StandsAt holder calls n image) (sym next) there.1)
 
 -- ---- while the list grows
 
-pub AreContentsAt-grows : (lines : ℕ) (calls more : List Call) (p : ℕ) (contents : Contents) → p ≤ position_of calls → AreContentsAt lines calls p contents → AreContentsAt lines (calls ++ more) p contents
-AreContentsAt-grows lines calls more p contents le are = record {
+pub AreContentsAt-grows : (holder : Holder) (calls more : List Call) (p : ℕ) (contents : Contents) → p ≤ position_of calls → AreContentsAt holder calls p contents → AreContentsAt holder (calls ++ more) p contents
+AreContentsAt-grows holder calls more p contents le are = record {
   at = are.at;
+  role_is = are.role_is;
+  epoch_is = are.epoch_is;
   lines_are = are.lines_are;
   consistent = are.consistent;
   map = subst (IsMapOf contents.versions (entries_of_lines contents.lines)) (sym (keyspace_after-cut_at-append calls more p le)) are.map;
 }
 
-pub EngineStands-grows : (lines : ℕ) (calls more : List Call) (p : ℕ) (device : State) (contents : Contents) (is_faulted : Bool) → p ≤ position_of calls
-    → EngineStands lines calls p device contents is_faulted → EngineStands lines (calls ++ more) p device contents is_faulted
-EngineStands-grows lines calls more p device contents is_faulted le stands = record {
-  contents_at = AreContentsAt-grows lines calls more p contents le stands.contents_at;
+pub EngineStands-grows : (holder : Holder) (calls more : List Call) (p : ℕ) (device : State) (contents : Contents) (is_faulted : Bool) → p ≤ position_of calls
+    → EngineStands holder calls p device contents is_faulted → EngineStands holder (calls ++ more) p device contents is_faulted
+EngineStands-grows holder calls more p device contents is_faulted le stands = record {
+  contents_at = AreContentsAt-grows holder calls more p contents le stands.contents_at;
   sound = stands.sound;
   durable = stands.durable;
 }
@@ -73,9 +77,9 @@ EngineStands-grows lines calls more p device contents is_faulted le stands = rec
 -- ---- a group further
 
 -- contents at the beginning of a group's span are, after the group, at its end
-pub AreContentsAt-after_group : (lines : ℕ) (calls : List Call) (contents : Contents) (group : Group) (span : Span) → AreContentsAt lines calls span.before contents → IsGroup contents group
-    → IsGroupOf calls group span → AreContentsAt lines calls span.after (after_group contents group)
-AreContentsAt-after_group lines calls contents group span are lawful is =
+pub AreContentsAt-after_group : (holder : Holder) (calls : List Call) (contents : Contents) (group : Group) (span : Span) → AreContentsAt holder calls span.before contents → IsGroup contents group
+    → IsGroupOf calls group span → AreContentsAt holder calls span.after (after_group contents group)
+AreContentsAt-after_group holder calls contents group span are lawful is =
     let count = span.after - span.before in
     let end : span.before + count ≡ span.after = omega (arith, is.span_within.rising) in
     let moves : play_all (keyspace_after (cut_at calls span.before)) (changes_of_group group) ≡ keyspace_after (cut_at calls span.after) =
@@ -83,6 +87,8 @@ AreContentsAt-after_group lines calls contents group span are lawful is =
     ∙ ap (λ n. keyspace_after (cut_at calls n)) end in
     record {
       at = ap (λ n. last_position n group.parts.items) (sym lawful.before) ∙ is.after;
+      role_is = are.role_is;
+      epoch_is = are.epoch_is;
       lines_are = are.lines_are;
       consistent = IsConsistent-after_group contents group are.consistent lawful;
       map = subst (IsMapOf (after_group contents group).versions (entries_of_lines contents.lines)) moves

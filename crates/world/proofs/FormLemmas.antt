@@ -4,7 +4,9 @@ use Rattle.model.specs.Images.{entries_of_lines}
 use Rattle.model.specs.Groups.{Contents}
 use Rattle.model.specs.declared.group.Group.{Group}
 use Rattle.model.specs.declared.record.Role.{Role}
+use Rattle.model.specs.declared.record.TheConstants.{FIRST_EPOCH}
 use Rattle.model.proofs.MapLemmas.{IsMapOf-none}
+use Rattle.model.specs.Standing.{Holder, new_holder}
 use Rattle.pmem.specs.Device.{State}
 use Rattle.pmem.proofs.Leaving.{none_leaves}
 use Rattle.extent_heap.specs.Room.{Room}
@@ -47,11 +49,13 @@ underlies-new lines role contents table room new all empty =
     record { position_is = sym new.position; left = left-new lines role contents room new all; table_is = new-table lines role contents table new empty }
 
 pub engine-new : (lines : ℕ) (role : Role) (device : State) (contents : Contents) (is_faulted : Bool) → IsNew lines role contents → IsDurable device contents → is_faulted ≡ false
-    → EngineStands lines [] 0 device contents is_faulted
+    → EngineStands (new_holder lines role) [] 0 device contents is_faulted
 engine-new lines role device contents is_faulted new durable sound =
     record {
       contents_at = record {
         at = new.position;
+        role_is = new.role_is;
+        epoch_is = new.epoch;
         lines_are = new.line_count;
         consistent = new-consistent lines role contents new;
         map = IsMapOf-none contents.versions (entries_of_lines contents.lines) (λ i within. new.versions i);
@@ -61,13 +65,14 @@ engine-new lines role device contents is_faulted new durable sound =
     }
 
 pub standby-new : (lines epoch : ℕ) (role : Role) (node : Node) → IsNew lines role node.contents → IsDurable node.device node.contents → node.is_faulted ≡ false
-    → HasAll lines node.room → node.table ≡ [] → node.epoch ≡ epoch → StandbyStands lines epoch [] 0 node
-standby-new lines epoch role node new durable sound all empty same =
+    → HasAll lines node.room → node.table ≡ [] → node.epoch ≡ epoch → epoch ≡ FIRST_EPOCH → StandbyStands (new_holder lines role) epoch [] 0 node
+standby-new lines epoch role node new durable sound all empty same first =
     record {
       engine = engine-new lines role node.device node.contents node.is_faulted new durable sound;
       follows = follows-new lines role node.contents node.table node.room new all empty;
       table = ap records empty;
       epoch_is = same;
+      epoch_held = first;
     }
 
 -- contents that are new for a role are new for the role that they say
@@ -87,7 +92,7 @@ new-own lines lines' role contents same new =
       is_free = new.is_free;
     })
 
-pub pair-starts : (first second : ℕ) (pair : Pair) → SessionsStand pair.sessions [] [] → SequencerStands [] 0 pair.sequencer
+pub pair-starts : (first second : Holder) (pair : Pair) → SessionsStand pair.sessions [] [] → SequencerStands [] 0 pair.sequencer
     → CommittingStands [] pair.committing start.committer → pair.committing.waiting.items ≡ [] → EngineStands first [] 0 pair.device pair.contents pair.is_faulted
     → StandsFor pair.sequencer pair.contents → LinkStands [] pair.link start.link → pair.link.frames.items ≡ []
     → ((epoch : ℕ) → ArrivalsStand epoch [] [] pair.arrivals start.standby) → StandbyStands second pair.link.epoch [] 0 pair.standby → PairStands first second pair start

@@ -10,6 +10,7 @@ use Rattle.model.specs.declared.call.Call.{Call}
 use Rattle.model.specs.declared.group.Group.{Group}
 use Rattle.model.specs.Calls.{is_nonempty, position_of}
 use Rattle.model.specs.Groups.{Contents}
+use Rattle.model.specs.Standing.{Holder}
 use Rattle.redis_core.specs.Sequencing.{Sequencing, StandsFor}
 use Rattle.standby.specs.declared.frame.Frame.{Frame}
 use Rattle.standby.specs.declared.frame.Ack.{Ack}
@@ -44,7 +45,7 @@ pub goes-map : {A B C D : Type 0} {enabled did : Bool} → Goes enabled did A B 
 goes-map goes moved stayed = record { done = goes.done; goes = λ did. moved (goes.goes did); stays = λ did. stayed (goes.stays did) }
 
 -- neither device was touched
-untouched : (first second : ℕ) (old new : Pair) (w w' : World) → new.device ≡ old.device → new.standby.device ≡ old.standby.device → PartsStand first second new w' → MovesBoth first second old new w w'
+untouched : (first second : Holder) (old new : Pair) (w w' : World) → new.device ≡ old.device → new.standby.device ≡ old.standby.device → PartsStand first second new w' → MovesBoth first second old new w w'
 untouched first second old new w w' device device' parts =
     record {
       primary = moves-same first w'.calls w.committer.position w'.committer.position old.device new.device device (Stands-engine _ _ _ _ _ _ parts.engine);
@@ -52,7 +53,7 @@ untouched first second old new w w' device device' parts =
     }
 
 -- an event that touches no device
-pub goes-steps : (first second : ℕ) (w w' : World) (event : Event) (did : Bool) (old new : Pair) → new.device ≡ old.device → new.standby.device ≡ old.standby.device → Sound w → Happens w event w'
+pub goes-steps : (first second : Holder) (w w' : World) (event : Event) (did : Bool) (old new : Pair) → new.device ≡ old.device → new.standby.device ≡ old.standby.device → Sound w → Happens w event w'
     → Goes (is_enabled w event) did (PartsStand first second new w') (PartsStand first second new w) → Steps first second w event did old new
 goes-steps first second w w' event true old new device device' sound happens goes =
     let step : Step w event true w' = record { done = goes.done; happens = λ did. happens; stands = λ did. absurd (true≢false did) } in
@@ -72,7 +73,7 @@ goes-steps first second w w' event false old new device device' sound happens go
 
 -- ---- cuts
 
-pub cut-near : (first second : ℕ) (old new : Pair) (w : World) → PairStands first second old w → TellsTheSame old.sessions new.sessions
+pub cut-near : (first second : Holder) (old new : Pair) (w : World) → PairStands first second old w → TellsTheSame old.sessions new.sessions
     → NearOnly first w.calls w.committer.position old.device new.device → NearOnly second w.calls w.standby.position old.standby.device new.standby.device → IsCut first second old new w
 cut-near first second old new w stands same primary standby =
     let sessions = stands.parts.sessions in
@@ -92,14 +93,14 @@ cut-near first second old new w stands same primary standby =
       standby = standby;
     }
 
-still-primary : (first second : ℕ) (old : Pair) (w : World) → PairStands first second old w → NearOnly first w.calls w.committer.position old.device old.device
+still-primary : (first second : Holder) (old : Pair) (w : World) → PairStands first second old w → NearOnly first w.calls w.committer.position old.device old.device
 still-primary first second old w stands = near-still first w.calls w.committer.position old.device old.contents old.is_faulted stands.parts.engine
 
-still-standby : (first second : ℕ) (old : Pair) (w : World) → PairStands first second old w → NearOnly second w.calls w.standby.position old.standby.device old.standby.device
+still-standby : (first second : Holder) (old : Pair) (w : World) → PairStands first second old w → NearOnly second w.calls w.standby.position old.standby.device old.standby.device
 still-standby first second old w stands = StandbyStands-still second old.link.epoch w.calls w.standby.position old.standby stands.parts.standby
 
 -- neither device was touched
-pub cut-same : (first second : ℕ) (old new : Pair) (w : World) → new.device ≡ old.device → new.standby.device ≡ old.standby.device → TellsTheSame old.sessions new.sessions
+pub cut-same : (first second : Holder) (old new : Pair) (w : World) → new.device ≡ old.device → new.standby.device ≡ old.standby.device → TellsTheSame old.sessions new.sessions
     → PairStands first second old w → IsCut first second old new w
 cut-same first second old new w device device' same stands =
     cut-near first second old new w stands same
@@ -117,7 +118,7 @@ with_connections connections w = record { connections = connections; calls = w.c
 abbrev pub with_sessions : Sessions → Pair → Pair
 with_sessions sessions pair = record pair { sessions = sessions }
 
-sessions-parts : (first second : ℕ) (old : Pair) (sessions : Sessions) (connections : List Connection) (w : World) → PartsStand first second old w
+sessions-parts : (first second : Holder) (old : Pair) (sessions : Sessions) (connections : List Connection) (w : World) → PartsStand first second old w
     → SessionsStand sessions connections w.calls → PartsStand first second (with_sessions sessions old) (with_connections connections w)
 sessions-parts first second old sessions connections w parts stand =
     record {
@@ -139,7 +140,7 @@ SessionsGo event change did old new =
 
 sessions-steps : (event : Event) (change : World → List Connection) → ((w : World) → Happens w event (with_connections (change w) w))
     → (old : Pair) (sessions : Sessions) (did : Bool) → SessionsGo event change did old.sessions sessions
-    → (first second : ℕ) (w : World) → PairStands first second old w → Steps first second w event did old (with_sessions sessions old)
+    → (first second : Holder) (w : World) → PairStands first second old w → Steps first second w event did old (with_sessions sessions old)
 sessions-steps event change happens old sessions did go first second w stands =
     goes-steps first second w (with_connections (change w) w) event did old (with_sessions sessions old) refl refl stands.sound (happens w)
     (goes-map (go w stands.parts.sessions)
@@ -184,7 +185,7 @@ standby-within w s = omega (arith, s.standby.behind, chain-le _ _ _ s.link.waiti
 abbrev pub with_turn : Sessions → Sequencing → Pair → Pair
 with_turn sessions sequencer pair = record pair { sessions = sessions; sequencer = sequencer }
 
-called-parts : (first second : ℕ) (old : Pair) (sessions : Sessions) (sequencer : Sequencing) (w : World) (c : ℕ) (call : Call) → PairStands first second old w
+called-parts : (first second : Holder) (old : Pair) (sessions : Sessions) (sequencer : Sequencing) (w : World) (c : ℕ) (call : Call) → PairStands first second old w
     → SessionsStand sessions (called c call w).connections (w.calls ++ call ∷ []) → SequencerStands (w.calls ++ call ∷ []) w.committer.closed sequencer
     → ((contents : Contents) → StandsFor old.sequencer contents → StandsFor sequencer contents)
     → PartsStand first second (with_turn sessions sequencer old) (called c call w)
@@ -201,7 +202,7 @@ called-parts first second old sessions sequencer w c call stands sessions_stand 
       standby = StandbyStands-grows second old.link.epoch w.calls (call ∷ []) w.standby.position old.standby (standby-within w stands.sound) parts.standby;
     }
 
-turn-steps : (first second : ℕ) (old : Pair) (sessions : Sessions) (sequencer : Sequencing) (w : World) (c : ℕ) (did : Bool) → PairStands first second old w
+turn-steps : (first second : Holder) (old : Pair) (sessions : Sessions) (sequencer : Sequencing) (w : World) (c : ℕ) (did : Bool) → PairStands first second old w
     → TakesTurn w c did sessions old.sequencer sequencer → ((contents : Contents) → StandsFor old.sequencer contents → StandsFor sequencer contents)
     → Steps first second w (events.Turn c) did old (with_turn sessions sequencer old)
 turn-steps first second old sessions sequencer w c true stands takes goes_on =
@@ -320,7 +321,7 @@ committed-next from to [] committer true room chain enabled = absurd (true≢fal
 committed-next from to [] committer false room chain enabled = absurd (true≢false enabled)
 committed-next from to (group ∷ groups) committer ready room chain enabled = chain.1
 
-commit-steps : (first second : ℕ) (w : World) (did : Bool) (old new : Pair) → new.standby.device ≡ old.standby.device → Sound w
+commit-steps : (first second : Holder) (w : World) (did : Bool) (old new : Pair) → new.standby.device ≡ old.standby.device → Sound w
     → (did ≡ false → new.device ≡ old.device) → new.device.failures ≡ old.device.failures → NearOnly first w.calls w.committer.position old.device new.device
     → Goes (is_enabled w events.Commit) did
     (PartsStand first second new (with_committer (committed_first w.committer.waiting w.committer) w)) (PartsStand first second new w)
@@ -344,16 +345,16 @@ commit-steps first second w false old new device' sound still failures only goes
     goes-steps first second w (with_committer (committed_first w.committer.waiting w.committer) w) events.Commit false old new (still refl) device' sound refl goes
 
 pub commit-does : (old : Pair) (committing : Committing) (device : State) (contents : Contents) (is_faulted : Bool) (result : Result Bool Refusal)
-    → IfOk result (λ did. (lines : ℕ) (w : World) → CommittingStands w.calls old.committing w.committer
-    → EngineStands lines w.calls w.committer.position old.device old.contents old.is_faulted → AreGroupsOf w.calls old.link.waiting.items w.link.waiting
+    → IfOk result (λ did. (holder : Holder) (w : World) → CommittingStands w.calls old.committing w.committer
+    → EngineStands holder w.calls w.committer.position old.device old.contents old.is_faulted → AreGroupsOf w.calls old.link.waiting.items w.link.waiting
     → Goes (is_enabled w events.Commit) did
     (CommittingStands w.calls committing (committed_first w.committer.waiting w.committer)
-    × EngineStands lines w.calls (committed_first w.committer.waiting w.committer).position device contents is_faulted)
-    (CommittingStands w.calls committing w.committer × EngineStands lines w.calls w.committer.position device contents is_faulted))
+    × EngineStands holder w.calls (committed_first w.committer.waiting w.committer).position device contents is_faulted)
+    (CommittingStands w.calls committing w.committer × EngineStands holder w.calls w.committer.position device contents is_faulted))
     → IfOk result (λ _. LeadsOn old.contents old.committing.waiting.items contents committing.waiting.items)
     → IfOk result (λ did. did ≡ false → device ≡ old.device) → OnOk result (device.failures ≡ old.device.failures)
-    → ((lines : ℕ) (w : World) → Sound w → CommittingStands w.calls old.committing w.committer
-    → EngineStands lines w.calls w.committer.position old.device old.contents old.is_faulted → NearOnly lines w.calls w.committer.position old.device device)
+    → ((holder : Holder) (w : World) → Sound w → CommittingStands w.calls old.committing w.committer
+    → EngineStands holder w.calls w.committer.position old.device old.contents old.is_faulted → NearOnly holder w.calls w.committer.position old.device device)
     → Does old events.Commit result (with_engine committing device contents is_faulted old)
 commit-does old committing device contents is_faulted (Err refusal) go leads still failures only =
     record {
@@ -378,7 +379,7 @@ commit-does old committing device contents is_faulted (Ok did) go leads still fa
     same_closed [] w = refl
     same_closed (group ∷ groups) w = refl
 
-    committed-parts : (first second : ℕ) (w : World) (committer : MachineCommitter) → PartsStand first second old w
+    committed-parts : (first second : Holder) (w : World) (committer : MachineCommitter) → PartsStand first second old w
         → CommittingStands w.calls committing committer → EngineStands first w.calls committer.position device contents is_faulted
         → committer.closed ≡ w.committer.closed
         → PartsStand first second (with_engine committing device contents is_faulted old) (with_committer committer w)
@@ -397,7 +398,7 @@ commit-does old committing device contents is_faulted (Ok did) go leads still fa
 abbrev pub with_committing : Committing → Pair → Pair
 with_committing committing pair = record pair { committing = committing }
 
-shown-parts : (first second : ℕ) (old : Pair) (committing : Committing) (w : World) (committer : MachineCommitter) → PartsStand first second old w → committing.waiting ≡ old.committing.waiting
+shown-parts : (first second : Holder) (old : Pair) (committing : Committing) (w : World) (committer : MachineCommitter) → PartsStand first second old w → committing.waiting ≡ old.committing.waiting
     → CommittingStands w.calls committing committer → committer.closed ≡ w.committer.closed → committer.position ≡ w.committer.position
     → PartsStand first second (with_committing committing old) (with_committer committer w)
 shown-parts first second old committing w committer parts waiting committing_stands closed position =
@@ -493,7 +494,7 @@ hand-does old committing waiting did go same =
 abbrev pub with_frames : Link → Pair → Pair
 with_frames link pair = record pair { link = link }
 
-link-parts : (first second : ℕ) (old : Pair) (link : Link) (w : World) (machine : MachineLink) → PartsStand first second old w → KeepsFrames old.link link → LinkStands w.calls link machine
+link-parts : (first second : Holder) (old : Pair) (link : Link) (w : World) (machine : MachineLink) → PartsStand first second old w → KeepsFrames old.link link → LinkStands w.calls link machine
     → PartsStand first second (with_frames link old) (with_link machine w)
 link-parts first second old link w machine parts keeps link_stands =
     record {
@@ -539,7 +540,7 @@ with_arrivals arrivals pair = record pair { arrivals = arrivals }
 abbrev pub with_opened : Arrivals → Link → Pair → Pair
 with_opened arrivals link pair = record pair { arrivals = arrivals; link = link }
 
-arrivals-parts : (first second : ℕ) (old : Pair) (arrivals : Arrivals) (w : World) (machine : MachineStandby) → PartsStand first second old w → machine.position ≡ w.standby.position
+arrivals-parts : (first second : Holder) (old : Pair) (arrivals : Arrivals) (w : World) (machine : MachineStandby) → PartsStand first second old w → machine.position ≡ w.standby.position
     → ArrivalsStand old.link.epoch w.calls old.link.frames.items arrivals machine → PartsStand first second (with_arrivals arrivals old) (with_standby machine w)
 arrivals-parts first second old arrivals w machine parts position arrivals_stand =
     record {
@@ -609,7 +610,7 @@ deliver-does old arrivals sent frame (Err refusal) same go =
 abbrev pub with_node : Arrivals → Node → Pair → Pair
 with_node arrivals node pair = record pair { arrivals = arrivals; standby = node }
 
-apply-steps : (first second : ℕ) (old : Pair) (arrivals : Arrivals) (node : Node) (w : World) (did : Bool) → PairStands first second old w
+apply-steps : (first second : Holder) (old : Pair) (arrivals : Arrivals) (node : Node) (w : World) (did : Bool) → PairStands first second old w
     → AppliesFirst second old.link.epoch old.link.frames.items w did arrivals old.standby node → Steps first second w events.Apply did old (with_node arrivals node old)
 apply-steps first second old arrivals node w true stands applies =
     let parts = stands.parts in
@@ -661,30 +662,30 @@ apply-steps first second old arrivals node w false stands applies =
     }
 
 pub apply-does : (old : Pair) (arrivals : Arrivals) (node : Node) (frames : List Frame) (result : Result Bool Refusal) → frames ≡ old.link.frames.items
-    → IfOk result (λ did. (lines : ℕ) (w : World) → Sound w → ArrivalsStand old.standby.epoch w.calls frames old.arrivals w.standby
-    → StandbyStands lines old.standby.epoch w.calls w.standby.position old.standby
-    → AppliesFirst lines old.standby.epoch frames w did arrivals old.standby node)
-    → ((lines : ℕ) (w : World) → Sound w → ArrivalsStand old.standby.epoch w.calls frames old.arrivals w.standby
-    → StandbyStands lines old.standby.epoch w.calls w.standby.position old.standby → NearOnly lines w.calls w.standby.position old.standby.device node.device)
+    → IfOk result (λ did. (holder : Holder) (w : World) → Sound w → ArrivalsStand old.standby.epoch w.calls frames old.arrivals w.standby
+    → StandbyStands holder old.standby.epoch w.calls w.standby.position old.standby
+    → AppliesFirst holder old.standby.epoch frames w did arrivals old.standby node)
+    → ((holder : Holder) (w : World) → Sound w → ArrivalsStand old.standby.epoch w.calls frames old.arrivals w.standby
+    → StandbyStands holder old.standby.epoch w.calls w.standby.position old.standby → NearOnly holder w.calls w.standby.position old.standby.device node.device)
     → Does old events.Apply result (with_node arrivals node old)
 apply-does old arrivals node frames result same applies only = go result applies
   where
-    arrive : (first second : ℕ) (w : World) → PairStands first second old w → ArrivalsStand old.standby.epoch w.calls frames old.arrivals w.standby
+    arrive : (first second : Holder) (w : World) → PairStands first second old w → ArrivalsStand old.standby.epoch w.calls frames old.arrivals w.standby
     arrive first second w stands =
         subst (λ e. ArrivalsStand e w.calls frames old.arrivals w.standby) (sym stands.parts.standby.epoch_is)
         (subst (λ (all : List Frame). ArrivalsStand old.link.epoch w.calls all old.arrivals w.standby) (sym same) stands.parts.arrivals)
 
-    stand : (first second : ℕ) (w : World) → PairStands first second old w → StandbyStands second old.standby.epoch w.calls w.standby.position old.standby
+    stand : (first second : Holder) (w : World) → PairStands first second old w → StandbyStands second old.standby.epoch w.calls w.standby.position old.standby
     stand first second w stands =
         subst (λ e. StandbyStands second e w.calls w.standby.position old.standby) (sym stands.parts.standby.epoch_is) stands.parts.standby
 
-    applied-only : (first second : ℕ) (w : World) → PairStands first second old w → NearOnly second w.calls w.standby.position old.standby.device node.device
+    applied-only : (first second : Holder) (w : World) → PairStands first second old w → NearOnly second w.calls w.standby.position old.standby.device node.device
     applied-only first second w stands = only second w stands.sound (arrive first second w stands) (stand first second w stands)
 
     go : (result : Result Bool Refusal)
-        → IfOk result (λ did. (lines : ℕ) (w : World) → Sound w → ArrivalsStand old.standby.epoch w.calls frames old.arrivals w.standby
-        → StandbyStands lines old.standby.epoch w.calls w.standby.position old.standby
-        → AppliesFirst lines old.standby.epoch frames w did arrivals old.standby node)
+        → IfOk result (λ did. (holder : Holder) (w : World) → Sound w → ArrivalsStand old.standby.epoch w.calls frames old.arrivals w.standby
+        → StandbyStands holder old.standby.epoch w.calls w.standby.position old.standby
+        → AppliesFirst holder old.standby.epoch frames w did arrivals old.standby node)
         → Does old events.Apply result (with_node arrivals node old)
     go (Ok did) applies =
         record {

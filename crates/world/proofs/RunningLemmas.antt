@@ -7,7 +7,7 @@ use Rattle.model.specs.declared.call.Call.{Call}
 use Rattle.model.specs.declared.record.Role.TheVariants.{Primary, Standby}
 use Rattle.model.specs.Calls.{IsPrefix, position_of}
 use Rattle.model.specs.Images.{Image}
-use Rattle.model.specs.Standing.{StandsAt}
+use Rattle.model.specs.Standing.{Holder, new_holder, StandsAt}
 use Rattle.model.proofs.StandingLemmas.{StandsAt-append}
 use Rattle.machine.specs.declared.event.Event.{Event}
 use Rattle.machine.specs.declared.event.TheConstants.{SEATS}
@@ -32,23 +32,23 @@ use Rattle.world.proofs.SessionLemmas.{length-connections, released-told}
 -- ---- from event to event
 
 -- one event more
-moves-push : (position : World → ℕ) (lines : ℕ) (w : World) (worlds : List World) (w' : World) (old new new' : State) → AreMoves position lines w worlds old new
-    → Moves lines w'.calls (position (last_world w worlds)) (position w') new new' → AreMoves position lines w (worlds ++ w' ∷ []) old new'
-moves-push position lines w [] w' old new new' are moves = (new', subst (λ (d : State). Moves lines w'.calls (position w) (position w') d new') (sym are) moves, refl)
-moves-push position lines w (next ∷ worlds) w' old new new' are moves = (are.0, are.1, moves-push position lines next worlds w' are.0 new new' are.2 moves)
+moves-push : (position : World → ℕ) (holder : Holder) (w : World) (worlds : List World) (w' : World) (old new new' : State) → AreMoves position holder w worlds old new
+    → Moves holder w'.calls (position (last_world w worlds)) (position w') new new' → AreMoves position holder w (worlds ++ w' ∷ []) old new'
+moves-push position holder w [] w' old new new' are moves = (new', subst (λ (d : State). Moves holder w'.calls (position w) (position w') d new') (sym are) moves, refl)
+moves-push position holder w (next ∷ worlds) w' old new new' are moves = (are.0, are.1, moves-push position holder next worlds w' are.0 new new' are.2 moves)
 
-pub reaches-world : (first second : ℕ) (began : Pair) (events : List Event) (done : List Bool) (pair : Pair) → StandsAfter first second began events done pair → HasWorld pair
+pub reaches-world : (first second : Holder) (began : Pair) (events : List Event) (done : List Bool) (pair : Pair) → StandsAfter first second began events done pair → HasWorld pair
 reaches-world first second began events done pair after = record { first = first; second = second; world = last_world start after.reaches.worlds; stands = after.stands }
 
-pub reaches-start : (first second : ℕ) (done : List Bool) (pair : Pair) → done ≡ [] → PairStands first second pair start → StandsAfter first second pair [] done pair
+pub reaches-start : (first second : Holder) (done : List Bool) (pair : Pair) → done ≡ [] → PairStands first second pair start → StandsAfter first second pair [] done pair
 reaches-start first second done pair none stands =
     record {
       reaches = record { worlds = []; run = subst (λ (d : List Bool). Run start [] d []) (sym none) tt; primary_moves = refl; standby_moves = refl };
       stands = stands;
     }
 
-pub reaches-next : (first second : ℕ) (began : Pair) (events : List Event) (done done' : List Bool) (pair pair' : Pair) (event : Event) (did : Bool) → done' ≡ done ++ did ∷ []
-    → ((first second : ℕ) (w : World) → PairStands first second pair w → Steps first second w event did pair pair')
+pub reaches-next : (first second : Holder) (began : Pair) (events : List Event) (done done' : List Bool) (pair pair' : Pair) (event : Event) (did : Bool) → done' ≡ done ++ did ∷ []
+    → ((first second : Holder) (w : World) → PairStands first second pair w → Steps first second w event did pair pair')
     → StandsAfter first second began events done pair → StandsAfter first second began (events ++ event ∷ []) done' pair'
 reaches-next first second began events done done' pair pair' event did more steps after =
     let reaches = after.reaches in
@@ -65,15 +65,15 @@ reaches-next first second began events done done' pair pair' event did more step
       stands = subst (PairStands first second pair') (sym (last_world-push start reaches.worlds next.world)) next.stands;
     }
 
-pub reaches-cut : (first second : ℕ) (began : Pair) (events : List Event) (done : List Bool) (pair pair' : Pair)
-    → ((first second : ℕ) (w : World) → PairStands first second pair w → IsCut first second pair pair' w)
+pub reaches-cut : (first second : Holder) (began : Pair) (events : List Event) (done : List Bool) (pair pair' : Pair)
+    → ((first second : Holder) (w : World) → PairStands first second pair w → IsCut first second pair pair' w)
     → StandsAfter first second began events done pair → IsCutAfter first second began events done pair'
 reaches-cut first second began events done pair pair' cuts after =
     record { before = pair; reaches = after.reaches; cut = cuts first second (last_world start after.reaches.worlds) after.stands }
 
 -- ---- the connections are few
 
-pub few-played : (first second : ℕ) (began : Pair) (events : List Event) (ended : Option Ended) (done : List Bool) (pair : Pair) → Plays first second began events ended done pair
+pub few-played : (first second : Holder) (began : Pair) (events : List Event) (ended : Option Ended) (done : List Bool) (pair : Pair) → Plays first second began events ended done pair
     → length pair.sessions.connections.items ≤ SEATS
 few-played first second began events None done pair plays =
     let w = last_world start plays.reaches.worlds in
@@ -108,61 +108,61 @@ of_standby =
 -- ---- the moments of a run
 
 -- what is said of the list of an event is so of the whole list
-moves-grow : (lines : ℕ) (calls all : List Call) (p q : ℕ) (old new : State) → IsPrefix calls all → p ≤ position_of calls → q ≤ position_of calls → Moves lines calls p q old new → Moves lines all p q old new
-moves-grow lines calls all p q old new prefix p_within q_within moves =
-    subst (λ (list : List Call). Moves lines list p q old new) prefix.joined
-    (record { leaves = LeavesOnly-weaken (λ image. StandsAt lines (calls ++ prefix.rest) p image ⊎ StandsAt lines (calls ++ prefix.rest) q image) either moves.leaves; failures = moves.failures })
+moves-grow : (holder : Holder) (calls all : List Call) (p q : ℕ) (old new : State) → IsPrefix calls all → p ≤ position_of calls → q ≤ position_of calls → Moves holder calls p q old new → Moves holder all p q old new
+moves-grow holder calls all p q old new prefix p_within q_within moves =
+    subst (λ (list : List Call). Moves holder list p q old new) prefix.joined
+    (record { leaves = LeavesOnly-weaken (λ image. StandsAt holder (calls ++ prefix.rest) p image ⊎ StandsAt holder (calls ++ prefix.rest) q image) either moves.leaves; failures = moves.failures })
   where
-    either : (image : Image) → StandsAt lines calls p image ⊎ StandsAt lines calls q image → StandsAt lines (calls ++ prefix.rest) p image ⊎ StandsAt lines (calls ++ prefix.rest) q image
-    either image (inl before) = inl (StandsAt-append lines calls prefix.rest p image p_within before)
-    either image (inr after) = inr (StandsAt-append lines calls prefix.rest q image q_within after)
+    either : (image : Image) → StandsAt holder calls p image ⊎ StandsAt holder calls q image → StandsAt holder (calls ++ prefix.rest) p image ⊎ StandsAt holder (calls ++ prefix.rest) q image
+    either image (inl before) = inl (StandsAt-append holder calls prefix.rest p image p_within before)
+    either image (inr after) = inr (StandsAt-append holder calls prefix.rest q image q_within after)
 
-moves-from : (lines : ℕ) (calls : List Call) (p q : ℕ) (old new : State) → p ≤ q → Moves lines calls p q old new → FromOnly lines calls p old new
-moves-from lines calls p q old new le moves = LeavesOnly-weaken (λ image. (n : ℕ) × (p ≤ n) × StandsAt lines calls n image) either moves.leaves
+moves-from : (holder : Holder) (calls : List Call) (p q : ℕ) (old new : State) → p ≤ q → Moves holder calls p q old new → FromOnly holder calls p old new
+moves-from holder calls p q old new le moves = LeavesOnly-weaken (λ image. (n : ℕ) × (p ≤ n) × StandsAt holder calls n image) either moves.leaves
   where
-    either : (image : Image) → StandsAt lines calls p image ⊎ StandsAt lines calls q image → (n : ℕ) × (p ≤ n) × StandsAt lines calls n image
+    either : (image : Image) → StandsAt holder calls p image ⊎ StandsAt holder calls q image → (n : ℕ) × (p ≤ n) × StandsAt holder calls n image
     either image (inl before) = (p, le_refl p, before)
     either image (inr after) = (q, le, after)
 
-rests-from : (lines : ℕ) (calls : List Call) (p : ℕ) (old new : State) → Rests lines calls p old new → FromOnly lines calls p old new
-rests-from lines calls p old new rests = LeavesOnly-weaken (λ image. (n : ℕ) × (p ≤ n) × StandsAt lines calls n image) (λ image stands. (p, le_refl p, stands)) rests.leaves
+rests-from : (holder : Holder) (calls : List Call) (p : ℕ) (old new : State) → Rests holder calls p old new → FromOnly holder calls p old new
+rests-from holder calls p old new rests = LeavesOnly-weaken (λ image. (n : ℕ) × (p ≤ n) × StandsAt holder calls n image) (λ image stands. (p, le_refl p, stands)) rests.leaves
 
-near-from : (lines : ℕ) (calls : List Call) (p : ℕ) (old new : State) → NearOnly lines calls p old new → FromOnly lines calls p old new
-near-from lines calls p old new near = LeavesOnly-weaken (λ image. (n : ℕ) × (p ≤ n) × StandsAt lines calls n image) either near
+near-from : (holder : Holder) (calls : List Call) (p : ℕ) (old new : State) → NearOnly holder calls p old new → FromOnly holder calls p old new
+near-from holder calls p old new near = LeavesOnly-weaken (λ image. (n : ℕ) × (p ≤ n) × StandsAt holder calls n image) either near
   where
-    either : (image : Image) → StandsAtOrNext lines calls p image → (n : ℕ) × (p ≤ n) × StandsAt lines calls n image
+    either : (image : Image) → StandsAtOrNext holder calls p image → (n : ℕ) × (p ≤ n) × StandsAt holder calls n image
     either image (inl here) = (p, le_refl p, here)
     either image (inr next) = (p + 1, omega arith, next.1)
 
-from-lower : (lines : ℕ) (calls : List Call) (p q : ℕ) (old new : State) → p ≤ q → FromOnly lines calls q old new → FromOnly lines calls p old new
-from-lower lines calls p q old new le only = LeavesOnly-weaken (λ image. (n : ℕ) × (p ≤ n) × StandsAt lines calls n image) (λ image from. (from.0, omega (arith, le, from.1), from.2)) only
+from-lower : (holder : Holder) (calls : List Call) (p q : ℕ) (old new : State) → p ≤ q → FromOnly holder calls q old new → FromOnly holder calls p old new
+from-lower holder calls p q old new le only = LeavesOnly-weaken (λ image. (n : ℕ) × (p ≤ n) × StandsAt holder calls n image) (λ image from. (from.0, omega (arith, le, from.1), from.2)) only
 
 -- the moments from a world on, and that no crash leaves an image below where the node stands in it
-record MomentsFrom (last : Stretch) (position : World → ℕ) (lines : ℕ) (calls : List Call) (w : World) (worlds : List World) (old new : State) : Type 0 where
-  from : FromOnly lines calls (position w) old new
-  moments : AreMoments last position lines calls w worlds old new
+record MomentsFrom (last : Stretch) (position : World → ℕ) (holder : Holder) (calls : List Call) (w : World) (worlds : List World) (old new : State) : Type 0 where
+  from : FromOnly holder calls (position w) old new
+  moments : AreMoments last position holder calls w worlds old new
 
-moments-from : (last : Stretch) (position : World → ℕ) (lines : ℕ) (calls : List Call) → IsOfNode position → ((p : ℕ) (old new : State) → last lines calls p old new → FromOnly lines calls p old new)
+moments-from : (last : Stretch) (position : World → ℕ) (holder : Holder) (calls : List Call) → IsOfNode position → ((p : ℕ) (old new : State) → last holder calls p old new → FromOnly holder calls p old new)
     → (w : World) (events : List Event) (done : List Bool) (worlds : List World) (old reached new : State) → Run w events done worlds → Sound w → (last_world w worlds).calls ≡ calls
-    → AreMoves position lines w worlds old reached → last lines calls (position (last_world w worlds)) reached new → MomentsFrom last position lines calls w worlds old new
-moments-from last position lines calls node from w [] [] [] old reached new run sound told are ends =
-    let all : last lines calls (position w) old new = subst (λ (d : State). last lines calls (position w) d new) (sym are) ends in
+    → AreMoves position holder w worlds old reached → last holder calls (position (last_world w worlds)) reached new → MomentsFrom last position holder calls w worlds old new
+moments-from last position holder calls node from w [] [] [] old reached new run sound told are ends =
+    let all : last holder calls (position w) old new = subst (λ (d : State). last holder calls (position w) d new) (sym are) ends in
     let onward = from (position w) old new all in
-    record { from = onward; moments = (λ front call released. from-lower lines calls _ (position w) old new (node.holds w sound front call released) onward, all) }
-moments-from last position lines calls node from w (event ∷ events) (did ∷ done) (w' ∷ worlds) old reached new run sound told are ends =
+    record { from = onward; moments = (λ front call released. from-lower holder calls _ (position w) old new (node.holds w sound front call released) onward, all) }
+moments-from last position holder calls node from w (event ∷ events) (did ∷ done) (w' ∷ worlds) old reached new run sound told are ends =
     let sound' = sound-step w event did w' run.0 sound in
     let rises = node.rises w w' (grows-step w event did w' run.0 sound) in
     let within = node.within w' sound' in
     let prefix : IsPrefix w'.calls calls = subst (IsPrefix w'.calls) told (grows-from w' events done worlds run.1 sound').calls in
-    let rest = moments-from last position lines calls node from w' events done worlds are.0 reached new run.1 sound' told are.2 ends in
-    let moves = moves-grow lines w'.calls calls (position w) (position w') old are.0 prefix (omega (arith, rises, within)) within are.1 in
-    let onward : FromOnly lines calls (position w) old new =
-    LeavesOnly-then (moves-from lines calls (position w) (position w') old are.0 rises moves) (from-lower lines calls (position w) (position w') are.0 new rises rest.from) in
+    let rest = moments-from last position holder calls node from w' events done worlds are.0 reached new run.1 sound' told are.2 ends in
+    let moves = moves-grow holder w'.calls calls (position w) (position w') old are.0 prefix (omega (arith, rises, within)) within are.1 in
+    let onward : FromOnly holder calls (position w) old new =
+    LeavesOnly-then (moves-from holder calls (position w) (position w') old are.0 rises moves) (from-lower holder calls (position w) (position w') are.0 new rises rest.from) in
     record {
       from = onward;
-      moments = (are.0, λ front call released. from-lower lines calls _ (position w) old new (node.holds w sound front call released) onward, moves, rest.moments);
+      moments = (are.0, λ front call released. from-lower holder calls _ (position w) old new (node.holds w sound front call released) onward, moves, rest.moments);
     }
-moments-from last position lines calls node from w events done worlds old reached new run sound told are ends = absurd run
+moments-from last position holder calls node from w events done worlds old reached new run sound told are ends = absurd run
 
 -- ---- what is told at the end
 
@@ -192,7 +192,7 @@ promised-by events done worlds calls released primary standby run tells =
       refl,
     )
 
-kept : (first_last second_last : Stretch) (first second : ℕ) (began : Pair) (events : List Event) (done : List Bool) (calls : List Call) (released : List (List ℕ)) (primary standby primary' standby' : State)
+kept : (first_last second_last : Stretch) (first second : Holder) (began : Pair) (events : List Event) (done : List Bool) (calls : List Call) (released : List (List ℕ)) (primary standby primary' standby' : State)
     → ((p : ℕ) (old new : State) → first_last first calls p old new → FromOnly first calls p old new)
     → ((p : ℕ) (old new : State) → second_last second calls p old new → FromOnly second calls p old new)
     → (reaches : Reaches first second began events done primary standby)
@@ -216,10 +216,10 @@ kept first_last second_last first second began events done calls released primar
     }
 
 -- nothing happened since the last event
-rests-now : (lines : ℕ) (calls : List Call) (p : ℕ) (device : State) → Stands lines calls p device → Rests lines calls p device device
-rests-now lines calls p device stands = record { leaves = none_leaves device (StandsAt lines calls p) stands; failures = refl }
+rests-now : (holder : Holder) (calls : List Call) (p : ℕ) (device : State) → Stands holder calls p device → Rests holder calls p device device
+rests-now holder calls p device stands = record { leaves = none_leaves device (StandsAt holder calls p) stands; failures = refl }
 
-played-whole : (first second : ℕ) (began : Pair) (events : List Event) (done : List Bool) (pair : Pair) (released : List (List ℕ)) → released ≡ released_of pair.sessions.connections.items
+played-whole : (first second : Holder) (began : Pair) (events : List Event) (done : List Bool) (pair : Pair) (released : List (List ℕ)) → released ≡ released_of pair.sessions.connections.items
     → StandsAfter first second began events done pair
     → IsKept Rests Rests first second events done pair.sessions.calls.items released began.device began.standby.device pair.device pair.standby.device
 played-whole first second began events done pair released same after =
@@ -238,7 +238,7 @@ played-whole first second began events done pair released same after =
     (subst (λ (calls : List Call). Rests second calls w.standby.position pair.standby.device pair.standby.device) (sym told)
     (rests-now second w.calls w.standby.position pair.standby.device (Stands-engine _ _ _ _ _ _ parts.standby.engine)))
 
-played-cut : (first second : ℕ) (began : Pair) (events : List Event) (done : List Bool) (pair : Pair) (released : List (List ℕ)) → released ≡ released_of pair.sessions.connections.items
+played-cut : (first second : Holder) (began : Pair) (events : List Event) (done : List Bool) (pair : Pair) (released : List (List ℕ)) → released ≡ released_of pair.sessions.connections.items
     → IsCutAfter first second began events done pair
     → IsKept NearOnly NearOnly first second events done pair.sessions.calls.items released began.device began.standby.device pair.device pair.standby.device
 played-cut first second began events done pair released same after =
@@ -256,7 +256,7 @@ played-cut first second began events done pair released same after =
     (subst (λ (calls : List Call). NearOnly first calls w.committer.position before.device pair.device) (sym cut.calls) cut.primary)
     (subst (λ (calls : List Call). NearOnly second calls w.standby.position before.standby.device pair.standby.device) (sym cut.calls) cut.standby)
 
-pub plays-on : (first second : ℕ) (began : Pair) (events : List Event) (ended : Option Ended) (done : List Bool) (pair : Pair) (released : List (List ℕ)) (primary standby : State)
+pub plays-on : (first second : Holder) (began : Pair) (events : List Event) (ended : Option Ended) (done : List Bool) (pair : Pair) (released : List (List ℕ)) (primary standby : State)
     → released ≡ released_of pair.sessions.connections.items → primary ≡ pair.device → standby ≡ pair.standby.device → Plays first second began events ended done pair
     → PlaysOn first second events ended done pair.sessions.calls.items released began.device began.standby.device primary standby
 plays-on first second began events ended done pair released primary standby same primary_same standby_same plays =
@@ -273,7 +273,7 @@ plays-on first second began events ended done pair released primary standby same
 
 pub keeps-played : (events : List Event) (ended : Option Ended) (done : List Bool) (calls : List Call) (released : List (List ℕ)) (primary standby formatted formatted' primary' standby' : State)
     → FormattingOnly Primary primary formatted → FormattingOnly Standby standby formatted'
-    → PlaysOn primary.lines standby.lines events ended done calls released formatted formatted' primary' standby' → KeepsItsWord events ended done calls released primary standby primary' standby'
+    → PlaysOn (new_holder primary.lines Primary) (new_holder standby.lines Standby) events ended done calls released formatted formatted' primary' standby' → KeepsItsWord events ended done calls released primary standby primary' standby'
 keeps-played events None done calls released primary standby formatted formatted' primary' standby' formatting formatting' plays =
     record { primary_formatted = formatted; standby_formatted = formatted'; primary_formatting = formatting; standby_formatting = formatting'; kept = plays }
 keeps-played events (Some (AtFormatting refusal)) done calls released primary standby formatted formatted' primary' standby' formatting formatting' plays = absurd plays

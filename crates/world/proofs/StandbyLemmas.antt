@@ -10,7 +10,7 @@ use Rattle.model.specs.declared.call.Call.{Call}
 use Rattle.model.specs.Calls.{keyspace_after, cut_at, position_of}
 use Rattle.model.specs.Images.{Image, IsMapOf, entries_of_lines}
 use Rattle.model.specs.Groups.{Contents}
-use Rattle.model.specs.Standing.{StandsAt}
+use Rattle.model.specs.Standing.{Holder, StandsAt}
 use Rattle.model.proofs.CallsLemmas.{keyspace_after-cut_at-append}
 use Rattle.model.proofs.PositionsLemmas.{keyspace_after-cut_at-since}
 use Rattle.mv_keyspace.specs.Tables.{records}
@@ -26,8 +26,8 @@ use Rattle.world.specs.Standbys.{Node, StandbyStands}
 use Rattle.world.proofs.EngineLemmas.{Stands-engine, keeps-stands, moves-same, near-still, EngineStands-grows}
 
 -- nothing happened to the standby
-pub StandbyStands-still : (lines epoch : ℕ) (calls : List Call) (p : ℕ) (node : Node) → StandbyStands lines epoch calls p node → NearOnly lines calls p node.device node.device
-StandbyStands-still lines epoch calls p node stands = near-still lines calls p node.device node.contents node.is_faulted stands.engine
+pub StandbyStands-still : (holder : Holder) (epoch : ℕ) (calls : List Call) (p : ℕ) (node : Node) → StandbyStands holder epoch calls p node → NearOnly holder calls p node.device node.device
+StandbyStands-still holder epoch calls p node stands = near-still holder calls p node.device node.contents node.is_faulted stands.engine
 
 -- ---- what a standby answers to a frame
 
@@ -47,13 +47,13 @@ pub record Answers (frame : Frame) (old : Node) (result : Result Ack Refusal) (n
   pub moments : frame.epoch ≡ old.epoch → IsNext old.contents.current.position frame → LeavesOnly old.device new.device (IsBeforeOrWhole frame old.contents old.table)
 
 -- The machine's standby after it took the span, with the acknowledgements that it made, the node that stands for it, and what its device went through.
-pub record Took (lines epoch : ℕ) (calls : List Call) (span : Span) (old : Machine) (acks : List ℕ) (before new : Node) : Type 0 where
+pub record Took (holder : Holder) (epoch : ℕ) (calls : List Call) (span : Span) (old : Machine) (acks : List ℕ) (before new : Node) : Type 0 where
   pub standby : Machine
   pub takes : Takes span old standby
   pub waiting : standby.waiting ≡ old.waiting
   pub acknowledgements : old.acknowledgements ++ acks ≡ standby.acknowledgements
-  pub stands : StandbyStands lines epoch calls standby.position new
-  pub moves : Moves lines calls old.position standby.position before.device new.device
+  pub stands : StandbyStands holder epoch calls standby.position new
+  pub moves : Moves holder calls old.position standby.position before.device new.device
 
 same_ok : {a b : Ack} {result : Result Ack Refusal} → result ≡ Ok a → result ≡ Ok b → a ≡ b
 same_ok in_a in_b = cc
@@ -74,8 +74,8 @@ is_full refusal (inr (inr epoch)) (inr (inr (inl fault))) = cc
 is_full refusal (inr (inr epoch)) (inr (inr (inr exhausted))) = cc
 
 -- a standby that stands at the machine's position, and a frame of the list that it answers
-module _ (lines epoch : ℕ) (calls : List Call) (machine : Machine) (frame : Frame) (span : Span) (old new : Node) (is : IsFrameOf epoch calls frame span)
-    (stands : StandbyStands lines epoch calls machine.position old) where
+module _ (holder : Holder) (epoch : ℕ) (calls : List Call) (machine : Machine) (frame : Frame) (span : Span) (old new : Node) (is : IsFrameOf epoch calls frame span)
+    (stands : StandbyStands holder epoch calls machine.position old) where
   epoch_same : frame.epoch ≡ old.epoch
   epoch_same = is.epoch_is ∙ sym stands.epoch_is
 
@@ -105,13 +105,15 @@ module _ (lines epoch : ℕ) (calls : List Call) (machine : Machine) (frame : Fr
 
   -- the whole frame was taken
   taken_stands : span.before ≡ machine.position → HasTaken frame old.contents new.contents old.table new.table → Follows new.contents new.table new.room → new.is_faulted ≡ false
-      → IsDurable new.device new.contents → new.epoch ≡ old.epoch → StandbyStands lines epoch calls span.after new
+      → IsDurable new.device new.contents → new.epoch ≡ old.epoch → StandbyStands holder epoch calls span.after new
   taken_stands e taken follows sound durable epoch_stays =
       let now : records new.table ≡ keyspace_after (cut_at calls span.after) = taken.keyspace ∙ keyspace_next e in
       record {
         engine = record {
           contents_at = record {
             at = taken.position ∙ is.after;
+            role_is = taken.role ∙ stands.engine.contents_at.role_is;
+            epoch_is = taken.epoch ∙ stands.engine.contents_at.epoch_is;
             lines_are = taken.lines ∙ stands.engine.contents_at.lines_are;
             consistent = follows.consistent;
             map = subst (IsMapOf new.contents.versions (entries_of_lines new.contents.lines)) now
@@ -123,62 +125,66 @@ module _ (lines epoch : ℕ) (calls : List Call) (machine : Machine) (frame : Fr
         follows = follows;
         table = now;
         epoch_is = epoch_stays ∙ stands.epoch_is;
+        epoch_held = stands.epoch_held;
       }
 
   -- nothing of the contents or of the table changed
   refused_stands : (new.contents ≡ old.contents) × (new.table ≡ old.table) × (new.device ≡ old.device) → Follows new.contents new.table new.room → new.is_faulted ≡ false → IsDurable new.device new.contents → new.epoch ≡ old.epoch
-      → StandbyStands lines epoch calls machine.position new
+      → StandbyStands holder epoch calls machine.position new
   refused_stands same follows sound durable epoch_stays = record {
     engine = record {
-      contents_at = subst (AreContentsAt lines calls machine.position) (sym same.0) stands.engine.contents_at;
+      contents_at = subst (AreContentsAt holder calls machine.position) (sym same.0) stands.engine.contents_at;
       sound = sound;
       durable = durable;
     };
     follows = follows;
     table = ap records same.1 ∙ stands.table;
     epoch_is = epoch_stays ∙ stands.epoch_is;
+    epoch_held = stands.epoch_held;
   }
 
-  same_stands : new ≡ old → StandbyStands lines epoch calls machine.position new
-  same_stands same = subst (StandbyStands lines epoch calls machine.position) (sym same) stands
+  same_stands : new ≡ old → StandbyStands holder epoch calls machine.position new
+  same_stands same = subst (StandbyStands holder epoch calls machine.position) (sym same) stands
 
   -- the device was not touched
-  rests : (p : ℕ) → new.device ≡ old.device → StandbyStands lines epoch calls p new → Moves lines calls machine.position p old.device new.device
-  rests p same now = moves-same lines calls machine.position p old.device new.device same (Stands-engine _ _ _ _ _ _ now.engine)
+  rests : (p : ℕ) → new.device ≡ old.device → StandbyStands holder epoch calls p new → Moves holder calls machine.position p old.device new.device
+  rests p same now = moves-same holder calls machine.position p old.device new.device same (Stands-engine _ _ _ _ _ _ now.engine)
 
   -- an image that holds the whole frame stands at its end
-  whole_stands : (image : Image) → span.before ≡ machine.position → (after : Contents) × IsWhole frame old.contents old.table after × Keeps after image → StandsAt lines calls span.after image
+  whole_stands : (image : Image) → span.before ≡ machine.position → (after : Contents) × IsWhole frame old.contents old.table after × Keeps after image → StandsAt holder calls span.after image
   whole_stands image e held =
       let after = held.0 in
-      let contents_at : AreContentsAt lines calls span.after after = record {
+      let contents_at : AreContentsAt holder calls span.after after = record {
         at = held.1.position ∙ is.after;
+        role_is = held.1.role ∙ stands.engine.contents_at.role_is;
+        epoch_is = held.1.epoch ∙ stands.engine.contents_at.epoch_is;
         lines_are = held.1.line_count ∙ stands.engine.contents_at.lines_are;
         consistent = held.1.consistent;
         map = subst (IsMapOf after.versions (entries_of_lines after.lines)) (keyspace_next e) held.1.map;
       } in
-      keeps-stands lines calls span.after after image contents_at held.2
+      keeps-stands holder calls span.after after image contents_at held.2
 
   -- the whole frame was taken: at any moment a crash leaves what was before it or all of it
   taken_moves : span.before ≡ machine.position → LeavesOnly old.device new.device (IsBeforeOrWhole frame old.contents old.table) → new.device.failures ≡ old.device.failures
-      → Moves lines calls machine.position span.after old.device new.device
+      → Moves holder calls machine.position span.after old.device new.device
   taken_moves e only failures =
       record {
-        leaves = LeavesOnly-weaken (λ image. StandsAt lines calls machine.position image ⊎ StandsAt lines calls span.after image) either only;
+        leaves = LeavesOnly-weaken (λ image. StandsAt holder calls machine.position image ⊎ StandsAt holder calls span.after image) either only;
         failures = failures;
       }
     where
-      either : (image : Image) → IsBeforeOrWhole frame old.contents old.table image → StandsAt lines calls machine.position image ⊎ StandsAt lines calls span.after image
-      either image (inl before) = inl (keeps-stands lines calls machine.position old.contents image stands.engine.contents_at before)
+      either : (image : Image) → IsBeforeOrWhole frame old.contents old.table image → StandsAt holder calls machine.position image ⊎ StandsAt holder calls span.after image
+      either image (inl before) = inl (keeps-stands holder calls machine.position old.contents image stands.engine.contents_at before)
       either image (inr held) = inr (whole_stands image e held)
 
   -- a frame that the standby acknowledged
-  pub takes_ok : (ack : Ack) → Answers frame old (Ok ack) new → Took lines epoch calls span machine (ack.position ∷ []) old new
+  pub takes_ok : (ack : Ack) → Answers frame old (Ok ack) new → Took holder epoch calls span machine (ack.position ∷ []) old new
   takes_ok ack answers = ⊎_elim above below (cases_lt machine.position span.after)
     where
       no_fault : {refusal : Refusal} → ¬ IsErrOf (Ok ack) refusal
       no_fault e = cc
 
-      below : span.after ≤ machine.position → Took lines epoch calls span machine (ack.position ∷ []) old new
+      below : span.after ≤ machine.position → Took holder epoch calls span machine (ack.position ∷ []) old new
       below le =
           let again = answers.again epoch_same (is_below le) in
           let told : ack ≡ record { epoch = old.epoch; position = old.contents.current.position } = same_ok refl again.0 in
@@ -191,7 +197,7 @@ module _ (lines epoch : ℕ) (calls : List Call) (machine : Machine) (frame : Fr
             moves = rests machine.position (ap (λ (n : Node). n.device) again.1) (same_stands again.1);
           }
 
-      joins : machine.position < span.after → span.before ≡ machine.position → Took lines epoch calls span machine (ack.position ∷ []) old new
+      joins : machine.position < span.after → span.before ≡ machine.position → Took holder epoch calls span machine (ack.position ∷ []) old new
       joins lt e =
           let next = is_next lt e in
           record {
@@ -203,24 +209,24 @@ module _ (lines epoch : ℕ) (calls : List Call) (machine : Machine) (frame : Fr
             moves = taken_moves e (answers.moments epoch_same next) (answers.sound no_fault no_fault).1;
           }
 
-      above : machine.position < span.after → Took lines epoch calls span machine (ack.position ∷ []) old new
+      above : machine.position < span.after → Took holder epoch calls span machine (ack.position ∷ []) old new
       above lt = ⊎_elim (joins lt) (λ (ne : span.before ≢ machine.position). absurd (not_both refl (answers.gap epoch_same (is_above lt) (is_apart ne)).0)) (cases_eq span.before machine.position)
 
   -- a frame that it refused, and went on
   pub takes_refused : (refusal : Refusal) → (refusal ≡ Full) ⊎ (refusal ≡ PositionGap) ⊎ (refusal ≡ WrongEpoch) → Answers frame old (Err refusal) new
-      → Took lines epoch calls span machine [] old new
+      → Took holder epoch calls span machine [] old new
   takes_refused refusal goes_on answers = ⊎_elim above below (cases_lt machine.position span.after)
     where
-      below : span.after ≤ machine.position → Took lines epoch calls span machine [] old new
+      below : span.after ≤ machine.position → Took holder epoch calls span machine [] old new
       below le = absurd (not_both (answers.again epoch_same (is_below le)).0 refl)
 
-      joins : machine.position < span.after → span.before ≡ machine.position → Took lines epoch calls span machine [] old new
+      joins : machine.position < span.after → span.before ≡ machine.position → Took holder epoch calls span machine [] old new
       joins lt e =
           let full : refusal ≡ Full = is_full refusal goes_on (answers.causes epoch_same (is_next lt e)) in
           let no_fault : ¬ IsErrOf {T = Ack} (Err refusal) Fault = λ is. cc in
           let not_exhausted : ¬ IsErrOf {T = Ack} (Err refusal) Exhausted = λ is. cc in
           let refused = answers.refused (inl (ap Err full)) in
-          let now : StandbyStands lines epoch calls machine.position new =
+          let now : StandbyStands holder epoch calls machine.position new =
           refused_stands refused (answers.still no_fault not_exhausted) (answers.sound no_fault not_exhausted).0 (answers.durable no_fault not_exhausted) answers.epoch_stays in
           record {
             standby = machine;
@@ -231,7 +237,7 @@ module _ (lines epoch : ℕ) (calls : List Call) (machine : Machine) (frame : Fr
             moves = rests machine.position refused.2 now;
           }
 
-      apart : machine.position < span.after → span.before ≢ machine.position → Took lines epoch calls span machine [] old new
+      apart : machine.position < span.after → span.before ≢ machine.position → Took holder epoch calls span machine [] old new
       apart lt ne = let same = (answers.gap epoch_same (is_above lt) (is_apart ne)).1 in record {
         standby = machine;
         takes = inr (inr (inr (lt, ne, refl)));
@@ -241,40 +247,41 @@ module _ (lines epoch : ℕ) (calls : List Call) (machine : Machine) (frame : Fr
         moves = rests machine.position (ap (λ (n : Node). n.device) same) (same_stands same);
       }
 
-      above : machine.position < span.after → Took lines epoch calls span machine [] old new
+      above : machine.position < span.after → Took holder epoch calls span machine [] old new
       above lt = ⊎_elim (joins lt) (apart lt) (cases_eq span.before machine.position)
 
   -- a frame of one change: at any moment of the call, a crash leaves what was before it or all of it
-  pub frame-moments : span.after ≡ span.before + 1 → (result : Result Ack Refusal) → Answers frame old result new → NearOnly lines calls machine.position old.device new.device
+  pub frame-moments : span.after ≡ span.before + 1 → (result : Result Ack Refusal) → Answers frame old result new → NearOnly holder calls machine.position old.device new.device
   frame-moments one result answers = ⊎_elim above below (cases_lt machine.position span.after)
     where
-      still : new ≡ old → NearOnly lines calls machine.position old.device new.device
+      still : new ≡ old → NearOnly holder calls machine.position old.device new.device
       still same =
-          subst (λ (node : Node). NearOnly lines calls machine.position old.device node.device) (sym same)
-          (StandbyStands-still lines epoch calls machine.position old stands)
+          subst (λ (node : Node). NearOnly holder calls machine.position old.device node.device) (sym same)
+          (StandbyStands-still holder epoch calls machine.position old stands)
 
-      below : span.after ≤ machine.position → NearOnly lines calls machine.position old.device new.device
+      below : span.after ≤ machine.position → NearOnly holder calls machine.position old.device new.device
       below le = still (answers.again epoch_same (is_below le)).1
 
-      whole : (image : Image) → span.before ≡ machine.position → (after : Contents) × IsWhole frame old.contents old.table after × Keeps after image → StandsAt lines calls (machine.position + 1) image
-      whole image e held = let next : span.after ≡ machine.position + 1 = omega (arith, one, e) in subst (λ p. StandsAt lines calls p image) next (whole_stands image e held)
+      whole : (image : Image) → span.before ≡ machine.position → (after : Contents) × IsWhole frame old.contents old.table after × Keeps after image → StandsAt holder calls (machine.position + 1) image
+      whole image e held = let next : span.after ≡ machine.position + 1 = omega (arith, one, e) in subst (λ p. StandsAt holder calls p image) next (whole_stands image e held)
 
-      either : machine.position < span.after → span.before ≡ machine.position → (image : Image) → IsBeforeOrWhole frame old.contents old.table image → StandsAtOrNext lines calls machine.position image
-      either lt e image (inl before) = inl (keeps-stands lines calls machine.position old.contents image stands.engine.contents_at before)
+      either : machine.position < span.after → span.before ≡ machine.position → (image : Image) → IsBeforeOrWhole frame old.contents old.table image → StandsAtOrNext holder calls machine.position image
+      either lt e image (inl before) = inl (keeps-stands holder calls machine.position old.contents image stands.engine.contents_at before)
       either lt e image (inr held) = inr (omega (arith, lt, is.span_within.within), whole image e held)
 
-      joins : machine.position < span.after → span.before ≡ machine.position → NearOnly lines calls machine.position old.device new.device
-      joins lt e = LeavesOnly-weaken (StandsAtOrNext lines calls machine.position) (λ image. either lt e image) (answers.moments epoch_same (is_next lt e))
+      joins : machine.position < span.after → span.before ≡ machine.position → NearOnly holder calls machine.position old.device new.device
+      joins lt e = LeavesOnly-weaken (StandsAtOrNext holder calls machine.position) (λ image. either lt e image) (answers.moments epoch_same (is_next lt e))
 
-      above : machine.position < span.after → NearOnly lines calls machine.position old.device new.device
+      above : machine.position < span.after → NearOnly holder calls machine.position old.device new.device
       above lt = ⊎_elim (joins lt) (λ (ne : span.before ≢ machine.position). still (answers.gap epoch_same (is_above lt) (is_apart ne)).1) (cases_eq span.before machine.position)
 
 -- ---- the list of calls grows
 
-pub StandbyStands-grows : (lines epoch : ℕ) (calls more : List Call) (p : ℕ) (node : Node) → p ≤ position_of calls → StandbyStands lines epoch calls p node → StandbyStands lines epoch (calls ++ more) p node
-StandbyStands-grows lines epoch calls more p node le stands = record {
-  engine = EngineStands-grows lines calls more p node.device node.contents node.is_faulted le stands.engine;
+pub StandbyStands-grows : (holder : Holder) (epoch : ℕ) (calls more : List Call) (p : ℕ) (node : Node) → p ≤ position_of calls → StandbyStands holder epoch calls p node → StandbyStands holder epoch (calls ++ more) p node
+StandbyStands-grows holder epoch calls more p node le stands = record {
+  engine = EngineStands-grows holder calls more p node.device node.contents node.is_faulted le stands.engine;
   follows = stands.follows;
   table = stands.table ∙ sym (keyspace_after-cut_at-append calls more p le);
   epoch_is = stands.epoch_is;
+  epoch_held = stands.epoch_held;
 }

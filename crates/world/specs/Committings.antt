@@ -8,7 +8,7 @@ use Rattle.model.specs.declared.group.Group.{Group}
 use Rattle.model.specs.Calls.{keyspace_after, cut_at, position_of}
 use Rattle.model.specs.Images.{Image, IsMapOf, entries_of_lines}
 use Rattle.model.specs.Groups.{Contents, IsConsistent, IsGroup, after_group}
-use Rattle.model.specs.Standing.{StandsAt}
+use Rattle.model.specs.Standing.{Holder, StandsAt}
 use Rattle.model.specs.declared.record.Role.{Role}
 use Rattle.wbl_engine.specs.Contents.{IsDurable}
 use Rattle.wbl_engine.specs.Formatting.{IsFormatting}
@@ -44,47 +44,49 @@ pub record LeadsOn (old : Contents) (groups : List Group) (new : Contents) (rest
 
 -- ---- the engine
 
--- the contents, of so many lines, are those of the list at this position
-pub record AreContentsAt (lines : ℕ) (calls : List Call) (position : ℕ) (contents : Contents) : Type 0 where
+-- the holder's contents are those of the list at this position
+pub record AreContentsAt (holder : Holder) (calls : List Call) (position : ℕ) (contents : Contents) : Type 0 where
   pub at : contents.current.position ≡ position
-  pub lines_are : contents.lines ≡ lines
+  pub role_is : contents.current.role ≡ holder.role
+  pub epoch_is : contents.current.epoch ≡ holder.epoch
+  pub lines_are : contents.lines ≡ holder.lines
   pub consistent : IsConsistent contents
   pub map : IsMapOf contents.versions (entries_of_lines contents.lines) (keyspace_after (cut_at calls position))
 
--- a sound engine whose contents are those of the list at this position, over a device on which each crash leaves them
-pub record EngineStands (lines : ℕ) (calls : List Call) (position : ℕ) (device : State) (contents : Contents) (is_faulted : Bool) : Type 0 where
-  pub contents_at : AreContentsAt lines calls position contents
+-- a sound engine of this holder whose contents are those of the list at this position, over a device on which each crash leaves them
+pub record EngineStands (holder : Holder) (calls : List Call) (position : ℕ) (device : State) (contents : Contents) (is_faulted : Bool) : Type 0 where
+  pub contents_at : AreContentsAt holder calls position contents
   pub sound : is_faulted ≡ false
   pub durable : IsDurable device contents
 
--- each crash now leaves an image that stands at this position of the list
-abbrev pub Stands : ℕ → List Call → ℕ → State → Type 0
-Stands lines calls position device = (image : Image) → IsImage device.words image → StandsAt lines calls position image
+-- each crash now leaves an image that stands at this position of the list, as its holder's
+abbrev pub Stands : Holder → List Call → ℕ → State → Type 0
+Stands holder calls position device = (image : Image) → IsImage device.words image → StandsAt holder calls position image
 
 -- the image stands at this position of the list, or at the next one
-abbrev pub StandsAtOrNext : ℕ → List Call → ℕ → Image → Type 0
-StandsAtOrNext lines calls position image = StandsAt lines calls position image ⊎ ((position < position_of calls) × StandsAt lines calls (position + 1) image)
+abbrev pub StandsAtOrNext : Holder → List Call → ℕ → Image → Type 0
+StandsAtOrNext holder calls position image = StandsAt holder calls position image ⊎ ((position < position_of calls) × StandsAt holder calls (position + 1) image)
 
 -- each crash now leaves an image that stands at this position of the list, or at the next one
-abbrev pub StandsNear : ℕ → List Call → ℕ → State → Type 0
-StandsNear lines calls position device = (image : Image) → IsImage device.words image → StandsAtOrNext lines calls position image
+abbrev pub StandsNear : Holder → List Call → ℕ → State → Type 0
+StandsNear holder calls position device = (image : Image) → IsImage device.words image → StandsAtOrNext holder calls position image
 
 -- each crash between these two states of a device leaves an image that stands at this position of the list, or at the next one
-abbrev pub NearOnly : ℕ → List Call → ℕ → State → State → Type 0
-NearOnly lines calls position old new = LeavesOnly old new (StandsAtOrNext lines calls position)
+abbrev pub NearOnly : Holder → List Call → ℕ → State → State → Type 0
+NearOnly holder calls position old new = LeavesOnly old new (StandsAtOrNext holder calls position)
 
 -- each crash between these two states of a device leaves an image that stands at this position of the list, or at a later one
-abbrev pub FromOnly : ℕ → List Call → ℕ → State → State → Type 0
-FromOnly lines calls position old new = LeavesOnly old new (λ image. (p : ℕ) × (position ≤ p) × StandsAt lines calls p image)
+abbrev pub FromOnly : Holder → List Call → ℕ → State → State → Type 0
+FromOnly holder calls position old new = LeavesOnly old new (λ image. (p : ℕ) × (position ≤ p) × StandsAt holder calls p image)
 
 -- each crash between these two states of a device leaves an image that stands at one of these two positions of the list, and no fence failed
-pub record Moves (lines : ℕ) (calls : List Call) (from to : ℕ) (old new : State) : Type 0 where
-  pub leaves : LeavesOnly old new (λ image. StandsAt lines calls from image ⊎ StandsAt lines calls to image)
+pub record Moves (holder : Holder) (calls : List Call) (from to : ℕ) (old new : State) : Type 0 where
+  pub leaves : LeavesOnly old new (λ image. StandsAt holder calls from image ⊎ StandsAt holder calls to image)
   pub failures : new.failures ≡ old.failures
 
 -- each crash between these two states of a device leaves an image that stands at this position of the list, and no fence failed
-pub record Rests (lines : ℕ) (calls : List Call) (position : ℕ) (old new : State) : Type 0 where
-  pub leaves : LeavesOnly old new (StandsAt lines calls position)
+pub record Rests (holder : Holder) (calls : List Call) (position : ℕ) (old new : State) : Type 0 where
+  pub leaves : LeavesOnly old new (StandsAt holder calls position)
   pub failures : new.failures ≡ old.failures
 
 -- each crash between these two states of a device leaves what is there while it is formatted for this role

@@ -4,6 +4,7 @@ use Rattle.pmem.specs.Device.{State}
 use Rattle.model.specs.declared.call.Call.{Call}
 use Rattle.model.specs.declared.record.Role.TheVariants.{Primary, Standby}
 use Rattle.model.specs.Calls.{position_of}
+use Rattle.model.specs.Standing.{Holder, new_holder}
 use Rattle.machine.specs.declared.event.Event.{Event}
 use Rattle.machine.specs.Events.{Run, World, start, last_world}
 use Rattle.machine.specs.Promises.{IsPromised, IsReleased, released_in}
@@ -12,9 +13,9 @@ use Rattle.world.specs.Pairs.{Pair, PairStands, IsCut}
 use Rattle.world.specs.declared.trace.Ended.{Ended}
 use Rattle.world.specs.declared.trace.Ended.TheVariants.{AtFormatting, AtEvent}
 
--- what leads a device, of so many lines, from one state to another has to do with a position of the list
+-- what leads the device of a holder from one state to another has to do with a position of the list
 abbrev pub Stretch : Type 1
-Stretch = ℕ → List Call → ℕ → State → State → Type 0
+Stretch = Holder → List Call → ℕ → State → State → Type 0
 
 -- the position of a node in a world
 abbrev pub primary_position : World → ℕ
@@ -24,21 +25,21 @@ abbrev pub standby_position : World → ℕ
 standby_position w = w.standby.position
 
 -- each crash between these two states of a device leaves an image in which no call is missing that was released in this world
-abbrev pub KeepsReleased : ℕ → List Call → World → State → State → Type 0
-KeepsReleased lines calls w old new =
-    (front : List Call) (call : Call) → IsReleased w.calls (released_in w) front call → FromOnly lines calls (position_of (front ++ call ∷ [])) old new
+abbrev pub KeepsReleased : Holder → List Call → World → State → State → Type 0
+KeepsReleased holder calls w old new =
+    (front : List Call) (call : Call) → IsReleased w.calls (released_in w) front call → FromOnly holder calls (position_of (front ++ call ∷ [])) old new
 
 -- The moments of a device, cut by the events of a run from this world on. A crash during an event leaves an image that stands where the node stood before
 -- it or where it stood after it. What comes behind the last event is a stretch of its own. And from each cut on, up to the end, each crash keeps what was
 -- released by then.
-abbrev pub AreMoments : Stretch → (World → ℕ) → ℕ → List Call → World → List World → State → State → Type 0
-AreMoments last position lines calls w [] old new = KeepsReleased lines calls w old new × last lines calls (position w) old new
-AreMoments last position lines calls w (w' ∷ worlds) old new =
-    (next : State) × KeepsReleased lines calls w old new × Moves lines calls (position w) (position w') old next × AreMoments last position lines calls w' worlds next new
+abbrev pub AreMoments : Stretch → (World → ℕ) → Holder → List Call → World → List World → State → State → Type 0
+AreMoments last position holder calls w [] old new = KeepsReleased holder calls w old new × last holder calls (position w) old new
+AreMoments last position holder calls w (w' ∷ worlds) old new =
+    (next : State) × KeepsReleased holder calls w old new × Moves holder calls (position w) (position w') old next × AreMoments last position holder calls w' worlds next new
 
 -- These events, or some of them, did their step, and led the two devices on from where they were formatted. The list of calls and the released bytes, by
 -- connection, are as promised.
-pub record IsKept (first_last second_last : Stretch) (first second : ℕ) (events : List Event) (done : List Bool) (calls : List Call) (released : List (List ℕ)) (primary standby primary' standby' : State) : Type 0 where
+pub record IsKept (first_last second_last : Stretch) (first second : Holder) (events : List Event) (done : List Bool) (calls : List Call) (released : List (List ℕ)) (primary standby primary' standby' : State) : Type 0 where
   -- the positions of the two nodes at the end
   pub primary_at : ℕ
   pub standby_at : ℕ
@@ -54,7 +55,7 @@ pub record IsPlayed (first_last second_last : Stretch) (events : List Event) (do
   -- a crash leaves an image from before, the new one, or one without the magic
   pub primary_formatting : FormattingOnly Primary primary primary_formatted
   pub standby_formatting : FormattingOnly Standby standby standby_formatted
-  pub kept : IsKept first_last second_last primary.lines standby.lines events done calls released primary_formatted standby_formatted primary' standby'
+  pub kept : IsKept first_last second_last (new_holder primary.lines Primary) (new_holder standby.lines Standby) events done calls released primary_formatted standby_formatted primary' standby'
 
 -- Nothing was called: what was done to the devices is of their formatting.
 pub record IsUnplayed (done : List Bool) (calls : List Call) (released : List (List ℕ)) (primary standby primary' standby' : State) : Type 0 where
@@ -75,36 +76,36 @@ KeepsItsWord events (Some (AtEvent place refusal)) done calls released primary s
 -- ---- how it is played
 
 -- the same of what is played on a pair of new nodes
-abbrev pub PlaysOn : ℕ → ℕ → List Event → Option Ended → List Bool → List Call → List (List ℕ) → State → State → State → State → Type 0
+abbrev pub PlaysOn : Holder → Holder → List Event → Option Ended → List Bool → List Call → List (List ℕ) → State → State → State → State → Type 0
 PlaysOn first second events None done calls released primary standby primary' standby' = IsKept Rests Rests first second events done calls released primary standby primary' standby'
 PlaysOn first second events (Some (AtFormatting refusal)) done calls released primary standby primary' standby' = ⊥
 PlaysOn first second events (Some (AtEvent place refusal)) done calls released primary standby primary' standby' =
     (place < length events) × IsKept NearOnly NearOnly first second (take place events) done calls released primary standby primary' standby'
 
 -- the events of a run from this world on, each over its own list of calls, led a device on
-abbrev pub AreMoves : (World → ℕ) → ℕ → World → List World → State → State → Type 0
-AreMoves position lines w [] old new = old ≡ new
-AreMoves position lines w (w' ∷ worlds) old new = (next : State) × Moves lines w'.calls (position w) (position w') old next × AreMoves position lines w' worlds next new
+abbrev pub AreMoves : (World → ℕ) → Holder → World → List World → State → State → Type 0
+AreMoves position holder w [] old new = old ≡ new
+AreMoves position holder w (w' ∷ worlds) old new = (next : State) × Moves holder w'.calls (position w) (position w') old next × AreMoves position holder w' worlds next new
 
 -- since the pair began so, the machine's run over events led both devices to these states
-pub record Reaches (first second : ℕ) (began : Pair) (events : List Event) (done : List Bool) (primary standby : State) : Type 0 where
+pub record Reaches (first second : Holder) (began : Pair) (events : List Event) (done : List Bool) (primary standby : State) : Type 0 where
   pub worlds : List World
   pub run : Run start events done worlds
   pub primary_moves : AreMoves primary_position first start worlds began.device primary
   pub standby_moves : AreMoves standby_position second start worlds began.standby.device standby
 
 -- and the pair stands for the last world
-pub record StandsAfter (first second : ℕ) (began : Pair) (events : List Event) (done : List Bool) (pair : Pair) : Type 0 where
+pub record StandsAfter (first second : Holder) (began : Pair) (events : List Event) (done : List Bool) (pair : Pair) : Type 0 where
   pub reaches : Reaches first second began events done pair.device pair.standby.device
   pub stands : PairStands first second pair (last_world start reaches.worlds)
 
 -- or it was cut in the event behind them
-pub record IsCutAfter (first second : ℕ) (began : Pair) (events : List Event) (done : List Bool) (pair : Pair) : Type 0 where
+pub record IsCutAfter (first second : Holder) (began : Pair) (events : List Event) (done : List Bool) (pair : Pair) : Type 0 where
   pub before : Pair
   pub reaches : Reaches first second began events done before.device before.standby.device
   pub cut : IsCut first second before pair (last_world start reaches.worlds)
 
-abbrev pub Plays : ℕ → ℕ → Pair → List Event → Option Ended → List Bool → Pair → Type 0
+abbrev pub Plays : Holder → Holder → Pair → List Event → Option Ended → List Bool → Pair → Type 0
 Plays first second began events None done pair = StandsAfter first second began events done pair
 Plays first second began events (Some (AtFormatting refusal)) done pair = ⊥
 Plays first second began events (Some (AtEvent place refusal)) done pair = (place < length events) × IsCutAfter first second began (take place events) done pair

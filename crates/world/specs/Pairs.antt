@@ -3,6 +3,7 @@ use Rattle.std.specs.Prelude.{◌≡◌, ℕ, ◌≤◌, Bool, [], length, slice
 use Rattle.pmem.specs.Device.{State}
 use Rattle.kv_types.specs.declared.refusal.Refusal.{Refusal}
 use Rattle.model.specs.Groups.{Contents}
+use Rattle.model.specs.Standing.{Holder}
 use Rattle.redis_core.specs.Sequencing.{Sequencing}
 use Rattle.machine.specs.declared.event.Event.{Event}
 use Rattle.machine.specs.declared.event.TheConstants.{SEATS}
@@ -31,8 +32,8 @@ pub record Pair : Type 0 where
   pub arrivals : Arrivals
   pub standby : Node
 
--- Its parts stand for those of the machine. The primary has the first number of lines, the standby the second.
-pub record PartsStand (first second : ℕ) (pair : Pair) (w : World) : Type 0 where
+-- Its parts stand for those of the machine. The primary's image is that of the first holder, the standby's that of the second.
+pub record PartsStand (first second : Holder) (pair : Pair) (w : World) : Type 0 where
   pub sessions : SessionsStand pair.sessions w.connections w.calls
   pub sequencer : SequencerStands w.calls w.committer.closed pair.sequencer
   pub committing : CommittingStands w.calls pair.committing w.committer
@@ -43,20 +44,20 @@ pub record PartsStand (first second : ℕ) (pair : Pair) (w : World) : Type 0 wh
   pub standby : StandbyStands second pair.link.epoch w.calls w.standby.position pair.standby
 
 -- it stands for a world that a run may reach
-pub record PairStands (first second : ℕ) (pair : Pair) (w : World) : Type 0 where
+pub record PairStands (first second : Holder) (pair : Pair) (w : World) : Type 0 where
   pub sound : Sound w
   pub parts : PartsStand first second pair w
 
 -- there is a world for which it stands
 pub record HasWorld (pair : Pair) : Type 0 where
-  pub first : ℕ
-  pub second : ℕ
+  pub first : Holder
+  pub second : Holder
   pub world : World
   pub stands : PairStands first second pair world
 
 -- An event was cut: the list of calls and the released bytes are those of the world before it, and at any moment of it each image stands where it stood
 -- or one change further on.
-pub record IsCut (first second : ℕ) (old new : Pair) (w : World) : Type 0 where
+pub record IsCut (first second : Holder) (old new : Pair) (w : World) : Type 0 where
   pub calls : new.sessions.calls.items ≡ w.calls
   pub released : (c : ℕ) → slice_index_or (released_of new.sessions.connections.items) c [] ≡ released_in w c
   pub few : length new.sessions.connections.items ≤ SEATS
@@ -64,12 +65,12 @@ pub record IsCut (first second : ℕ) (old new : Pair) (w : World) : Type 0 wher
   pub standby : NearOnly second w.calls w.standby.position old.standby.device new.standby.device
 
 -- what led from one pair to the other moved either device from where its node stands in one world to where it stands in the other
-pub record MovesBoth (first second : ℕ) (old new : Pair) (w w' : World) : Type 0 where
+pub record MovesBoth (first second : Holder) (old new : Pair) (w w' : World) : Type 0 where
   pub primary : Moves first w'.calls w.committer.position w'.committer.position old.device new.device
   pub standby : Moves second w'.calls w.standby.position w'.standby.position old.standby.device new.standby.device
 
 -- the machine's step, what the pair stands for after it, and what it did to the devices
-pub record Steps (first second : ℕ) (w : World) (event : Event) (did : Bool) (old new : Pair) : Type 0 where
+pub record Steps (first second : Holder) (w : World) (event : Event) (did : Bool) (old new : Pair) : Type 0 where
   pub world : World
   pub step : Step w event did world
   pub stands : PairStands first second new world
@@ -77,5 +78,5 @@ pub record Steps (first second : ℕ) (w : World) (event : Event) (did : Bool) (
 
 -- what an event did to a pair: a step, or it was cut
 pub record Does (old : Pair) (event : Event) (result : Result Bool Refusal) (new : Pair) : Type 0 where
-  pub steps : IfOk result (λ did. (first second : ℕ) (w : World) → PairStands first second old w → Steps first second w event did old new)
-  pub cut : OnErr result ((first second : ℕ) (w : World) → PairStands first second old w → IsCut first second old new w)
+  pub steps : IfOk result (λ did. (first second : Holder) (w : World) → PairStands first second old w → Steps first second w event did old new)
+  pub cut : OnErr result ((first second : Holder) (w : World) → PairStands first second old w → IsCut first second old new w)

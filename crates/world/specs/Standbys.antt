@@ -5,6 +5,7 @@ use Rattle.extent_heap.specs.Room.{Room}
 use Rattle.model.specs.declared.call.Call.{Call}
 use Rattle.model.specs.Calls.{keyspace_after, cut_at}
 use Rattle.model.specs.Groups.{Contents}
+use Rattle.model.specs.Standing.{Holder}
 use Rattle.mv_keyspace.specs.Tables.{Table, records}
 use Rattle.machine.specs.declared.event.Event.TheVariants.{Apply}
 use Rattle.machine.specs.Events.{Standby as Machine, World, Span, Applies, is_enabled}
@@ -23,12 +24,13 @@ pub record Node : Type 0 where
   pub room : Room
   pub epoch : ℕ
 
--- the standby of this epoch holds the list up to this position
-pub record StandbyStands (lines epoch : ℕ) (calls : List Call) (position : ℕ) (node : Node) : Type 0 where
-  pub engine : EngineStands lines calls position node.device node.contents node.is_faulted
+-- the standby of this epoch, which is that of its image, holds the list up to this position
+pub record StandbyStands (holder : Holder) (epoch : ℕ) (calls : List Call) (position : ℕ) (node : Node) : Type 0 where
+  pub engine : EngineStands holder calls position node.device node.contents node.is_faulted
   pub follows : Follows node.contents node.table node.room
   pub table : records node.table ≡ keyspace_after (cut_at calls position)
   pub epoch_is : node.epoch ≡ epoch
+  pub epoch_held : epoch ≡ holder.epoch
 
 -- the frames that came, by their places, and the acknowledgements that were made
 pub record ArrivalsStand (epoch : ℕ) (calls : List Call) (frames : List Frame) (code : Arrivals) (machine : Machine) : Type 0 where
@@ -36,8 +38,8 @@ pub record ArrivalsStand (epoch : ℕ) (calls : List Call) (frames : List Frame)
   pub acknowledged : map (λ ack. ack.position) code.acknowledgements.items ≡ machine.acknowledgements
 
 -- the standby took the first frame that came, or there was none
-pub record AppliesFirst (lines epoch : ℕ) (frames : List Frame) (w : World) (did : Bool) (arrivals : Arrivals) (old new : Node) : Type 0 where
+pub record AppliesFirst (holder : Holder) (epoch : ℕ) (frames : List Frame) (w : World) (did : Bool) (arrivals : Arrivals) (old new : Node) : Type 0 where
   pub done : did ≡ is_enabled w Apply
-  pub goes : did ≡ true → (w' : World) × Applies w w' × ArrivalsStand epoch w.calls frames arrivals w'.standby × StandbyStands lines epoch w.calls w'.standby.position new
-      × Moves lines w.calls w.standby.position w'.standby.position old.device new.device
+  pub goes : did ≡ true → (w' : World) × Applies w w' × ArrivalsStand epoch w.calls frames arrivals w'.standby × StandbyStands holder epoch w.calls w'.standby.position new
+      × Moves holder w.calls w.standby.position w'.standby.position old.device new.device
   pub stays : did ≡ false → ArrivalsStand epoch w.calls frames arrivals w.standby × (new ≡ old)

@@ -1,5 +1,6 @@
 //! What came to the standby, and what it acknowledged.
 ghost use Rattle.std.specs.Prelude.{◌≡◌, ◌⊎◌, ◌↔◌, ℕ, false, List, [], slice_get, IsTrue, IfOk, OnOk};
+ghost use Rattle.model.specs.Standing.{Holder};
 ghost use Rattle.machine.specs.declared.event.Event.TheVariants.{Deliver};
 ghost use Rattle.machine.specs.Events.{World, is_enabled, start, acknowledged, delivered, option_items};
 ghost use Rattle.machine.specs.Sound.{Sound};
@@ -75,9 +76,9 @@ impl Arrivals {
         requires follows { Follows (E.contents standby.old.engine) (K.table standby.old.keyspace) standby.old.heap }
         requires sound { E.is_faulted standby.old.engine ≡ false }
         requires durable { IsDurable (E.device standby.old.engine) (E.contents standby.old.engine) }
-        ensures applies { IfOk result (λ did. (lines : ℕ) (w : World) → Sound w
+        ensures applies { IfOk result (λ did. (holder : Holder) (w : World) → Sound w
             → ArrivalsStand standby.old.epoch w.calls frames.now self.old w.standby
-            → StandbyStands lines standby.old.epoch w.calls w.standby.position (record {
+            → StandbyStands holder standby.old.epoch w.calls w.standby.position (record {
               device = E.device standby.old.engine;
               contents = E.contents standby.old.engine;
               is_faulted = E.is_faulted standby.old.engine;
@@ -85,7 +86,7 @@ impl Arrivals {
               room = standby.old.heap;
               epoch = standby.old.epoch;
             })
-            → AppliesFirst lines standby.old.epoch frames.now w did self.new
+            → AppliesFirst holder standby.old.epoch frames.now w did self.new
             (record {
               device = E.device standby.old.engine;
               contents = E.contents standby.old.engine;
@@ -103,9 +104,9 @@ impl Arrivals {
               epoch = standby.new.epoch;
             })) }
         // at any moment of the call
-        ensures moments { (lines : ℕ) (w : World) → Sound w
+        ensures moments { (holder : Holder) (w : World) → Sound w
             → ArrivalsStand standby.old.epoch w.calls frames.now self.old w.standby
-            → StandbyStands lines standby.old.epoch w.calls w.standby.position (record {
+            → StandbyStands holder standby.old.epoch w.calls w.standby.position (record {
               device = E.device standby.old.engine;
               contents = E.contents standby.old.engine;
               is_faulted = E.is_faulted standby.old.engine;
@@ -113,7 +114,7 @@ impl Arrivals {
               room = standby.old.heap;
               epoch = standby.old.epoch;
             })
-            → NearOnly lines w.calls w.standby.position (E.device standby.old.engine) (E.device standby.new.engine) }
+            → NearOnly holder w.calls w.standby.position (E.device standby.old.engine) (E.device standby.new.engine) }
     {
         let Some(place) = self.delivered.front() else {
             return Ok(false);

@@ -1,6 +1,7 @@
 //! The primary's committer: a group is committed, then shown, then handed on, in three turns.
 ghost use Rattle.std.specs.Prelude.{◌≡◌, ◌≢◌, ◌<◌, ◌↔◌, ℕ, false, [], ◌++◌, length, IfOk, OnOk, IsTrue};
 ghost use Rattle.model.specs.Groups.{Contents};
+ghost use Rattle.model.specs.Standing.{Holder};
 ghost use Rattle.machine.specs.declared.event.Event.TheVariants.{CloseGroup, Commit, RaiseLocal, Hand};
 ghost use Rattle.machine.specs.Events.{World, is_enabled, start, closed_group, committed_first, raised_local, ready_again, handed};
 ghost use Rattle.machine.specs.Sound.{Sound};
@@ -85,21 +86,21 @@ impl Committing {
         link: &LocalPipe<Group>,
     ) -> Result<bool, Refusal>
         requires { AreGroups (E.contents engine.old) self.old.waiting.items }
-        ensures goes { IfOk result (λ did. (lines : ℕ) (w : World) → CommittingStands w.calls self.old w.committer
-            → EngineStands lines w.calls w.committer.position (E.device engine.old) (E.contents engine.old) (E.is_faulted engine.old)
+        ensures goes { IfOk result (λ did. (holder : Holder) (w : World) → CommittingStands w.calls self.old w.committer
+            → EngineStands holder w.calls w.committer.position (E.device engine.old) (E.contents engine.old) (E.is_faulted engine.old)
             → AreGroupsOf w.calls link.now.items w.link.waiting
             → Goes (is_enabled w Commit) did
             (CommittingStands w.calls self.new (committed_first w.committer.waiting w.committer)
-            × EngineStands lines w.calls (committed_first w.committer.waiting w.committer).position (E.device engine.new) (E.contents engine.new) (E.is_faulted engine.new))
+            × EngineStands holder w.calls (committed_first w.committer.waiting w.committer).position (E.device engine.new) (E.contents engine.new) (E.is_faulted engine.new))
             (CommittingStands w.calls self.new w.committer
-            × EngineStands lines w.calls w.committer.position (E.device engine.new) (E.contents engine.new) (E.is_faulted engine.new))) }
+            × EngineStands holder w.calls w.committer.position (E.device engine.new) (E.contents engine.new) (E.is_faulted engine.new))) }
         ensures leads { IfOk result (λ _. LeadsOn (E.contents engine.old) self.old.waiting.items (E.contents engine.new) self.new.waiting.items) }
         ensures stays { IfOk result (λ did. did ≡ false → engine.new ≡ engine.old) }
         ensures failures { OnOk result ((E.device engine.new).failures ≡ (E.device engine.old).failures) }
         // at any moment of the call
-        ensures moments { (lines : ℕ) (w : World) → Sound w → CommittingStands w.calls self.old w.committer
-            → EngineStands lines w.calls w.committer.position (E.device engine.old) (E.contents engine.old) (E.is_faulted engine.old)
-            → NearOnly lines w.calls w.committer.position (E.device engine.old) (E.device engine.new) }
+        ensures moments { (holder : Holder) (w : World) → Sound w → CommittingStands w.calls self.old w.committer
+            → EngineStands holder w.calls w.committer.position (E.device engine.old) (E.contents engine.old) (E.is_faulted engine.old)
+            → NearOnly holder w.calls w.committer.position (E.device engine.old) (E.device engine.new) }
     {
         let Stage::Ready = &self.stage else {
             return Ok(false);

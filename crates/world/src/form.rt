@@ -1,6 +1,7 @@
 //! A pair of new nodes.
 ghost use Rattle.std.specs.Prelude.{◌≡◌, ℕ, ◌<◌, ◌≤◌, ◌↔◌, [], IsTrue, IfOk, MatchResult};
 ghost use Rattle.model.specs.Groups.{Contents};
+ghost use Rattle.model.specs.Standing.{new_holder};
 ghost use Rattle.machine.specs.Events.{start};
 ghost use Rattle.wbl_engine.specs.Contents.{IsNew};
 ghost use Rattle.redis_core.specs.Sequencing.{StandsFor};
@@ -20,15 +21,13 @@ use crate::pair::{Pair, Stepper};
 use crate::sessions::Sessions;
 use extent_heap::ExtentHeap;
 use kv_types::Refusal;
+use model::FIRST_EPOCH;
 use mv_keyspace::Keyspace;
 use pmem::Pmem;
 use redis_core::Sequencer;
 use standby::Standby;
 use std::alloc::Global;
 use wbl_engine::{Durable, Role, WblEngine};
-
-/// The epoch of new images.
-const FIRST_EPOCH: u64 = 1;
 
 /// What stands between two nodes and their clients, before there is any.
 #[derive(Drop)]
@@ -87,7 +86,7 @@ pub(crate) fn form<P: Pmem, K: Keyspace + Drop>(
 ) -> Result<Pair<WblEngine<P>, K>, (Refusal, P, P)>
     requires serving { K.table keyspaces.0 ≡ [] }
     requires following { K.table keyspaces.1 ≡ [] }
-    ensures stands { IfOk result (λ pair. PairStands (P.state primary).lines (P.state standby).lines (⟦<Pair<WblEngine<P>, K> as Stepper>⟧.parts pair) start) }
+    ensures stands { IfOk result (λ pair. PairStands (new_holder (P.state primary).lines Role.Primary) (new_holder (P.state standby).lines Role.Standby) (⟦<Pair<WblEngine<P>, K> as Stepper>⟧.parts pair) start) }
     ensures moments { MatchResult result
         (λ pair. FormattingOnly Role.Primary (P.state primary) (⟦<Pair<WblEngine<P>, K> as Stepper>⟧.parts pair).device
         × FormattingOnly Role.Standby (P.state standby) (⟦<Pair<WblEngine<P>, K> as Stepper>⟧.parts pair).standby.device)

@@ -1,5 +1,6 @@
 //! A run of any list of events over two devices.
 ghost use Rattle.std.specs.Prelude.{◌≡◌, ℕ, ◌≤◌, ◌∷◌, [], List, map, length, vec_len, vec_capacity, Some, IfOk};
+ghost use Rattle.model.specs.Standing.{Holder};
 ghost use Rattle.world.specs.declared.trace.Ended.TheVariants.{AtFormatting};
 ghost use Rattle.machine.specs.Events.{start};
 ghost use Rattle.world.specs.Headline.{KeepsItsWord, PlaysOn, Plays};
@@ -129,8 +130,8 @@ fn play_on<P: Pmem, K: Keyspace + Drop>(
     requires room { length events.now ≤ vec_capacity done }
     requires none_released { released.items ≡ [] }
     requires room_released { SEATS ≤ vec_capacity released }
-    requires stands { (first : ℕ) × (second : ℕ) × PairStands first second (⟦<Pair<WblEngine<P>, K> as Stepper>⟧.parts pair) start }
-    ensures { (first second : ℕ) → PairStands first second (⟦<Pair<WblEngine<P>, K> as Stepper>⟧.parts pair) start
+    requires stands { (first : Holder) × (second : Holder) × PairStands first second (⟦<Pair<WblEngine<P>, K> as Stepper>⟧.parts pair) start }
+    ensures { (first second : Holder) → PairStands first second (⟦<Pair<WblEngine<P>, K> as Stepper>⟧.parts pair) start
         → PlaysOn first second events.now result.ended result.done.items result.calls.items (map (λ bytes. bytes.items) result.released.items)
         (⟦<Pair<WblEngine<P>, K> as Stepper>⟧.parts pair).device (⟦<Pair<WblEngine<P>, K> as Stepper>⟧.parts pair).standby.device
         (P.state result.primary) (P.state result.standby) }
@@ -172,8 +173,8 @@ fn play_on<P: Pmem, K: Keyspace + Drop>(
 fn play<S: Stepper>(stepper: &mut S, events: &[Event], done: &mut Vec<bool>) -> Option<Ended>
     requires none { done.old.items ≡ [] }
     requires room { length events.now ≤ vec_capacity done.old }
-    requires stands { (first : ℕ) × (second : ℕ) × PairStands first second (S.parts stepper.old) start }
-    ensures { (first second : ℕ) → PairStands first second (S.parts stepper.old) start
+    requires stands { (first : Holder) × (second : Holder) × PairStands first second (S.parts stepper.old) start }
+    ensures { (first second : Holder) → PairStands first second (S.parts stepper.old) start
         → Plays first second (S.parts stepper.old) events.now result done.new.items (S.parts stepper.new) }
 {
     for event in events {

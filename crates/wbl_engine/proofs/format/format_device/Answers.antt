@@ -1,8 +1,8 @@
 use Rattle.std.proofs.Common.{[], ◌∷◌, subst, sym}
 use Rattle.std.proofs.lemmas.Result.{on_ok_weaker, on_err_weaker}
 use Rattle.pmem.specs.Runs.{LeavesOnly, IsPartlyStored}
-use Rattle.model.specs.declared.image.TheConstants.{MAGIC}
 use Rattle.model.specs.declared.record.Record.{Record}
+use Rattle.model.specs.Images.{magic_number}
 use Rattle.wbl_engine.specs.AtRest.{IsAtRest}
 use Rattle.wbl_engine.proofs.FormatLemmas.{magic_pairs, first_moments, second_moments, third_moments, second_staged, second_failed, format_rest}
 use Rattle.wbl_engine.proofs.Results.{on_both}
@@ -38,7 +38,7 @@ returns-clause-moments g c =
     let first = c.in_ok-persist.ensures.ok in
     let second = second_staged lines role first.stays.lines c.in_ok-write_new.ensures.ok in
     let third : LeavesOnly (g.P.Pmem.state c.write_new.new.device) (g.P.Pmem.state c.persist-2.new.device)
-    (IsPartlyStored (magic_pairs MAGIC) (g.P.Pmem.state c.write_new.new.device).words) =
+    (IsPartlyStored (magic_pairs magic_number) (g.P.Pmem.state c.write_new.new.device).words) =
     on_both c.persist-2.result (on_ok_weaker c.persist-2.result (λ staged. staged.moments) c.persist-2.ensures.ok)
     (on_err_weaker c.persist-2.result (λ failed. failed.moments) c.persist-2.ensures.err) in
     third_moments lines role first second third

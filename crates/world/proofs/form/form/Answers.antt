@@ -21,4 +21,4 @@ returns-in-Ok-format-2-clause-stands g c =
     (engine-new _ _ _ _ _ serving.new serving.durable serving.sound.0)
     (made.underlies _ (new-own _ _ _ _ (sym c.lines-2.ensures.count) serving.new))
     made.link made.no_frame made.arrivals
-    (standby-new _ _ _ _ following.new following.durable following.sound.0 all c.requires.following (sym made.epoch))
+    (standby-new _ _ _ _ following.new following.durable following.sound.0 all c.requires.following (sym made.epoch) made.epoch)

@@ -1,5 +1,6 @@
 use Rattle.std.proofs.Common.{◌≡◌, ◌≤◌, ℕ, take, length, vec_len}
 use Rattle.std.specs.Vec.{vec_capacity}
+use Rattle.model.specs.Standing.{Holder}
 use Rattle.machine.specs.Events.{start}
 use Rattle.world.specs.Pairs.{PairStands}
 use Rattle.world.specs.Headline.{StandsAfter}
@@ -9,6 +10,6 @@ abbrev pub invariant-loop-event : goal.invariant-loop-event
 invariant-loop-event g l = record {
   count : vec_len l.done ≡ l.event-index;
   room : length l.events ≤ vec_capacity l.done;
-  reaches : (first second : ℕ) → PairStands first second (g.S.Stepper.parts l.initial.stepper) start
+  reaches : (first second : Holder) → PairStands first second (g.S.Stepper.parts l.initial.stepper) start
       → StandsAfter first second (g.S.Stepper.parts l.initial.stepper) (take l.event-index l.events) l.done.items (g.S.Stepper.parts l.stepper);
 }

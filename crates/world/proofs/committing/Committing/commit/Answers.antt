@@ -4,34 +4,34 @@ use Rattle.world.proofs.EngineLemmas.{near-still}
 use Rattle.world.proofs.committing.Committing.commit.Goals as goal
 
 pub returns-in_default-clause-moments : goal.returns-in_default-clause-moments
-returns-in_default-clause-moments g c = λ lines w sound stands engine.
-    near-still lines w.calls w.committer.position (g.E.Durable.device c.args.engine.now) (g.E.Durable.contents c.args.engine.now) (g.E.Durable.is_faulted c.args.engine.now) engine
+returns-in_default-clause-moments g c = λ holder w sound stands engine.
+    near-still holder w.calls w.committer.position (g.E.Durable.device c.args.engine.now) (g.E.Durable.contents c.args.engine.now) (g.E.Durable.is_faulted c.args.engine.now) engine
 
 pub returns-then-len-eq-PIPE_ITEMS-clause-moments : goal.returns-then-len-eq-PIPE_ITEMS-clause-moments
-returns-then-len-eq-PIPE_ITEMS-clause-moments g c = λ lines w sound stands engine.
-    near-still lines w.calls w.committer.position (g.E.Durable.device c.args.engine.now) (g.E.Durable.contents c.args.engine.now) (g.E.Durable.is_faulted c.args.engine.now) engine
+returns-then-len-eq-PIPE_ITEMS-clause-moments g c = λ holder w sound stands engine.
+    near-still holder w.calls w.committer.position (g.E.Durable.device c.args.engine.now) (g.E.Durable.contents c.args.engine.now) (g.E.Durable.is_faulted c.args.engine.now) engine
 
 pub returns-in_default-take-clause-moments : goal.returns-in_default-take-clause-moments
-returns-in_default-take-clause-moments g c = λ lines w sound stands engine.
-    near-still lines w.calls w.committer.position (g.E.Durable.device c.args.engine.now) (g.E.Durable.contents c.args.engine.now) (g.E.Durable.is_faulted c.args.engine.now) engine
+returns-in_default-take-clause-moments g c = λ holder w sound stands engine.
+    near-still holder w.calls w.committer.position (g.E.Durable.device c.args.engine.now) (g.E.Durable.contents c.args.engine.now) (g.E.Durable.is_faulted c.args.engine.now) engine
 
 pub returns-in_err-commit-clause-moments : goal.returns-in_err-commit-clause-moments
-returns-in_err-commit-clause-moments g c = λ lines w sound stands engine.
-    commit-moments lines w c.args.self.now c.in-Some.group c.take.new.self.items (g.E.Durable.device c.args.engine.now) (g.E.Durable.device c.commit.new.self) (g.E.Durable.contents c.args.engine.now)
+returns-in_err-commit-clause-moments g c = λ holder w sound stands engine.
+    commit-moments holder w c.args.self.now c.in-Some.group c.take.new.self.items (g.E.Durable.device c.args.engine.now) (g.E.Durable.device c.commit.new.self) (g.E.Durable.contents c.args.engine.now)
     (g.E.Durable.is_faulted c.args.engine.now) c.in-Some.ensures (first-lawful (g.E.Durable.contents c.args.engine.now) c.args.self.now.waiting.items c.in-Some.group c.take.new.self.items c.requires c.in-Some.ensures) c.commit.ensures.moments sound stands engine
 
 pub returns-then-len-eq-PIPE_ITEMS-clause-goes : goal.returns-then-len-eq-PIPE_ITEMS-clause-goes
-returns-then-len-eq-PIPE_ITEMS-clause-goes g c = λ lines w stands engine link.
+returns-then-len-eq-PIPE_ITEMS-clause-goes g c = λ holder w stands engine link.
     record { done = commit-full w c.args.link.now.items (sym c.len.ensures ∙ c.if-len-eq-PIPE_ITEMS.true) link; goes = λ did. cc; stays = λ did. (stands, engine) }
 
 pub returns-clause-goes : goal.returns-clause-goes
-returns-clause-goes g c = λ lines w stands engine link.
-    commit-goes lines w c.args.self.now _ c.in-Some.group c.args.link.now.items (g.E.Durable.device c.args.engine.now) (g.E.Durable.device c.commit.new.self)
+returns-clause-goes g c = λ holder w stands engine link.
+    commit-goes holder w c.args.self.now _ c.in-Some.group c.args.link.now.items (g.E.Durable.device c.args.engine.now) (g.E.Durable.device c.commit.new.self)
     (g.E.Durable.contents c.args.engine.now) (g.E.Durable.contents c.commit.new.self) (g.E.Durable.is_faulted c.args.engine.now) (g.E.Durable.is_faulted c.commit.new.self)
     c.in-Ready.is (omega (arith, c.args.link.now.within, c.len.ensures, c.if-len-eq-PIPE_ITEMS.false)) c.in-Some.ensures (cc) (cc)
     (first-lawful (g.E.Durable.contents c.args.engine.now) c.args.self.now.waiting.items c.in-Some.group c.take.new.self.items c.requires c.in-Some.ensures) c.in_ok-commit.ensures.moved c.in_ok-commit.ensures.durable c.in_ok-commit.ensures.sound.0 stands engine link
 
 pub returns-clause-moments : goal.returns-clause-moments
-returns-clause-moments g c = λ lines w sound stands engine.
-    commit-moments lines w c.args.self.now c.in-Some.group c.take.new.self.items (g.E.Durable.device c.args.engine.now) (g.E.Durable.device c.commit.new.self) (g.E.Durable.contents c.args.engine.now)
+returns-clause-moments g c = λ holder w sound stands engine.
+    commit-moments holder w c.args.self.now c.in-Some.group c.take.new.self.items (g.E.Durable.device c.args.engine.now) (g.E.Durable.device c.commit.new.self) (g.E.Durable.contents c.args.engine.now)
     (g.E.Durable.is_faulted c.args.engine.now) c.in-Some.ensures (first-lawful (g.E.Durable.contents c.args.engine.now) c.args.self.now.waiting.items c.in-Some.group c.take.new.self.items c.requires c.in-Some.ensures) c.commit.ensures.moments sound stands engine
