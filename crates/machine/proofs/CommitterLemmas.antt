@@ -1,26 +1,33 @@
 -- What each event leaves of the committer: the groups that wait lead from its record's position to where groups were closed.
-use Rattle.std.proofs.Common.{◌≡◌, ℕ, ◌+◌, ◌-◌, ◌<◌, ◌≤◌, true, List, [], ◌∷◌, length, refl, sym, ◌∙◌, arith, length-append}
+use Rattle.std.proofs.Common.{◌≡◌, ℕ, ◌+◌, ◌-◌, ◌<◌, ◌≤◌, true, List, [], ◌∷◌, length, refl, sym, ◌∙◌, arith, length-append, le_refl}
 use Rattle.model.specs.Calls.{is_nonempty}
 use Rattle.machine.specs.declared.event.TheConstants.{PIPE_ITEMS, OPEN_CHANGES}
 use Rattle.machine.specs.Events.{Span, Stage, Ready, Durable, Shown, Committer, is_ready, is_shown, shown, closed_group, committed_first, raised_local, ready_again, start}
 use Rattle.machine.specs.Sound.{IsChain, IsShownUpTo, SoundCommitter}
 use Rattle.machine.proofs.GroupLemmas.{chain-push}
 
-pub committer-start : SoundCommitter 0 start.committer
+pub committer-start : SoundCommitter 0 start.primary.committer
 committer-start = record { waiting = refl; closed = omega arith; few_open = omega arith; few = omega arith; mark = omega arith; shown = refl }
 
 -- the list grows by at most one change, where fewer than 64 wait
 pub committer-called : (position position' : ℕ) (committer : Committer) → position ≤ position' → position' ≤ position + 1 → position - committer.closed < OPEN_CHANGES → SoundCommitter position committer → SoundCommitter position' committer
 committer-called position position' committer le more open_ones s =
-    record { waiting = s.waiting; closed = omega (arith, s.closed); few_open = omega arith; few = s.few; mark = s.mark; shown = s.shown }
-
-pub committer-closed_group : (position : ℕ) (committer : Committer) → 0 < position - committer.closed → length committer.waiting < PIPE_ITEMS → SoundCommitter position committer → SoundCommitter position (closed_group committer)
-committer-closed_group position committer some room s =
-    let group : Span = record { before = committer.closed; after = committer.closed + 1 } in
     record {
-      waiting = chain-push committer.position committer.waiting committer.closed group s.waiting refl refl;
-      closed = omega arith;
-      few_open = omega (arith, s.few_open);
+      waiting = s.waiting;
+      closed = omega (arith, s.closed);
+      few_open = omega arith;
+      few = s.few;
+      mark = s.mark;
+      shown = s.shown;
+    }
+
+pub committer-closed_group : (position : ℕ) (committer : Committer) → 0 < position - committer.closed → length committer.waiting < PIPE_ITEMS → SoundCommitter position committer → SoundCommitter position (closed_group position committer)
+committer-closed_group position committer some room s =
+    let group : Span = record { before = committer.closed; after = position } in
+    record {
+      waiting = chain-push committer.position committer.waiting committer.closed group s.waiting refl (omega (arith, some));
+      closed = le_refl position;
+      few_open = omega arith;
       few = omega (arith, length-append committer.waiting (group ∷ []));
       mark = s.mark;
       shown = s.shown;
@@ -52,7 +59,7 @@ committer-committed position committer ready some s = go committer.waiting some 
     go [] some chain few = cc
     go (group ∷ groups) some chain few =
         record {
-          waiting = rw chain.1 chain.2;
+          waiting = chain.2;
           closed = s.closed;
           few_open = s.few_open;
           few = omega arith;
@@ -61,8 +68,21 @@ committer-committed position committer ready some s = go committer.waiting some 
         }
 
 pub committer-raised : (position : ℕ) (committer : Committer) → SoundCommitter position committer → SoundCommitter position (raised_local committer)
-committer-raised position committer s = record { waiting = s.waiting; closed = s.closed; few_open = s.few_open; few = s.few; mark = omega arith; shown = shown-raised committer.stage committer.position }
+committer-raised position committer s = record {
+  waiting = s.waiting;
+  closed = s.closed;
+  few_open = s.few_open;
+  few = s.few;
+  mark = le_refl committer.position;
+  shown = shown-raised committer.stage committer.position;
+}
 
 pub committer-handed : (position : ℕ) (committer : Committer) → is_shown committer.stage ≡ true → SoundCommitter position committer → SoundCommitter position (ready_again committer)
-committer-handed position committer hand s =
-    record { waiting = s.waiting; closed = s.closed; few_open = s.few_open; few = s.few; mark = s.mark; shown = shown-hand committer.stage committer.position committer.local hand s.shown }
+committer-handed position committer hand s = record {
+  waiting = s.waiting;
+  closed = s.closed;
+  few_open = s.few_open;
+  few = s.few;
+  mark = s.mark;
+  shown = shown-hand committer.stage committer.position committer.local hand s.shown;
+}

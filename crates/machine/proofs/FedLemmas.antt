@@ -1,12 +1,11 @@
 -- The bytes fed to a connection are the pieces of the feeds that did their step.
 use Rattle.std.proofs.Common.{◌≡◌, ℕ, ◌<◌, Bool, true, false, not, cond, List, [], ◌∷◌, ◌++◌, length, refl, sym, ap, ◌∙◌, append_assoc, append-nil, eq-eqb, ne_eqb}
-use Rattle.std.proofs.lemmas.Bool.{ltb-true}
 use Rattle.machine.specs.declared.event.Event.{Event}
 use Rattle.machine.specs.declared.event.Event.TheVariants.{Enter, Feed, Offer, Turn, CloseGroup, Commit, RaiseLocal, Hand, OpenLink, Send, Deliver, Apply, AckDelivered, RaiseRemote, Hold, Read, Release, Write}
-use Rattle.machine.specs.Events.{Inbound, Outbound, World, connection_of, with_inbound, with_outbound, on_inbound, on_outbound, is_closed_by, is_open, is_enabled, with_call, fed_with, offered_next, taken_first, held_first, having_read, let_out, written, Happens, Step, Run, start, last_world}
+use Rattle.machine.specs.Events.{Inbound, Outbound, World, connection_of, with_inbound, with_outbound, on_inbound, on_outbound, is_closed_by, is_open, may_happen, with_call, fed_with, offered_next, taken_first, held_first, having_read, let_out, written, Happens, Step, Run, start, last_world}
 use Rattle.machine.specs.Promises.{fed_by, fed_to}
-use Rattle.machine.proofs.ConnectionLemmas.{each-changed, get-entered, same-changed}
-use Rattle.machine.proofs.SoundEvents.{both}
+use Rattle.machine.proofs.ConnectionLemmas.{each-changed, get-entered, open-lt, same-changed}
+use Rattle.machine.proofs.SoundEvents.{both, enabled-may}
 
 abbrev fed_in : World → ℕ → List ℕ
 fed_in w c = (connection_of w c).inbound.fed
@@ -14,27 +13,27 @@ fed_in w c = (connection_of w c).inbound.fed
 -- ---- the events that feed nothing
 
 fed-inbound : (w : World) (c d : ℕ) (change : Inbound → Inbound) → ((inbound : Inbound) → (change inbound).fed ≡ inbound.fed) → fed_in (on_inbound c change w) d ≡ fed_in w d
-fed-inbound w c d change same = same-changed (λ connection. connection.inbound.fed) c (with_inbound change) w.connections (λ connection. same connection.inbound) d
+fed-inbound w c d change same = same-changed (λ connection. connection.inbound.fed) c (with_inbound change) w.primary.connections (λ connection. same connection.inbound) d
 
 fed-outbound : (w : World) (c d : ℕ) (change : Outbound → Outbound) → fed_in (on_outbound c change w) d ≡ fed_in w d
-fed-outbound w c d change = same-changed (λ connection. connection.inbound.fed) c (with_outbound change) w.connections (λ connection. refl) d
+fed-outbound w c d change = same-changed (λ connection. connection.inbound.fed) c (with_outbound change) w.primary.connections (λ connection. refl) d
 
 -- ---- the one that does
 
-fed-Feed : (w : World) (c d : ℕ) (piece : List ℕ) → c < length w.connections → fed_in (on_inbound c (fed_with piece) w) d ≡ fed_in w d ++ fed_by d (Feed c piece) true
+fed-Feed : (w : World) (c d : ℕ) (piece : List ℕ) → c < length w.primary.connections → fed_in (on_inbound c (fed_with piece) w) d ≡ fed_in w d ++ fed_by d (Feed c piece) true
 fed-Feed w c d piece lt =
-    each-changed (λ e connection. connection.inbound.fed ≡ fed_in w e ++ fed_by e (Feed c piece) true) c (with_inbound (fed_with piece)) w.connections lt
+    each-changed (λ e connection. connection.inbound.fed ≡ fed_in w e ++ fed_by e (Feed c piece) true) c (with_inbound (fed_with piece)) w.primary.connections lt
     (ap (λ b. fed_in w c ++ cond b piece []) (sym (eq-eqb c c refl)))
     (λ e differ. sym (append-nil (fed_in w e)) ∙ ap (λ b. fed_in w e ++ cond b piece []) (sym (ne_eqb c e differ))) d
 
 nothing : {before after : List ℕ} → after ≡ before → after ≡ before ++ []
 nothing {before} e = e ∙ sym (append-nil before)
 
-fed-happens : (w : World) (event : Event) (new : World) (d : ℕ) → is_enabled w event ≡ true → Happens w event new → fed_in new d ≡ fed_in w d ++ fed_by d event true
-fed-happens w Enter new d e h = nothing (ap (λ x. fed_in x d) h ∙ ap (λ connection. connection.inbound.fed) (get-entered w.connections d))
+fed-happens : (w : World) (event : Event) (new : World) (d : ℕ) → may_happen w event ≡ true → Happens w event new → fed_in new d ≡ fed_in w d ++ fed_by d event true
+fed-happens w Enter new d e h = nothing (ap (λ x. fed_in x d) h ∙ get-entered (λ connection. connection.inbound.fed) refl w.primary.connections d)
 fed-happens w (Feed c piece) new d e h =
     let parts = both (is_open w c) (not (is_closed_by (connection_of w c).inbound.fed)) e in
-    ap (λ x. fed_in x d) h ∙ fed-Feed w c d piece (ltb-true c (length w.connections) parts.0)
+    ap (λ x. fed_in x d) h ∙ fed-Feed w c d piece (open-lt w.primary.connections c parts.0)
 fed-happens w (Offer c) new d e h = nothing (ap (λ x. fed_in x d) h ∙ fed-inbound w c d offered_next (λ inbound. refl))
 fed-happens w (Turn c) new d e h =
     let called_once = on_inbound c taken_first (with_call h.call w) in
@@ -59,7 +58,7 @@ fed_by-not d (Feed c piece) = refl
 fed_by-not d event = refl
 
 pub fed-step : (old : World) (event : Event) (did : Bool) (new : World) (d : ℕ) → Step old event did new → fed_in new d ≡ fed_in old d ++ fed_by d event did
-fed-step old event true new d step = fed-happens old event new d (sym step.done) (step.happens refl)
+fed-step old event true new d step = fed-happens old event new d (enabled-may old event (sym step.done)) (step.happens refl)
 fed-step old event false new d step = ap (λ x. fed_in x d) (step.stands refl) ∙ sym (append-nil (fed_in old d)) ∙ ap (λ piece. fed_in old d ++ piece) (sym (fed_by-not d event))
 
 pub fed-from : (w : World) (events : List Event) (done : List Bool) (worlds : List World) (d : ℕ) → Run w events done worlds → fed_in (last_world w worlds) d ≡ fed_in w d ++ fed_to d events done

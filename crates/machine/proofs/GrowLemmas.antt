@@ -1,5 +1,5 @@
 -- What is there later: lists go on, and no number falls.
-use Rattle.std.proofs.Common.{◌≡◌, ℕ, zero, suc, ◌≤◌, Bool, true, false, List, [], ◌∷◌, ◌++◌, take, drop, Option, Some, None, slice_get, refl, sym, ap, subst, ◌∙◌, arith, le_refl, inl, inr}
+use Rattle.std.proofs.Common.{◌≡◌, ℕ, zero, suc, ◌≤◌, Bool, true, false, List, [], ◌∷◌, ◌++◌, take, drop, cond, nat_eq, Option, Some, None, slice_get, refl, sym, ap, subst, ◌∙◌, arith, le_refl, inl, inr}
 use Rattle.model.specs.declared.call.Call.{Call}
 use Rattle.model.specs.Calls.{IsPrefix, cut_at, keyspace_after, position_of}
 use Rattle.model.proofs.PrefixLemmas.{IsPrefix-itself, IsPrefix-front, IsPrefix-trans}
@@ -8,7 +8,7 @@ use Rattle.machine.specs.declared.event.Event.{Event}
 use Rattle.machine.specs.declared.event.Event.TheVariants.{Enter, Feed, Offer, Turn, CloseGroup, Commit, RaiseLocal, Hand, OpenLink, Send, Deliver, Apply, AckDelivered, RaiseRemote, Hold, Read, Release, Write}
 use Rattle.machine.specs.declared.event.Mark.{Mark}
 use Rattle.machine.specs.declared.event.Mark.TheVariants.{Local, Remote}
-use Rattle.machine.specs.Events.{Inbound, Outbound, Connection, Span, Committer, Link, Standby, World, get_connection, changed_at, with_inbound, with_outbound, on_inbound, on_outbound, with_call, with_committer, with_link, with_standby, fed_with, offered_next, taken_first, with_made, called, closed_group, committed_first, raised_local, ready_again, handed, handed_to, opened_link, acknowledged, sent_waiting, sent_next, delivered, without_first, Takes, told, raised_remote, held_first, having_read, let_out, written, option_items, Happens, Step, Run, start, last_world}
+use Rattle.machine.specs.Events.{Inbound, Outbound, Connection, Span, Frame, Acknowledgement, Committer, Link, Standby, Wire, World, get_connection, changed_at, with_inbound, with_outbound, with_connections, on_inbound, on_outbound, with_call, with_committer, with_link, with_standby, with_sent, with_acknowledged, sent, fed_with, offered_next, taken_first, with_made, called, closed_group, committed_first, raised_local, ready_again, handed, handed_to, opened_link, acknowledgement_of, next_to_send, framed, sent_next, delivered, without_first, Takes, told, knowing, raised_remote, held_first, having_read, let_out, written, option_items, Happens, Step, Run, start, last_world}
 use Rattle.machine.specs.Promises.{released_in}
 use Rattle.machine.specs.Sound.{IsChain, Sound}
 use Rattle.machine.specs.Laws.{Grows}
@@ -19,15 +19,15 @@ use Rattle.machine.proofs.RunLemmas.{run-take, run-drop, sound-run}
 pub grows-itself : (w : World) → Grows w w
 grows-itself w =
     record {
-      calls = IsPrefix-itself w.calls;
+      calls = IsPrefix-itself w.primary.calls;
       released = λ c. IsPrefix-itself (released_in w c);
-      frames = IsPrefix-itself w.link.frames;
-      acknowledgements = IsPrefix-itself w.standby.acknowledgements;
-      primary_position = le_refl w.committer.position;
+      frames = IsPrefix-itself w.wire.frames;
+      acknowledgements = IsPrefix-itself w.wire.acknowledgements;
+      primary_position = le_refl w.primary.committer.position;
       standby_position = le_refl w.standby.position;
-      local = le_refl w.committer.local;
-      known = le_refl w.link.known;
-      remote = le_refl w.link.remote;
+      local = le_refl w.primary.committer.local;
+      known = le_refl w.primary.link.known;
+      remote = le_refl w.primary.link.remote;
     }
 
 pub grows-trans : {a b c : World} → Grows a b → Grows b c → Grows a c
@@ -47,7 +47,7 @@ grows-trans f g =
 -- ---- connections
 
 grows-connections : (w : World) (connections : List Connection) → ((c : ℕ) → IsPrefix (released_in w c) (get_connection connections c).outbound.released)
-    → Grows w (record { connections = connections; calls = w.calls; committer = w.committer; link = w.link; standby = w.standby })
+    → Grows w (with_connections connections w)
 grows-connections w connections released =
     let g = grows-itself w in
     record {
@@ -72,34 +72,32 @@ released-changed (suc c) change (connection ∷ connections) each (suc d) = rele
 
 grows-inbound : (w : World) (c : ℕ) (change : Inbound → Inbound) → Grows w (on_inbound c change w)
 grows-inbound w c change =
-    grows-connections w (changed_at c (with_inbound change) w.connections) (released-changed c (with_inbound change) w.connections (λ connection. IsPrefix-itself connection.outbound.released))
+    grows-connections w (changed_at c (with_inbound change) w.primary.connections) (released-changed c (with_inbound change) w.primary.connections (λ connection. IsPrefix-itself connection.outbound.released))
 
 grows-outbound : (w : World) (c : ℕ) (change : Outbound → Outbound) → ((outbound : Outbound) → IsPrefix outbound.released (change outbound).released) → Grows w (on_outbound c change w)
 grows-outbound w c change each =
-    grows-connections w (changed_at c (with_outbound change) w.connections) (released-changed c (with_outbound change) w.connections (λ connection. each connection.outbound))
+    grows-connections w (changed_at c (with_outbound change) w.primary.connections) (released-changed c (with_outbound change) w.primary.connections (λ connection. each connection.outbound))
 
 grows-called : (w : World) (c : ℕ) (call : Call) → Grows w (called c call w)
 grows-called w c call =
-    let g = grows-itself w in
-    let first : Grows w (with_call call w) =
-    record {
-      calls = IsPrefix-front w.calls (call ∷ []);
-      released = g.released;
-      frames = g.frames;
-      acknowledgements = g.acknowledgements;
-      primary_position = g.primary_position;
-      standby_position = g.standby_position;
-      local = g.local;
-      known = g.known;
-      remote = g.remote;
+    let first : Grows w (with_call call w) = record {
+      calls = IsPrefix-front w.primary.calls (call ∷ []);
+      released = (grows-itself w).released;
+      frames = (grows-itself w).frames;
+      acknowledgements = (grows-itself w).acknowledgements;
+      primary_position = (grows-itself w).primary_position;
+      standby_position = (grows-itself w).standby_position;
+      local = (grows-itself w).local;
+      known = (grows-itself w).known;
+      remote = (grows-itself w).remote;
     } in
     let taken = on_inbound c taken_first (with_call call w) in
     grows-trans first (grows-trans (grows-inbound (with_call call w) c taken_first)
-    (grows-outbound taken c (with_made (record { reply = call.reply; position = position_of (w.calls ++ call ∷ []) })) (λ outbound. IsPrefix-itself outbound.released)))
+    (grows-outbound taken c (with_made (record { reply = call.reply; position = position_of (w.primary.calls ++ call ∷ []) })) (λ outbound. IsPrefix-itself outbound.released)))
 
 -- ---- the committer, the link, the standby
 
-grows-committer : (w : World) (committer : Committer) → w.committer.position ≤ committer.position → w.committer.local ≤ committer.local → Grows w (with_committer committer w)
+grows-committer : (w : World) (committer : Committer) → w.primary.committer.position ≤ committer.position → w.primary.committer.local ≤ committer.local → Grows w (with_committer committer w)
 grows-committer w committer le le' =
     let g = grows-itself w in
     record {
@@ -114,17 +112,18 @@ grows-committer w committer le le' =
       remote = g.remote;
     }
 
-grows-committed : (w : World) (groups : List Span) → IsChain w.committer.position groups w.committer.closed → Grows w (with_committer (committed_first groups w.committer) w)
+grows-committed : (w : World) (groups : List Span) → IsChain w.primary.committer.position groups w.primary.committer.closed → Grows w (with_committer (committed_first groups w.primary.committer) w)
 grows-committed w [] chain = grows-itself w
-grows-committed w (group ∷ groups) chain = grows-committer w (committed_first (group ∷ groups) w.committer) (omega (arith, chain.1)) (le_refl w.committer.local)
+grows-committed w (group ∷ groups) chain =
+    grows-committer w (committed_first (group ∷ groups) w.primary.committer) (omega (arith, chain.1)) (le_refl w.primary.committer.local)
 
-grows-link : (w : World) (link : Link) → IsPrefix w.link.frames link.frames → w.link.known ≤ link.known → w.link.remote ≤ link.remote → Grows w (with_link link w)
-grows-link w link frames le le' =
+grows-link : (w : World) (link : Link) → w.primary.link.known ≤ link.known → w.primary.link.remote ≤ link.remote → Grows w (with_link link w)
+grows-link w link le le' =
     let g = grows-itself w in
     record {
       calls = g.calls;
       released = g.released;
-      frames = frames;
+      frames = g.frames;
       acknowledgements = g.acknowledgements;
       primary_position = g.primary_position;
       standby_position = g.standby_position;
@@ -133,26 +132,23 @@ grows-link w link frames le le' =
       remote = le';
     }
 
-sent-frames : (groups : List Span) (link : Link) → IsPrefix link.frames (sent_next groups link).frames
-sent-frames [] link = go link.waiting
-  where
-    go : (waiting : List Span) → IsPrefix link.frames (sent_waiting waiting link).frames
-    go [] = IsPrefix-itself link.frames
-    go (group ∷ groups) = IsPrefix-front link.frames (group ∷ [])
-sent-frames (group ∷ groups) link = IsPrefix-front link.frames (group ∷ [])
-
-grows-told : (w : World) (o : Option ℕ) → Grows w (with_link (told o w.link) w)
+grows-told : (w : World) (ack : Option Acknowledgement) → Grows w (with_link (told w.primary.epoch ack w.primary.link) w)
 grows-told w None = grows-itself w
-grows-told w (Some position) = grows-link w (told (Some position) w.link) (IsPrefix-itself w.link.frames) (omega arith) (le_refl w.link.remote)
+grows-told w (Some ack) =
+    let link = w.primary.link in
+    elim (nat_eq ack.epoch w.primary.epoch) as (λ b. Grows w (with_link (cond b (knowing ack.position link) link) w)) [
+      | true ↦ grows-link w (knowing ack.position link) (omega arith) (le_refl link.remote)
+      | false ↦ grows-itself w
+    ]
 
-grows-standby : (w : World) (standby : Standby) → IsPrefix w.standby.acknowledgements standby.acknowledgements → w.standby.position ≤ standby.position → Grows w (with_standby standby w)
-grows-standby w standby acknowledgements le =
+grows-delivered : (w : World) (standby : Standby) → w.standby.position ≤ standby.position → Grows w (with_standby standby w)
+grows-delivered w standby le =
     let g = grows-itself w in
     record {
       calls = g.calls;
       released = g.released;
       frames = g.frames;
-      acknowledgements = acknowledgements;
+      acknowledgements = g.acknowledgements;
       primary_position = g.primary_position;
       standby_position = le;
       local = g.local;
@@ -160,14 +156,30 @@ grows-standby w standby acknowledgements le =
       remote = g.remote;
     }
 
-grows-takes : (frame : Span) (old new : Standby) → Takes frame old new → IsPrefix old.acknowledgements new.acknowledgements × (old.position ≤ new.position)
-grows-takes frame old new takes =
-    let P : Standby → Type 0 = λ standby. IsPrefix old.acknowledgements standby.acknowledgements × (old.position ≤ standby.position) in
+grows-standby : (w : World) (standby : Standby) (told : List Acknowledgement) → w.standby.position ≤ standby.position → Grows w (with_acknowledged told (with_standby standby w))
+grows-standby w standby told le =
+    let g = grows-itself w in
+    record {
+      calls = g.calls;
+      released = g.released;
+      frames = g.frames;
+      acknowledgements = IsPrefix-front w.wire.acknowledgements told;
+      primary_position = g.primary_position;
+      standby_position = le;
+      local = g.local;
+      known = g.known;
+      remote = g.remote;
+    }
+
+grows-takes : (frame : Frame) (old new : Standby) (told : List Acknowledgement) → Takes frame old new told → old.position ≤ new.position
+grows-takes frame old new told takes =
+    let P : Standby → Type 0 = λ standby. old.position ≤ standby.position in
     elim takes [
-      | inl again ↦ subst P (sym again.1) (IsPrefix-front old.acknowledgements (old.position ∷ []), le_refl old.position)
-      | inr (inl next) ↦ subst P (sym next.2) (IsPrefix-front old.acknowledgements (frame.after ∷ []), omega (arith, next.0))
-      | inr (inr (inl full)) ↦ subst P (sym full.2) (IsPrefix-itself old.acknowledgements, le_refl old.position)
-      | inr (inr (inr other)) ↦ subst P (sym other.2) (IsPrefix-itself old.acknowledgements, le_refl old.position)
+      | inl other ↦ subst P (sym other.1) (le_refl old.position)
+      | inr (inl again) ↦ subst P (sym again.2) (le_refl old.position)
+      | inr (inr (inl next)) ↦ subst P (sym next.3) (omega (arith, next.1))
+      | inr (inr (inr (inl full))) ↦ subst P (sym full.3) (le_refl old.position)
+      | inr (inr (inr (inr gap))) ↦ subst P (sym gap.3) (le_refl old.position)
     ]
 
 -- ---- any event
@@ -178,30 +190,38 @@ grows-read w Remote outbound = IsPrefix-itself outbound.released
 
 grows-happens : (w : World) (event : Event) (new : World) → Happens w event new → Sound w → Grows w new
 grows-happens w Enter new h s =
-    subst (Grows w) (sym h) (grows-connections w _ (λ c. subst (λ connection. IsPrefix (released_in w c) connection.outbound.released) (sym (get-entered w.connections c)) (IsPrefix-itself (released_in w c))))
+    subst (Grows w) (sym h) (grows-connections w _ (λ c. subst (IsPrefix (released_in w c)) (sym (get-entered (λ connection. connection.outbound.released) refl w.primary.connections c)) (IsPrefix-itself (released_in w c))))
 grows-happens w (Feed c piece) new h s = subst (Grows w) (sym h) (grows-inbound w c (fed_with piece))
 grows-happens w (Offer c) new h s = subst (Grows w) (sym h) (grows-inbound w c offered_next)
 grows-happens w (Turn c) new h s = subst (Grows w) (sym h.now) (grows-called w c h.call)
-grows-happens w CloseGroup new h s = subst (Grows w) (sym h) (grows-committer w (closed_group w.committer) (le_refl w.committer.position) (le_refl w.committer.local))
-grows-happens w Commit new h s = subst (Grows w) (sym h) (grows-committed w w.committer.waiting s.committer.waiting)
-grows-happens w RaiseLocal new h s = subst (Grows w) (sym h) (grows-committer w (raised_local w.committer) (le_refl w.committer.position) s.committer.mark)
+grows-happens w CloseGroup new h s = subst (Grows w) (sym h) (grows-committer w (closed_group (position_of w.primary.calls) w.primary.committer) (le_refl w.primary.committer.position) (le_refl w.primary.committer.local))
+grows-happens w Commit new h s = subst (Grows w) (sym h) (grows-committed w w.primary.committer.waiting s.committer.waiting)
+grows-happens w RaiseLocal new h s = subst (Grows w) (sym h) (grows-committer w (raised_local w.primary.committer) (le_refl w.primary.committer.position) s.committer.mark)
 grows-happens w Hand new h s =
-    let middle = with_committer (ready_again w.committer) w in
-    subst (Grows w) (sym h) (grows-trans (grows-committer w (ready_again w.committer) (le_refl w.committer.position) (le_refl w.committer.local))
-    (grows-link middle (handed_to (handed w.committer.stage) w.link) (IsPrefix-itself w.link.frames) (le_refl w.link.known) (le_refl w.link.remote)))
+    let middle = with_committer (ready_again w.primary.committer) w in
+    subst (Grows w) (sym h) (grows-trans (grows-committer w (ready_again w.primary.committer) (le_refl w.primary.committer.position) (le_refl w.primary.committer.local))
+    (grows-link middle (handed_to (handed w.primary.committer.stage) w.primary.link) (le_refl w.primary.link.known) (le_refl w.primary.link.remote)))
 grows-happens w OpenLink new h s =
-    let middle = with_standby (acknowledged w.standby) w in
-    subst (Grows w) (sym h) (grows-trans (grows-standby w (acknowledged w.standby) (IsPrefix-front w.standby.acknowledgements (w.standby.position ∷ [])) (le_refl w.standby.position))
-    (grows-link middle (opened_link w.link) (IsPrefix-itself w.link.frames) (le_refl w.link.known) (le_refl w.link.remote)))
+    let told = acknowledgement_of w.standby ∷ [] in
+    subst (Grows w) (sym h) (grows-trans (grows-standby w w.standby told (le_refl w.standby.position))
+    (grows-link (with_acknowledged told w) (opened_link w.primary.link) (le_refl w.primary.link.known) (le_refl w.primary.link.remote)))
 grows-happens w Send new h s =
-    subst (Grows w) (sym h) (grows-link w (sent_next w.link.again w.link) (sent-frames w.link.again w.link) (omega (arith, sent-known w.link.again w.link)) (omega (arith, sent-remote w.link.again w.link)))
-grows-happens w (Deliver frame) new h s =
-    subst (Grows w) (sym h) (grows-standby w (delivered (option_items (slice_get w.link.frames frame)) w.standby) (IsPrefix-itself w.standby.acknowledgements) (le_refl w.standby.position))
-grows-happens w Apply new h s =
-    let takes = grows-takes h.frame (without_first w.standby) h.standby h.takes in
-    subst (Grows w) (sym h.now) (grows-standby w h.standby takes.0 takes.1)
-grows-happens w (AckDelivered a) new h s = subst (Grows w) (sym h) (grows-told w (slice_get w.standby.acknowledgements a))
-grows-happens w RaiseRemote new h s = subst (Grows w) (sym h) (grows-link w (raised_remote w.link) (IsPrefix-itself w.link.frames) (le_refl w.link.known) s.link.remote)
+    let link = w.primary.link in
+    subst (Grows w) (sym h) (record {
+      calls = (grows-itself w).calls;
+      released = (grows-itself w).released;
+      frames = IsPrefix-front w.wire.frames (framed w.primary.epoch (next_to_send link));
+      acknowledgements = (grows-itself w).acknowledgements;
+      primary_position = (grows-itself w).primary_position;
+      standby_position = (grows-itself w).standby_position;
+      local = (grows-itself w).local;
+      known = omega (arith, sent-known link.again link);
+      remote = omega (arith, sent-remote link.again link);
+    })
+grows-happens w (Deliver frame) new h s = subst (Grows w) (sym h) (grows-delivered w (delivered (option_items (slice_get w.wire.frames frame)) w.standby) (le_refl w.standby.position))
+grows-happens w Apply new h s = subst (Grows w) (sym h.now) (grows-standby w h.standby h.told (grows-takes h.frame (without_first w.standby) h.standby h.told h.takes))
+grows-happens w (AckDelivered a) new h s = subst (Grows w) (sym h) (grows-told w (slice_get w.wire.acknowledgements a))
+grows-happens w RaiseRemote new h s = subst (Grows w) (sym h) (grows-link w (raised_remote w.primary.link) (le_refl w.primary.link.known) s.link.remote)
 grows-happens w (Hold c) new h s = subst (Grows w) (sym h) (grows-outbound w c held_first (λ outbound. IsPrefix-itself outbound.released))
 grows-happens w (Read c mark) new h s = subst (Grows w) (sym h) (grows-outbound w c (having_read mark w) (grows-read w mark))
 grows-happens w (Release c) new h s = subst (Grows w) (sym h) (grows-outbound w c let_out (λ outbound. IsPrefix-itself outbound.released))

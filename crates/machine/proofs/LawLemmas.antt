@@ -1,14 +1,15 @@
 -- The laws of every run, from what holds between any two events.
-use Rattle.std.proofs.Common.{◌≡◌, ℕ, ◌+◌, Bool, true, false, List, [], ◌∷◌, ◌++◌, length, refl, sym, ap, ◌∙◌, arith, append_assoc, le-ltb, Option, Some, None, slice_get}
+use Rattle.std.proofs.Common.{◌≡◌, ℕ, ◌+◌, ◌≤◌, Bool, true, false, ◌&&◌, cond, nat_eq, List, [], ◌∷◌, ◌++◌, length, refl, sym, ap, ◌∙◌, arith, append_assoc, le-ltb, Option, Some, None, slice_get}
+use Rattle.std.proofs.lemmas.List.Elements.{All-weaker}
 use Rattle.model.specs.States.{start_state}
 use Rattle.model.specs.Calls.{state_after, position_of}
 use Rattle.machine.specs.declared.event.Event.{Event}
 use Rattle.machine.specs.declared.event.Event.TheVariants.{Enter, Feed, Offer, Turn, CloseGroup, Commit, RaiseLocal, Hand, OpenLink, Send, Deliver, Apply, AckDelivered, RaiseRemote, Hold, Read, Release, Write}
-use Rattle.machine.specs.Events.{World, Link, told, Happens, Step, Run, start, last_world}
-use Rattle.machine.specs.Sound.{Sound, answers_from, answers_to}
+use Rattle.machine.specs.Events.{World, Frame, Acknowledgement, Link, told, knowing, nodes_run, may_happen, is_enabled, Happens, Step, Run, start, last_world}
+use Rattle.machine.specs.Sound.{IsFrameWithin, IsToldWithin, Sound, answers_from, answers_to}
 use Rattle.machine.specs.Laws.{IsInOrder, FramesAreCommitted, AnswersBearPositions, RaisesNoRemote, NothingIsReleasedUnacknowledged, OnlyWhatWasMadeIsDelivered}
 use Rattle.machine.proofs.AnswerLemmas.{answers_from-append, answers_to-push_own}
-use Rattle.machine.proofs.GroupLemmas.{chain-le, all_within-weaker}
+use Rattle.machine.proofs.GroupLemmas.{chain-le, frames_within-weaker}
 use Rattle.machine.proofs.SoundEvents.{sent-remote}
 use Rattle.machine.proofs.RunLemmas.{sound-run}
 use Rattle.machine.proofs.PromiseLemmas.{released-covered}
@@ -22,7 +23,10 @@ in_order w s =
       remote = s.link.remote;
       known = s.standby.known;
       standby = omega (arith, s.standby.behind, chain-le _ _ _ s.link.waiting);
-      acknowledged = s.standby.acknowledged;
+      acknowledged = All-weaker (IsToldWithin w.primary.epoch w.standby.position) (λ (ack : Acknowledgement). ack.position ≤ w.standby.position) (λ ack h. h.within) w.wire.acknowledgements s.wire.acknowledged;
+      epoch = s.standby.epoch_is;
+      frames = All-weaker (IsFrameWithin w.primary.epoch s.sent) (λ (frame : Frame). frame.epoch ≡ w.primary.epoch) (λ frame h. h.epoch_is) w.wire.frames s.wire.frames;
+      told = All-weaker (IsToldWithin w.primary.epoch w.standby.position) (λ (ack : Acknowledgement). ack.epoch ≡ w.primary.epoch) (λ ack h. h.epoch_is) w.wire.acknowledgements s.wire.acknowledged;
       read_local = λ c. (s.outbound c).local_read;
       read_remote = λ c. (s.outbound c).remote_read;
     }
@@ -32,7 +36,7 @@ frames_are_committed events done worlds run =
     let w = last_world start worlds in
     let s = sound-run events done worlds run in
     let le = chain-le _ _ _ s.link.waiting in
-    (all_within-weaker s.sent w.committer.position w.link.frames le s.link.frames, all_within-weaker s.sent w.committer.position w.standby.waiting le s.standby.frames)
+    (frames_within-weaker w.primary.epoch s.sent w.primary.committer.position w.wire.frames le s.wire.frames, frames_within-weaker w.primary.epoch s.sent w.primary.committer.position w.standby.waiting le s.standby.frames)
 
 pub answers_bear_positions : AnswersBearPositions
 answers_bear_positions front call rest =
@@ -46,41 +50,41 @@ answers_bear_positions front call rest =
 
 -- ---- without RaiseRemote
 
-told-remote : (o : Option ℕ) (link : Link) → (told o link).remote ≡ link.remote
-told-remote None link = refl
-told-remote (Some position) link = refl
+told-remote : (epoch : ℕ) (ack : Option Acknowledgement) (link : Link) → (told epoch ack link).remote ≡ link.remote
+told-remote epoch None link = refl
+told-remote epoch (Some ack) link = elim (nat_eq ack.epoch epoch) as (λ b. (cond b (knowing ack.position link) link).remote ≡ link.remote) [ true ↦ refl | false ↦ refl ]
 
 -- no other event moves the remote mark
-remote-happens : (w : World) (event : Event) (new : World) → RaisesNoRemote (event ∷ []) (true ∷ []) → Happens w event new → new.link.remote ≡ w.link.remote
-remote-happens w Enter new none h = ap (λ x. x.link.remote) h
-remote-happens w (Feed c piece) new none h = ap (λ x. x.link.remote) h
-remote-happens w (Offer c) new none h = ap (λ x. x.link.remote) h
-remote-happens w (Turn c) new none h = ap (λ x. x.link.remote) h.now
-remote-happens w CloseGroup new none h = ap (λ x. x.link.remote) h
-remote-happens w Commit new none h = ap (λ x. x.link.remote) h
-remote-happens w RaiseLocal new none h = ap (λ x. x.link.remote) h
-remote-happens w Hand new none h = ap (λ x. x.link.remote) h
-remote-happens w OpenLink new none h = ap (λ x. x.link.remote) h
-remote-happens w Send new none h = ap (λ x. x.link.remote) h ∙ sent-remote w.link.again w.link
-remote-happens w (Deliver frame) new none h = ap (λ x. x.link.remote) h
-remote-happens w Apply new none h = ap (λ x. x.link.remote) h.now
-remote-happens w (AckDelivered a) new none h = ap (λ x. x.link.remote) h ∙ told-remote (slice_get w.standby.acknowledgements a) w.link
+remote-happens : (w : World) (event : Event) (new : World) → RaisesNoRemote (event ∷ []) (true ∷ []) → Happens w event new → new.primary.link.remote ≡ w.primary.link.remote
+remote-happens w Enter new none h = ap (λ x. x.primary.link.remote) h
+remote-happens w (Feed c piece) new none h = ap (λ x. x.primary.link.remote) h
+remote-happens w (Offer c) new none h = ap (λ x. x.primary.link.remote) h
+remote-happens w (Turn c) new none h = ap (λ x. x.primary.link.remote) h.now
+remote-happens w CloseGroup new none h = ap (λ x. x.primary.link.remote) h
+remote-happens w Commit new none h = ap (λ x. x.primary.link.remote) h
+remote-happens w RaiseLocal new none h = ap (λ x. x.primary.link.remote) h
+remote-happens w Hand new none h = ap (λ x. x.primary.link.remote) h
+remote-happens w OpenLink new none h = ap (λ x. x.primary.link.remote) h
+remote-happens w Send new none h = ap (λ x. x.primary.link.remote) h ∙ sent-remote w.primary.link.again w.primary.link
+remote-happens w (Deliver frame) new none h = ap (λ x. x.primary.link.remote) h
+remote-happens w Apply new none h = ap (λ x. x.primary.link.remote) h.now
+remote-happens w (AckDelivered a) new none h = ap (λ x. x.primary.link.remote) h ∙ told-remote w.primary.epoch (slice_get w.wire.acknowledgements a) w.primary.link
 remote-happens w RaiseRemote new none h = absurd none
-remote-happens w (Hold c) new none h = ap (λ x. x.link.remote) h
-remote-happens w (Read c mark) new none h = ap (λ x. x.link.remote) h
-remote-happens w (Release c) new none h = ap (λ x. x.link.remote) h
-remote-happens w (Write c n) new none h = ap (λ x. x.link.remote) h
+remote-happens w (Hold c) new none h = ap (λ x. x.primary.link.remote) h
+remote-happens w (Read c mark) new none h = ap (λ x. x.primary.link.remote) h
+remote-happens w (Release c) new none h = ap (λ x. x.primary.link.remote) h
+remote-happens w (Write c n) new none h = ap (λ x. x.primary.link.remote) h
 
 raises-parts : (event : Event) (did : Bool) (events : List Event) (done : List Bool) → RaisesNoRemote (event ∷ events) (did ∷ done) → RaisesNoRemote (event ∷ []) (did ∷ []) × RaisesNoRemote events done
 raises-parts RaiseRemote true events done none = absurd none
 raises-parts RaiseRemote false events done none = (tt, none)
 raises-parts event did events done none = (tt, none)
 
-remote-step : (old : World) (event : Event) (did : Bool) (new : World) → RaisesNoRemote (event ∷ []) (did ∷ []) → Step old event did new → new.link.remote ≡ old.link.remote
+remote-step : (old : World) (event : Event) (did : Bool) (new : World) → RaisesNoRemote (event ∷ []) (did ∷ []) → Step old event did new → new.primary.link.remote ≡ old.primary.link.remote
 remote-step old event true new none step = remote-happens old event new none (step.happens refl)
-remote-step old event false new none step = ap (λ x. x.link.remote) (step.stands refl)
+remote-step old event false new none step = ap (λ x. x.primary.link.remote) (step.stands refl)
 
-remote-from : (w : World) (events : List Event) (done : List Bool) (worlds : List World) → Run w events done worlds → RaisesNoRemote events done → (last_world w worlds).link.remote ≡ w.link.remote
+remote-from : (w : World) (events : List Event) (done : List Bool) (worlds : List World) → Run w events done worlds → RaisesNoRemote events done → (last_world w worlds).primary.link.remote ≡ w.primary.link.remote
 remote-from w [] [] [] run none = refl
 remote-from w (event ∷ events) (did ∷ done) (new ∷ worlds) run none =
     let parts = raises-parts event did events done none in
@@ -95,5 +99,8 @@ nothing_is_released_unacknowledged events done worlds run none front call releas
 
 -- ---- what was not made
 
+not-enabled : (w : World) (event : Event) → may_happen w event ≡ false → is_enabled w event ≡ false
+not-enabled w event e = elim (nodes_run w event) as (λ b. (b && may_happen w event) ≡ false) [ true ↦ e | false ↦ refl ]
+
 pub only_what_was_made_is_delivered : OnlyWhatWasMadeIsDelivered
-only_what_was_made_is_delivered w n = (le-ltb n (length w.link.frames), le-ltb n (length w.standby.acknowledgements))
+only_what_was_made_is_delivered w n = (λ le. not-enabled w (Deliver n) (le-ltb n (length w.wire.frames) le), λ le. not-enabled w (AckDelivered n) (le-ltb n (length w.wire.acknowledgements) le))

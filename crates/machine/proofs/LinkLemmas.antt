@@ -1,17 +1,17 @@
 -- What each event leaves of the link: the groups that it keeps and those that wait are the committed ones that are not acknowledged.
-use Rattle.std.proofs.Common.{◌≡◌, ℕ, ◌+◌, ◌<◌, ◌≤◌, true, not, nat_lt, List, [], ◌∷◌, ◌++◌, length, All, refl, sym, ap, subst, ◌∙◌, arith, append_assoc, append-nil, length-append, le_refl, ◌&&◌, ◌||◌}
+use Rattle.std.proofs.Common.{◌≡◌, ℕ, ◌<◌, ◌≤◌, true, not, nat_lt, List, [], ◌∷◌, ◌++◌, length, take, All, refl, sym, ap, subst, ◌∙◌, arith, append_assoc, append-nil, length-append, le_refl, ◌&&◌, ◌||◌}
 use Rattle.std.proofs.lemmas.Bool.{ltb-true}
-use Rattle.std.proofs.lemmas.List.Elements.{All-nil, All-push, All-head, All-tail, filter-append}
+use Rattle.std.proofs.lemmas.List.Elements.{All-nil, All-cons, All-head, All-tail, filter-append}
 use Rattle.std.proofs.lemmas.List.Filters.{length-filter_both}
 use Rattle.model.specs.Calls.{is_nonempty}
 use Rattle.machine.specs.declared.event.TheConstants.{PIPE_ITEMS, KEPT_GROUPS}
-use Rattle.machine.specs.Events.{Span, Stage, Ready, Durable, Shown, Committer, Link, is_ready, is_shown, shown, handed, handed_to, opened_link, sent_waiting, sent_next, above, knowing, raised_remote, start}
+use Rattle.machine.specs.Events.{Span, Stage, Ready, Durable, Shown, Committer, Link, is_ready, is_shown, shown, handed, handed_to, opened_link, sent_waiting, sent_next, next_to_send, above, knowing, raised_remote, start}
 use Rattle.machine.specs.Sound.{IsChain, IsGroupWithin, in_hand, HasRoomFor, SoundLink}
-use Rattle.machine.proofs.GroupLemmas.{chain-push, chain-above, chain-within, all_within-weaker}
+use Rattle.machine.proofs.GroupLemmas.{chain-push, chain-above, chain-within}
 
-pub link-start : SoundLink Ready 0 0 start.link
+pub link-start : SoundLink Ready 0 0 start.primary.link
 link-start =
-    record { kept = refl; waiting = refl; frames = All-nil (IsGroupWithin 0); sent_again = []; again = refl; remote = omega arith; few = omega arith; few_kept = omega arith }
+    record { kept_from = 0; known = omega arith; kept = refl; waiting = refl; sent_again = []; again = refl; remote = omega arith; few = omega arith; few_kept = omega arith }
 
 -- ---- the committer's turns
 
@@ -21,15 +21,16 @@ in_hand-ready (Durable group) e = cc
 in_hand-ready (Shown group) e = cc
 
 -- it takes a group, for which there is room
-pub link-committed : (committer : Committer) (group : Span) (sent : ℕ) (link : Link) → is_ready committer.stage ≡ true → length link.waiting < PIPE_ITEMS → group.before ≡ committer.position → group.after ≡ committer.position + 1
+pub link-committed : (committer : Committer) (group : Span) (sent : ℕ) (link : Link) → is_ready committer.stage ≡ true → length link.waiting < PIPE_ITEMS → group.before ≡ committer.position → committer.position < group.after
     → SoundLink committer.stage committer.position sent link → SoundLink (Durable group) group.after sent link
-link-committed committer group sent link ready room before after s =
+link-committed committer group sent link ready room before rising s =
     let none = in_hand-ready committer.stage ready in
     let chain : IsChain sent link.waiting committer.position = rw (none, append-nil link.waiting) at s.waiting in
     record {
+      kept_from = s.kept_from;
+      known = s.known;
       kept = s.kept;
-      waiting = subst (λ to. IsChain sent (link.waiting ++ group ∷ []) to) (sym after) (chain-push sent link.waiting committer.position group chain before after);
-      frames = s.frames;
+      waiting = chain-push sent link.waiting committer.position group chain before rising;
       sent_again = s.sent_again;
       again = s.again;
       remote = s.remote;
@@ -50,9 +51,10 @@ room-shown (Shown group) groups h = h
 pub link-raised : (stage : Stage) (position sent : ℕ) (link : Link) → SoundLink stage position sent link → SoundLink (shown stage) position sent link
 link-raised stage position sent link s =
     record {
+      kept_from = s.kept_from;
+      known = s.known;
       kept = s.kept;
       waiting = subst (λ groups. IsChain sent (link.waiting ++ groups) position) (sym (in_hand-shown stage)) s.waiting;
-      frames = s.frames;
       sent_again = s.sent_again;
       again = s.again;
       remote = s.remote;
@@ -73,9 +75,10 @@ room-handed (Shown group) groups h = omega (arith, length-append groups (group �
 pub link-handed : (stage : Stage) (position sent : ℕ) (link : Link) → is_shown stage ≡ true → SoundLink stage position sent link → SoundLink Ready position sent (handed_to (handed stage) link)
 link-handed stage position sent link hand s =
     record {
+      kept_from = s.kept_from;
+      known = s.known;
       kept = s.kept;
       waiting = rw (append-nil (link.waiting ++ handed stage), handed-is stage hand) s.waiting;
-      frames = s.frames;
       sent_again = s.sent_again;
       again = s.again;
       remote = s.remote;
@@ -86,8 +89,17 @@ link-handed stage position sent link hand s =
 -- ---- sending
 
 pub link-opened : (stage : Stage) (position sent : ℕ) (link : Link) → SoundLink stage position sent link → SoundLink stage position sent (opened_link link)
-link-opened stage position sent link s =
-    record { kept = s.kept; waiting = s.waiting; frames = s.frames; sent_again = []; again = refl; remote = s.remote; few = s.few; few_kept = s.few_kept }
+link-opened stage position sent link s = record {
+  kept_from = s.kept_from;
+  known = s.known;
+  kept = s.kept;
+  waiting = s.waiting;
+  sent_again = [];
+  again = refl;
+  remote = s.remote;
+  few = s.few;
+  few_kept = s.few_kept;
+}
 
 room-less : (stage : Stage) (group : Span) (groups : List Span) → HasRoomFor stage (group ∷ groups) → HasRoomFor stage groups
 room-less Ready group groups h = omega arith
@@ -98,59 +110,73 @@ all-middle : (P : Span → Type 0) (xs : List Span) (group : Span) (ys : List Sp
 all-middle P [] group ys all = All-head P group ys all
 all-middle P (x ∷ xs) group ys all = all-middle P xs group ys (All-tail P x (xs ++ group ∷ ys) all)
 
+-- The link sent these groups: all that was sent by then ends at a position, which is that of before or a later one.
+pub record Sends (stage : Stage) (position sent : ℕ) (new : Link) (groups : List Span) : Type 0 where
+  pub after : ℕ
+  pub later : sent ≤ after
+  pub sound : SoundLink stage position after new
+  pub within : All (IsGroupWithin after) groups
+
 module _ (stage : Stage) (position sent : ℕ) (link : Link) (s : SoundLink stage position sent link) where
   -- the next group that was never sent
   sent-first : (groups : List Span) → (is_nonempty groups && nat_lt (length link.kept) KEPT_GROUPS) ≡ true → IsChain sent (groups ++ in_hand stage) position → HasRoomFor stage groups
-      → (sent' : ℕ) × SoundLink stage position sent' (sent_waiting groups link) × (sent ≤ sent')
-  sent-first [] some chain room = (sent, s, le_refl sent)
+      → Sends stage position sent (sent_waiting groups link) (take 1 groups)
+  sent-first [] some chain room = record { after = sent; later = le_refl sent; sound = s; within = All-nil (IsGroupWithin sent) }
   sent-first (group ∷ groups) some chain room =
-      let frames = all_within-weaker sent (sent + 1) link.frames (omega arith) s.frames in
-      let one : IsGroupWithin (sent + 1) group = record { one = omega (arith, chain.0, chain.1); within = omega (arith, chain.1) } in (
-        sent + 1,
-        record {
-          kept = chain-push link.known link.kept sent group s.kept chain.0 chain.1;
+      let one : IsGroupWithin group.after group = record { rising = omega (arith, chain.0, chain.1); within = le_refl group.after } in
+      record {
+        after = group.after;
+        later = omega (arith, chain.1);
+        sound = record {
+          kept_from = s.kept_from;
+          known = s.known;
+          kept = chain-push s.kept_from link.kept sent group s.kept chain.0 chain.1;
           waiting = chain.2;
-          frames = All-push (IsGroupWithin (sent + 1)) link.frames group frames one;
           sent_again = link.kept ++ group ∷ [];
           again = append-nil (link.kept ++ group ∷ []);
           remote = s.remote;
           few = room-less stage group groups room;
           few_kept = omega (arith, length-append link.kept (group ∷ []), ltb-true (length link.kept) KEPT_GROUPS some);
-        },
-        omega arith,
-      )
+        };
+        within = All-cons (IsGroupWithin group.after) group [] one (All-nil (IsGroupWithin group.after));
+      }
 
   -- the next group that is to be sent, or else one that was never sent
   sent-again : (groups : List Span) → (is_nonempty groups || (is_nonempty link.waiting && nat_lt (length link.kept) KEPT_GROUPS)) ≡ true → s.sent_again ++ groups ≡ link.kept
-      → (sent' : ℕ) × SoundLink stage position sent' (sent_next groups link) × (sent ≤ sent')
+      → Sends stage position sent (sent_next groups link) (take 1 (groups ++ link.waiting))
   sent-again [] some joined = sent-first link.waiting some s.waiting s.few
   sent-again (group ∷ groups) some joined =
-      let kept = subst (All (IsGroupWithin sent)) (sym joined) (chain-within link.known link.kept sent s.kept) in (
-        sent,
-        record {
+      let kept = subst (All (IsGroupWithin sent)) (sym joined) (chain-within s.kept_from link.kept sent s.kept) in
+      record {
+        after = sent;
+        later = le_refl sent;
+        sound = record {
+          kept_from = s.kept_from;
+          known = s.known;
           kept = s.kept;
           waiting = s.waiting;
-          frames = All-push (IsGroupWithin sent) link.frames group s.frames (all-middle (IsGroupWithin sent) s.sent_again group groups kept);
           sent_again = s.sent_again ++ group ∷ [];
           again = append_assoc s.sent_again (group ∷ []) groups ∙ joined;
           remote = s.remote;
           few = s.few;
           few_kept = s.few_kept;
-        },
-        le_refl sent,
-      )
+        };
+        within = All-cons (IsGroupWithin sent) group [] (all-middle (IsGroupWithin sent) s.sent_again group groups kept) (All-nil (IsGroupWithin sent));
+      }
 
-  pub link-sent : (is_nonempty link.again || (is_nonempty link.waiting && nat_lt (length link.kept) KEPT_GROUPS)) ≡ true → (sent' : ℕ) × SoundLink stage position sent' (sent_next link.again link) × (sent ≤ sent')
+  pub link-sent : (is_nonempty link.again || (is_nonempty link.waiting && nat_lt (length link.kept) KEPT_GROUPS)) ≡ true → Sends stage position sent (sent_next link.again link) (next_to_send link)
   link-sent some = sent-again link.again some s.again
 
   -- ---- acknowledgements
 
   pub link-knowing : (acknowledged : ℕ) → acknowledged ≤ sent → SoundLink stage position sent (knowing acknowledged link)
   link-knowing acknowledged le =
+      let kept = chain-above s.kept_from link.kept sent acknowledged s.kept le in
       record {
-        kept = chain-above link.known link.kept sent acknowledged s.kept le;
+        kept_from = kept.0;
+        known = omega (arith, kept.1, s.known);
+        kept = kept.2;
         waiting = s.waiting;
-        frames = s.frames;
         sent_again = above acknowledged s.sent_again;
         again = sym (filter-append (λ (group : Span). nat_lt acknowledged group.after) s.sent_again link.again) ∙ ap (above acknowledged) s.again;
         remote = omega (arith, s.remote);
@@ -159,14 +185,14 @@ module _ (stage : Stage) (position sent : ℕ) (link : Link) (s : SoundLink stag
       }
 
   pub link-raised_remote : SoundLink stage position sent (raised_remote link)
-  link-raised_remote =
-      record {
-        kept = s.kept;
-        waiting = s.waiting;
-        frames = s.frames;
-        sent_again = s.sent_again;
-        again = s.again;
-        remote = le_refl link.known;
-        few = s.few;
-        few_kept = s.few_kept;
-      }
+  link-raised_remote = record {
+    kept_from = s.kept_from;
+    known = s.known;
+    kept = s.kept;
+    waiting = s.waiting;
+    sent_again = s.sent_again;
+    again = s.again;
+    remote = le_refl link.known;
+    few = s.few;
+    few_kept = s.few_kept;
+  }

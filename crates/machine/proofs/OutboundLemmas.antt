@@ -97,7 +97,7 @@ outbound-held calls c local remote outbound s =
       few = omega (arith, s.few, length-drop 1 outbound.made);
     }
 
-pub outbound-read : (calls : List Call) (c : ℕ) (mark : Mark) (w : World) (outbound : Outbound) → SoundOutbound calls c w.committer.local w.link.remote outbound → SoundOutbound calls c w.committer.local w.link.remote (having_read mark w outbound)
+pub outbound-read : (calls : List Call) (c : ℕ) (mark : Mark) (w : World) (outbound : Outbound) → SoundOutbound calls c w.primary.committer.local w.primary.link.remote outbound → SoundOutbound calls c w.primary.committer.local w.primary.link.remote (having_read mark w outbound)
 outbound-read calls c Local w outbound s =
     record { out = s.out; replies = s.replies; texts = s.texts; covered = s.covered; local_read = omega arith; remote_read = s.remote_read; few = s.few }
 outbound-read calls c Remote w outbound s =

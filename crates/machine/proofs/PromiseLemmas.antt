@@ -32,8 +32,8 @@ among P (x ∷ out) others (y ∷ front) reply more e lt all =
     let texts : length (text_of x.reply) ≡ length (text_of y.reply) = ap (λ (z : Held). length (text_of z.reply)) same in
     among P out others front reply more rest (omega arith) (All-tail P x out all)
 
-pub released-covered : (w : World) → Sound w → (front : List Call) (call : Call) → IsReleased w.calls (released_in w) front call
-    → (position_of (front ++ call ∷ []) ≤ w.committer.local) × (position_of (front ++ call ∷ []) ≤ w.link.remote)
+pub released-covered : (w : World) → Sound w → (front : List Call) (call : Call) → IsReleased w.primary.calls (released_in w) front call
+    → (position_of (front ++ call ∷ []) ≤ w.primary.committer.local) × (position_of (front ++ call ∷ []) ≤ w.primary.link.remote)
 released-covered w s front call released =
     let c = call.connection in
     let outbound = (connection_of w c).outbound in
@@ -45,30 +45,30 @@ released-covered w s front call released =
     ∙ ap (λ answers. answers ++ more) (answers_to-push_own c front call refl) ∙ append_assoc (answers_to c front) (reply ∷ []) more in
     let before = ap length (texts_of-answers_to c front) in
     let let_out = length-append outbound.released outbound.pending in
-    let covered = among (IsCoveredBy w.committer.local w.link.remote) o.out (outbound.held ++ outbound.made) (answers_to c front) reply more all (omega (arith, released.written, ap length o.texts)) o.covered in
+    let covered = among (IsCoveredBy w.primary.committer.local w.primary.link.remote) o.out (outbound.held ++ outbound.made) (answers_to c front) reply more all (omega (arith, released.written, ap length o.texts)) o.covered in
     (covered.on_primary, covered.on_standby)
 
 -- what was released and what waits are the replies
 pub replies-add_up : (w : World) → Sound w → (c : ℕ) → let outbound = (connection_of w c).outbound in
-    outbound.released ++ (outbound.pending ++ (texts_of outbound.held ++ texts_of outbound.made)) ≡ replies_to c w.calls
+    outbound.released ++ (outbound.pending ++ (texts_of outbound.held ++ texts_of outbound.made)) ≡ replies_to c w.primary.calls
 replies-add_up w s c =
     let outbound = (connection_of w c).outbound in
     let o = s.outbound c in
     sym (append_assoc outbound.released outbound.pending (texts_of outbound.held ++ texts_of outbound.made))
     ∙ ap (λ front. front ++ (texts_of outbound.held ++ texts_of outbound.made)) o.texts
     ∙ ap (λ rest. texts_of o.out ++ rest) (sym (texts_of-append outbound.held outbound.made)) ∙ sym (texts_of-append o.out (outbound.held ++ outbound.made))
-    ∙ ap texts_of o.replies ∙ texts_of-answers_to c w.calls
+    ∙ ap texts_of o.replies ∙ texts_of-answers_to c w.primary.calls
 
 -- ---- the promise
 
-pub serves-run : (events : List Event) (done : List Bool) (worlds : List World) → Run start events done worlds → Serves (λ c. items_at SERVED_LIMITS (fed_to c events done)) (last_world start worlds).calls
+pub serves-run : (events : List Event) (done : List Bool) (worlds : List World) → Run start events done worlds → Serves (λ c. items_at SERVED_LIMITS (fed_to c events done)) (last_world start worlds).primary.calls
 serves-run events done worlds run = λ c.
     let w = last_world start worlds in
     let inbound = (connection_of w c).inbound in
     let s = (sound-run events done worlds run).inbound c in
     record {
       rest = inbound.waiting ++ drop inbound.offered (asked inbound.fed);
-      joined = sym (append_assoc (items_of c w.calls) inbound.waiting (drop inbound.offered (asked inbound.fed)))
+      joined = sym (append_assoc (items_of c w.primary.calls) inbound.waiting (drop inbound.offered (asked inbound.fed)))
           ∙ ap (λ front. front ++ drop inbound.offered (asked inbound.fed)) s.order ∙ take-append-drop inbound.offered (asked inbound.fed)
           ∙ ap asked (fed-run events done worlds c run);
     }
@@ -100,8 +100,8 @@ pub promised-told : (events : List Event) (done : List Bool) (worlds : List Worl
     → Tells (last_world start worlds) calls released primary standby → IsPromised events done calls released primary standby
 promised-told events done worlds calls released primary standby run tells =
     let w = last_world start worlds in
-    let promised : IsPromised events done w.calls (released_in w) w.committer.position w.standby.position = every_run_is_promised events done worlds run in
+    let promised : IsPromised events done w.primary.calls (released_in w) w.primary.committer.position w.standby.position = every_run_is_promised events done worlds run in
     subst (λ x. IsPromised events done x released primary standby) (sym tells.list)
-    (subst (λ x. IsPromised events done w.calls x primary standby) (sym (fun_ext tells.bytes))
-    (subst (λ x. IsPromised events done w.calls (released_in w) x standby) (sym tells.primary_position)
-    (subst (λ x. IsPromised events done w.calls (released_in w) w.committer.position x) (sym tells.standby_position) promised)))
+    (subst (λ x. IsPromised events done w.primary.calls x primary standby) (sym (fun_ext tells.bytes))
+    (subst (λ x. IsPromised events done w.primary.calls (released_in w) x standby) (sym tells.primary_position)
+    (subst (λ x. IsPromised events done w.primary.calls (released_in w) w.primary.committer.position x) (sym tells.standby_position) promised)))

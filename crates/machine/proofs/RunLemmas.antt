@@ -2,14 +2,14 @@
 use Rattle.std.proofs.Common.{◌≡◌, ℕ, zero, suc, Bool, true, false, List, [], ◌∷◌, ◌++◌, length, take, drop, All, refl, sym, ap, arith, inl, inr, true≢false}
 use Rattle.std.proofs.lemmas.List.Elements.{All-nil, All-cons}
 use Rattle.machine.specs.declared.event.Event.{Event}
-use Rattle.machine.specs.Events.{World, is_enabled, Happens, Step, Run, start, last_world}
+use Rattle.machine.specs.Events.{Connection, World, is_enabled, Happens, Step, Run, start, last_world}
 use Rattle.machine.specs.Promises.{SomeWorld}
 use Rattle.machine.specs.Sound.{Sound}
 use Rattle.machine.proofs.InboundLemmas.{inbound-start}
 use Rattle.machine.proofs.OutboundLemmas.{outbound-start}
 use Rattle.machine.proofs.CommitterLemmas.{committer-start}
 use Rattle.machine.proofs.LinkLemmas.{link-start}
-use Rattle.machine.proofs.StandbyLemmas.{standby-start}
+use Rattle.machine.proofs.StandbyLemmas.{standby-start, wire-start}
 use Rattle.machine.proofs.SoundEvents.{sound-step}
 
 -- ---- steps
@@ -68,7 +68,8 @@ some-last P w (new ∷ worlds) h = inr (some-last P new worlds h)
 pub sound-start : Sound start
 sound-start =
     record {
-      seats = omega arith;
+      nodes = record { primary = refl; standby = refl };
+      connections = record { are_open = All-nil (λ (connection : Connection). connection.is_open ≡ true); seats = omega arith };
       legal = tt;
       inbound = inbound-start;
       outbound = outbound-start;
@@ -76,6 +77,7 @@ sound-start =
       sent = 0;
       link = link-start;
       standby = standby-start;
+      wire = wire-start;
     }
 
 pub sound-from : (w : World) (events : List Event) (done : List Bool) (worlds : List World) → Run w events done worlds → Sound w → Sound (last_world w worlds)

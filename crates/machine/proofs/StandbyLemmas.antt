@@ -1,9 +1,9 @@
--- What each event leaves of the standby: its frames are committed groups, and it acknowledges no position above its own.
-use Rattle.std.proofs.Common.{◌≡◌, ℕ, zero, suc, ◌≤◌, List, [], ◌∷◌, take, All, slice_get, sym, subst, arith, le_refl, inl, inr}
-use Rattle.std.proofs.lemmas.List.Elements.{All-nil, All-cons, All-push, All-append, All-head, All-tail, All-take, All-drop, All-weaker}
-use Rattle.machine.specs.Events.{Span, Standby, Takes, acknowledged, delivered, moved_to, without_first, option_items, start}
-use Rattle.machine.specs.Sound.{IsGroupWithin, SoundStandby}
-use Rattle.machine.proofs.GroupLemmas.{all_within-weaker}
+-- What each event leaves of the standby and of the wire: frames are committed groups, and no acknowledgement is of a position above the standby's.
+use Rattle.std.proofs.Common.{◌≡◌, ℕ, zero, suc, ◌≤◌, List, [], ◌∷◌, ◌++◌, take, All, slice_get, sym, subst, arith, le_refl, refl, inl, inr}
+use Rattle.std.proofs.lemmas.List.Elements.{All-nil, All-cons, All-append, All-head, All-tail, All-take, All-drop, All-weaker}
+use Rattle.machine.specs.Events.{Frame, Acknowledgement, Standby, Wire, Takes, acknowledgement_of, delivered, moved_to, without_first, option_items, start}
+use Rattle.machine.specs.Sound.{IsFrameWithin, IsToldWithin, SoundStandby, SoundWire}
+use Rattle.machine.proofs.GroupLemmas.{frames_within-weaker}
 
 -- what holds of all holds of the one at a place, if there is one
 pub all-at : {X : Type 0} (P : X → Type 0) (xs : List X) (i : ℕ) → All P xs → All P (option_items (slice_get xs i))
@@ -11,54 +11,104 @@ all-at P [] i all = All-nil P
 all-at P (x ∷ xs) zero all = All-cons P x [] (All-head P x xs all) (All-nil P)
 all-at P (x ∷ xs) (suc i) all = all-at P xs i (All-tail P x xs all)
 
-pub standby-start : SoundStandby 0 0 start.standby
-standby-start = record { frames = All-nil (IsGroupWithin 0); behind = omega arith; acknowledged = All-nil (λ position. position ≤ 0); known = omega arith }
+pub standby-start : SoundStandby start.primary.epoch 0 0 start.standby
+standby-start = record { epoch_is = refl; frames = All-nil (IsFrameWithin start.primary.epoch 0); behind = omega arith; known = omega arith }
+
+pub wire-start : SoundWire start.primary.epoch 0 0 start.wire
+wire-start = record { frames = All-nil (IsFrameWithin start.primary.epoch 0); acknowledged = All-nil (IsToldWithin start.primary.epoch 0) }
 
 -- the link sends more
-pub standby-sent : (sent sent' known : ℕ) (standby : Standby) → sent ≤ sent' → SoundStandby sent known standby → SoundStandby sent' known standby
-standby-sent sent sent' known standby le s =
-    record { frames = all_within-weaker sent sent' standby.waiting le s.frames; behind = omega (arith, s.behind); acknowledged = s.acknowledged; known = s.known }
+pub standby-sent : (epoch sent sent' known : ℕ) (standby : Standby) → sent ≤ sent' → SoundStandby epoch sent known standby → SoundStandby epoch sent' known standby
+standby-sent epoch sent sent' known standby le s = record {
+  epoch_is = s.epoch_is;
+  frames = frames_within-weaker epoch sent sent' standby.waiting le s.frames;
+  behind = omega (arith, s.behind);
+  known = s.known;
+}
 
 -- the link comes to know another position
-pub standby-known : (sent known known' : ℕ) (standby : Standby) → known' ≤ standby.position → SoundStandby sent known standby → SoundStandby sent known' standby
-standby-known sent known known' standby le s = record { frames = s.frames; behind = s.behind; acknowledged = s.acknowledged; known = le }
+pub standby-known : (epoch sent known known' : ℕ) (standby : Standby) → known' ≤ standby.position → SoundStandby epoch sent known standby → SoundStandby epoch sent known' standby
+standby-known epoch sent known known' standby le s = record {
+  epoch_is = s.epoch_is;
+  frames = s.frames;
+  behind = s.behind;
+  known = le;
+}
 
-pub standby-acknowledged : (sent known : ℕ) (standby : Standby) → SoundStandby sent known standby → SoundStandby sent known (acknowledged standby)
-standby-acknowledged sent known standby s =
+pub standby-delivered : (epoch sent known : ℕ) (frames : List Frame) (standby : Standby) → All (IsFrameWithin epoch sent) frames → SoundStandby epoch sent known standby → SoundStandby epoch sent known (delivered frames standby)
+standby-delivered epoch sent known frames standby within s = record {
+  epoch_is = s.epoch_is;
+  frames = All-append (IsFrameWithin epoch sent) standby.waiting frames s.frames within;
+  behind = s.behind;
+  known = s.known;
+}
+
+pub standby-without_first : (epoch sent known : ℕ) (standby : Standby) → SoundStandby epoch sent known standby → SoundStandby epoch sent known (without_first standby)
+standby-without_first epoch sent known standby s = record {
+  epoch_is = s.epoch_is;
+  frames = All-drop (IsFrameWithin epoch sent) 1 standby.waiting s.frames;
+  behind = s.behind;
+  known = s.known;
+}
+
+pub standby-first : (epoch sent known : ℕ) (frame : Frame) (standby : Standby) → take 1 standby.waiting ≡ frame ∷ [] → SoundStandby epoch sent known standby → IsFrameWithin epoch sent frame
+standby-first epoch sent known frame standby first s =
+    All-head (IsFrameWithin epoch sent) frame [] (subst (All (IsFrameWithin epoch sent)) first (All-take (IsFrameWithin epoch sent) 1 standby.waiting s.frames))
+
+-- ---- the wire
+
+-- the link sends more
+pub wire-sent : (epoch sent sent' position : ℕ) (frames : List Frame) (wire : Wire) → sent ≤ sent' → All (IsFrameWithin epoch sent') frames → SoundWire epoch sent position wire
+    → SoundWire epoch sent' position (record wire { frames = wire.frames ++ frames })
+wire-sent epoch sent sent' position frames wire le within s =
+    record { frames = All-append (IsFrameWithin epoch sent') wire.frames frames (frames_within-weaker epoch sent sent' wire.frames le s.frames) within; acknowledged = s.acknowledged }
+
+-- the standby told its position, and stands there or further on
+pub wire-told : (epoch sent position position' : ℕ) (told : List Acknowledgement) (wire : Wire) → position ≤ position' → All (IsToldWithin epoch position') told → SoundWire epoch sent position wire
+    → SoundWire epoch sent position' (record wire { acknowledgements = wire.acknowledgements ++ told })
+wire-told epoch sent position position' told wire le within s =
     record {
       frames = s.frames;
-      behind = s.behind;
-      acknowledged = All-push (λ position. position ≤ standby.position) standby.acknowledgements standby.position s.acknowledged (le_refl standby.position);
-      known = s.known;
+      acknowledged = All-append (IsToldWithin epoch position') wire.acknowledgements told
+          (All-weaker (IsToldWithin epoch position) (IsToldWithin epoch position') (λ ack h. record { epoch_is = h.epoch_is; within = omega (arith, h.within) }) wire.acknowledgements s.acknowledged) within;
     }
 
-pub standby-delivered : (sent known : ℕ) (frames : List Span) (standby : Standby) → All (IsGroupWithin sent) frames → SoundStandby sent known standby → SoundStandby sent known (delivered frames standby)
-standby-delivered sent known frames standby within s =
-    record { frames = All-append (IsGroupWithin sent) standby.waiting frames s.frames within; behind = s.behind; acknowledged = s.acknowledged; known = s.known }
+-- ---- what the standby makes of a frame
 
-pub standby-moved : (sent known position : ℕ) (standby : Standby) → standby.position ≤ position → position ≤ sent → SoundStandby sent known standby → SoundStandby sent known (moved_to position standby)
-standby-moved sent known position standby le within s =
-    record {
-      frames = s.frames;
-      behind = within;
-      acknowledged = All-weaker (λ p. p ≤ standby.position) (λ p. p ≤ position) (λ p h. omega arith) standby.acknowledgements s.acknowledged;
-      known = omega (arith, s.known);
-    }
+-- it stands, and what it tells is its position or one below
+pub record TakesWell (epoch sent known : ℕ) (old new : Standby) (told : List Acknowledgement) : Type 0 where
+  pub standby : SoundStandby epoch sent known new
+  pub runs : new.life ≡ old.life
+  pub later : old.position ≤ new.position
+  pub told_within : All (IsToldWithin epoch new.position) told
 
-pub standby-without_first : (sent known : ℕ) (standby : Standby) → SoundStandby sent known standby → SoundStandby sent known (without_first standby)
-standby-without_first sent known standby s =
-    record { frames = All-drop (IsGroupWithin sent) 1 standby.waiting s.frames; behind = s.behind; acknowledged = s.acknowledged; known = s.known }
+pub told-one : (epoch sent known : ℕ) (standby : Standby) → SoundStandby epoch sent known standby → All (IsToldWithin epoch standby.position) (acknowledgement_of standby ∷ [])
+told-one epoch sent known standby s =
+    All-cons (IsToldWithin epoch standby.position) (acknowledgement_of standby) [] (record { epoch_is = s.epoch_is; within = le_refl standby.position }) (All-nil (IsToldWithin epoch standby.position))
 
-pub standby-first : (sent known : ℕ) (frame : Span) (standby : Standby) → take 1 standby.waiting ≡ frame ∷ [] → SoundStandby sent known standby → IsGroupWithin sent frame
-standby-first sent known frame standby first s =
-    All-head (IsGroupWithin sent) frame [] (subst (All (IsGroupWithin sent)) first (All-take (IsGroupWithin sent) 1 standby.waiting s.frames))
+stays : (epoch sent known : ℕ) (old new : Standby) (told : List Acknowledgement) → new ≡ old → told ≡ [] → SoundStandby epoch sent known old → TakesWell epoch sent known old new told
+stays epoch sent known old new told same none s =
+    subst (λ x. TakesWell epoch sent known old x told) (sym same) (subst (TakesWell epoch sent known old old) (sym none)
+    (record { standby = s; runs = refl; later = le_refl old.position; told_within = All-nil (IsToldWithin epoch old.position) }))
 
-pub standby-takes : (sent known : ℕ) (frame : Span) (old new : Standby) → IsGroupWithin sent frame → Takes frame old new → SoundStandby sent known old → SoundStandby sent known new
-standby-takes sent known frame old new within takes s =
+pub standby-takes : (epoch sent known : ℕ) (frame : Frame) (old new : Standby) (told : List Acknowledgement) → IsFrameWithin epoch sent frame → Takes frame old new told → SoundStandby epoch sent known old
+    → TakesWell epoch sent known old new told
+standby-takes epoch sent known frame old new told within takes s =
+    let moved = moved_to frame.span.after old in
     elim takes [
-      | inl again ↦ subst (SoundStandby sent known) (sym again.1) (standby-acknowledged sent known old s)
-      | inr (inl next) ↦ subst (SoundStandby sent known) (sym next.2)
-          (standby-acknowledged sent known (moved_to frame.after old) (standby-moved sent known frame.after old (omega (arith, next.0)) within.within s))
-      | inr (inr (inl full)) ↦ subst (SoundStandby sent known) (sym full.2) s
-      | inr (inr (inr other)) ↦ subst (SoundStandby sent known) (sym other.2) s
+      | inl other ↦ stays epoch sent known old new told other.1 other.2 s
+      | inr (inl again) ↦ subst (λ x. TakesWell epoch sent known old x told) (sym again.2) (subst (TakesWell epoch sent known old old) (sym again.3)
+          (record { standby = s; runs = refl; later = le_refl old.position; told_within = told-one epoch sent known old s }))
+      | inr (inr (inl next)) ↦
+          let stands : SoundStandby epoch sent known moved = record {
+            epoch_is = s.epoch_is;
+            frames = s.frames;
+            behind = within.span.within;
+            known = omega (arith, s.known, next.1);
+          } in
+          let told_is : told ≡ acknowledgement_of moved ∷ [] = subst (λ (x : Standby). told ≡ acknowledgement_of x ∷ []) next.3 next.4 in
+          subst (λ x. TakesWell epoch sent known old x told) (sym next.3) (subst (TakesWell epoch sent known old moved) (sym told_is)
+          (record { standby = stands; runs = refl; later = omega (arith, next.1); told_within = told-one epoch sent known moved stands }))
+      | inr (inr (inr (inl full))) ↦ stays epoch sent known old new told full.3 full.4 s
+      | inr (inr (inr (inr gap))) ↦ stays epoch sent known old new told gap.3 gap.4 s
     ]

@@ -1,5 +1,5 @@
 -- The first worked case, world by world.
-use Rattle.std.proofs.Common.{◌≡◌, ℕ, true, List, [], ◌∷◌, take, codes, refl, arith, inl, inr}
+use Rattle.std.proofs.Common.{◌≡◌, ℕ, true, List, [], ◌∷◌, take, map, codes, refl, arith, inl, inr}
 use Rattle.std.proofs.lemmas.List.Elements.{All-from_recursion}
 use Rattle.kv_types.specs.declared.item.Item.{Item}
 use Rattle.kv_types.specs.declared.item.Item.TheVariants.{Request}
@@ -9,7 +9,8 @@ use Rattle.kv_types.specs.Reading.{items_at}
 use Rattle.model.specs.declared.call.Call.{Call}
 use Rattle.model.specs.Calls.{MayReply, state_after}
 use Rattle.machine.specs.declared.event.Event.TheVariants.{Feed, Offer, Turn, Apply}
-use Rattle.machine.specs.Events.{Inbound, Outbound, Span, Stage, Ready, Durable, Shown, Committer, Link, Standby, World, Step, Run, start}
+use Rattle.model.specs.declared.record.TheConstants.{FIRST_EPOCH}
+use Rattle.machine.specs.Events.{Inbound, Outbound, Span, Frame, Stage, Ready, Durable, Shown, Committer, Link, Running, Standby, Wire, World, Step, Run, start}
 use Rattle.machine.specs.Promises.{released_in}
 use Rattle.machine.proofs.RunLemmas.{step-does, step-stays}
 use Rattle.machine.specs.Worked.{set_request, worked_events, worked_done, FirstCaseIsARun}
@@ -43,14 +44,34 @@ text = codes "+OK\r\n"
 abbrev committer : ℕ → List Span → Stage → ℕ → ℕ → Committer
 committer closed waiting stage position local = record { closed = closed; waiting = waiting; stage = stage; position = position; local = local }
 
-abbrev link : List Span → List Span → List Span → ℕ → ℕ → Link
-link waiting kept frames known remote = record { waiting = waiting; kept = kept; again = []; frames = frames; known = known; remote = remote }
+abbrev link : List Span → List Span → ℕ → ℕ → Link
+link waiting kept known remote = record { waiting = waiting; kept = kept; again = []; known = known; remote = remote }
 
-abbrev standby : List Span → ℕ → List ℕ → Standby
-standby waiting position acknowledgements = record { waiting = waiting; position = position; acknowledgements = acknowledgements }
+abbrev frame : Frame
+frame = record { epoch = FIRST_EPOCH; span = group }
 
-abbrev world : Inbound → Outbound → List Call → Committer → Link → Standby → World
-world i o calls c l s = record { connections = record { inbound = i; outbound = o } ∷ []; calls = calls; committer = c; link = l; standby = s }
+abbrev standby : List Frame → ℕ → Standby
+standby waiting position = record { life = Running; epoch = FIRST_EPOCH; waiting = waiting; position = position }
+
+-- the positions that were acknowledged
+abbrev wire : List Frame → List ℕ → Wire
+wire frames positions = record { frames = frames; acknowledgements = map (λ position. record { epoch = FIRST_EPOCH; position = position }) positions }
+
+-- the standby and the wire
+pub record Far : Type 0 where
+  node : Standby
+  between : Wire
+
+abbrev far : List Frame → ℕ → List Frame → List ℕ → Far
+far waiting position frames positions = record { node = standby waiting position; between = wire frames positions }
+
+abbrev world : Inbound → Outbound → List Call → Committer → Link → Far → World
+world i o calls c l s =
+    record {
+      primary = record { life = Running; epoch = FIRST_EPOCH; connections = record { is_open = true; inbound = i; outbound = o } ∷ []; calls = calls; committer = c; link = l };
+      standby = s.node;
+      wire = s.between;
+    }
 
 abbrev new_inbound : Inbound
 new_inbound = inbound [] 0 []
@@ -62,10 +83,10 @@ abbrev new_committer : Committer
 new_committer = committer 0 [] Ready 0 0
 
 abbrev new_link : Link
-new_link = link [] [] [] 0 0
+new_link = link [] [] 0 0
 
-abbrev new_standby : Standby
-new_standby = standby [] 0 []
+abbrev new_standby : Far
+new_standby = far [] 0 [] []
 
 -- ---- the worlds
 
@@ -73,7 +94,7 @@ abbrev idle : Inbound → World
 idle i = world i new_outbound [] new_committer new_link new_standby
 
 -- the request was called: its reply is with the gate, which has read these marks
-abbrev waits : ℕ → ℕ → Committer → Link → Standby → World
+abbrev waits : ℕ → ℕ → Committer → Link → Far → World
 waits local remote c l s = world (inbound set_request 1 []) (outbound [] reply [] [] local remote) (call ∷ []) c l s
 
 abbrev called_once : World
@@ -84,10 +105,11 @@ handed_on = committer 1 [] Ready 1 1
 
 -- both marks are 1
 abbrev acknowledged_link : Link
-acknowledged_link = link [] [] (group ∷ []) 1 1
+acknowledged_link = link [] [] 1 1
 
-abbrev took_it : Standby
-took_it = standby [] 1 (0 ∷ 1 ∷ [])
+-- the standby took the frame, and acknowledged it
+abbrev took_it : Far
+took_it = far [] 1 (frame ∷ []) (0 ∷ 1 ∷ [])
 
 abbrev ends : List ℕ → List ℕ → World
 ends pending released = world (inbound set_request 1 []) (outbound [] [] pending released 1 1) (call ∷ []) handed_on acknowledged_link took_it
@@ -102,12 +124,12 @@ worked_worlds =
     ∷ waits 0 0 (committer 1 [] (Shown group) 1 1) new_link new_standby
     ∷ waits 1 0 (committer 1 [] (Shown group) 1 1) new_link new_standby
     ∷ waits 1 0 (committer 1 [] (Shown group) 1 1) new_link new_standby ∷ waits 1 0 (committer 1 [] (Shown group) 1 1) new_link new_standby
-    ∷ waits 1 0 handed_on (link (group ∷ []) [] [] 0 0) new_standby
-    ∷ waits 1 0 handed_on (link (group ∷ []) [] [] 0 0) (standby [] 0 (0 ∷ []))
-    ∷ waits 1 0 handed_on (link [] (group ∷ []) (group ∷ []) 0 0) (standby [] 0 (0 ∷ []))
-    ∷ waits 1 0 handed_on (link [] (group ∷ []) (group ∷ []) 0 0) (standby (group ∷ []) 0 (0 ∷ []))
-    ∷ waits 1 0 handed_on (link [] (group ∷ []) (group ∷ []) 0 0) took_it
-    ∷ waits 1 0 handed_on (link [] [] (group ∷ []) 1 0) took_it
+    ∷ waits 1 0 handed_on (link (group ∷ []) [] 0 0) new_standby
+    ∷ waits 1 0 handed_on (link (group ∷ []) [] 0 0) (far [] 0 [] (0 ∷ []))
+    ∷ waits 1 0 handed_on (link [] (group ∷ []) 0 0) (far [] 0 (frame ∷ []) (0 ∷ []))
+    ∷ waits 1 0 handed_on (link [] (group ∷ []) 0 0) (far (frame ∷ []) 0 (frame ∷ []) (0 ∷ []))
+    ∷ waits 1 0 handed_on (link [] (group ∷ []) 0 0) took_it
+    ∷ waits 1 0 handed_on (link [] [] 1 0) took_it
     ∷ waits 1 0 handed_on acknowledged_link took_it
     ∷ waits 1 1 handed_on acknowledged_link took_it
     ∷ ends text [] ∷ ends [] text ∷ []
@@ -128,8 +150,16 @@ may_reply = inr (inr (inl (omega arith, refl)))
 turns : Step (idle (inbound set_request 1 (item ∷ []))) (Turn 0) true called_once
 turns = step-does refl (record { call = call; connection = refl; first = refl; reply = may_reply; now = refl })
 
-applies : Step (waits 1 0 handed_on (link [] (group ∷ []) (group ∷ []) 0 0) (standby (group ∷ []) 0 (0 ∷ []))) Apply true (waits 1 0 handed_on (link [] (group ∷ []) (group ∷ []) 0 0) took_it)
-applies = step-does refl (record { frame = group; first = refl; standby = took_it; takes = inr (inl (omega arith, refl, refl)); now = refl })
+applies : Step (waits 1 0 handed_on (link [] (group ∷ []) 0 0) (far (frame ∷ []) 0 (frame ∷ []) (0 ∷ []))) Apply true (waits 1 0 handed_on (link [] (group ∷ []) 0 0) took_it)
+applies =
+    step-does refl (record {
+      frame = frame;
+      first = refl;
+      standby = standby [] 1;
+      told = record { epoch = FIRST_EPOCH; position = 1 } ∷ [];
+      takes = inr (inr (inl (refl, omega arith, refl, refl, refl)));
+      now = refl;
+    })
 
 worked_run : Run start worked_events worked_done worked_worlds
 worked_run = (

@@ -9,7 +9,7 @@ use Rattle.machine.specs.declared.event.Event.{Event}
 use Rattle.machine.specs.declared.event.Event.TheVariants.{AckDelivered, Deliver, RaiseRemote}
 use Rattle.machine.specs.Events.{World, Step, Run, start, last_world, connection_of, asked, texts_of, is_enabled}
 use Rattle.machine.specs.Promises.{IsReleased, released_in, fed_to}
-use Rattle.machine.specs.Sound.{IsChain, IsGroupWithin, Sound, answers_to}
+use Rattle.machine.specs.Sound.{IsChain, IsFrameWithin, Sound, answers_to}
 
 -- it holds after every run, and so of each world of one, since a beginning of a run is a run
 abbrev pub AfterEveryRun : (World → Type 0) → Type 0
@@ -34,15 +34,15 @@ RunsGoOn =
 
 -- what is there later: lists go on, and no number falls
 pub record Grows (old new : World) : Type 0 where
-  pub calls : IsPrefix old.calls new.calls
+  pub calls : IsPrefix old.primary.calls new.primary.calls
   pub released : (c : ℕ) → IsPrefix (released_in old c) (released_in new c)
-  pub frames : IsPrefix old.link.frames new.link.frames
-  pub acknowledgements : IsPrefix old.standby.acknowledgements new.standby.acknowledgements
-  pub primary_position : old.committer.position ≤ new.committer.position
+  pub frames : IsPrefix old.wire.frames new.wire.frames
+  pub acknowledgements : IsPrefix old.wire.acknowledgements new.wire.acknowledgements
+  pub primary_position : old.primary.committer.position ≤ new.primary.committer.position
   pub standby_position : old.standby.position ≤ new.standby.position
-  pub local : old.committer.local ≤ new.committer.local
-  pub known : old.link.known ≤ new.link.known
-  pub remote : old.link.remote ≤ new.link.remote
+  pub local : old.primary.committer.local ≤ new.primary.committer.local
+  pub known : old.primary.link.known ≤ new.primary.link.known
+  pub remote : old.primary.link.remote ≤ new.primary.link.remote
 
 abbrev pub WorldsGrow : Type 0
 WorldsGrow =
@@ -52,25 +52,25 @@ WorldsGrow =
 abbrev pub CutsStay : Type 0
 CutsStay =
     (n : ℕ) (events : List Event) (done : List Bool) (worlds : List World) → Run start events done worlds
-    → let old = (last_world start (take n worlds)).calls in
-    let new = (last_world start worlds).calls in
+    → let old = (last_world start (take n worlds)).primary.calls in
+    let new = (last_world start worlds).primary.calls in
     (p : ℕ) → p ≤ position_of old → keyspace_after (cut_at new p) ≡ keyspace_after (cut_at old p)
 
 -- ---- calls
 
 abbrev pub EveryListIsLegal : Type 0
-EveryListIsLegal = AfterEveryRun (λ w. IsLegal w.calls)
+EveryListIsLegal = AfterEveryRun (λ w. IsLegal w.primary.calls)
 
 -- each connection's calls take the requests of the bytes that were fed to it, in order
 abbrev pub EveryListServes : Type 0
 EveryListServes =
     (events : List Event) (done : List Bool) (worlds : List World) → Run start events done worlds
-    → Serves (λ c. items_at SERVED_LIMITS (fed_to c events done)) (last_world start worlds).calls
+    → Serves (λ c. items_at SERVED_LIMITS (fed_to c events done)) (last_world start worlds).primary.calls
 
 -- what was handed to the sequencer was called, or waits
 abbrev pub ItemsComeInOrder : Type 0
 ItemsComeInOrder =
-    AfterEveryRun (λ w. (c : ℕ) → let inbound = (connection_of w c).inbound in items_of c w.calls ++ inbound.waiting ≡ take inbound.offered (asked inbound.fed))
+    AfterEveryRun (λ w. (c : ℕ) → let inbound = (connection_of w c).inbound in items_of c w.primary.calls ++ inbound.waiting ≡ take inbound.offered (asked inbound.fed))
 
 -- ---- replies
 
@@ -78,12 +78,12 @@ ItemsComeInOrder =
 abbrev pub RepliesAddUp : Type 0
 RepliesAddUp =
     AfterEveryRun (λ w. (c : ℕ) → let outbound = (connection_of w c).outbound in
-    outbound.released ++ (outbound.pending ++ (texts_of outbound.held ++ texts_of outbound.made)) ≡ replies_to c w.calls)
+    outbound.released ++ (outbound.pending ++ (texts_of outbound.held ++ texts_of outbound.made)) ≡ replies_to c w.primary.calls)
 
 -- the replies that wait are the last ones of the connection's calls, each with the position of the list after its call
 abbrev pub RepliesBearPositions : Type 0
 RepliesBearPositions =
-    AfterEveryRun (λ w. (c : ℕ) → let outbound = (connection_of w c).outbound in (out : List Held) × (out ++ (outbound.held ++ outbound.made) ≡ answers_to c w.calls))
+    AfterEveryRun (λ w. (c : ℕ) → let outbound = (connection_of w c).outbound in (out : List Held) × (out ++ (outbound.held ++ outbound.made) ≡ answers_to c w.primary.calls))
 
 -- and these are they, call by call
 abbrev pub AnswersBearPositions : Type 0
@@ -94,23 +94,27 @@ AnswersBearPositions =
 -- both marks are at the position of whatever was released
 abbrev pub ReleasedIsCovered : Type 0
 ReleasedIsCovered =
-    AfterEveryRun (λ w. (front : List Call) (call : Call) → IsReleased w.calls (released_in w) front call
-    → (position_of (front ++ call ∷ []) ≤ w.committer.local) × (position_of (front ++ call ∷ []) ≤ w.link.remote))
+    AfterEveryRun (λ w. (front : List Call) (call : Call) → IsReleased w.primary.calls (released_in w) front call
+    → (position_of (front ++ call ∷ []) ≤ w.primary.committer.local) × (position_of (front ++ call ∷ []) ≤ w.primary.link.remote))
 
 -- ---- positions
 
 -- no mark is above what it shows, and the standby is not ahead
 pub record IsInOrder (w : World) : Type 0 where
-  pub local : w.committer.local ≤ w.committer.position
-  pub primary : w.committer.position ≤ w.committer.closed
-  pub closed : w.committer.closed ≤ position_of w.calls
-  pub remote : w.link.remote ≤ w.link.known
-  pub known : w.link.known ≤ w.standby.position
-  pub standby : w.standby.position ≤ w.committer.position
-  pub acknowledged : All (λ position. position ≤ w.standby.position) w.standby.acknowledgements
+  pub local : w.primary.committer.local ≤ w.primary.committer.position
+  pub primary : w.primary.committer.position ≤ w.primary.committer.closed
+  pub closed : w.primary.committer.closed ≤ position_of w.primary.calls
+  pub remote : w.primary.link.remote ≤ w.primary.link.known
+  pub known : w.primary.link.known ≤ w.standby.position
+  pub standby : w.standby.position ≤ w.primary.committer.position
+  pub acknowledged : All (λ acknowledgement. acknowledgement.position ≤ w.standby.position) w.wire.acknowledgements
+  -- there is one epoch
+  pub epoch : w.standby.epoch ≡ w.primary.epoch
+  pub frames : All (λ frame. frame.epoch ≡ w.primary.epoch) w.wire.frames
+  pub told : All (λ acknowledgement. acknowledgement.epoch ≡ w.primary.epoch) w.wire.acknowledgements
   -- the numbers of a gate are at most the marks
-  pub read_local : (c : ℕ) → (connection_of w c).outbound.local ≤ w.committer.local
-  pub read_remote : (c : ℕ) → (connection_of w c).outbound.remote ≤ w.link.remote
+  pub read_local : (c : ℕ) → (connection_of w c).outbound.local ≤ w.primary.committer.local
+  pub read_remote : (c : ℕ) → (connection_of w c).outbound.remote ≤ w.primary.link.remote
 
 abbrev pub PositionsAreInOrder : Type 0
 PositionsAreInOrder = AfterEveryRun IsInOrder
@@ -119,11 +123,11 @@ PositionsAreInOrder = AfterEveryRun IsInOrder
 
 -- groups that wait for the committer lead from its record's position to where groups were closed
 abbrev pub GroupsAreInOrder : Type 0
-GroupsAreInOrder = AfterEveryRun (λ w. IsChain w.committer.position w.committer.waiting w.committer.closed)
+GroupsAreInOrder = AfterEveryRun (λ w. IsChain w.primary.committer.position w.primary.committer.waiting w.primary.committer.closed)
 
 -- each frame, also one that comes to the standby, is a group that the primary committed
 abbrev pub FramesAreCommitted : Type 0
-FramesAreCommitted = AfterEveryRun (λ w. All (IsGroupWithin w.committer.position) w.link.frames × All (IsGroupWithin w.committer.position) w.standby.waiting)
+FramesAreCommitted = AfterEveryRun (λ w. All (IsFrameWithin w.primary.epoch w.primary.committer.position) w.wire.frames × All (IsFrameWithin w.primary.epoch w.primary.committer.position) w.standby.waiting)
 
 -- ---- what has not happened
 
@@ -138,9 +142,9 @@ abbrev pub NothingIsReleasedUnacknowledged : Type 0
 NothingIsReleasedUnacknowledged =
     (events : List Event) (done : List Bool) (worlds : List World) → Run start events done worlds → RaisesNoRemote events done
     → let w = last_world start worlds in
-    (front : List Call) (call : Call) → IsReleased w.calls (released_in w) front call → position_of (front ++ call ∷ []) ≡ 0
+    (front : List Call) (call : Call) → IsReleased w.primary.calls (released_in w) front call → position_of (front ++ call ∷ []) ≡ 0
 
 -- a frame that was not sent does not come, and neither does an acknowledgement that was not made
 abbrev pub OnlyWhatWasMadeIsDelivered : Type 0
 OnlyWhatWasMadeIsDelivered =
-    (w : World) (n : ℕ) → (length w.link.frames ≤ n → is_enabled w (Deliver n) ≡ false) × (length w.standby.acknowledgements ≤ n → is_enabled w (AckDelivered n) ≡ false)
+    (w : World) (n : ℕ) → (length w.wire.frames ≤ n → is_enabled w (Deliver n) ≡ false) × (length w.wire.acknowledgements ≤ n → is_enabled w (AckDelivered n) ≡ false)

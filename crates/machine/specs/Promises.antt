@@ -30,9 +30,9 @@ SomeWorld P (w ∷ worlds) = P w ⊎ SomeWorld P worlds
 
 -- a moment since the call was made at which both marks were at least at its position
 pub record HasMarks (front : List Call) (call : Call) (w : World) : Type 0 where
-  pub made : IsPrefix (front ++ call ∷ []) w.calls
-  pub local : position_of (front ++ call ∷ []) ≤ w.committer.local
-  pub remote : position_of (front ++ call ∷ []) ≤ w.link.remote
+  pub made : IsPrefix (front ++ call ∷ []) w.primary.calls
+  pub local : position_of (front ++ call ∷ []) ≤ w.primary.committer.local
+  pub remote : position_of (front ++ call ∷ []) ≤ w.primary.link.remote
 
 -- the bytes released to each connection in a world
 abbrev pub released_in : World → ℕ → List ℕ
@@ -40,9 +40,9 @@ released_in w c = (connection_of w c).outbound.released
 
 -- a world has this list of calls, these released bytes, and these positions of the two records
 pub record Tells (w : World) (calls : List Call) (released : ℕ → List ℕ) (primary standby : ℕ) : Type 0 where
-  pub list : calls ≡ w.calls
+  pub list : calls ≡ w.primary.calls
   pub bytes : (c : ℕ) → released c ≡ released_in w c
-  pub primary_position : primary ≡ w.committer.position
+  pub primary_position : primary ≡ w.primary.committer.position
   pub standby_position : standby ≡ w.standby.position
 
 -- What is promised of the list of calls and the bytes released to each connection, where these events, or some of them, did their step.
@@ -70,4 +70,4 @@ abbrev pub EveryRunIsPromised : Type 0
 EveryRunIsPromised =
     (events : List Event) (done : List Bool) (worlds : List World) → Run start events done worlds
     → let w = last_world start worlds in
-    IsPromised events done w.calls (released_in w) w.committer.position w.standby.position
+    IsPromised events done w.primary.calls (released_in w) w.primary.committer.position w.standby.position

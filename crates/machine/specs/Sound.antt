@@ -1,11 +1,11 @@
 -- What holds of the pair of nodes between any two events (this project's profile): the facts from which the promise follows.
-use Rattle.std.specs.Prelude.{◌≡◌, ℕ, ◌+◌, ◌<◌, ◌≤◌, nat_eq, if◌then◌else◌, List, [], ◌∷◌, ◌++◌, length, take, All}
+use Rattle.std.specs.Prelude.{◌≡◌, ℕ, ◌+◌, ◌<◌, ◌≤◌, true, nat_eq, if◌then◌else◌, List, [], ◌∷◌, ◌++◌, length, take, All}
 use Rattle.kv_types.specs.declared.reply.Held.{Held}
 use Rattle.model.specs.declared.call.Call.{Call}
 use Rattle.model.specs.States.{State, start_state}
 use Rattle.model.specs.Calls.{IsLegal, after_call, is_changing, items_of, position_of}
 use Rattle.machine.specs.declared.event.TheConstants.{SEATS, PIPE_ITEMS, OPEN_CHANGES, KEPT_GROUPS}
-use Rattle.machine.specs.Events.{Span, Stage, Ready, Durable, Shown, Inbound, Outbound, Committer, Link, Standby, World, asked, connection_of, texts_of}
+use Rattle.machine.specs.Events.{Span, Frame, Acknowledgement, Stage, Ready, Durable, Shown, Inbound, Outbound, Connection, Committer, Link, Life, Running, Primary, Standby, Wire, World, asked, connection_of, count_open, texts_of}
 
 -- ---- replies
 
@@ -32,15 +32,25 @@ pub record IsCoveredBy (local remote : ℕ) (reply : Held) : Type 0 where
 
 -- ---- groups
 
--- groups that follow one another from one position to another. Each is one change, until groups grow.
+-- groups that follow one another from one position to another, each of one change or more
 abbrev pub IsChain : ℕ → List Span → ℕ → Type 0
 IsChain from [] to = from ≡ to
-IsChain from (group ∷ groups) to = (group.before ≡ from) × (group.after ≡ from + 1) × IsChain (from + 1) groups to
+IsChain from (group ∷ groups) to = (group.before ≡ from) × (from < group.after) × IsChain group.after groups to
 
--- a group, one change, that ends at this position or below
+-- a group, of one change or more, that ends at this position or below
 pub record IsGroupWithin (position : ℕ) (group : Span) : Type 0 where
-  pub one : group.after ≡ group.before + 1
+  pub rising : group.before < group.after
   pub within : group.after ≤ position
+
+-- a frame of this epoch, whose span ends at this position or below
+pub record IsFrameWithin (epoch position : ℕ) (frame : Frame) : Type 0 where
+  pub epoch_is : frame.epoch ≡ epoch
+  pub span : IsGroupWithin position frame.span
+
+-- an acknowledgement of this epoch, of this position or one below
+pub record IsToldWithin (epoch position : ℕ) (acknowledgement : Acknowledgement) : Type 0 where
+  pub epoch_is : acknowledgement.epoch ≡ epoch
+  pub within : acknowledgement.position ≤ position
 
 -- the group that the committer has in hand
 abbrev pub in_hand : Stage → List Span
@@ -90,10 +100,12 @@ pub record SoundCommitter (position : ℕ) (committer : Committer) : Type 0 wher
 
 -- beside the committer's stage, the position of the primary's record, and the one up to which groups were sent
 pub record SoundLink (stage : Stage) (position sent : ℕ) (link : Link) : Type 0 where
-  pub kept : IsChain link.known link.kept sent
+  -- what is kept leads from what the link knows, or below, to what was sent
+  pub kept_from : ℕ
+  pub known : kept_from ≤ link.known
+  pub kept : IsChain kept_from link.kept sent
   -- those that wait and the one in the committer's hand are the other groups that were committed
   pub waiting : IsChain sent (link.waiting ++ in_hand stage) position
-  pub frames : All (IsGroupWithin sent) link.frames
   -- what is to be sent again is the end of what is kept
   pub sent_again : List Span
   pub again : sent_again ++ link.again ≡ link.kept
@@ -101,20 +113,37 @@ pub record SoundLink (stage : Stage) (position sent : ℕ) (link : Link) : Type 
   pub few : HasRoomFor stage link.waiting
   pub few_kept : length link.kept ≤ KEPT_GROUPS
 
--- beside the position up to which the link has sent groups, and the one that it knows
-pub record SoundStandby (sent link_knows : ℕ) (standby : Standby) : Type 0 where
-  pub frames : All (IsGroupWithin sent) standby.waiting
+-- beside the epoch of the pair, the position up to which the link has sent groups, and the one that it knows
+pub record SoundStandby (epoch sent link_knows : ℕ) (standby : Standby) : Type 0 where
+  pub epoch_is : standby.epoch ≡ epoch
+  pub frames : All (IsFrameWithin epoch sent) standby.waiting
   pub behind : standby.position ≤ sent
-  pub acknowledged : All (λ position. position ≤ standby.position) standby.acknowledgements
   pub known : link_knows ≤ standby.position
 
+-- beside the epoch of the pair, the position up to which the link has sent groups, and that of the standby's record
+pub record SoundWire (epoch sent position : ℕ) (wire : Wire) : Type 0 where
+  pub frames : All (IsFrameWithin epoch sent) wire.frames
+  pub acknowledged : All (IsToldWithin epoch position) wire.acknowledgements
+
+-- no connection is over, and they have seats
+pub record SoundConnections (connections : List Connection) : Type 0 where
+  pub are_open : All (λ connection. connection.is_open ≡ true) connections
+  pub seats : length connections ≤ SEATS
+
+-- both nodes run
+pub record DoRun (primary_life standby_life : Life) : Type 0 where
+  pub primary : primary_life ≡ Running
+  pub standby : standby_life ≡ Running
+
 pub record Sound (w : World) : Type 0 where
-  pub seats : length w.connections ≤ SEATS
-  pub legal : IsLegal w.calls
-  pub inbound : (c : ℕ) → SoundInbound w.calls c (connection_of w c).inbound
-  pub outbound : (c : ℕ) → SoundOutbound w.calls c w.committer.local w.link.remote (connection_of w c).outbound
-  pub committer : SoundCommitter (position_of w.calls) w.committer
+  pub nodes : DoRun w.primary.life w.standby.life
+  pub connections : SoundConnections w.primary.connections
+  pub legal : IsLegal w.primary.calls
+  pub inbound : (c : ℕ) → SoundInbound w.primary.calls c (connection_of w c).inbound
+  pub outbound : (c : ℕ) → SoundOutbound w.primary.calls c w.primary.committer.local w.primary.link.remote (connection_of w c).outbound
+  pub committer : SoundCommitter (position_of w.primary.calls) w.primary.committer
   -- groups were sent up to this position
   pub sent : ℕ
-  pub link : SoundLink w.committer.stage w.committer.position sent w.link
-  pub standby : SoundStandby sent w.link.known w.standby
+  pub link : SoundLink w.primary.committer.stage w.primary.committer.position sent w.primary.link
+  pub standby : SoundStandby w.primary.epoch sent w.primary.link.known w.standby
+  pub wire : SoundWire w.primary.epoch sent w.standby.position w.wire

@@ -36,6 +36,6 @@ pub record FirstCaseIsARun : Type 0 where
   pub worlds : List World
   pub run : Run start worked_events worked_done worlds
   pub nothing_before : All (λ w. released_in w 0 ≡ []) (start ∷ take 24 worlds)
-  pub local : (last_world start worlds).committer.local ≡ 1
-  pub remote : (last_world start worlds).link.remote ≡ 1
+  pub local : (last_world start worlds).primary.committer.local ≡ 1
+  pub remote : (last_world start worlds).primary.link.remote ≡ 1
   pub reply : released_in (last_world start worlds) 0 ≡ codes "+OK\r\n"

@@ -1,6 +1,6 @@
 -- What stands where in the pair of nodes and their connections (this project's profile), and the words on it. The list of calls is written
 -- as the sequencer runs them; groups and frames are named by the positions of the list that they lie between.
-use Rattle.std.specs.Prelude.{ℕ, zero, suc, Bool, true, false, ◌&&◌, nat_lt, nat_le, if◌then◌else◌, List, [], ◌∷◌, length, ◌-◌}
+use Rattle.std.specs.Prelude.{ℕ, zero, suc, Bool, true, false, ◌&&◌, nat_lt, nat_le, if◌then◌else◌, List, [], ◌∷◌, ◌++◌, length, ◌+◌, ◌-◌}
 use Rattle.std.specs.List.{flat_map, list_any}
 use Rattle.kv_types.specs.declared.item.Item.{Item}
 use Rattle.kv_types.specs.declared.limits.TheConstants.{SERVED_LIMITS}
@@ -11,6 +11,7 @@ use Rattle.model.specs.declared.call.Call.{Call}
 use Rattle.model.specs.Commands.{closes}
 use Rattle.model.specs.Calls.{position_of, up_to_closing}
 use Rattle.machine.specs.declared.event.TheConstants.{PIPE_ITEMS}
+use Rattle.model.specs.declared.record.TheConstants.{FIRST_EPOCH}
 
 -- ---- what stands where
 
@@ -37,14 +38,26 @@ pub record Outbound : Type 0 where
   pub local : ℕ
   pub remote : ℕ
 
+-- A connection of a client. It is open until it is over, and keeps its number for ever: its seat goes to another connection then.
 pub record Connection : Type 0 where
+  pub is_open : Bool
   pub inbound : Inbound
   pub outbound : Outbound
 
--- a group, or a frame: the changes of the list between two positions
+-- a group, or what a frame tells: the changes of the list between two positions, one call after another
 pub record Span : Type 0 where
   pub before : ℕ
   pub after : ℕ
+
+-- what is sent to the standby: a span of the list, under an epoch
+pub record Frame : Type 0 where
+  pub epoch : ℕ
+  pub span : Span
+
+-- what the standby answers: the position of its record, under its epoch
+pub record Acknowledgement : Type 0 where
+  pub epoch : ℕ
+  pub position : ℕ
 
 -- the committer takes a group in three turns
 pub data Stage : Type 0 where
@@ -75,56 +88,101 @@ pub record Link : Type 0 where
   pub kept : List Span
   -- those of them that are to be sent again
   pub again : List Span
-  -- all frames ever sent, in order
-  pub frames : List Span
   -- the highest position that came acknowledged
   pub known : ℕ
   -- the remote mark
   pub remote : ℕ
 
-pub record Standby : Type 0 where
-  -- frames that came and were not taken
-  pub waiting : List Span
-  -- the position of its record
-  pub position : ℕ
-  -- the positions of all acknowledgements ever made, in order
-  pub acknowledgements : List ℕ
+-- how a node fares
+pub data Life : Type 0 where
+  Running : Life
+  -- a fence of it failed
+  Stopped : Life
+  Crashed : Life
 
-pub record World : Type 0 where
+-- the node that serves
+pub record Primary : Type 0 where
+  pub life : Life
+  pub epoch : ℕ
   pub connections : List Connection
   -- the list of calls
   pub calls : List Call
   pub committer : Committer
   pub link : Link
+
+-- the node that follows it
+pub record Standby : Type 0 where
+  pub life : Life
+  pub epoch : ℕ
+  -- frames that came and were not taken
+  pub waiting : List Frame
+  -- the position of its record
+  pub position : ℕ
+
+-- what was ever sent between the two nodes, in order, whatever became of them since
+pub record Wire : Type 0 where
+  pub frames : List Frame
+  pub acknowledgements : List Acknowledgement
+
+pub record World : Type 0 where
+  pub primary : Primary
   pub standby : Standby
+  pub wire : Wire
 
 -- ---- how it begins
 
+-- a connection that nothing came from: no open one has this number
 abbrev pub no_connection : Connection
 no_connection = record {
+  is_open = false;
   inbound = record { fed = []; offered = 0; waiting = [] };
   outbound = record { made = []; held = []; pending = []; released = []; local = 0; remote = 0 };
 }
 
-abbrev pub start : World
-start = record {
-  connections = [];
-  calls = [];
-  committer = record { closed = 0; waiting = []; stage = Ready; position = 0; local = 0 };
-  link = record { waiting = []; kept = []; again = []; frames = []; known = 0; remote = 0 };
-  standby = record { waiting = []; position = 0; acknowledgements = [] };
+abbrev pub new_connection : Connection
+new_connection = record no_connection { is_open = true }
+
+-- two nodes that were formatted together under this epoch
+abbrev pub start_at : ℕ → World
+start_at epoch = record {
+  primary = record {
+    life = Running;
+    epoch = epoch;
+    connections = [];
+    calls = [];
+    committer = record { closed = 0; waiting = []; stage = Ready; position = 0; local = 0 };
+    link = record { waiting = []; kept = []; again = []; known = 0; remote = 0 };
+  };
+  standby = record { life = Running; epoch = epoch; waiting = []; position = 0 };
+  wire = record { frames = []; acknowledgements = [] };
 }
 
+abbrev pub start : World
+start = start_at FIRST_EPOCH
+
 -- ---- words on it
+
+abbrev pub is_running : Life → Bool
+is_running Running = true
+is_running Stopped = false
+is_running Crashed = false
 
 abbrev pub get_connection : List Connection → ℕ → Connection
 get_connection [] c = no_connection
 get_connection (connection ∷ connections) zero = connection
 get_connection (connection ∷ connections) (suc c) = get_connection connections c
 
--- connection c, and an idle one where there is none
+-- connection c, and one that nothing came from where there is none
 abbrev pub connection_of : World → ℕ → Connection
-connection_of w c = get_connection w.connections c
+connection_of w c = get_connection w.primary.connections c
+
+abbrev pub is_open : World → ℕ → Bool
+is_open w c = (connection_of w c).is_open
+
+-- how many seats are taken
+abbrev pub count_open : List Connection → ℕ
+count_open [] = 0
+count_open (connection ∷ connections) = (if connection.is_open then 1 else 0) + count_open connections
 
 abbrev pub changed_at : ℕ → (Connection → Connection) → List Connection → List Connection
 changed_at c change [] = []
@@ -132,37 +190,39 @@ changed_at zero change (connection ∷ connections) = change connection ∷ conn
 changed_at (suc c) change (connection ∷ connections) = connection ∷ changed_at c change connections
 
 abbrev pub with_inbound : (Inbound → Inbound) → Connection → Connection
-with_inbound change connection = record { inbound = change connection.inbound; outbound = connection.outbound }
+with_inbound change connection = record connection { inbound = change connection.inbound }
 
 abbrev pub with_outbound : (Outbound → Outbound) → Connection → Connection
-with_outbound change connection = record { inbound = connection.inbound; outbound = change connection.outbound }
+with_outbound change connection = record connection { outbound = change connection.outbound }
+
+abbrev pub with_primary : Primary → World → World
+with_primary primary w = record w { primary = primary }
+
+abbrev pub with_connections : List Connection → World → World
+with_connections connections w = record w { primary = record w.primary { connections = connections } }
 
 abbrev pub on_inbound : ℕ → (Inbound → Inbound) → World → World
-on_inbound c change w = record {
-  connections = changed_at c (with_inbound change) w.connections;
-  calls = w.calls;
-  committer = w.committer;
-  link = w.link;
-  standby = w.standby;
-}
+on_inbound c change w = with_connections (changed_at c (with_inbound change) w.primary.connections) w
 
 abbrev pub on_outbound : ℕ → (Outbound → Outbound) → World → World
-on_outbound c change w = record {
-  connections = changed_at c (with_outbound change) w.connections;
-  calls = w.calls;
-  committer = w.committer;
-  link = w.link;
-  standby = w.standby;
-}
+on_outbound c change w = with_connections (changed_at c (with_outbound change) w.primary.connections) w
 
 abbrev pub with_committer : Committer → World → World
-with_committer committer w = record { connections = w.connections; calls = w.calls; committer = committer; link = w.link; standby = w.standby }
+with_committer committer w = record w { primary = record w.primary { committer = committer } }
 
 abbrev pub with_link : Link → World → World
-with_link link w = record { connections = w.connections; calls = w.calls; committer = w.committer; link = link; standby = w.standby }
+with_link link w = record w { primary = record w.primary { link = link } }
 
 abbrev pub with_standby : Standby → World → World
-with_standby standby w = record { connections = w.connections; calls = w.calls; committer = w.committer; link = w.link; standby = standby }
+with_standby standby w = record w { standby = standby }
+
+-- more frames were sent
+abbrev pub with_sent : List Frame → World → World
+with_sent frames w = record w { wire = record w.wire { frames = w.wire.frames ++ frames } }
+
+-- more acknowledgements were made
+abbrev pub with_acknowledged : List Acknowledgement → World → World
+with_acknowledged acknowledgements w = record w { wire = record w.wire { acknowledgements = w.wire.acknowledgements ++ acknowledgements } }
 
 -- the items that the bytes of a connection ask for, up to and with the one that closes it
 abbrev pub asked : List ℕ → List Item
@@ -172,12 +232,9 @@ asked fed = up_to_closing (items_at SERVED_LIMITS fed)
 abbrev pub is_closed_by : List ℕ → Bool
 is_closed_by fed = list_any closes (items_at SERVED_LIMITS fed)
 
-abbrev pub is_open : World → ℕ → Bool
-is_open w c = nat_lt c (length w.connections)
-
 -- how many changing commands wait to be closed
 abbrev pub open_changes : World → ℕ
-open_changes w = position_of w.calls - w.committer.closed
+open_changes w = position_of w.primary.calls - w.primary.committer.closed
 
 abbrev pub has_room : {X : Type 0} → List X → Bool
 has_room items = nat_lt (length items) PIPE_ITEMS

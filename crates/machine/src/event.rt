@@ -33,7 +33,7 @@ pub enum Event {
     Offer(u64),
     /// The sequencer runs the first item that waits.
     Turn(u64),
-    /// The oldest changing commands are handed to the committer as a group.
+    /// All changing commands that wait are handed to the committer as one group.
     CloseGroup,
     /// The committer commits the first group that waits.
     Commit,
