@@ -27,11 +27,11 @@ AreFramesAt-push epoch calls frames [] (first ∷ spans) place span are is = abs
 AreFramesAt-push epoch calls frames (first ∷ places) [] place span are is = absurd are
 AreFramesAt-push epoch calls frames (first ∷ places) (of ∷ spans) place span are is = (are.0, AreFramesAt-push epoch calls frames places spans place span are.1 is)
 
-length-frames : (epoch : ℕ) (calls : List Call) (frames : List Frame) (places : List ℕ) (spans : List Span) → AreFramesAt epoch calls frames places spans → length places ≡ length spans
-length-frames epoch calls frames [] [] are = refl
-length-frames epoch calls frames [] (span ∷ spans) are = absurd are
-length-frames epoch calls frames (place ∷ places) [] are = absurd are
-length-frames epoch calls frames (place ∷ places) (span ∷ spans) are = ap suc (length-frames epoch calls frames places spans are.1)
+pub length-places : (epoch : ℕ) (calls : List Call) (frames : List Frame) (places : List ℕ) (spans : List Span) → AreFramesAt epoch calls frames places spans → length places ≡ length spans
+length-places epoch calls frames [] [] are = refl
+length-places epoch calls frames [] (span ∷ spans) are = absurd are
+length-places epoch calls frames (place ∷ places) [] are = absurd are
+length-places epoch calls frames (place ∷ places) (span ∷ spans) are = ap suc (length-places epoch calls frames places spans are.1)
 
 -- the place and the span at an index belong together
 record FrameOfIndex (epoch : ℕ) (calls : List Call) (frames : List Frame) (spans : List Span) (i place : ℕ) : Type 0 where
@@ -72,7 +72,7 @@ pub delivers_none : (epoch : ℕ) (frames : List Frame) (w : World) (sent : List
     → ArrivalsStand epoch w.calls frames arrivals w.standby → AreFramesAt epoch w.calls frames sent w.link.frames
     → Goes (nat_lt i (length w.link.frames)) false (ArrivalsStand epoch w.calls frames arrivals (delivered (option_items (slice_get w.link.frames i)) w.standby)) (ArrivalsStand epoch w.calls frames arrivals w.standby)
 delivers_none epoch frames w sent i arrivals past stands are =
-    let within : length w.link.frames ≤ i = omega (arith, past, length-frames epoch w.calls frames sent w.link.frames are) in
+    let within : length w.link.frames ≤ i = omega (arith, past, length-places epoch w.calls frames sent w.link.frames are) in
     record {
       done = sym (le-ltb i (length w.link.frames) within);
       goes = λ did. cc;

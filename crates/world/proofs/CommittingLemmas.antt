@@ -1,29 +1,35 @@
 -- The committer and its engine go on standing for the machine's.
-use Rattle.std.proofs.Common.{◌≡◌, ◌⊎◌, inl, inr, ℕ, ◌+◌, ◌-◌, ◌<◌, ◌++◌, ◌&&◌, Bool, true, false, nat_lt, List, [], ◌∷◌, length, Result, Ok, Err, OnOk, OnErr, refl, sym, ap, subst, ◌∙◌, arith}
+use Rattle.std.proofs.Common.{◌≡◌, ◌⊎◌, inl, inr, true≢false, ℕ, ◌+◌, ◌-◌, ◌<◌, ◌≤◌, ◌++◌, ◌&&◌, Bool, true, false, nat_lt, List, [], ◌∷◌, length, Result, Ok, Err, OnOk, OnErr, refl, sym, ap, subst, ◌∙◌, arith}
 use Rattle.std.proofs.lemmas.Bool.{lt-ltb, le-ltb}
 use Rattle.pmem.specs.Device.{State}
+use Rattle.pmem.specs.Crash.{IsImage}
+use Rattle.kv_types.specs.declared.refusal.Refusal.{Refusal}
+use Rattle.kv_types.specs.declared.refusal.Refusal.TheVariants.{Fault, Exhausted}
 use Rattle.pmem.specs.Runs.{LeavesOnly}
 use Rattle.pmem.proofs.Leaving.{LeavesOnly-weaken}
 use Rattle.model.specs.declared.call.Call.{Call}
 use Rattle.model.specs.declared.group.Group.{Group}
 use Rattle.model.specs.Calls.{is_nonempty}
 use Rattle.model.specs.Images.{Image}
-use Rattle.model.specs.Groups.{Contents, IsGroup, after_group}
+use Rattle.model.specs.declared.group.Part.{Part}
+use Rattle.model.specs.declared.image.TheConstants.{COUNTER_LIMIT, STAMP_WINDOW}
+use Rattle.model.specs.Groups.{AreParts, Contents, IsGroup, Versions, after_group, last_position, next_record, part_versions}
 use Rattle.model.specs.Standing.{Holder}
-use Rattle.wbl_engine.specs.Contents.{Keeps, IsDurable, Same}
+use Rattle.wbl_engine.specs.Contents.{Exhausts, Keeps, IsDurable, Same}
 use Rattle.pipes.specs.Waiting.{Waiting}
 use Rattle.machine.specs.declared.event.TheConstants.{PIPE_ITEMS}
 use Rattle.machine.specs.declared.event.Event.TheVariants.{Commit, Hand}
 use Rattle.machine.specs.Events.{Committer as Machine, Stage as MachineStage, Span, World, committed_first, handed, has_room, is_enabled, is_ready, is_shown, ready_again}
 use Rattle.machine.specs.Worlds as machine_stage
 use Rattle.machine.specs.Sound.{HasRoomFor, IsChain, Sound}
+use Rattle.world.specs.Causes.{Breaks, IsAtLimit, RestsAtLimit, EndsBy}
 use Rattle.world.specs.Committings.{AreContentsAt, AreGroups, CommittingStands, EngineStands, StageStands, StandsAtOrNext, NearOnly}
 use Rattle.world.specs.Going.{Goes}
 use Rattle.world.specs.GroupSpans.{AreGroupsOf, IsGroupOf}
 use Rattle.world.specs.declared.committing.Stage.{Stage}
 use Rattle.world.specs.declared.committing.Stage.TheVariants.{Ready, Durable, Shown}
 use Rattle.world.specs.declared.committing.Committing.{Committing}
-use Rattle.world.proofs.EngineLemmas.{AreContentsAt-after_group, keeps-stands}
+use Rattle.world.proofs.EngineLemmas.{AreContentsAt-after_group, Stands-engine, keeps-stands, rests-same}
 use Rattle.world.proofs.GroupSpanLemmas.{AreGroupsOf-grows, IsGroupOf-grows, length-groups}
 
 -- ---- while the list grows
@@ -122,6 +128,15 @@ pub commit-full : (w : World) (link : List Group) → length link ≡ PIPE_ITEMS
 commit-full w link full are =
     not_third (is_ready w.committer.stage) (is_nonempty w.committer.waiting) (has_room w.link.waiting) (has_room-groups w.calls link w.link.waiting are ∙ le-ltb (length link) PIPE_ITEMS (omega arith))
 
+-- the first group that waits may be committed
+pub may-commit : (w : World) (code : Committing) (group : Group) (rest : List Group) (link : List Group) → code.stage ≡ Ready → length link < PIPE_ITEMS → code.waiting.items ≡ group ∷ rest
+    → CommittingStands w.calls code w.committer → AreGroupsOf w.calls link w.link.waiting → is_enabled w Commit ≡ true
+may-commit w code group rest link ready room waits stands are =
+    let first = first-group w.calls group rest w.committer.waiting (subst (λ groups. AreGroupsOf w.calls groups w.committer.waiting) waits stands.groups) in
+    let is_ready_now : w.committer.stage ≡ machine_stage.Ready = ready-ready w.calls w.committer.stage (subst (λ stage. StageStands w.calls stage w.committer.stage) ready stands.stage_is) in
+    sym (all_three (is_ready w.committer.stage) (is_nonempty w.committer.waiting) (has_room w.link.waiting)
+    (ap is_ready is_ready_now) (ap is_nonempty first.all) (has_room-groups w.calls link w.link.waiting are ∙ lt-ltb (length link) PIPE_ITEMS room))
+
 -- the first group that waits is committed
 pub commit-goes : (holder : Holder) (w : World) (old new : Committing) (group : Group) (link : List Group) (device device' : State) (contents contents' : Contents) (is_faulted is_faulted' : Bool)
     → old.stage ≡ Ready → length link < PIPE_ITEMS → old.waiting.items ≡ group ∷ new.waiting.items → new.stage ≡ Durable group → new.local ≡ old.local
@@ -176,6 +191,60 @@ commit-moments holder w code group rest device device' contents is_faulted waits
           omega (arith, chain.1, next.firsts.is.span_within.within),
           keeps-stands holder w.calls (w.committer.position + 1) (after_group contents group) image (subst (λ p. AreContentsAt holder w.calls p (after_group contents group)) chain.1 next.after) keeps,
         )
+
+-- positions rise by one a part at least
+parts-rise : (before : ℕ) (versions : Versions) (parts : List Part) → AreParts before versions parts → before + length parts ≤ last_position before parts
+parts-rise before versions [] are = omega arith
+parts-rise before versions (part ∷ parts) are = omega (arith, are.0, parts-rise part.position (part_versions versions part) parts are.2)
+
+-- a commit that would take a counter to the limit is of one change
+pub commit-limit : (holder : Holder) (w : World) (code : Committing) (group : Group) (rest : List Group) (device : State) (contents : Contents) (is_faulted : Bool) → code.waiting.items ≡ group ∷ rest → IsGroup contents group
+    → Exhausts contents group → Sound w → CommittingStands w.calls code w.committer → EngineStands holder w.calls w.committer.position device contents is_faulted
+    → (image : Image) → IsImage device.words image → IsAtLimit image
+commit-limit holder w code group rest device contents is_faulted waits lawful exhausts sound stands engine image is =
+    let next = next-group holder w.calls w.committer.position contents group rest w.committer.waiting engine.contents_at lawful (subst (λ groups. AreGroupsOf w.calls groups w.committer.waiting) waits stands.groups) in
+    let chain : IsChain w.committer.position (next.firsts.first ∷ next.firsts.others) w.committer.closed =
+    subst (λ spans. IsChain w.committer.position spans w.committer.closed) next.firsts.all sound.committer.waiting in
+    let last : last_position group.before group.parts.items ≡ contents.current.position + 1 = next.firsts.is.after ∙ chain.1 ∙ ap (λ p. p + 1) (sym engine.contents_at.at) in
+    let one : length group.parts.items ≤ 1 = omega (arith, last, lawful.before, parts-rise group.before contents.versions group.parts.items lawful.parts) in
+    let own : last_position contents.current.position group.parts.items ≡ contents.current.position + 1 = ap (λ p. last_position p group.parts.items) (sym lawful.before) ∙ last in
+    record {
+      current = contents.current;
+      has_record = (engine.durable image is).has_record;
+      reached = reached exhausts one own;
+    }
+  where
+    reached : Exhausts contents group → length group.parts.items ≤ 1 → last_position contents.current.position group.parts.items ≡ contents.current.position + 1
+        → (COUNTER_LIMIT ≤ contents.current.cp + 1 + 1 + STAMP_WINDOW) ⊎ (COUNTER_LIMIT ≤ contents.current.position + 1) ⊎ (COUNTER_LIMIT ≤ contents.current.number + 1)
+    reached (inl stamps) one own = inl (omega (arith, stamps, one))
+    reached (inr (inl position)) one own = inr (inl (omega (arith, position, own)))
+    reached (inr (inr number)) one own = inr (inr number)
+
+-- the engine refused to commit: a fence failed, or a counter is at its limit
+pub commit-ends : (holder : Holder) (w : World) (code : Committing) (group : Group) (rest : List Group) (device device' : State) (contents : Contents) (is_faulted : Bool) (refusal : Refusal)
+    → code.waiting.items ≡ group ∷ rest → IsGroup contents group → (refusal ≡ Fault) ⊎ (refusal ≡ Exhausted)
+    → (refusal ≡ Fault → (is_faulted ≡ true) ⊎ (device.failures < device'.failures)) → (refusal ≡ Exhausted → Exhausts contents group × (device' ≡ device))
+    → (is_faulted ≡ false → LeavesOnly device device' (λ image. Keeps contents image ⊎ Keeps (after_group contents group) image))
+    → Sound w → CommittingStands w.calls code w.committer → EngineStands holder w.calls w.committer.position device contents is_faulted
+    → EndsBy refusal Commit (λ last _. last holder w.calls w.committer.position device device')
+commit-ends holder w code group rest device device' contents is_faulted refusal waits lawful causes fault exhausted moments sound stands engine = by causes
+  where
+    rose : (is_faulted ≡ true) ⊎ (device.failures < device'.failures) → device.failures < device'.failures
+    rose (inl before) = absurd (true≢false (sym before ∙ engine.sound))
+    rose (inr now) = now
+
+    by : (refusal ≡ Fault) ⊎ (refusal ≡ Exhausted) → EndsBy refusal Commit (λ last _. last holder w.calls w.committer.position device device')
+    by (inl is) =
+        subst (λ (r : Refusal). EndsBy r Commit (λ last _. last holder w.calls w.committer.position device device')) (sym is)
+        (record { leaves = commit-moments holder w code group rest device device' contents is_faulted waits lawful moments sound stands engine; failures = rose (fault is) })
+    by (inr is) =
+        let told = exhausted is in
+        subst (λ (r : Refusal). EndsBy r Commit (λ last _. last holder w.calls w.committer.position device device')) (sym is)
+        (record {
+          rests = rests-same holder w.calls w.committer.position device device' told.1 (Stands-engine holder w.calls w.committer.position device contents is_faulted engine);
+          limit = subst (λ (d : State). (image : Image) → IsImage d.words image → IsAtLimit image) (sym told.1)
+              (commit-limit holder w code group rest device contents is_faulted waits lawful told.0 sound stands engine);
+        })
 
 -- ---- a group handed on
 

@@ -16,7 +16,7 @@ use Rattle.model.proofs.StandingLemmas.{Holds-versions}
 use Rattle.wbl_engine.specs.Contents.{Keeps}
 use Rattle.machine.specs.Events.{Span}
 use Rattle.world.specs.GroupSpans.{IsGroupOf}
-use Rattle.world.specs.Committings.{AreContentsAt, EngineStands, Moves, Stands, StandsAtOrNext, NearOnly}
+use Rattle.world.specs.Committings.{AreContentsAt, EngineStands, Moves, Rests, Stands, StandsAtOrNext, NearOnly}
 
 -- ---- what a crash leaves
 
@@ -40,6 +40,10 @@ Stands-engine holder calls p device contents is_faulted stands = λ image is. ke
 pub near-still : (holder : Holder) (calls : List Call) (p : ℕ) (device : State) (contents : Contents) (is_faulted : Bool) → EngineStands holder calls p device contents is_faulted → NearOnly holder calls p device device
 near-still holder calls p device contents is_faulted stands =
     none_leaves device (StandsAtOrNext holder calls p) (λ image is. inl (Stands-engine holder calls p device contents is_faulted stands image is))
+
+pub rests-same : (holder : Holder) (calls : List Call) (p : ℕ) (old new : State) → new ≡ old → Stands holder calls p old → Rests holder calls p old new
+rests-same holder calls p old new same stands =
+    subst (Rests holder calls p old) (sym same) (record { leaves = none_leaves old (StandsAt holder calls p) stands; failures = refl })
 
 -- nothing happened to the device, wherever its node was said to stand before
 pub moves-same : (holder : Holder) (calls : List Call) (p q : ℕ) (old new : State) → new ≡ old → Stands holder calls q new → Moves holder calls p q old new

@@ -1,5 +1,5 @@
 -- New images, and the tables and heaps with which they begin.
-use Rattle.std.proofs.Common.{◌≡◌, ℕ, zero, suc, Bool, false, List, [], replicate, slice_index_or, refl, sym, ap, subst, ◌∙◌, true≢false, inl}
+use Rattle.std.proofs.Common.{◌≡◌, ℕ, zero, suc, ◌<◌, ◌⊎◌, Bool, false, List, [], replicate, slice_index_or, refl, sym, ap, subst, ◌∙◌, true≢false, inl, inr}
 use Rattle.model.specs.Images.{entries_of_lines}
 use Rattle.model.specs.Groups.{Contents}
 use Rattle.model.specs.declared.group.Group.{Group}
@@ -17,6 +17,9 @@ use Rattle.redis_core.specs.Sequencing.{Sequencing, StandsFor, Underlies, starts
 use Rattle.standby.proofs.NewLemmas.{HasAll, new-table, left-new, new-consistent, follows-new}
 use Rattle.machine.specs.Events.{start}
 use Rattle.machine.proofs.RunLemmas.{sound-start}
+use Rattle.kv_types.specs.declared.refusal.Refusal.{Refusal}
+use Rattle.kv_types.specs.declared.refusal.Refusal.TheVariants.{Fault, WrongSize}
+use Rattle.world.specs.Causes.{IsWrongSize, UnformedBy}
 use Rattle.world.specs.Committings.{FormattingOnly, CommittingStands, EngineStands, Leads}
 use Rattle.world.specs.Links.{LinkStands}
 use Rattle.world.specs.Sessions.{SessionsStand, SequencerStands}
@@ -116,3 +119,20 @@ pair-starts first second pair sessions sequencer committing none engine ahead li
 -- a device that was not formatted yet
 pub formatting-none : (role : Role) (device : State) → FormattingOnly role device device
 formatting-none role device = none_leaves device (IsFormatting device.words device.lines role) (λ image is. inl is)
+
+-- ---- why it was not formatted
+
+-- the first device was refused, and the second was not touched
+pub unformed-first : (refusal : Refusal) (primary standby primary' : State) → (refusal ≡ Fault) ⊎ (refusal ≡ WrongSize)
+    → (refusal ≡ WrongSize → IsWrongSize primary × (primary' ≡ primary)) → (refusal ≡ Fault → primary.failures < primary'.failures) → UnformedBy refusal primary standby primary' standby
+unformed-first refusal primary standby primary' (inl is) wrong fault = subst (λ (r : Refusal). UnformedBy r primary standby primary' standby) (sym is) (inl (fault is, refl))
+unformed-first refusal primary standby primary' (inr is) wrong fault = subst (λ (r : Refusal). UnformedBy r primary standby primary' standby) (sym is) (refl, inl (wrong is))
+
+-- the first device was formatted, and the second was refused
+pub unformed-second : (refusal : Refusal) (primary standby primary' standby' : State) → (refusal ≡ Fault) ⊎ (refusal ≡ WrongSize) → primary'.failures ≡ primary.failures
+    → (refusal ≡ WrongSize → IsWrongSize standby × (standby' ≡ standby)) → (refusal ≡ Fault → standby.failures < standby'.failures) → UnformedBy refusal primary standby primary' standby'
+unformed-second refusal primary standby primary' standby' (inl is) same wrong fault =
+    subst (λ (r : Refusal). UnformedBy r primary standby primary' standby') (sym is) (inr (same, fault is))
+unformed-second refusal primary standby primary' standby' (inr is) same wrong fault =
+    let told = wrong is in
+    subst (λ (r : Refusal). UnformedBy r primary standby primary' standby') (sym is) (told.1, inr (told.0, same))

@@ -1,5 +1,6 @@
 -- The inbound half of a connection goes on standing for the machine's.
 use Rattle.std.proofs.Common.{◌≡◌, ℕ, zero, suc, ◌+◌, ◌-◌, ◌<◌, ◌≤◌, ◌++◌, ◌||◌, ◌&&◌, not, Bool, true, false, cond, nat_lt, List, [], ◌∷◌, length, take, drop, Option, Some, None, Result, Ok, Err, refl, sym, ap, subst, ◌∙◌, append_assoc, append-nil, arith, length-append, length-drop}
+use Rattle.std.proofs.lemmas.Bool.{lt-ltb, and_from}
 use Rattle.std.proofs.lemmas.List.{take-append-le}
 use Rattle.std.proofs.lemmas.List.Folds.{list_any-append}
 use Rattle.std.specs.List.{list_any}
@@ -12,7 +13,8 @@ use Rattle.kv_types.specs.Reading.{items_at, items_within, items_from, Read, Sto
 use Rattle.model.specs.Commands.{closes}
 use Rattle.model.specs.Calls.{up_to_closing}
 use Rattle.model.proofs.ServesLemmas.{up_to_closing-open}
-use Rattle.machine.specs.Events.{Inbound as Machine, asked, is_closed_by, fed_with, no_connection}
+use Rattle.machine.specs.declared.event.TheConstants.{PIPE_ITEMS}
+use Rattle.machine.specs.Events.{Inbound as Machine, asked, is_closed_by, fed_with, has_room, no_connection}
 use Rattle.resp_codec.specs.Parsing.{fed, ahead}
 use Rattle.world.specs.declared.inbound.Inbound.{Inbound}
 use Rattle.world.specs.Inbounds.{HasParsed, InboundStands}
@@ -108,3 +110,13 @@ fed-stands old new machine piece parser stands is_open took more_asked drained l
       waits = same ∙ stands.waits;
       first = ap (take (length machine.waiting)) more_asked ∙ take-append-le _ _ _ enough ∙ stands.first;
     }
+
+-- an item that was asked for and does not wait may be offered, where there is room
+pub may-offer : (code : Inbound) (machine : Machine) → InboundStands code machine → length code.waiting.items < length code.asked.items → length code.waiting.items < PIPE_ITEMS
+    → (nat_lt machine.offered (length (asked machine.fed)) && has_room machine.waiting) ≡ true
+may-offer code machine stands some room =
+    let count : length (asked machine.fed) - stands.run ≡ length code.asked.items = sym (length-drop stands.run (asked machine.fed)) ∙ ap length stands.kept in
+    let waits : length code.waiting.items ≡ length machine.waiting = ap length stands.waits in
+    and_from (nat_lt machine.offered (length (asked machine.fed))) (has_room machine.waiting)
+    (lt-ltb machine.offered (length (asked machine.fed)) (omega (arith, count, waits, some, stands.within, stands.counted)))
+    (lt-ltb (length machine.waiting) PIPE_ITEMS (omega (arith, waits, room)))

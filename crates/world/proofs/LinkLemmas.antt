@@ -280,6 +280,21 @@ module _ (calls : List Call) (code : Link) (machine : Machine) (stands : LinkSta
   nothing_again : length code.frames.items ≤ code.again → machine.again ≡ []
   nothing_again le = sym stands.again ∙ drop_all code.again stands.spans (omega (arith, count))
 
+  -- a frame that is to be sent again may be sent
+  pub may-send-again : code.again < length code.frames.items → can_send machine ≡ true
+  may-send-again lt =
+      let first = next_at code.epoch calls code.frames.items stands.spans code.again stands.frames lt in
+      let all : machine.again ≡ first.span ∷ first.rest = sym stands.again ∙ first.here in
+      ap (λ gs. is_nonempty gs || (is_nonempty machine.waiting && nat_lt (length machine.kept) KEPT_GROUPS)) all
+
+  -- the first group that waits may be sent, where no more is to be sent again and the link may keep it
+  pub may-send-first : (group : Group) (waiting : Waiting Group) → length code.frames.items ≤ code.again → length code.frames.items - code.kept < KEPT_GROUPS
+      → code.waiting.items ≡ group ∷ waiting.items → can_send machine ≡ true
+  may-send-first group waiting le room first =
+      let taken = takes_group calls group waiting.items machine.waiting (subst (λ groups. AreGroupsOf calls groups machine.waiting) first stands.waiting) in
+      ap₂ (λ (gs gs' : List Span). is_nonempty gs || (is_nonempty gs' && nat_lt (length machine.kept) KEPT_GROUPS)) (nothing_again le) taken.all
+      ∙ lt-ltb (length machine.kept) KEPT_GROUPS (omega (arith, count_kept))
+
   pub sends-again : (sent : Vec ℕ Global) (again known : ℕ) → code.again < length code.frames.items → sent.items ≡ code.sent.items ++ code.again ∷ [] → again ≡ code.again + 1 → known ≡ code.known
       → Goes (can_send machine) true (LinkStands calls (with_sent sent again known code) (sent_next machine.again machine)) (LinkStands calls (with_sent sent again known code) machine)
   sends-again sent again known lt more next same =
@@ -287,7 +302,7 @@ module _ (calls : List Call) (code : Link) (machine : Machine) (stands : LinkSta
       let first = next_at code.epoch calls frames stands.spans code.again stands.frames lt in
       let all : machine.again ≡ first.span ∷ first.rest = sym stands.again ∙ first.here in
       record {
-        done = sym (ap (λ gs. is_nonempty gs || (is_nonempty machine.waiting && nat_lt (length machine.kept) KEPT_GROUPS)) all);
+        done = sym (may-send-again lt);
         goes = λ did. subst (λ gs. LinkStands calls (with_sent sent again known code) (sent_next gs machine)) (sym all) (record {
           waiting = stands.waiting;
           spans = stands.spans;
@@ -365,8 +380,7 @@ module _ (calls : List Call) (code : Link) (machine : Machine) (stands : LinkSta
         remote = stands.remote;
       } in
       record {
-        done = sym (ap₂ (λ (gs gs' : List Span). is_nonempty gs || (is_nonempty gs' && nat_lt (length machine.kept) KEPT_GROUPS)) (nothing_again le) taken.all
-            ∙ lt-ltb (length machine.kept) KEPT_GROUPS (omega (arith, count_kept)));
+        done = sym (may-send-first group waiting le room first);
         goes = λ did. subst (λ gs. LinkStands calls new (sent_next gs machine)) (sym (nothing_again le)) (subst (λ gs. LinkStands calls new (sent_waiting gs machine)) (sym taken.all) now);
         stays = λ did. cc;
       }

@@ -1,5 +1,5 @@
 -- The outbound half of a connection goes on standing for the machine's.
-use Rattle.std.proofs.Common.{◌≡◌, ℕ, zero, suc, ◌+◌, ◌≤◌, ◌++◌, ◌&&◌, Bool, true, false, cond, nat_le, List, [], ◌∷◌, length, take, drop, Option, Some, None, refl, sym, ap, ap₂, subst, ◌∙◌, append_assoc, append-nil, arith, length-append, IsTrue, Bor}
+use Rattle.std.proofs.Common.{◌≡◌, ◌≢◌, ℕ, zero, suc, ◌+◌, ◌≤◌, ◌++◌, ◌&&◌, Bool, true, false, cond, nat_le, List, [], ◌∷◌, length, take, drop, Option, Some, None, refl, sym, ap, ap₂, subst, ◌∙◌, append_assoc, append-nil, arith, length-append, IsTrue, Bor}
 use Rattle.std.proofs.lemmas.List.{take_at, drop_at}
 use Rattle.std.proofs.lemmas.List.Concat.{flat_map-append}
 use Rattle.std.specs.Prelude.{slice_get}
@@ -122,3 +122,9 @@ gate-holds old new machine made call held stands reply position waiting replies 
       held = subst (λ xs. AreHeld new.replies (machine.held ++ xs)) (sym first)
           (subst (λ texts. AreHeld texts (machine.held ++ held ∷ [])) (sym replies) (held-push old.replies machine.held text held stands.held is));
     }
+
+-- a reply that was made may be held
+pub may-hold : (calls : List Call) (mades : List Made) (helds : List Held) → mades ≢ [] → AreMade calls mades helds → is_nonempty helds ≡ true
+may-hold calls [] helds some are = absurd (some refl)
+may-hold calls (made ∷ mades) [] some are = absurd are
+may-hold calls (made ∷ mades) (held ∷ helds) some are = refl

@@ -1,10 +1,11 @@
 -- What each event does to the pair, of what it does to its parts.
-use Rattle.std.proofs.Common.{◌≡◌, ℕ, ◌+◌, ◌≤◌, ◌&&◌, Bool, true, false, nat_lt, List, [], ◌∷◌, ◌++◌, length, option_map, slice_get, slice_index_or, Option, Some, Result, Ok, Err, IfOk, OnOk, OnErr, IsErr, refl, sym, ap, subst, ◌∙◌, arith, inl, true≢false}
+use Rattle.std.proofs.Common.{◌≡◌, ℕ, ◌+◌, ◌≤◌, ◌&&◌, Bool, true, false, nat_lt, List, [], ◌∷◌, ◌++◌, length, option_map, slice_get, slice_index_or, Option, Some, Result, Ok, Err, IfOk, IfErr, OnOk, OnErr, IsErr, Vec, Global, ◌<◌, refl, sym, ap, subst, ◌∙◌, arith, inl, true≢false}
 use Rattle.std.proofs.lemmas.Bool.{lt-ltb, le-ltb, ltb-true}
 use Rattle.std.proofs.lemmas.List.{length-map}
 use Rattle.std.proofs.lemmas.Option.{slice_get-get_or, slice_get-map, slice_get_within}
 use Rattle.pmem.specs.Device.{State}
 use Rattle.kv_types.specs.declared.refusal.Refusal.{Refusal}
+use Rattle.kv_types.specs.declared.refusal.Refusal.TheVariants.{Memory, Fault, Exhausted}
 use Rattle.pipes.specs.Waiting.{Waiting}
 use Rattle.model.specs.declared.call.Call.{Call}
 use Rattle.model.specs.declared.group.Group.{Group}
@@ -16,15 +17,16 @@ use Rattle.standby.specs.declared.frame.Frame.{Frame}
 use Rattle.standby.specs.declared.frame.Ack.{Ack}
 use Rattle.machine.specs.declared.event.Event.{Event}
 use Rattle.machine.specs.declared.event.Event.TheVariants as events
-use Rattle.machine.specs.Events.{Connection, World, Committer as MachineCommitter, Link as MachineLink, Standby as MachineStandby, Span, Happens, Step, Turns, is_enabled, is_ready, has_room, called, opened_link, acknowledged, closed_group, committed_first, raised_local, ready_again, handed, handed_to, delivered, option_items, knowing, told, with_link, with_standby, with_committer}
+use Rattle.machine.specs.Events.{Connection, World, Committer as MachineCommitter, Link as MachineLink, Standby as MachineStandby, Span, Happens, Step, Turns, is_enabled, is_ready, has_room, called, opened_link, acknowledged, sent_next, closed_group, committed_first, raised_local, ready_again, handed, handed_to, delivered, option_items, knowing, told, with_link, with_standby, with_committer}
 use Rattle.machine.specs.Sound.{IsChain, Sound}
 use Rattle.machine.proofs.GroupLemmas.{chain-le}
 use Rattle.machine.proofs.SoundEvents.{sound-step}
 use Rattle.world.specs.Going.{Goes}
 use Rattle.world.specs.GroupSpans.{AreGroupsOf}
-use Rattle.world.specs.Committings.{EngineStands, Leads, LeadsOn, NearOnly, Moves, CommittingStands}
+use Rattle.world.specs.Causes.{Stretch, Breaks, RestsAtLimit, EndsBy, asks_memory}
+use Rattle.world.specs.Committings.{EngineStands, Leads, LeadsOn, NearOnly, Moves, Rests, CommittingStands}
 use Rattle.world.specs.Links.{LinkStands, KeepsFrames, AreFramesAt}
-use Rattle.world.specs.Sessions.{SessionsStand, SequencerStands, TakesTurn, TellsTheSame}
+use Rattle.world.specs.Sessions.{SessionsStand, SequencerStands, AddsOne, TakesTurn, TellsTheSame}
 use Rattle.world.specs.Standbys.{Node, StandbyStands, ArrivalsStand, AppliesFirst}
 use Rattle.world.specs.Pairs.{Pair, PartsStand, PairStands, IsCut, MovesBoth, Steps, Does}
 use Rattle.world.specs.declared.arrivals.Arrivals.{Arrivals}
@@ -33,11 +35,11 @@ use Rattle.world.specs.declared.committing.Committing.{Committing}
 use Rattle.world.specs.declared.link.Link.{Link}
 use Rattle.world.specs.declared.sessions.Sessions.{Sessions}
 use Rattle.world.proofs.SessionLemmas.{length-connections, released-told}
-use Rattle.world.proofs.EngineLemmas.{Stands-engine, near-still, near-moves, moves-same, EngineStands-grows}
+use Rattle.world.proofs.EngineLemmas.{Stands-engine, near-moves, moves-same, rests-same, EngineStands-grows}
 use Rattle.world.proofs.CommittingLemmas.{CommittingStands-grows}
 use Rattle.world.proofs.LinkLemmas.{LinkStands-grows}
-use Rattle.world.proofs.StandbyLemmas.{StandbyStands-grows, StandbyStands-still}
-use Rattle.world.proofs.ArrivalLemmas.{ArrivalsStand-grows, ArrivalsStand-frames}
+use Rattle.world.proofs.StandbyLemmas.{StandbyStands-grows}
+use Rattle.world.proofs.ArrivalLemmas.{ArrivalsStand-grows, ArrivalsStand-frames, length-places}
 
 -- ---- steps
 
@@ -73,11 +75,24 @@ goes-steps first second w w' event false old new device device' sound happens go
 
 -- ---- cuts
 
-pub cut-near : (first second : Holder) (old new : Pair) (w : World) → PairStands first second old w → TellsTheSame old.sessions new.sessions
-    → NearOnly first w.calls w.committer.position old.device new.device → NearOnly second w.calls w.standby.position old.standby.device new.standby.device → IsCut first second old new w
-cut-near first second old new w stands same primary standby =
+rests-primary : (first second : Holder) (old : Pair) (w : World) → PairStands first second old w → Rests first w.calls w.committer.position old.device old.device
+rests-primary first second old w stands = rests-same first w.calls w.committer.position old.device old.device refl (Stands-engine _ _ _ _ _ _ stands.parts.engine)
+
+rests-standby : (first second : Holder) (old : Pair) (w : World) → PairStands first second old w → Rests second w.calls w.standby.position old.standby.device old.standby.device
+rests-standby first second old w stands =
+    rests-same second w.calls w.standby.position old.standby.device old.standby.device refl (Stands-engine _ _ _ _ _ _ stands.parts.standby.engine)
+
+-- what an event that was cut did to both devices
+abbrev pub Led : ℕ → ℕ → Pair → Pair → World → Stretch → Stretch → Type 0
+Led first second old new w first_last second_last =
+    first_last first w.calls w.committer.position old.device new.device × second_last second w.calls w.standby.position old.standby.device new.standby.device
+
+pub cut-for : (first second : Holder) (event : Event) (refusal : Refusal) (old new : Pair) (w : World) → PairStands first second old w → TellsTheSame old.sessions new.sessions
+    → is_enabled w event ≡ true → EndsBy refusal event (Led first second old new w) → IsCut first second event refusal old new w
+cut-for first second event refusal old new w stands same enabled cause =
     let sessions = stands.parts.sessions in
     record {
+      enabled = enabled;
       calls = same.calls ∙ sessions.calls_are;
       released = λ c. ap (λ (all : List (List ℕ)). slice_index_or all c []) same.released
           ∙ released-told w.calls 0 old.sessions.connections.items w.connections sessions.connections_stand c;
@@ -89,26 +104,27 @@ cut-near first second old new w stands same primary standby =
         length-map old.sessions.connections.items (λ (k : Connection'). k.outbound.released.items),
         length-map new.sessions.connections.items (λ (k : Connection'). k.outbound.released.items),
       );
-      primary = primary;
-      standby = standby;
+      cause = cause;
     }
 
-still-primary : (first second : Holder) (old : Pair) (w : World) → PairStands first second old w → NearOnly first w.calls w.committer.position old.device old.device
-still-primary first second old w stands = near-still first w.calls w.committer.position old.device old.contents old.is_faulted stands.parts.engine
-
-still-standby : (first second : Holder) (old : Pair) (w : World) → PairStands first second old w → NearOnly second w.calls w.standby.position old.standby.device old.standby.device
-still-standby first second old w stands = StandbyStands-still second old.link.epoch w.calls w.standby.position old.standby stands.parts.standby
-
--- neither device was touched
-pub cut-same : (first second : Holder) (old new : Pair) (w : World) → new.device ≡ old.device → new.standby.device ≡ old.standby.device → TellsTheSame old.sessions new.sessions
-    → PairStands first second old w → IsCut first second old new w
-cut-same first second old new w device device' same stands =
-    cut-near first second old new w stands same
-    (subst (NearOnly first w.calls w.committer.position old.device) (sym device) (still-primary first second old w stands))
-    (subst (NearOnly second w.calls w.standby.position old.standby.device) (sym device') (still-standby first second old w stands))
+-- memory was refused, and neither device was touched
+pub cut-same : (first second : Holder) (event : Event) (refusal : Refusal) (old new : Pair) (w : World) → asks_memory event ≡ true → refusal ≡ Memory → new.device ≡ old.device
+    → new.standby.device ≡ old.standby.device → TellsTheSame old.sessions new.sessions → is_enabled w event ≡ true → PairStands first second old w
+    → IsCut first second event refusal old new w
+cut-same first second event refusal old new w asks memory device device' same enabled stands =
+    cut-for first second event refusal old new w stands same enabled
+    (subst (λ (r : Refusal). EndsBy r event (Led first second old new w)) (sym memory) (
+      asks,
+      subst (Rests first w.calls w.committer.position old.device) (sym device) (rests-primary first second old w stands),
+      subst (Rests second w.calls w.standby.position old.standby.device) (sym device') (rests-standby first second old w stands),
+    ))
 
 tells : (sessions : Sessions) → TellsTheSame sessions sessions
 tells sessions = record { calls = refl; released = refl }
+
+-- no call was added
+none-added : (old new : Vec Call Global) → new ≡ old → AddsOne old new
+none-added old new same = subst (AddsOne old) (sym same) (record { one = omega arith; room = refl })
 
 -- ---- what the connections do
 
@@ -147,24 +163,35 @@ sessions-steps event change happens old sessions did go first second w stands =
     (sessions-parts first second old sessions (change w) w stands.parts)
     (sessions-parts first second old sessions w.connections w stands.parts))
 
-pub sessions-do : (event : Event) (change : World → List Connection) → ((w : World) → Happens w event (with_connections (change w) w))
+pub sessions-do : (event : Event) (change : World → List Connection) → ((w : World) → Happens w event (with_connections (change w) w)) → asks_memory event ≡ true
     → (old : Pair) (sessions : Sessions) (result : Result Bool Refusal) → IfOk result (λ did. SessionsGo event change did old.sessions sessions)
-    → OnErr result (TellsTheSame old.sessions sessions) → Does old event result (with_sessions sessions old)
-sessions-do event change happens old sessions (Ok did) go same =
-    record { steps = sessions-steps event change happens old sessions did go; cut = tt }
-sessions-do event change happens old sessions (Err refusal) go same =
+    → OnErr result (TellsTheSame old.sessions sessions) → IfErr result (λ refusal. refusal ≡ Memory)
+    → OnErr result ((w : World) → SessionsStand old.sessions w.connections w.calls → is_enabled w event ≡ true)
+    → sessions.calls ≡ old.sessions.calls → Does old event result (with_sessions sessions old)
+sessions-do event change happens asks old sessions (Ok did) go same memory enabled calls =
+    record { steps = sessions-steps event change happens old sessions did go; cut = tt; calls = none-added _ _ calls }
+sessions-do event change happens asks old sessions (Err refusal) go same memory enabled calls =
     record {
       steps = tt;
-      cut = λ first second w stands. cut-same first second old (with_sessions sessions old) w refl refl same stands;
+      cut = λ first second w stands.
+          cut-same first second event refusal old (with_sessions sessions old) w asks memory refl refl same (enabled w stands.parts.sessions) stands;
+      calls = none-added _ _ calls;
     }
+
+-- an event that cannot be refused
+pub sessions-did : (event : Event) (change : World → List Connection) → ((w : World) → Happens w event (with_connections (change w) w))
+    → (old : Pair) (sessions : Sessions) (did : Bool) → SessionsGo event change did old.sessions sessions → sessions.calls ≡ old.sessions.calls
+    → Does old event (Ok did) (with_sessions sessions old)
+sessions-did event change happens old sessions did go calls =
+    record { steps = sessions-steps event change happens old sessions did go; cut = tt; calls = none-added _ _ calls }
 
 -- a read needs the marks, which are the machine's
 pub read-does : (event : Event) (change : World → List Connection) → ((w : World) → Happens w event (with_connections (change w) w))
     → (old : Pair) (sessions : Sessions) (did : Bool)
     → ((w : World) → SessionsStand old.sessions w.connections w.calls → old.committing.local ≡ w.committer.local → old.link.remote ≡ w.link.remote
     → Goes (is_enabled w event) did (SessionsStand sessions (change w) w.calls) (SessionsStand sessions w.connections w.calls))
-    → Does old event (Ok did) (with_sessions sessions old)
-read-does event change happens old sessions did go =
+    → sessions.calls ≡ old.sessions.calls → Does old event (Ok did) (with_sessions sessions old)
+read-does event change happens old sessions did go calls =
     record {
       steps = λ first second w stands.
           goes-steps first second w (with_connections (change w) w) event did old (with_sessions sessions old) refl refl stands.sound (happens w)
@@ -172,6 +199,7 @@ read-does event change happens old sessions did go =
           (sessions-parts first second old sessions (change w) w stands.parts)
           (sessions-parts first second old sessions w.connections w stands.parts));
       cut = tt;
+      calls = none-added _ _ calls;
     }
 
 -- ---- the list grows
@@ -244,20 +272,16 @@ turn-steps first second old sessions sequencer w c false stands takes goes_on =
       moves = untouched first second old (with_turn sessions sequencer old) w w refl refl parts;
     }
 
-pub turn-does : (old : Pair) (sessions : Sessions) (sequencer : Sequencing) (c : ℕ) (result : Result Bool Refusal)
-    → IfOk result (λ did. (w : World) → Sound w → SessionsStand old.sessions w.connections w.calls → SequencerStands w.calls w.committer.closed old.sequencer
+pub turn-does : (old : Pair) (sessions : Sessions) (sequencer : Sequencing) (c : ℕ) (did : Bool)
+    → ((w : World) → Sound w → SessionsStand old.sessions w.connections w.calls → SequencerStands w.calls w.committer.closed old.sequencer
     → TakesTurn w c did sessions old.sequencer sequencer)
     → ((contents : Contents) → StandsFor old.sequencer contents → StandsFor sequencer contents)
-    → OnErr result (TellsTheSame old.sessions sessions) → Does old (events.Turn c) result (with_turn sessions sequencer old)
-turn-does old sessions sequencer c (Ok did) takes goes_on same =
+    → AddsOne old.sessions.calls sessions.calls → Does old (events.Turn c) (Ok did) (with_turn sessions sequencer old)
+turn-does old sessions sequencer c did takes goes_on calls =
     record {
       steps = λ first second w stands. turn-steps first second old sessions sequencer w c did stands (takes w stands.sound stands.parts.sessions stands.parts.sequencer) goes_on;
       cut = tt;
-    }
-turn-does old sessions sequencer c (Err refusal) takes goes_on same =
-    record {
-      steps = tt;
-      cut = λ first second w stands. cut-same first second old (with_turn sessions sequencer old) w refl refl same stands;
+      calls = calls;
     }
 
 -- ---- the committer
@@ -271,13 +295,18 @@ pub close-does : (old : Pair) (committing : Committing) (sequencer : Sequencing)
     (CommittingStands w.calls committing (closed_group w.committer) × SequencerStands w.calls (closed_group w.committer).closed sequencer)
     (CommittingStands w.calls committing w.committer × SequencerStands w.calls w.committer.closed sequencer))
     → ((contents : Contents) → Leads contents old.committing.waiting.items old.sequencer → Leads contents committing.waiting.items sequencer)
+    → IfErr result (λ refusal. refusal ≡ Memory)
+    → OnErr result ((w : World) → CommittingStands w.calls old.committing w.committer → SequencerStands w.calls w.committer.closed old.sequencer → is_enabled w events.CloseGroup ≡ true)
     → Does old events.CloseGroup result (with_group committing sequencer old)
-close-does old committing sequencer (Err refusal) go leads =
+close-does old committing sequencer (Err refusal) go leads memory enabled =
     record {
       steps = tt;
-      cut = λ first second w stands. cut-same first second old (with_group committing sequencer old) w refl refl (tells old.sessions) stands;
+      cut = λ first second w stands.
+          cut-same first second events.CloseGroup refusal old (with_group committing sequencer old) w refl memory refl refl (tells old.sessions)
+          (enabled w stands.parts.committing stands.parts.sequencer) stands;
+      calls = none-added _ _ refl;
     }
-close-does old committing sequencer (Ok did) go leads =
+close-does old committing sequencer (Ok did) go leads memory enabled =
     record {
       steps = λ first second w stands.
           let parts = stands.parts in
@@ -304,6 +333,7 @@ close-does old committing sequencer (Ok did) go leads =
             standby = parts.standby;
           }));
       cut = tt;
+      calls = none-added _ _ refl;
     }
 
 -- the primary's engine, with the groups that wait for it
@@ -344,6 +374,13 @@ commit-steps first second w true old new device' sound still failures only goes 
 commit-steps first second w false old new device' sound still failures only goes =
     goes-steps first second w (with_committer (committed_first w.committer.waiting w.committer) w) events.Commit false old new (still refl) device' sound refl goes
 
+-- what ended a commit is of the primary's device
+ends-commit : (refusal : Refusal) (P Q : Stretch → Stretch → Type 0) → ((last : Stretch) → P last Rests → Q last Rests) → EndsBy refusal events.Commit P → EndsBy refusal events.Commit Q
+ends-commit Memory P Q both ends = absurd (true≢false (sym ends.0))
+ends-commit Fault P Q both ends = both Breaks ends
+ends-commit Exhausted P Q both ends = both RestsAtLimit ends
+ends-commit refusal P Q both ends = absurd ends
+
 pub commit-does : (old : Pair) (committing : Committing) (device : State) (contents : Contents) (is_faulted : Bool) (result : Result Bool Refusal)
     → IfOk result (λ did. (holder : Holder) (w : World) → CommittingStands w.calls old.committing w.committer
     → EngineStands holder w.calls w.committer.position old.device old.contents old.is_faulted → AreGroupsOf w.calls old.link.waiting.items w.link.waiting
@@ -355,15 +392,22 @@ pub commit-does : (old : Pair) (committing : Committing) (device : State) (conte
     → IfOk result (λ did. did ≡ false → device ≡ old.device) → OnOk result (device.failures ≡ old.device.failures)
     → ((holder : Holder) (w : World) → Sound w → CommittingStands w.calls old.committing w.committer
     → EngineStands holder w.calls w.committer.position old.device old.contents old.is_faulted → NearOnly holder w.calls w.committer.position old.device device)
+    → IfErr result (λ refusal. (holder : Holder) (w : World) → Sound w → CommittingStands w.calls old.committing w.committer
+    → EngineStands holder w.calls w.committer.position old.device old.contents old.is_faulted → AreGroupsOf w.calls old.link.waiting.items w.link.waiting
+    → (is_enabled w events.Commit ≡ true) × EndsBy refusal events.Commit (λ last _. last holder w.calls w.committer.position old.device device))
     → Does old events.Commit result (with_engine committing device contents is_faulted old)
-commit-does old committing device contents is_faulted (Err refusal) go leads still failures only =
+commit-does old committing device contents is_faulted (Err refusal) go leads still failures only cuts =
     record {
       steps = tt;
       cut = λ first second w stands.
-          cut-near first second old (with_engine committing device contents is_faulted old) w stands (tells old.sessions)
-          (only first w stands.sound stands.parts.committing stands.parts.engine) (still-standby first second old w stands);
+          let new = with_engine committing device contents is_faulted old in
+          let cut = cuts first w stands.sound stands.parts.committing stands.parts.engine stands.parts.link.waiting in
+          cut-for first second events.Commit refusal old new w stands (tells old.sessions) cut.0
+          (ends-commit refusal (λ last _. last first w.calls w.committer.position old.device device) (Led first second old new w)
+          (λ last broken. (broken, rests-standby first second old w stands)) cut.1);
+      calls = none-added _ _ refl;
     }
-commit-does old committing device contents is_faulted (Ok did) go leads still failures only =
+commit-does old committing device contents is_faulted (Ok did) go leads still failures only cuts =
     record {
       steps = λ first second w stands.
           let parts = stands.parts in
@@ -373,6 +417,7 @@ commit-does old committing device contents is_faulted (Ok did) go leads still fa
           (λ moved. committed-parts first second w (committed_first w.committer.waiting w.committer) parts moved.0 moved.1 (same_closed w.committer.waiting w))
           (λ stayed. committed-parts first second w w.committer parts stayed.0 stayed.1 refl));
       cut = tt;
+      calls = none-added _ _ refl;
     }
   where
     same_closed : (groups : List Span) (w : World) → (committed_first groups w.committer).closed ≡ w.committer.closed
@@ -426,6 +471,7 @@ raise-does old committing did go waiting =
           (λ moved. shown-parts first second old committing w (raised_local w.committer) parts waiting moved refl refl)
           (λ stayed. shown-parts first second old committing w w.committer parts waiting stayed refl refl));
       cut = tt;
+      calls = none-added _ _ refl;
     }
 
 -- ---- the link
@@ -472,6 +518,7 @@ hand-does old committing waiting did go same =
             standby = parts.standby;
           }));
       cut = tt;
+      calls = none-added _ _ refl;
     }
   where
     waits : (link : MachineLink) (w : World) → LinkStands w.calls old.link w.link → record w.link { waiting = link.waiting } ≡ link → AreGroupsOf w.calls waiting.items link.waiting
@@ -515,21 +562,30 @@ abbrev pub LinkGoes : Event → (World → MachineLink) → Bool → Link → Li
 LinkGoes event change did old new =
     (w : World) → Sound w → LinkStands w.calls old w.link → Goes (is_enabled w event) did (LinkStands w.calls new (change w)) (LinkStands w.calls new w.link)
 
-pub link-does : (event : Event) (change : World → MachineLink) → ((w : World) → Happens w event (with_link (change w) w)) → (old : Pair) (link : Link) (result : Result Bool Refusal)
-    → IfOk result (λ did. LinkGoes event change did old.link link) → OnOk result (KeepsFrames old.link link) → Does old event result (with_frames link old)
-link-does event change happens old link (Ok did) go keeps =
-    record {
-      steps = λ first second w stands.
-          goes-steps first second w (with_link (change w) w) event did old (with_frames link old) refl refl stands.sound (happens w)
-          (goes-map (go w stands.sound stands.parts.link)
-          (link-parts first second old link w (change w) stands.parts keeps)
-          (link-parts first second old link w w.link stands.parts keeps));
-      cut = tt;
-    }
-link-does event change happens old link (Err refusal) go keeps =
+link-steps : (event : Event) (change : World → MachineLink) → ((w : World) → Happens w event (with_link (change w) w)) → (old : Pair) (link : Link) (did : Bool)
+    → LinkGoes event change did old.link link → KeepsFrames old.link link
+    → (first second : Holder) (w : World) → PairStands first second old w → Steps first second w event did old (with_frames link old)
+link-steps event change happens old link did go keeps first second w stands =
+    goes-steps first second w (with_link (change w) w) event did old (with_frames link old) refl refl stands.sound (happens w)
+    (goes-map (go w stands.sound stands.parts.link)
+    (link-parts first second old link w (change w) stands.parts keeps)
+    (link-parts first second old link w w.link stands.parts keeps))
+
+pub link-does : (event : Event) (change : World → MachineLink) → ((w : World) → Happens w event (with_link (change w) w)) → (old : Pair) (link : Link) (did : Bool)
+    → LinkGoes event change did old.link link → KeepsFrames old.link link → Does old event (Ok did) (with_frames link old)
+link-does event change happens old link did go keeps =
+    record { steps = link-steps event change happens old link did go keeps; cut = tt; calls = none-added _ _ refl }
+
+pub send-does : (old : Pair) (link : Link) (result : Result Bool Refusal) → IfOk result (λ did. LinkGoes events.Send (λ w. sent_next w.link.again w.link) did old.link link)
+    → OnOk result (KeepsFrames old.link link) → IfErr result (λ refusal. refusal ≡ Memory)
+    → OnErr result ((w : World) → LinkStands w.calls old.link w.link → is_enabled w events.Send ≡ true) → Does old events.Send result (with_frames link old)
+send-does old link (Ok did) go keeps memory enabled = link-does events.Send (λ w. sent_next w.link.again w.link) (λ w. refl) old link did go keeps
+send-does old link (Err refusal) go keeps memory enabled =
     record {
       steps = tt;
-      cut = λ first second w stands. cut-same first second old (with_frames link old) w refl refl (tells old.sessions) stands;
+      cut = λ first second w stands.
+          cut-same first second events.Send refusal old (with_frames link old) w refl memory refl refl (tells old.sessions) (enabled w stands.parts.link) stands;
+      calls = none-added _ _ refl;
     }
 
 -- ---- the standby
@@ -572,14 +628,17 @@ open-does old arrivals link ack position acknowledges opens keeps =
           goes-steps first second w (with_link (opened_link w.link) (with_standby (acknowledged w.standby) w)) events.OpenLink true old (with_opened arrivals link old) refl refl stands.sound refl
           (record { done = refl; goes = λ did. moved; stays = λ did. absurd (true≢false did) });
       cut = tt;
+      calls = none-added _ _ refl;
     }
 
-pub open-cut : (old : Pair) (arrivals : Arrivals) (result : Result Bool Refusal) → IsErr result → Does old events.OpenLink result (with_arrivals arrivals old)
-open-cut old arrivals (Ok did) is = absurd (true≢false (sym is))
-open-cut old arrivals (Err refusal) is =
+pub open-cut : (old : Pair) (arrivals : Arrivals) (result : Result Bool Refusal) → IsErr result → IfErr result (λ refusal. refusal ≡ Memory)
+    → Does old events.OpenLink result (with_arrivals arrivals old)
+open-cut old arrivals (Ok did) is memory = absurd (true≢false (sym is))
+open-cut old arrivals (Err refusal) is memory =
     record {
       steps = tt;
-      cut = λ first second w stands. cut-same first second old (with_arrivals arrivals old) w refl refl (tells old.sessions) stands;
+      cut = λ first second w stands. cut-same first second events.OpenLink refusal old (with_arrivals arrivals old) w refl memory refl refl (tells old.sessions) refl stands;
+      calls = none-added _ _ refl;
     }
 
 pub deliver-does : (old : Pair) (arrivals : Arrivals) (sent : List ℕ) (frame : ℕ) (result : Result Bool Refusal) → sent ≡ old.link.sent.items
@@ -588,8 +647,8 @@ pub deliver-does : (old : Pair) (arrivals : Arrivals) (sent : List ℕ) (frame :
     → Goes (is_enabled w (events.Deliver frame)) did
     (ArrivalsStand epoch w.calls frames arrivals (delivered (option_items (slice_get w.link.frames frame)) w.standby))
     (ArrivalsStand epoch w.calls frames arrivals w.standby))
-    → Does old (events.Deliver frame) result (with_arrivals arrivals old)
-deliver-does old arrivals sent frame (Ok did) same go =
+    → IfErr result (λ refusal. refusal ≡ Memory) → OnErr result (frame < length sent) → Does old (events.Deliver frame) result (with_arrivals arrivals old)
+deliver-does old arrivals sent frame (Ok did) same go memory some =
     record {
       steps = λ first second w stands.
           let parts = stands.parts in
@@ -600,11 +659,16 @@ deliver-does old arrivals sent frame (Ok did) same go =
           (arrivals-parts first second old arrivals w came parts refl)
           (arrivals-parts first second old arrivals w w.standby parts refl));
       cut = tt;
+      calls = none-added _ _ refl;
     }
-deliver-does old arrivals sent frame (Err refusal) same go =
+deliver-does old arrivals sent frame (Err refusal) same go memory some =
     record {
       steps = tt;
-      cut = λ first second w stands. cut-same first second old (with_arrivals arrivals old) w refl refl (tells old.sessions) stands;
+      cut = λ first second w stands.
+          let link = stands.parts.link in
+          let is : frame < length w.link.frames = omega (arith, some, ap length same, length-places old.link.epoch w.calls old.link.frames.items old.link.sent.items w.link.frames link.sent) in
+          cut-same first second (events.Deliver frame) refusal old (with_arrivals arrivals old) w refl memory refl refl (tells old.sessions) (lt-ltb frame (length w.link.frames) is) stands;
+      calls = none-added _ _ refl;
     }
 
 abbrev pub with_node : Arrivals → Node → Pair → Pair
@@ -661,14 +725,24 @@ apply-steps first second old arrivals node w false stands applies =
       moves = untouched first second old (with_node arrivals node old) w w refl (ap (λ (n : Node). n.device) stayed.1) parts;
     }
 
+-- what ended an application is of the standby's device
+ends-apply : (refusal : Refusal) (P Q : Stretch → Stretch → Type 0) → ((last : Stretch) → P Rests last → Q Rests last) → EndsBy refusal events.Apply P → EndsBy refusal events.Apply Q
+ends-apply Memory P Q both ends = (ends.0, both Rests ends.1)
+ends-apply Fault P Q both ends = both Breaks ends
+ends-apply Exhausted P Q both ends = both RestsAtLimit ends
+ends-apply refusal P Q both ends = absurd ends
+
 pub apply-does : (old : Pair) (arrivals : Arrivals) (node : Node) (frames : List Frame) (result : Result Bool Refusal) → frames ≡ old.link.frames.items
     → IfOk result (λ did. (holder : Holder) (w : World) → Sound w → ArrivalsStand old.standby.epoch w.calls frames old.arrivals w.standby
     → StandbyStands holder old.standby.epoch w.calls w.standby.position old.standby
     → AppliesFirst holder old.standby.epoch frames w did arrivals old.standby node)
     → ((holder : Holder) (w : World) → Sound w → ArrivalsStand old.standby.epoch w.calls frames old.arrivals w.standby
     → StandbyStands holder old.standby.epoch w.calls w.standby.position old.standby → NearOnly holder w.calls w.standby.position old.standby.device node.device)
+    → IfErr result (λ refusal. (holder : Holder) (w : World) → Sound w → ArrivalsStand old.standby.epoch w.calls frames old.arrivals w.standby
+    → StandbyStands holder old.standby.epoch w.calls w.standby.position old.standby
+    → (is_enabled w events.Apply ≡ true) × EndsBy refusal events.Apply (λ _ last. last holder w.calls w.standby.position old.standby.device node.device))
     → Does old events.Apply result (with_node arrivals node old)
-apply-does old arrivals node frames result same applies only = go result applies
+apply-does old arrivals node frames result same applies only cuts = go result applies cuts
   where
     arrive : (first second : Holder) (w : World) → PairStands first second old w → ArrivalsStand old.standby.epoch w.calls frames old.arrivals w.standby
     arrive first second w stands =
@@ -679,15 +753,15 @@ apply-does old arrivals node frames result same applies only = go result applies
     stand first second w stands =
         subst (λ e. StandbyStands second e w.calls w.standby.position old.standby) (sym stands.parts.standby.epoch_is) stands.parts.standby
 
-    applied-only : (first second : Holder) (w : World) → PairStands first second old w → NearOnly second w.calls w.standby.position old.standby.device node.device
-    applied-only first second w stands = only second w stands.sound (arrive first second w stands) (stand first second w stands)
-
     go : (result : Result Bool Refusal)
         → IfOk result (λ did. (holder : Holder) (w : World) → Sound w → ArrivalsStand old.standby.epoch w.calls frames old.arrivals w.standby
         → StandbyStands holder old.standby.epoch w.calls w.standby.position old.standby
         → AppliesFirst holder old.standby.epoch frames w did arrivals old.standby node)
+        → IfErr result (λ refusal. (holder : Holder) (w : World) → Sound w → ArrivalsStand old.standby.epoch w.calls frames old.arrivals w.standby
+        → StandbyStands holder old.standby.epoch w.calls w.standby.position old.standby
+        → (is_enabled w events.Apply ≡ true) × EndsBy refusal events.Apply (λ _ last. last holder w.calls w.standby.position old.standby.device node.device))
         → Does old events.Apply result (with_node arrivals node old)
-    go (Ok did) applies =
+    go (Ok did) applies cuts =
         record {
           steps = λ first second w stands.
               let applied = applies second w stands.sound (arrive first second w stands) (stand first second w stands) in
@@ -695,12 +769,18 @@ apply-does old arrivals node frames result same applies only = go result applies
               (subst (λ (all : List Frame). AppliesFirst second old.link.epoch all w did arrivals old.standby node) same
               (subst (λ e. AppliesFirst second e frames w did arrivals old.standby node) stands.parts.standby.epoch_is applied));
           cut = tt;
+          calls = none-added _ _ refl;
         }
-    go (Err refusal) applies =
+    go (Err refusal) applies cuts =
         record {
           steps = tt;
           cut = λ first second w stands.
-              cut-near first second old (with_node arrivals node old) w stands (tells old.sessions) (still-primary first second old w stands) (applied-only first second w stands);
+              let new = with_node arrivals node old in
+              let cut = cuts second w stands.sound (arrive first second w stands) (stand first second w stands) in
+              cut-for first second events.Apply refusal old new w stands (tells old.sessions) cut.0
+              (ends-apply refusal (λ _ last. last second w.calls w.standby.position old.standby.device node.device) (Led first second old new w)
+              (λ last broken. (rests-primary first second old w stands, broken)) cut.1);
+          calls = none-added _ _ refl;
         }
 
 -- ---- acknowledgements
@@ -728,6 +808,7 @@ ack-does old n ack link stands_there knows keeps =
             stays = λ did. absurd (true≢false did);
           });
       cut = tt;
+      calls = none-added _ _ refl;
     }
 
 pub no-ack-does : (old : Pair) (n : ℕ) → length old.arrivals.acknowledgements.items ≤ n → Does old (events.AckDelivered n) (Ok false) old
@@ -745,4 +826,5 @@ no-ack-does old n past =
             moves = untouched first second old old w w refl refl stands.parts;
           };
       cut = tt;
+      calls = none-added _ _ refl;
     }

@@ -1,7 +1,8 @@
 -- A run goes on from event to event, and what is told of it at its end.
-use Rattle.std.proofs.Common.{◌≡◌, ◌⊎◌, ℕ, ◌+◌, ◌≤◌, Bool, List, [], ◌∷◌, ◌++◌, length, take, slice_index_or, Option, Some, None, refl, sym, ap, subst, ◌∙◌, arith, le_refl, append_assoc, inl, inr}
+use Rattle.std.proofs.Common.{◌≡◌, ◌⊎◌, ℕ, ◌+◌, ◌≤◌, Bool, List, [], ◌∷◌, ◌++◌, length, take, true, slice_get, slice_index_or, Option, Some, None, refl, sym, ap, subst, ◌∙◌, arith, le_refl, append_assoc, inl, inr}
 use Rattle.pmem.specs.Device.{State}
 use Rattle.kv_types.specs.declared.refusal.Refusal.{Refusal}
+use Rattle.kv_types.specs.declared.refusal.Refusal.TheVariants.{Memory, Fault, Exhausted}
 use Rattle.pmem.proofs.Leaving.{none_leaves, LeavesOnly-then, LeavesOnly-weaken}
 use Rattle.model.specs.declared.call.Call.{Call}
 use Rattle.model.specs.declared.record.Role.TheVariants.{Primary, Standby}
@@ -10,6 +11,7 @@ use Rattle.model.specs.Images.{Image}
 use Rattle.model.specs.Standing.{Holder, new_holder, StandsAt}
 use Rattle.model.proofs.StandingLemmas.{StandsAt-append}
 use Rattle.machine.specs.declared.event.Event.{Event}
+use Rattle.machine.specs.declared.event.Event.TheVariants.{Commit, Apply}
 use Rattle.machine.specs.declared.event.TheConstants.{SEATS}
 use Rattle.machine.specs.Events.{Run, World, start, last_world}
 use Rattle.machine.specs.Laws.{Grows}
@@ -19,13 +21,14 @@ use Rattle.machine.proofs.GrowLemmas.{grows-step, grows-from}
 use Rattle.machine.proofs.PromiseLemmas.{promised-told, released-covered}
 use Rattle.machine.proofs.RunLemmas.{run-push, last_world-push, some-last, sound-start, sound-run}
 use Rattle.machine.proofs.SoundEvents.{sound-step}
-use Rattle.world.specs.Committings.{Stands, StandsAtOrNext, NearOnly, FromOnly, Moves, Rests, FormattingOnly}
+use Rattle.world.specs.Causes.{Stretch, UnformedBy, Breaks, RestsAtLimit, EndsBy}
+use Rattle.world.specs.Committings.{StandsAtOrNext, NearOnly, FromOnly, Moves, Rests, FormattingOnly}
 use Rattle.world.specs.declared.trace.Ended.{Ended}
 use Rattle.world.specs.declared.trace.Ended.TheVariants.{AtFormatting, AtEvent}
-use Rattle.world.specs.Headline.{Stretch, primary_position, standby_position, KeepsReleased, AreMoments, IsKept, IsPlayed, KeepsItsWord, PlaysOn, AreMoves, Reaches, StandsAfter, IsCutAfter, Plays}
+use Rattle.world.specs.Headline.{AnyWorld, Enables, primary_position, standby_position, KeepsReleased, AreMoments, IsKept, IsPlayed, KeepsItsWord, PlaysOn, AreMoves, Reaches, StandsAfter, IsCutAfter, Plays}
 use Rattle.world.specs.Pairs.{Pair, PairStands, HasWorld, IsCut, Steps}
 use Rattle.world.specs.Sessions.{released_of}
-use Rattle.world.proofs.EngineLemmas.{Stands-engine}
+use Rattle.world.proofs.EngineLemmas.{Stands-engine, rests-same}
 use Rattle.world.proofs.PairLemmas.{primary-within, standby-within}
 use Rattle.world.proofs.SessionLemmas.{length-connections, released-told}
 
@@ -65,10 +68,10 @@ reaches-next first second began events done done' pair pair' event did more step
       stands = subst (PairStands first second pair') (sym (last_world-push start reaches.worlds next.world)) next.stands;
     }
 
-pub reaches-cut : (first second : Holder) (began : Pair) (events : List Event) (done : List Bool) (pair pair' : Pair)
-    → ((first second : Holder) (w : World) → PairStands first second pair w → IsCut first second pair pair' w)
-    → StandsAfter first second began events done pair → IsCutAfter first second began events done pair'
-reaches-cut first second began events done pair pair' cuts after =
+pub reaches-cut : (first second : Holder) (began : Pair) (events : List Event) (event : Event) (refusal : Refusal) (done : List Bool) (pair pair' : Pair)
+    → ((first second : Holder) (w : World) → PairStands first second pair w → IsCut first second event refusal pair pair' w)
+    → StandsAfter first second began events done pair → IsCutAfter first second began events event refusal done pair'
+reaches-cut first second began events event refusal done pair pair' cuts after =
     record { before = pair; reaches = after.reaches; cut = cuts first second (last_world start after.reaches.worlds) after.stands }
 
 -- ---- the connections are few
@@ -79,7 +82,7 @@ few-played first second began events None done pair plays =
     let w = last_world start plays.reaches.worlds in
     omega (arith, plays.stands.sound.seats, length-connections w.calls 0 pair.sessions.connections.items w.connections plays.stands.parts.sessions.connections_stand)
 few-played first second began events (Some (AtFormatting refusal)) done pair plays = absurd plays
-few-played first second began events (Some (AtEvent place refusal)) done pair plays = plays.1.cut.few
+few-played first second began events (Some (AtEvent place refusal)) done pair plays = plays.2.cut.few
 
 -- ---- the position of a node
 
@@ -192,15 +195,16 @@ promised-by events done worlds calls released primary standby run tells =
       refl,
     )
 
-kept : (first_last second_last : Stretch) (first second : Holder) (began : Pair) (events : List Event) (done : List Bool) (calls : List Call) (released : List (List ℕ)) (primary standby primary' standby' : State)
+kept : (Last : World → Type 0) (first_last second_last : Stretch) (first second : Holder) (began : Pair) (events : List Event) (done : List Bool) (calls : List Call) (released : List (List ℕ)) (primary standby primary' standby' : State)
     → ((p : ℕ) (old new : State) → first_last first calls p old new → FromOnly first calls p old new)
     → ((p : ℕ) (old new : State) → second_last second calls p old new → FromOnly second calls p old new)
     → (reaches : Reaches first second began events done primary standby)
     → Tells (last_world start reaches.worlds) calls (λ c. slice_index_or released c []) (primary_position (last_world start reaches.worlds)) (standby_position (last_world start reaches.worlds))
+    → Last (last_world start reaches.worlds)
     → first_last first calls (primary_position (last_world start reaches.worlds)) primary primary'
     → second_last second calls (standby_position (last_world start reaches.worlds)) standby standby'
-    → IsKept first_last second_last first second events done calls released began.device began.standby.device primary' standby'
-kept first_last second_last first second began events done calls released primary standby primary' standby' first_from second_from reaches tells primary_ends standby_ends =
+    → IsKept Last first_last second_last first second events done calls released began.device began.standby.device primary' standby'
+kept Last first_last second_last first second began events done calls released primary standby primary' standby' first_from second_from reaches tells last primary_ends standby_ends =
     let w = last_world start reaches.worlds in
     let promised = promised-by events done reaches.worlds calls (λ c. slice_index_or released c []) (primary_position w) (standby_position w) reaches.run tells in
     let primary_moments = moments-from first_last primary_position first calls of_primary first_from start events done reaches.worlds began.device primary primary' reaches.run sound-start (sym tells.list)
@@ -211,22 +215,19 @@ kept first_last second_last first second began events done calls released primar
       primary_at = primary_position w;
       standby_at = standby_position w;
       promised = promised.0;
+      last = subst (λ (worlds : List World). Last (last_world start worlds)) (sym promised.1) last;
       primary_moments = subst (λ (worlds : List World). AreMoments first_last primary_position first calls start worlds began.device primary') (sym promised.1) primary_moments.moments;
       standby_moments = subst (λ (worlds : List World). AreMoments second_last standby_position second calls start worlds began.standby.device standby') (sym promised.1) standby_moments.moments;
     }
 
--- nothing happened since the last event
-rests-now : (holder : Holder) (calls : List Call) (p : ℕ) (device : State) → Stands holder calls p device → Rests holder calls p device device
-rests-now holder calls p device stands = record { leaves = none_leaves device (StandsAt holder calls p) stands; failures = refl }
-
 played-whole : (first second : Holder) (began : Pair) (events : List Event) (done : List Bool) (pair : Pair) (released : List (List ℕ)) → released ≡ released_of pair.sessions.connections.items
     → StandsAfter first second began events done pair
-    → IsKept Rests Rests first second events done pair.sessions.calls.items released began.device began.standby.device pair.device pair.standby.device
+    → IsKept AnyWorld Rests Rests first second events done pair.sessions.calls.items released began.device began.standby.device pair.device pair.standby.device
 played-whole first second began events done pair released same after =
     let w = last_world start after.reaches.worlds in
     let parts = after.stands.parts in
     let told = parts.sessions.calls_are in
-    kept Rests Rests first second began events done pair.sessions.calls.items released pair.device pair.standby.device pair.device pair.standby.device
+    kept AnyWorld Rests Rests first second began events done pair.sessions.calls.items released pair.device pair.standby.device pair.device pair.standby.device
     (rests-from first pair.sessions.calls.items) (rests-from second pair.sessions.calls.items) after.reaches
     (record {
       list = told;
@@ -234,27 +235,55 @@ played-whole first second began events done pair released same after =
       primary_position = refl;
       standby_position = refl;
     })
-    (subst (λ (calls : List Call). Rests first calls w.committer.position pair.device pair.device) (sym told) (rests-now first w.calls w.committer.position pair.device (Stands-engine _ _ _ _ _ _ parts.engine)))
+    tt
+    (subst (λ (calls : List Call). Rests first calls w.committer.position pair.device pair.device) (sym told)
+    (rests-same first w.calls w.committer.position pair.device pair.device refl (Stands-engine _ _ _ _ _ _ parts.engine)))
     (subst (λ (calls : List Call). Rests second calls w.standby.position pair.standby.device pair.standby.device) (sym told)
-    (rests-now second w.calls w.standby.position pair.standby.device (Stands-engine _ _ _ _ _ _ parts.standby.engine)))
+    (rests-same second w.calls w.standby.position pair.standby.device pair.standby.device refl (Stands-engine _ _ _ _ _ _ parts.standby.engine)))
 
-played-cut : (first second : Holder) (began : Pair) (events : List Event) (done : List Bool) (pair : Pair) (released : List (List ℕ)) → released ≡ released_of pair.sessions.connections.items
-    → IsCutAfter first second began events done pair
-    → IsKept NearOnly NearOnly first second events done pair.sessions.calls.items released began.device began.standby.device pair.device pair.standby.device
-played-cut first second began events done pair released same after =
+-- ---- a run that ended in an event
+
+-- no crash of a last stretch leaves an image below the position
+abbrev IsLast : Stretch → Type 0
+IsLast last = (holder : Holder) (calls : List Call) (p : ℕ) (old new : State) → last holder calls p old new → FromOnly holder calls p old new
+
+breaks-from : IsLast Breaks
+breaks-from holder calls p old new breaks = near-from holder calls p old new breaks.leaves
+
+limit-from : IsLast RestsAtLimit
+limit-from holder calls p old new rests = rests-from holder calls p old new rests.rests
+
+pub ends-as : (refusal : Refusal) (event : Event) (P Q : Stretch → Stretch → Type 0) → ((first_last second_last : Stretch) → IsLast first_last → IsLast second_last → P first_last second_last → Q first_last second_last)
+    → EndsBy refusal event P → EndsBy refusal event Q
+ends-as Memory event P Q so ends = (ends.0, so Rests Rests rests-from rests-from ends.1)
+ends-as Fault Commit P Q so ends = so Breaks Rests breaks-from rests-from ends
+ends-as Fault Apply P Q so ends = so Rests Breaks rests-from breaks-from ends
+ends-as Exhausted Commit P Q so ends = so RestsAtLimit Rests limit-from rests-from ends
+ends-as Exhausted Apply P Q so ends = so Rests RestsAtLimit rests-from limit-from ends
+ends-as refusal event P Q so ends = absurd ends
+
+played-cut : (first second : Holder) (began : Pair) (events : List Event) (event : Event) (refusal : Refusal) (done : List Bool) (pair : Pair) (released : List (List ℕ))
+    → released ≡ released_of pair.sessions.connections.items → IsCutAfter first second began events event refusal done pair
+    → EndsBy refusal event (λ first_last second_last.
+    IsKept (Enables event) first_last second_last first second events done pair.sessions.calls.items released began.device began.standby.device pair.device pair.standby.device)
+played-cut first second began events event refusal done pair released same after =
     let w = last_world start after.reaches.worlds in
     let before = after.before in
     let cut = after.cut in
-    kept NearOnly NearOnly first second began events done pair.sessions.calls.items released before.device before.standby.device pair.device pair.standby.device
-    (near-from first pair.sessions.calls.items) (near-from second pair.sessions.calls.items) after.reaches
+    ends-as refusal event _ _
+    (λ first_last second_last first_from second_from led.
+    kept (Enables event) first_last second_last first second began events done pair.sessions.calls.items released before.device before.standby.device pair.device pair.standby.device
+    (first_from first pair.sessions.calls.items) (second_from second pair.sessions.calls.items) after.reaches
     (record {
       list = cut.calls;
       bytes = λ c. ap (λ (all : List (List ℕ)). slice_index_or all c []) same ∙ cut.released c;
       primary_position = refl;
       standby_position = refl;
     })
-    (subst (λ (calls : List Call). NearOnly first calls w.committer.position before.device pair.device) (sym cut.calls) cut.primary)
-    (subst (λ (calls : List Call). NearOnly second calls w.standby.position before.standby.device pair.standby.device) (sym cut.calls) cut.standby)
+    cut.enabled
+    (subst (λ (calls : List Call). first_last first calls w.committer.position before.device pair.device) (sym cut.calls) led.0)
+    (subst (λ (calls : List Call). second_last second calls w.standby.position before.standby.device pair.standby.device) (sym cut.calls) led.1))
+    cut.cause
 
 pub plays-on : (first second : Holder) (began : Pair) (events : List Event) (ended : Option Ended) (done : List Bool) (pair : Pair) (released : List (List ℕ)) (primary standby : State)
     → released ≡ released_of pair.sessions.connections.items → primary ≡ pair.device → standby ≡ pair.standby.device → Plays first second began events ended done pair
@@ -267,7 +296,7 @@ plays-on first second began events ended done pair released primary standby same
         → PlaysOn first second events ended done pair.sessions.calls.items released began.device began.standby.device pair.device pair.standby.device
     go None plays = played-whole first second began events done pair released same plays
     go (Some (AtFormatting refusal)) plays = absurd plays
-    go (Some (AtEvent place refusal)) plays = (plays.0, played-cut first second began (take place events) done pair released same plays.1)
+    go (Some (AtEvent place refusal)) plays = (plays.0, plays.1, played-cut first second began (take place events) plays.0 refusal done pair released same plays.2)
 
 -- ---- behind the formatting
 
@@ -278,12 +307,19 @@ keeps-played events None done calls released primary standby formatted formatted
     record { primary_formatted = formatted; standby_formatted = formatted'; primary_formatting = formatting; standby_formatting = formatting'; kept = plays }
 keeps-played events (Some (AtFormatting refusal)) done calls released primary standby formatted formatted' primary' standby' formatting formatting' plays = absurd plays
 keeps-played events (Some (AtEvent place refusal)) done calls released primary standby formatted formatted' primary' standby' formatting formatting' plays =
-    (plays.0, record { primary_formatted = formatted; standby_formatted = formatted'; primary_formatting = formatting; standby_formatting = formatting'; kept = plays.1 })
+    (
+      plays.0,
+      plays.1,
+      ends-as refusal plays.0 _ _
+          (λ first_last second_last first_from second_from played.
+          record { primary_formatted = formatted; standby_formatted = formatted'; primary_formatting = formatting; standby_formatting = formatting'; kept = played })
+          plays.2,
+    )
 
 -- a run that ended before the first event
 pub keeps-unplayed : (events : List Event) (ended : Option Ended) (refusal : Refusal) (done : List Bool) (calls : List Call) (released : List (List ℕ)) (primary standby primary' standby' : State)
     → ended ≡ Some (AtFormatting refusal) → done ≡ [] → calls ≡ [] → released ≡ [] → FormattingOnly Primary primary primary' → FormattingOnly Standby standby standby'
-    → KeepsItsWord events ended done calls released primary standby primary' standby'
-keeps-unplayed events ended refusal done calls released primary standby primary' standby' is done_none calls_none released_none formatting formatting' =
+    → UnformedBy refusal primary standby primary' standby' → KeepsItsWord events ended done calls released primary standby primary' standby'
+keeps-unplayed events ended refusal done calls released primary standby primary' standby' is done_none calls_none released_none formatting formatting' cause =
     subst (λ (how : Option Ended). KeepsItsWord events how done calls released primary standby primary' standby') (sym is)
-    (record { done_none = done_none; calls_none = calls_none; released_none = released_none; primary_formatting = formatting; standby_formatting = formatting' })
+    (record { done_none = done_none; calls_none = calls_none; released_none = released_none; primary_formatting = formatting; standby_formatting = formatting'; cause = cause })

@@ -216,12 +216,18 @@ closes-nothing w code s moved stands sequencer never = record {
   stays = λ did. (stands, sequencer);
 }
 
+-- changes that wait may be closed, where there is room for their group
+pub may-close : (w : World) (code : Committing) (s : Sequencing) → CommittingStands w.calls code w.committer → SequencerStands w.calls w.committer.closed s
+    → s.waiting ≢ [] → length code.waiting.items < PIPE_ITEMS → is_enabled w CloseGroup ≡ true
+may-close w code s stands sequencer some room =
+    and_from (nat_lt 0 (open_changes w)) (has_room w.committer.waiting) (lt-ltb 0 (open_changes w) (omega (arith, some-parts s.waiting some, sequencer.count)))
+    (lt-ltb (length w.committer.waiting) PIPE_ITEMS (omega (arith, room, length-groups w.calls code.waiting.items w.committer.waiting stands.groups)))
+
 pub closes-one : (w : World) (old new : Committing) (s s' : Sequencing) (group : Group) (stayed : Type 0) → CommittingStands w.calls old w.committer → SequencerStands w.calls w.committer.closed s
     → s.waiting ≢ [] → length old.waiting.items < PIPE_ITEMS → HandsOut s group s' → new.waiting.items ≡ old.waiting.items ++ group ∷ [] → new.stage ≡ old.stage → new.local ≡ old.local
     → Goes (is_enabled w CloseGroup) true (CommittingStands w.calls new (closed_group w.committer) × SequencerStands w.calls (closed_group w.committer).closed s') stayed
 closes-one w old new s s' group stayed stands sequencer some room hands pushed stage_same local_same = record {
-  done = sym (and_from (nat_lt 0 (open_changes w)) (has_room w.committer.waiting) (lt-ltb 0 (open_changes w) (omega (arith, some-parts s.waiting some, sequencer.count)))
-      (lt-ltb (length w.committer.waiting) PIPE_ITEMS (omega (arith, room, length-groups w.calls old.waiting.items w.committer.waiting stands.groups))));
+  done = sym (may-close w old s stands sequencer some room);
   goes = λ did. (
     record {
       groups = subst (λ (groups : List Group). AreGroupsOf w.calls groups (closed_group w.committer).waiting) (sym pushed)

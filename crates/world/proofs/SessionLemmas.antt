@@ -169,6 +169,15 @@ outbound-goes test did w sessions c connection new change within is stand went =
       stays = λ not_did. record { seat = stands.seat; inbound = stands.inbound; outbound = goes.stays not_did };
     })
 
+-- the event is enabled: there is such a connection, and so is the rest of the test
+pub enabled-at : (test : Bool → Bool) (w : World) (sessions : Sessions) (c : ℕ) (old : Connection) → c < length sessions.connections.items → old ≡ slice_index_or sessions.connections.items c old
+    → SessionsStand sessions w.connections w.calls → (ConnectionStands w.calls c old (get_connection w.connections c) → test true ≡ true) → test (is_open w c) ≡ true
+enabled-at test w sessions c old within is stand rest =
+    let all : ConnectionsStand w.calls 0 sessions.connections.items w.connections = stand.connections_stand in
+    let is_there : is_open w c ≡ true = lt-ltb c (length w.connections) (omega (arith, within, length-connections w.calls 0 sessions.connections.items w.connections all)) in
+    ap test is_there
+    ∙ rest (subst (λ code. ConnectionStands w.calls c code (get_connection w.connections c)) (sym is) (ConnectionStands-at w.calls 0 c c sessions.connections.items w.connections old (omega arith) within all))
+
 -- there is no such connection, so that the event is not enabled
 pub none-goes : (test : Bool → Bool) (w : World) (sessions : Sessions) (c : ℕ) {Moved : Type 0} → length sessions.connections.items ≤ c → test false ≡ false → SessionsStand sessions w.connections w.calls
     → Goes (test (is_open w c)) false Moved (SessionsStand sessions w.connections w.calls)
@@ -236,6 +245,14 @@ ConnectionsStand-push calls n seat (other ∷ codes) [] code machine is stand st
 ConnectionsStand-push calls n seat (first ∷ codes) (other ∷ machines) code machine is stand stands =
     (stand.0, ConnectionsStand-push calls (suc n) seat codes machines code machine (omega arith) stand.1 stands)
 
+-- where a seat was free, a connection may enter
+pub may-enter : (w : World) (old : Sessions) (after : Book) (seat : ℕ) → SessionsStand old w.connections w.calls → Moves old.lobby seat free taken after
+    → ((lower : ℕ) → lower < seat → slice_get old.lobby.statuses lower ≡ Some taken) → nat_lt (length w.connections) SEATS ≡ true
+may-enter w old after seat stand moves lowest =
+    let within : seat < MAX_SEATS = omega (arith, slice_get_within old.lobby.statuses seat free moves.was, old.lobby.complete) in
+    let own : seat ≡ length w.connections = lowest-seat old.lobby.statuses (length w.connections) seat stand.seats moves.was within lowest in
+    lt-ltb (length w.connections) SEATS (omega arith)
+
 -- it took the lowest free seat
 pub seated-goes : (w : World) (old new : Sessions) (seat : ℕ) (inbound : Inbound) (outbound : Outbound) {Stayed : Type 0} → SessionsStand old w.connections w.calls
     → Moves old.lobby seat free taken new.lobby → ((lower : ℕ) → lower < seat → slice_get old.lobby.statuses lower ≡ Some taken)
@@ -293,3 +310,7 @@ tells-the-same sessions c old new is same = record {
 pub on_err_from : {T E P : Type 0} (r : Result T E) → P → OnErr r P
 on_err_from (Ok value) p = tt
 on_err_from (Err e) p = p
+
+pub on_err_both : {T E P Q R : Type 0} (r : Result T E) → (P → Q → R) → OnErr r P → OnErr r Q → OnErr r R
+on_err_both (Ok value) both p q = tt
+on_err_both (Err e) both p q = both p q

@@ -4,9 +4,12 @@ use Rattle.std.proofs.lemmas.Bool.{cases_lt, cases_eq}
 use Rattle.kv_types.specs.declared.refusal.Refusal.{Refusal}
 use Rattle.kv_types.specs.declared.refusal.Refusal.TheVariants.{WrongEpoch, PositionGap, Full, Memory, Fault, Exhausted}
 use Rattle.kv_types.specs.Keyspaces.{play_all}
+use Rattle.pmem.specs.Device.{State}
+use Rattle.pmem.specs.Crash.{IsImage}
 use Rattle.pmem.specs.Runs.{LeavesOnly}
 use Rattle.pmem.proofs.Leaving.{LeavesOnly-weaken}
 use Rattle.model.specs.declared.call.Call.{Call}
+use Rattle.model.specs.declared.image.TheConstants.{COUNTER_LIMIT, STAMP_WINDOW}
 use Rattle.model.specs.Calls.{keyspace_after, cut_at, position_of}
 use Rattle.model.specs.Images.{Image, IsMapOf, entries_of_lines}
 use Rattle.model.specs.Groups.{Contents}
@@ -16,14 +19,16 @@ use Rattle.model.proofs.PositionsLemmas.{keyspace_after-cut_at-since}
 use Rattle.mv_keyspace.specs.Tables.{records}
 use Rattle.mv_keyspace.proofs.PartTables.{map-from_table}
 use Rattle.wbl_engine.specs.Contents.{IsDurable, Keeps}
+use Rattle.machine.specs.declared.event.Event.TheVariants.{Apply}
 use Rattle.machine.specs.Events.{Standby as Machine, Span, Takes, acknowledged, moved_to}
 use Rattle.standby.specs.declared.frame.Ack.{Ack}
 use Rattle.standby.specs.declared.frame.Frame.{Frame}
-use Rattle.standby.specs.Following.{Follows, IsNext, HasTaken, IsWhole, IsBeforeOrWhole}
-use Rattle.world.specs.Committings.{AreContentsAt, Moves, StandsAtOrNext, NearOnly}
+use Rattle.standby.specs.Following.{Follows, IsNext, HasTaken, IsWhole, IsBeforeOrWhole, WouldExhaust}
+use Rattle.world.specs.Causes.{Breaks, IsAtLimit, RestsAtLimit, EndsBy}
+use Rattle.world.specs.Committings.{AreContentsAt, Moves, Rests, StandsAtOrNext, NearOnly}
 use Rattle.world.specs.Links.{IsFrameOf}
 use Rattle.world.specs.Standbys.{Node, StandbyStands}
-use Rattle.world.proofs.EngineLemmas.{Stands-engine, keeps-stands, moves-same, near-still, EngineStands-grows}
+use Rattle.world.proofs.EngineLemmas.{Stands-engine, keeps-stands, moves-same, near-still, rests-same, EngineStands-grows}
 
 -- nothing happened to the standby
 pub StandbyStands-still : (holder : Holder) (epoch : ℕ) (calls : List Call) (p : ℕ) (node : Node) → StandbyStands holder epoch calls p node → NearOnly holder calls p node.device node.device
@@ -40,6 +45,8 @@ pub record Answers (frame : Frame) (old : Node) (result : Result Ack Refusal) (n
   pub causes : frame.epoch ≡ old.epoch → IsNext old.contents.current.position frame
       → IfErr result (λ refusal. (refusal ≡ Full) ⊎ (refusal ≡ Memory) ⊎ (refusal ≡ Fault) ⊎ (refusal ≡ Exhausted))
   pub refused : (result ≡ Err Full) ⊎ (result ≡ Err Memory) → (new.contents ≡ old.contents) × (new.table ≡ old.table) × (new.device ≡ old.device)
+  pub fault : result ≡ Err Fault → old.device.failures < new.device.failures
+  pub exhausted : result ≡ Err Exhausted → WouldExhaust old.contents frame × (new.device ≡ old.device)
   pub still : ¬ IsErrOf result Fault → ¬ IsErrOf result Exhausted → Follows new.contents new.table new.room
   pub sound : ¬ IsErrOf result Fault → ¬ IsErrOf result Exhausted → (new.is_faulted ≡ false) × (new.device.failures ≡ old.device.failures)
   pub durable : ¬ IsErrOf result Fault → ¬ IsErrOf result Exhausted → IsDurable new.device new.contents
@@ -60,6 +67,13 @@ same_ok in_a in_b = cc
 
 not_both : {ack : Ack} {refusal : Refusal} {result : Result Ack Refusal} → result ≡ Ok ack → result ≡ Err refusal → ⊥
 not_both ok err = cc
+
+same_err : {a b : Refusal} {result : Result Ack Refusal} → result ≡ Err a → result ≡ Err b → a ≡ b
+same_err in_a in_b = cc
+
+-- the standby is as it was, and goes on
+abbrev pub GoesOn : Refusal → Type 0
+GoesOn refusal = (refusal ≡ Full) ⊎ (refusal ≡ PositionGap) ⊎ (refusal ≡ WrongEpoch)
 
 -- of what a frame that comes next may be refused for, only this leaves the standby going
 is_full : (refusal : Refusal) → (refusal ≡ Full) ⊎ (refusal ≡ PositionGap) ⊎ (refusal ≡ WrongEpoch) → (refusal ≡ Full) ⊎ (refusal ≡ Memory) ⊎ (refusal ≡ Fault) ⊎ (refusal ≡ Exhausted) → refusal ≡ Full
@@ -274,6 +288,49 @@ module _ (holder : Holder) (epoch : ℕ) (calls : List Call) (machine : Machine)
 
       above : machine.position < span.after → NearOnly holder calls machine.position old.device new.device
       above lt = ⊎_elim (joins lt) (λ (ne : span.before ≢ machine.position). still (answers.gap epoch_same (is_above lt) (is_apart ne)).1) (cases_eq span.before machine.position)
+
+  -- a frame of one change that would take a counter to the limit
+  frame-limit : span.after ≡ span.before + 1 → span.before ≡ machine.position → WouldExhaust old.contents frame → (image : Image) → IsImage old.device.words image → IsAtLimit image
+  frame-limit one e would image at_image =
+      record { current = old.contents.current; has_record = (stands.engine.durable image at_image).has_record; reached = reached would }
+    where
+      reached : WouldExhaust old.contents frame
+          → (COUNTER_LIMIT ≤ old.contents.current.cp + 1 + 1 + STAMP_WINDOW) ⊎ (COUNTER_LIMIT ≤ old.contents.current.position + 1) ⊎ (COUNTER_LIMIT ≤ old.contents.current.number + 1)
+      reached (inl stamps) = inl stamps
+      reached (inr (inl position)) = inr (inl (omega (arith, position, is.after, one, e, at)))
+      reached (inr (inr number)) = inr (inr number)
+
+  -- a frame that it refused, and did not go on: memory was refused, a fence failed, or a counter is at its limit
+  pub frame-ends : span.after ≡ span.before + 1 → (refusal : Refusal) → ¬ GoesOn refusal → Answers frame old (Err refusal) new
+      → EndsBy refusal Apply (λ _ last. last holder calls machine.position old.device new.device)
+  frame-ends one refusal stops answers = ⊎_elim above below (cases_lt machine.position span.after)
+    where
+      Ends : Refusal → Type 0
+      Ends r = EndsBy r Apply (λ _ last. last holder calls machine.position old.device new.device)
+
+      rests_now : new.device ≡ old.device → Rests holder calls machine.position old.device new.device
+      rests_now same = rests-same holder calls machine.position old.device new.device same (Stands-engine _ _ _ _ _ _ stands.engine)
+
+      below : span.after ≤ machine.position → Ends refusal
+      below le = absurd (not_both (answers.again epoch_same (is_below le)).0 refl)
+
+      by : span.before ≡ machine.position → (refusal ≡ Full) ⊎ (refusal ≡ Memory) ⊎ (refusal ≡ Fault) ⊎ (refusal ≡ Exhausted) → Ends refusal
+      by e (inl full) = absurd (stops (inl full))
+      by e (inr (inl memory)) = subst Ends (sym memory) (refl, rests_now (answers.refused (inr (ap Err memory))).2)
+      by e (inr (inr (inl fault))) = subst Ends (sym fault) (record { leaves = frame-moments one (Err refusal) answers; failures = answers.fault (ap Err fault) })
+      by e (inr (inr (inr exhausted))) =
+          let told = answers.exhausted (ap Err exhausted) in
+          subst Ends (sym exhausted)
+          (record {
+            rests = rests_now told.1;
+            limit = subst (λ (d : State). (image : Image) → IsImage d.words image → IsAtLimit image) (sym told.1) (frame-limit one e told.0);
+          })
+
+      joins : machine.position < span.after → span.before ≡ machine.position → Ends refusal
+      joins lt e = by e (answers.causes epoch_same (is_next lt e))
+
+      above : machine.position < span.after → Ends refusal
+      above lt = ⊎_elim (joins lt) (λ (ne : span.before ≢ machine.position). absurd (stops (inr (inl (same_err refl (answers.gap epoch_same (is_above lt) (is_apart ne)).0))))) (cases_eq span.before machine.position)
 
 -- ---- the list of calls grows
 

@@ -1,21 +1,19 @@
 -- What a run keeps its word of: the promise, between any two events, and what a crash leaves of both images at any moment of the run.
-use Rattle.std.specs.Prelude.{◌≡◌, ◌⊎◌, ℕ, ◌<◌, Bool, List, [], ◌∷◌, ◌++◌, length, take, slice_index_or, Option, Some, None}
+use Rattle.std.specs.Prelude.{◌≡◌, ◌⊎◌, ℕ, ◌<◌, Bool, true, List, [], ◌∷◌, ◌++◌, length, take, slice_get, slice_index_or, Option, Some, None}
 use Rattle.pmem.specs.Device.{State}
+use Rattle.kv_types.specs.declared.refusal.Refusal.{Refusal}
 use Rattle.model.specs.declared.call.Call.{Call}
 use Rattle.model.specs.declared.record.Role.TheVariants.{Primary, Standby}
 use Rattle.model.specs.Calls.{position_of}
 use Rattle.model.specs.Standing.{Holder, new_holder}
 use Rattle.machine.specs.declared.event.Event.{Event}
-use Rattle.machine.specs.Events.{Run, World, start, last_world}
+use Rattle.machine.specs.Events.{Run, World, is_enabled, start, last_world}
 use Rattle.machine.specs.Promises.{IsPromised, IsReleased, released_in}
-use Rattle.world.specs.Committings.{Rests, NearOnly, FromOnly, Moves, FormattingOnly}
+use Rattle.world.specs.Committings.{Rests, FromOnly, Moves, FormattingOnly}
+use Rattle.world.specs.Causes.{Stretch, UnformedBy, EndsBy}
 use Rattle.world.specs.Pairs.{Pair, PairStands, IsCut}
 use Rattle.world.specs.declared.trace.Ended.{Ended}
 use Rattle.world.specs.declared.trace.Ended.TheVariants.{AtFormatting, AtEvent}
-
--- what leads the device of a holder from one state to another has to do with a position of the list
-abbrev pub Stretch : Type 1
-Stretch = Holder → List Call → ℕ → State → State → Type 0
 
 -- the position of a node in a world
 abbrev pub primary_position : World → ℕ
@@ -37,50 +35,62 @@ AreMoments last position holder calls w [] old new = KeepsReleased holder calls 
 AreMoments last position holder calls w (w' ∷ worlds) old new =
     (next : State) × KeepsReleased holder calls w old new × Moves holder calls (position w) (position w') old next × AreMoments last position holder calls w' worlds next new
 
+-- nothing is asked of the last world of a run
+abbrev pub AnyWorld : World → Type 0
+AnyWorld w = Unit {0}
+
+-- the event that ended a run was enabled in its last world
+abbrev pub Enables : Event → World → Type 0
+Enables event w = is_enabled w event ≡ true
+
 -- These events, or some of them, did their step, and led the two devices on from where they were formatted. The list of calls and the released bytes, by
--- connection, are as promised.
-pub record IsKept (first_last second_last : Stretch) (first second : Holder) (events : List Event) (done : List Bool) (calls : List Call) (released : List (List ℕ)) (primary standby primary' standby' : State) : Type 0 where
+-- connection, are as promised. The last world is such a one.
+pub record IsKept (Last : World → Type 0) (first_last second_last : Stretch) (first second : Holder) (events : List Event) (done : List Bool) (calls : List Call) (released : List (List ℕ)) (primary standby primary' standby' : State) : Type 0 where
   -- the positions of the two nodes at the end
   pub primary_at : ℕ
   pub standby_at : ℕ
   pub promised : IsPromised events done calls (λ c. slice_index_or released c []) primary_at standby_at
+  pub last : Last (last_world start promised.worlds)
   -- the moments of either device, cut by the same events
   pub primary_moments : AreMoments first_last primary_position first calls start promised.worlds primary primary'
   pub standby_moments : AreMoments second_last standby_position second calls start promised.worlds standby standby'
 
 -- The first device was formatted as primary and the second as standby, and then the events happened.
-pub record IsPlayed (first_last second_last : Stretch) (events : List Event) (done : List Bool) (calls : List Call) (released : List (List ℕ)) (primary standby primary' standby' : State) : Type 0 where
+pub record IsPlayed (Last : World → Type 0) (first_last second_last : Stretch) (events : List Event) (done : List Bool) (calls : List Call) (released : List (List ℕ)) (primary standby primary' standby' : State) : Type 0 where
   pub primary_formatted : State
   pub standby_formatted : State
   -- a crash leaves an image from before, the new one, or one without the magic
   pub primary_formatting : FormattingOnly Primary primary primary_formatted
   pub standby_formatting : FormattingOnly Standby standby standby_formatted
-  pub kept : IsKept first_last second_last (new_holder primary.lines Primary) (new_holder standby.lines Standby) events done calls released primary_formatted standby_formatted primary' standby'
+  pub kept : IsKept Last first_last second_last (new_holder primary.lines Primary) (new_holder standby.lines Standby) events done calls released primary_formatted standby_formatted primary' standby'
 
--- Nothing was called: what was done to the devices is of their formatting.
-pub record IsUnplayed (done : List Bool) (calls : List Call) (released : List (List ℕ)) (primary standby primary' standby' : State) : Type 0 where
+-- Nothing was called: what was done to the devices is of their formatting, which ended for this cause.
+pub record IsUnplayed (refusal : Refusal) (done : List Bool) (calls : List Call) (released : List (List ℕ)) (primary standby primary' standby' : State) : Type 0 where
   pub done_none : done ≡ []
   pub calls_none : calls ≡ []
   pub released_none : released ≡ []
   pub primary_formatting : FormattingOnly Primary primary primary'
   pub standby_formatting : FormattingOnly Standby standby standby'
+  pub cause : UnformedBy refusal primary standby primary' standby'
 
 -- A run that led these two devices from their old states to their new ones went to the end of the events; or it ended before the first one; or it ended in
--- the middle of one, when each image may stand one change further on.
+-- the middle of one, which was enabled, for a cause that such an event may have.
 abbrev pub KeepsItsWord : List Event → Option Ended → List Bool → List Call → List (List ℕ) → State → State → State → State → Type 0
-KeepsItsWord events None done calls released primary standby primary' standby' = IsPlayed Rests Rests events done calls released primary standby primary' standby'
-KeepsItsWord events (Some (AtFormatting refusal)) done calls released primary standby primary' standby' = IsUnplayed done calls released primary standby primary' standby'
+KeepsItsWord events None done calls released primary standby primary' standby' = IsPlayed AnyWorld Rests Rests events done calls released primary standby primary' standby'
+KeepsItsWord events (Some (AtFormatting refusal)) done calls released primary standby primary' standby' = IsUnplayed refusal done calls released primary standby primary' standby'
 KeepsItsWord events (Some (AtEvent place refusal)) done calls released primary standby primary' standby' =
-    (place < length events) × IsPlayed NearOnly NearOnly (take place events) done calls released primary standby primary' standby'
+    (event : Event) × (slice_get events place ≡ Some event)
+    × EndsBy refusal event (λ first_last second_last. IsPlayed (Enables event) first_last second_last (take place events) done calls released primary standby primary' standby')
 
 -- ---- how it is played
 
 -- the same of what is played on a pair of new nodes
 abbrev pub PlaysOn : Holder → Holder → List Event → Option Ended → List Bool → List Call → List (List ℕ) → State → State → State → State → Type 0
-PlaysOn first second events None done calls released primary standby primary' standby' = IsKept Rests Rests first second events done calls released primary standby primary' standby'
+PlaysOn first second events None done calls released primary standby primary' standby' = IsKept AnyWorld Rests Rests first second events done calls released primary standby primary' standby'
 PlaysOn first second events (Some (AtFormatting refusal)) done calls released primary standby primary' standby' = ⊥
 PlaysOn first second events (Some (AtEvent place refusal)) done calls released primary standby primary' standby' =
-    (place < length events) × IsKept NearOnly NearOnly first second (take place events) done calls released primary standby primary' standby'
+    (event : Event) × (slice_get events place ≡ Some event)
+    × EndsBy refusal event (λ first_last second_last. IsKept (Enables event) first_last second_last first second (take place events) done calls released primary standby primary' standby')
 
 -- the events of a run from this world on, each over its own list of calls, led a device on
 abbrev pub AreMoves : (World → ℕ) → Holder → World → List World → State → State → Type 0
@@ -100,12 +110,13 @@ pub record StandsAfter (first second : Holder) (began : Pair) (events : List Eve
   pub stands : PairStands first second pair (last_world start reaches.worlds)
 
 -- or it was cut in the event behind them
-pub record IsCutAfter (first second : Holder) (began : Pair) (events : List Event) (done : List Bool) (pair : Pair) : Type 0 where
+pub record IsCutAfter (first second : Holder) (began : Pair) (events : List Event) (event : Event) (refusal : Refusal) (done : List Bool) (pair : Pair) : Type 0 where
   pub before : Pair
   pub reaches : Reaches first second began events done before.device before.standby.device
-  pub cut : IsCut first second before pair (last_world start reaches.worlds)
+  pub cut : IsCut first second event refusal before pair (last_world start reaches.worlds)
 
 abbrev pub Plays : Holder → Holder → Pair → List Event → Option Ended → List Bool → Pair → Type 0
 Plays first second began events None done pair = StandsAfter first second began events done pair
 Plays first second began events (Some (AtFormatting refusal)) done pair = ⊥
-Plays first second began events (Some (AtEvent place refusal)) done pair = (place < length events) × IsCutAfter first second began (take place events) done pair
+Plays first second began events (Some (AtEvent place refusal)) done pair =
+    (event : Event) × (slice_get events place ≡ Some event) × IsCutAfter first second began (take place events) event refusal done pair

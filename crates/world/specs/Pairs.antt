@@ -1,5 +1,5 @@
 -- What a pair of nodes with its connections stands for in the machine.
-use Rattle.std.specs.Prelude.{◌≡◌, ℕ, ◌≤◌, Bool, [], length, slice_index_or, Result, IfOk, OnErr}
+use Rattle.std.specs.Prelude.{◌≡◌, ℕ, ◌<◌, ◌≤◌, Bool, true, [], length, slice_index_or, vec_capacity, Result, IfOk, IfErr}
 use Rattle.pmem.specs.Device.{State}
 use Rattle.kv_types.specs.declared.refusal.Refusal.{Refusal}
 use Rattle.model.specs.Groups.{Contents}
@@ -7,12 +7,13 @@ use Rattle.model.specs.Standing.{Holder}
 use Rattle.redis_core.specs.Sequencing.{Sequencing}
 use Rattle.machine.specs.declared.event.Event.{Event}
 use Rattle.machine.specs.declared.event.TheConstants.{SEATS}
-use Rattle.machine.specs.Events.{World, Step}
+use Rattle.machine.specs.Events.{World, Step, is_enabled}
 use Rattle.machine.specs.Promises.{released_in}
 use Rattle.machine.specs.Sound.{Sound}
-use Rattle.world.specs.Committings.{EngineStands, Leads, NearOnly, Moves, CommittingStands}
+use Rattle.world.specs.Causes.{EndsBy}
+use Rattle.world.specs.Committings.{EngineStands, Leads, Moves, CommittingStands}
 use Rattle.world.specs.Links.{LinkStands}
-use Rattle.world.specs.Sessions.{SessionsStand, SequencerStands, released_of}
+use Rattle.world.specs.Sessions.{SessionsStand, SequencerStands, AddsOne, released_of}
 use Rattle.world.specs.Standbys.{Node, StandbyStands, ArrivalsStand}
 use Rattle.world.specs.declared.arrivals.Arrivals.{Arrivals}
 use Rattle.world.specs.declared.committing.Committing.{Committing}
@@ -55,14 +56,18 @@ pub record HasWorld (pair : Pair) : Type 0 where
   pub world : World
   pub stands : PairStands first second pair world
 
--- An event was cut: the list of calls and the released bytes are those of the world before it, and at any moment of it each image stands where it stood
--- or one change further on.
-pub record IsCut (first second : Holder) (old new : Pair) (w : World) : Type 0 where
+-- there is room for one call more
+pub record HasRoom (pair : Pair) : Type 0 where
+  pub room : length pair.sessions.calls.items < vec_capacity pair.sessions.calls
+
+-- An enabled event was cut for this cause: the list of calls and the released bytes are those of the world before it.
+pub record IsCut (first second : Holder) (event : Event) (refusal : Refusal) (old new : Pair) (w : World) : Type 0 where
+  pub enabled : is_enabled w event ≡ true
   pub calls : new.sessions.calls.items ≡ w.calls
   pub released : (c : ℕ) → slice_index_or (released_of new.sessions.connections.items) c [] ≡ released_in w c
   pub few : length new.sessions.connections.items ≤ SEATS
-  pub primary : NearOnly first w.calls w.committer.position old.device new.device
-  pub standby : NearOnly second w.calls w.standby.position old.standby.device new.standby.device
+  pub cause : EndsBy refusal event (λ first_last second_last.
+      first_last first w.calls w.committer.position old.device new.device × second_last second w.calls w.standby.position old.standby.device new.standby.device)
 
 -- what led from one pair to the other moved either device from where its node stands in one world to where it stands in the other
 pub record MovesBoth (first second : Holder) (old new : Pair) (w w' : World) : Type 0 where
@@ -76,7 +81,8 @@ pub record Steps (first second : Holder) (w : World) (event : Event) (did : Bool
   pub stands : PairStands first second new world
   pub moves : MovesBoth first second old new w world
 
--- what an event did to a pair: a step, or it was cut
+-- what an event did to a pair: a step, or it was cut; it made one call at most, in the room that there was
 pub record Does (old : Pair) (event : Event) (result : Result Bool Refusal) (new : Pair) : Type 0 where
   pub steps : IfOk result (λ did. (first second : Holder) (w : World) → PairStands first second old w → Steps first second w event did old new)
-  pub cut : OnErr result ((first second : Holder) (w : World) → PairStands first second old w → IsCut first second old new w)
+  pub cut : IfErr result (λ refusal. (first second : Holder) (w : World) → PairStands first second old w → IsCut first second event refusal old new w)
+  pub calls : AddsOne old.sessions.calls new.sessions.calls

@@ -1,5 +1,6 @@
 -- What the connections and the list of calls stand for in the machine.
-use Rattle.std.specs.Prelude.{◌≡◌, ℕ, suc, ◌+◌, ◌<◌, ◌≤◌, Bool, true, false, List, [], ◌∷◌, ◌++◌, length, map, slice_get, Some}
+use Rattle.std.specs.Prelude.{◌≡◌, ℕ, suc, ◌+◌, ◌<◌, ◌≤◌, Bool, true, false, List, [], ◌∷◌, ◌++◌, length, map, slice_get, Some, Vec, vec_capacity}
+use Rattle.std.specs.Global.{Global}
 use Rattle.std.specs.List.{list_any}
 use Rattle.kv_types.specs.Keyspaces.{Keyspace}
 use Rattle.pipes.specs.declared.limits.TheConstants.{MAX_SEATS}
@@ -54,6 +55,11 @@ released_of = map (λ connection. connection.outbound.released.items)
 pub record TellsTheSame (old new : Sessions) : Type 0 where
   pub calls : new.calls.items ≡ old.calls.items
   pub released : released_of new.connections.items ≡ released_of old.connections.items
+
+-- one call at most was added, in the room that there was
+pub record AddsOne (old new : Vec Call Global) : Type 0 where
+  pub one : length new.items ≤ length old.items + 1
+  pub room : vec_capacity new ≡ vec_capacity old
 
 -- ---- the sequencer
 

@@ -1,13 +1,14 @@
 //! What came to the standby, and what it acknowledged.
-ghost use Rattle.std.specs.Prelude.{◌≡◌, ◌⊎◌, ◌↔◌, ℕ, false, List, [], slice_get, IsTrue, IfOk, OnOk};
+ghost use Rattle.std.specs.Prelude.{◌≡◌, ◌⊎◌, ◌↔◌, ℕ, ◌<◌, true, false, List, [], length, slice_get, IsTrue, IfOk, IfErr, OnOk, OnErr};
+ghost use Rattle.machine.specs.declared.event.Event.TheVariants.{Deliver, Apply};
 ghost use Rattle.model.specs.Standing.{Holder};
-ghost use Rattle.machine.specs.declared.event.Event.TheVariants.{Deliver};
 ghost use Rattle.machine.specs.Events.{World, is_enabled, start, acknowledged, delivered, option_items};
 ghost use Rattle.machine.specs.Sound.{Sound};
 ghost use Rattle.wbl_engine.specs.Contents.{IsDurable};
 ghost use Rattle.standby.specs.declared.frame.Frame.{Frame};
 ghost use Rattle.standby.specs.Following.{Follows};
 ghost use Rattle.world.specs.Going.{Goes};
+ghost use Rattle.world.specs.Causes.{EndsBy};
 ghost use Rattle.world.specs.Committings.{NearOnly};
 ghost use Rattle.world.specs.Links.{AreFramesAt};
 ghost use Rattle.world.specs.Standbys.{StandbyStands, ArrivalsStand, AppliesFirst};
@@ -40,8 +41,9 @@ impl Arrivals {
 
     /// The standby tells its position.
     pub(crate) fn acknowledge(&mut self, ack: Ack) -> Result<(), Refusal>
-        ensures { OnOk result ((epoch : ℕ) (frames : List Frame) (w : World) → ArrivalsStand epoch w.calls frames self.old w.standby → ack.position ≡ w.standby.position
+        ensures stands { OnOk result ((epoch : ℕ) (frames : List Frame) (w : World) → ArrivalsStand epoch w.calls frames self.old w.standby → ack.position ≡ w.standby.position
             → ArrivalsStand epoch w.calls frames self.new (acknowledged w.standby)) }
+        ensures cause { IfErr result (λ refusal. refusal ≡ Refusal.Memory) }
     {
         self.acknowledgements.push(ack)?;
         Ok(())
@@ -49,11 +51,13 @@ impl Arrivals {
 
     /// A frame that was sent comes to the standby. Answers whether there is such a frame.
     pub(crate) fn deliver(&mut self, sent: &[usize], frame: u64) -> Result<bool, Refusal>
-        ensures { IfOk result (λ did. (epoch : ℕ) (frames : List Frame) (w : World) → ArrivalsStand epoch w.calls frames self.old w.standby
+        ensures goes { IfOk result (λ did. (epoch : ℕ) (frames : List Frame) (w : World) → ArrivalsStand epoch w.calls frames self.old w.standby
             → AreFramesAt epoch w.calls frames sent.now w.link.frames
             → Goes (is_enabled w (Deliver frame)) did
             (ArrivalsStand epoch w.calls frames self.new (delivered (option_items (slice_get w.link.frames frame)) w.standby))
             (ArrivalsStand epoch w.calls frames self.new w.standby)) }
+        ensures cause { IfErr result (λ refusal. refusal ≡ Refusal.Memory) }
+        ensures some { OnErr result (frame < length sent.now) }
     {
         match sent.get(frame as usize) {
             Some(place) => {
@@ -103,6 +107,18 @@ impl Arrivals {
               room = standby.new.heap;
               epoch = standby.new.epoch;
             })) }
+        ensures cut { IfErr result (λ refusal. (holder : Holder) (w : World) → Sound w
+            → ArrivalsStand standby.old.epoch w.calls frames.now self.old w.standby
+            → StandbyStands holder standby.old.epoch w.calls w.standby.position (record {
+              device = E.device standby.old.engine;
+              contents = E.contents standby.old.engine;
+              is_faulted = E.is_faulted standby.old.engine;
+              table = K.table standby.old.keyspace;
+              room = standby.old.heap;
+              epoch = standby.old.epoch;
+            })
+            → (is_enabled w Apply ≡ true)
+            × EndsBy refusal Apply (λ _ last. last holder w.calls w.standby.position (E.device standby.old.engine) (E.device standby.new.engine))) }
         // at any moment of the call
         ensures moments { (holder : Holder) (w : World) → Sound w
             → ArrivalsStand standby.old.epoch w.calls frames.now self.old w.standby

@@ -1,11 +1,12 @@
 //! The primary's committer: a group is committed, then shown, then handed on, in three turns.
-ghost use Rattle.std.specs.Prelude.{◌≡◌, ◌≢◌, ◌<◌, ◌↔◌, ℕ, false, [], ◌++◌, length, IfOk, OnOk, IsTrue};
+ghost use Rattle.std.specs.Prelude.{◌≡◌, ◌≢◌, ◌<◌, ◌↔◌, ℕ, true, false, [], ◌++◌, length, IfOk, IfErr, OnOk, OnErr, IsTrue};
 ghost use Rattle.model.specs.Groups.{Contents};
 ghost use Rattle.model.specs.Standing.{Holder};
 ghost use Rattle.machine.specs.declared.event.Event.TheVariants.{CloseGroup, Commit, RaiseLocal, Hand};
 ghost use Rattle.machine.specs.Events.{World, is_enabled, start, closed_group, committed_first, raised_local, ready_again, handed};
 ghost use Rattle.machine.specs.Sound.{Sound};
 ghost use Rattle.world.specs.Going.{Goes};
+ghost use Rattle.world.specs.Causes.{EndsBy};
 ghost use Rattle.world.specs.GroupSpans.{AreGroupsOf};
 ghost use Rattle.world.specs.Sessions.{SequencerStands};
 ghost use Rattle.world.specs.Committings.{AreGroups, Leads, LeadsOn, EngineStands, NearOnly, CommittingStands};
@@ -62,6 +63,9 @@ impl Committing {
             (CommittingStands w.calls self.new (closed_group w.committer) × SequencerStands w.calls (closed_group w.committer).closed sequencer.new)
             (CommittingStands w.calls self.new w.committer × SequencerStands w.calls w.committer.closed sequencer.new)) }
         ensures leads { (contents : Contents) → Leads contents self.old.waiting.items sequencer.old → Leads contents self.new.waiting.items sequencer.new }
+        ensures cause { IfErr result (λ refusal. refusal ≡ Refusal.Memory) }
+        ensures enabled { OnErr result ((w : World) → CommittingStands w.calls self.old w.committer → SequencerStands w.calls w.committer.closed sequencer.old
+            → is_enabled w CloseGroup ≡ true) }
     {
         if !self.can_close(sequencer) {
             return Ok(false);
@@ -97,6 +101,11 @@ impl Committing {
         ensures leads { IfOk result (λ _. LeadsOn (E.contents engine.old) self.old.waiting.items (E.contents engine.new) self.new.waiting.items) }
         ensures stays { IfOk result (λ did. did ≡ false → engine.new ≡ engine.old) }
         ensures failures { OnOk result ((E.device engine.new).failures ≡ (E.device engine.old).failures) }
+        ensures cut { IfErr result (λ refusal. (holder : Holder) (w : World) → Sound w → CommittingStands w.calls self.old w.committer
+            → EngineStands holder w.calls w.committer.position (E.device engine.old) (E.contents engine.old) (E.is_faulted engine.old)
+            → AreGroupsOf w.calls link.now.items w.link.waiting
+            → (is_enabled w Commit ≡ true)
+            × EndsBy refusal Commit (λ last _. last holder w.calls w.committer.position (E.device engine.old) (E.device engine.new))) }
         // at any moment of the call
         ensures moments { (holder : Holder) (w : World) → Sound w → CommittingStands w.calls self.old w.committer
             → EngineStands holder w.calls w.committer.position (E.device engine.old) (E.contents engine.old) (E.is_faulted engine.old)

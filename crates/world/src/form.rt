@@ -1,10 +1,11 @@
 //! A pair of new nodes.
-ghost use Rattle.std.specs.Prelude.{◌≡◌, ℕ, ◌<◌, ◌≤◌, ◌↔◌, [], IsTrue, IfOk, MatchResult};
+ghost use Rattle.std.specs.Prelude.{◌≡◌, ℕ, ◌<◌, ◌≤◌, ◌↔◌, [], IsTrue, IfOk, IfErr, MatchResult, vec_capacity};
 ghost use Rattle.model.specs.Groups.{Contents};
 ghost use Rattle.model.specs.Standing.{new_holder};
 ghost use Rattle.machine.specs.Events.{start};
 ghost use Rattle.wbl_engine.specs.Contents.{IsNew};
 ghost use Rattle.redis_core.specs.Sequencing.{StandsFor};
+ghost use Rattle.world.specs.Causes.{UnformedBy};
 ghost use Rattle.world.specs.Committings.{CommittingStands, FormattingOnly};
 ghost use Rattle.world.specs.Links.{LinkStands};
 ghost use Rattle.world.specs.Standbys.{ArrivalsStand};
@@ -39,14 +40,16 @@ struct Between<K: Keyspace> {
     arrivals: Arrivals,
 }
 
-/// All that takes memory, for a primary of so many lines with this empty keyspace.
+/// All that takes memory, for a primary of so many lines with this empty keyspace and for so many calls.
 fn make_between<K: Keyspace + Drop>(
     alloc: Global,
     keyspace: K,
     lines: u64,
+    calls: usize,
 ) -> Result<Between<K>, Refusal>
     requires { K.table keyspace ≡ [] }
     ensures sessions { IfOk result (λ between. SessionsStand between.sessions [] []) }
+    ensures room { IfOk result (λ between. calls ≤ vec_capacity between.sessions.calls) }
     ensures sequencer { IfOk result (λ between. SequencerStands [] 0 between.sequencer) }
     ensures underlies { IfOk result (λ between. (contents : Contents) → IsNew lines contents.current.role contents → StandsFor between.sequencer contents) }
     ensures committing { IfOk result (λ between. CommittingStands [] between.committing start.committer) }
@@ -55,9 +58,10 @@ fn make_between<K: Keyspace + Drop>(
     ensures epoch { IfOk result (λ between. between.link.epoch ≡ FIRST_EPOCH) }
     ensures no_frame { IfOk result (λ between. between.link.frames.items ≡ []) }
     ensures arrivals { IfOk result (λ between. (epoch : ℕ) → ArrivalsStand epoch [] [] between.arrivals start.standby) }
+    ensures cause { IfErr result (λ refusal. refusal ≡ Refusal.Memory) }
 {
     Ok(Between {
-        sessions: Sessions::new(alloc)?,
+        sessions: Sessions::new(alloc, calls)?,
         sequencer: Sequencer::new(alloc, keyspace, heap_of(lines), 0)?,
         committing: Committing::new(alloc)?,
         link: Link::new(alloc, FIRST_EPOCH)?,
@@ -74,7 +78,7 @@ fn heap_of(lines: u64) -> ExtentHeap
     ExtentHeap::new(8 + entries, lines, entries)
 }
 
-/// Formats the first device as primary and the second as standby. The keyspaces are empty.
+/// Formats the first device as primary and the second as standby. The keyspaces are empty, and there is room for so many calls.
 ///
 /// `WrongSize` where a device has fewer than 4,096 lines or more than 2^31, `Memory` where a growth was refused, `Fault` where a fence failed. A
 /// refusal hands the devices back.
@@ -83,10 +87,13 @@ pub(crate) fn form<P: Pmem, K: Keyspace + Drop>(
     primary: P,
     standby: P,
     keyspaces: (K, K),
+    calls: usize,
 ) -> Result<Pair<WblEngine<P>, K>, (Refusal, P, P)>
     requires serving { K.table keyspaces.0 ≡ [] }
     requires following { K.table keyspaces.1 ≡ [] }
     ensures stands { IfOk result (λ pair. PairStands (new_holder (P.state primary).lines Role.Primary) (new_holder (P.state standby).lines Role.Standby) (⟦<Pair<WblEngine<P>, K> as Stepper>⟧.parts pair) start) }
+    ensures room { IfOk result (λ pair. calls ≤ vec_capacity pair.sessions.calls) }
+    ensures cause { IfErr result (λ refused. UnformedBy refused.0 (P.state primary) (P.state standby) (P.state refused.1) (P.state refused.2)) }
     ensures moments { MatchResult result
         (λ pair. FormattingOnly Role.Primary (P.state primary) (⟦<Pair<WblEngine<P>, K> as Stepper>⟧.parts pair).device
         × FormattingOnly Role.Standby (P.state standby) (⟦<Pair<WblEngine<P>, K> as Stepper>⟧.parts pair).standby.device)
@@ -94,7 +101,7 @@ pub(crate) fn form<P: Pmem, K: Keyspace + Drop>(
 {
     let heap = heap_of(standby.lines());
     let (serving, following) = keyspaces;
-    let between = match make_between(alloc, serving, primary.lines()) {
+    let between = match make_between(alloc, serving, primary.lines(), calls) {
         Ok(between) => between,
         Err(refusal) => return Err((refusal, primary, standby)),
     };

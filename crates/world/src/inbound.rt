@@ -1,5 +1,5 @@
 //! What comes in from a connection, up to the sequencer.
-ghost use Rattle.std.specs.Prelude.{◌≡◌, ℕ, [], ◌++◌, List, IfOk, OnOk};
+ghost use Rattle.std.specs.Prelude.{◌≡◌, ℕ, ◌<◌, [], ◌++◌, List, false, length, IfOk, IfErr, OnOk, OnErr};
 ghost use Rattle.std.specs.List.{list_any};
 ghost use Rattle.machine.specs.Events.{Inbound as Machine};
 ghost use Rattle.model.specs.Commands.{closes};
@@ -41,7 +41,9 @@ impl Inbound {
 
     /// Takes a piece of the connection's bytes, unless an item closed it. Answers whether it did.
     pub(crate) fn feed(&mut self, piece: &Bytes) -> Result<bool, Refusal>
-        ensures { IfOk result (λ did. (machine : Machine) → InboundStands self.old machine → Feeds piece.now self.old self.new did machine) }
+        ensures feeds { IfOk result (λ did. (machine : Machine) → InboundStands self.old machine → Feeds piece.now self.old self.new did machine) }
+        ensures cause { IfErr result (λ refusal. refusal ≡ Refusal.Memory) }
+        ensures open { OnErr result (self.old.is_closed ≡ false) }
     {
         if self.is_closed {
             return Ok(false);
@@ -54,7 +56,10 @@ impl Inbound {
 
     /// Hands the next item to the sequencer, if there is one and room for it. Answers whether it did.
     pub(crate) fn offer(&mut self) -> Result<bool, Refusal>
-        ensures { IfOk result (λ did. (machine : Machine) → InboundStands self.old machine → Offers self.old self.new did machine) }
+        ensures offers { IfOk result (λ did. (machine : Machine) → InboundStands self.old machine → Offers self.old self.new did machine) }
+        ensures cause { IfErr result (λ refusal. refusal ≡ Refusal.Memory) }
+        ensures some { OnErr result (length self.old.waiting.items < length self.old.asked.items) }
+        ensures room { OnErr result (length self.old.waiting.items < PIPE_ITEMS) }
     {
         let count = self.waiting.len();
         if count == PIPE_ITEMS {
@@ -77,6 +82,7 @@ fn drain(parser: &mut Parser, asked: &mut VecDeque<Item>) -> Result<bool, Refusa
     ensures drained { OnOk result (ahead parser.new ≡ []) }
     ensures later { OnOk result ((more : List ℕ) → ahead (fed parser.old more) ≡ ahead parser.old ++ ahead (fed parser.new more)) }
     ensures closes { IfOk result (λ closed. closed ≡ list_any closes (ahead parser.old)) }
+    ensures cause { IfErr result (λ refusal. refusal ≡ Refusal.Memory) }
 {
     let mut is_closed = false;
     while let Some(item) = parser.next()? {

@@ -1,5 +1,5 @@
 //! The primary's link to the standby, and the frames that pass over it.
-ghost use Rattle.std.specs.Prelude.{◌≡◌, ◌≤◌, [], length, ◌++◌, map, IfOk, OnOk};
+ghost use Rattle.std.specs.Prelude.{◌≡◌, ◌≤◌, true, [], length, ◌++◌, map, IfOk, IfErr, OnOk, OnErr};
 ghost use Rattle.model.specs.Groups.{change_of, changes_of_group, last_position};
 ghost use Rattle.machine.specs.declared.event.Event.TheVariants.{Send, RaiseRemote};
 ghost use Rattle.machine.specs.Events.{World, is_enabled, start, opened_link, sent_next, knowing, raised_remote};
@@ -65,6 +65,8 @@ impl Link {
         ensures goes { IfOk result (λ did. (w : World) → Sound w → LinkStands w.calls self.old w.link
             → Goes (is_enabled w Send) did (LinkStands w.calls self.new (sent_next w.link.again w.link)) (LinkStands w.calls self.new w.link)) }
         ensures keeps { OnOk result (KeepsFrames self.old self.new) }
+        ensures cause { IfErr result (λ refusal. refusal ≡ Refusal.Memory) }
+        ensures enabled { OnErr result ((w : World) → LinkStands w.calls self.old w.link → is_enabled w Send ≡ true) }
     {
         if self.again < self.frames.len() {
             self.sent.push(self.again)?;

@@ -1,5 +1,5 @@
 //! What goes out to a connection, from the sequencer on.
-ghost use Rattle.std.specs.Prelude.{◌≡◌, List, IfOk, OnErr};
+ghost use Rattle.std.specs.Prelude.{◌≡◌, ◌≢◌, ◌≤◌, List, [], length, IfOk, IfErr, OnErr};
 ghost use Rattle.model.specs.declared.call.Call.{Call};
 ghost use Rattle.machine.specs.Events.{Outbound as Machine, World, having_read};
 
@@ -49,6 +49,8 @@ impl Outbound {
     /// The gate takes the first reply that waits. Answers whether there was one.
     pub(crate) fn hold(&mut self, calls: &[Call]) -> Result<bool, Refusal>
         ensures stands { IfOk result (λ did. (machine : Machine) → OutboundStands calls.now self.old machine → HoldsFirst calls.now self.new did machine) }
+        ensures cause { IfErr result (λ refusal. refusal ≡ Refusal.Memory) }
+        ensures some { OnErr result (self.old.made.items ≢ []) }
         ensures released { self.new.released ≡ self.old.released }
     {
         let Some(made) = self.made.take() else {
@@ -86,6 +88,8 @@ impl Outbound {
     /// Writes so many of the bytes that are out, if there are so many. Answers whether it did.
     pub(crate) fn write(&mut self, n: u64) -> Result<bool, Refusal>
         ensures stands { IfOk result (λ did. (calls : List Call) (machine : Machine) → OutboundStands calls self.old machine → Writes n calls self.new did machine) }
+        ensures cause { IfErr result (λ refusal. refusal ≡ Refusal.Memory) }
+        ensures enough { OnErr result (n ≤ length self.old.gate.pending) }
         ensures released { OnErr result (self.new.released.items ≡ self.old.released.items) }
     {
         let pending = self.gate.pending();

@@ -1,7 +1,7 @@
 //! A pair of nodes with their connections, one event at a time.
 ghost use Rattle.std.specs.Prelude.{◌≡◌};
 ghost use Rattle.machine.specs.declared.event.Event.TheVariants as events;
-ghost use Rattle.world.specs.Pairs.{Does, HasWorld};
+ghost use Rattle.world.specs.Pairs.{Does, HasRoom, HasWorld};
 ghost use Rattle.world.specs.Pairs as specs;
 
 use crate::arrivals::Arrivals;
@@ -25,9 +25,11 @@ pub(crate) trait Stepper {
 
     /// Lets an event do its step, if it is enabled, and answers whether it was.
     ///
-    /// `Memory` where a growth was refused, `Fault` where a fence failed, `Exhausted` where a counter would reach 2^62: the event is the last.
+    /// `Memory` where a growth was refused, `Fault` where a fence failed, `Exhausted` where a counter would reach 2^62: the event is the last, and
+    /// it was enabled.
     fn step(&mut self, event: &Event) -> Result<bool, Refusal>
-        requires { HasWorld (parts self.old) }
+        requires world { HasWorld (parts self.old) }
+        requires room { HasRoom (parts self.old) }
         ensures { Does (parts self.old) event.now result (parts self.new) };
 }
 
@@ -108,9 +110,10 @@ impl<E: Durable, K: Keyspace> Pair<E, K> {
     }
 
     fn turn(&mut self, c: u64) -> Result<bool, Refusal>
+        requires { HasRoom (⟦<Pair<E, K> as Stepper>⟧.parts self.old) }
         ensures { Does (⟦<Pair<E, K> as Stepper>⟧.parts self.old) (events.Turn c) result (⟦<Pair<E, K> as Stepper>⟧.parts self.new) }
     {
-        self.sessions.turn(self.alloc, c, &mut self.sequencer)
+        Ok(self.sessions.turn(self.alloc, c, &mut self.sequencer))
     }
 
     fn close_group(&mut self) -> Result<bool, Refusal>

@@ -85,7 +85,7 @@ fn play_over<P: Pmem>(alloc: Global, primary: P, standby: P, events: &[Event]) -
         Err(_) => return nothing(alloc, Refusal::Memory, primary, standby),
     };
     let keyspaces = (ListKeyspace::new(alloc), ListKeyspace::new(alloc));
-    match form(alloc, primary, standby, keyspaces) {
+    match form(alloc, primary, standby, keyspaces, events.len()) {
         Ok(pair) => play_on(pair, events, done, released),
         Err((refusal, primary, standby)) => nothing(alloc, refusal, primary, standby),
     }
@@ -130,6 +130,7 @@ fn play_on<P: Pmem, K: Keyspace + Drop>(
     requires room { length events.now ≤ vec_capacity done }
     requires none_released { released.items ≡ [] }
     requires room_released { SEATS ≤ vec_capacity released }
+    requires room_calls { length events.now ≤ vec_capacity pair.sessions.calls }
     requires stands { (first : Holder) × (second : Holder) × PairStands first second (⟦<Pair<WblEngine<P>, K> as Stepper>⟧.parts pair) start }
     ensures { (first second : Holder) → PairStands first second (⟦<Pair<WblEngine<P>, K> as Stepper>⟧.parts pair) start
         → PlaysOn first second events.now result.ended result.done.items result.calls.items (map (λ bytes. bytes.items) result.released.items)
@@ -173,6 +174,7 @@ fn play_on<P: Pmem, K: Keyspace + Drop>(
 fn play<S: Stepper>(stepper: &mut S, events: &[Event], done: &mut Vec<bool>) -> Option<Ended>
     requires none { done.old.items ≡ [] }
     requires room { length events.now ≤ vec_capacity done.old }
+    requires room_calls { length events.now ≤ vec_capacity (S.parts stepper.old).sessions.calls }
     requires stands { (first : Holder) × (second : Holder) × PairStands first second (S.parts stepper.old) start }
     ensures { (first second : Holder) → PairStands first second (S.parts stepper.old) start
         → Plays first second (S.parts stepper.old) events.now result done.new.items (S.parts stepper.new) }

@@ -1,5 +1,5 @@
 //! The connections, and the one list of calls that the sequencer makes of their items.
-ghost use Rattle.std.specs.Prelude.{◌≡◌, ◌≢◌, ◌<◌, ◌∷◌, ◌++◌, [], false, List, length, IfOk, IfNone, IfSome, IsSome, OnErr, vec_len, vec_capacity};
+ghost use Rattle.std.specs.Prelude.{◌≡◌, ◌≢◌, ◌+◌, ◌<◌, ◌≤◌, ◌∷◌, ◌++◌, [], true, false, List, length, IfOk, IfErr, IfNone, IfSome, IsSome, OnErr, vec_len, vec_capacity};
 ghost use Rattle.kv_types.specs.declared.item.Item.{Item};
 ghost use Rattle.model.specs.Groups.{Contents};
 ghost use Rattle.model.specs.declared.group.TheConstants.{MAX_PARTS};
@@ -10,7 +10,7 @@ ghost use Rattle.redis_core.specs.Sequencing.{StandsFor, is_closed};
 ghost use Rattle.redis_core.specs.Turns.{call_of};
 ghost use Rattle.world.specs.Going.{Goes};
 ghost use Rattle.world.specs.Running.{Runs};
-ghost use Rattle.world.specs.Sessions.{SessionsStand, SequencerStands, TakesTurn, TellsTheSame};
+ghost use Rattle.world.specs.Sessions.{SessionsStand, SequencerStands, AddsOne, TakesTurn, TellsTheSame};
 
 use crate::connection::Connection;
 use crate::inbound::Inbound;
@@ -38,14 +38,16 @@ pub(crate) struct Sessions {
 }
 
 impl Sessions {
-    /// No connection, and no call.
-    pub(crate) fn new(alloc: Global) -> Result<Sessions, Refusal>
-        ensures { IfOk result (λ sessions. SessionsStand sessions [] []) }
+    /// No connection, and no call, with room for so many calls.
+    pub(crate) fn new(alloc: Global, calls: usize) -> Result<Sessions, Refusal>
+        ensures stands { IfOk result (λ sessions. SessionsStand sessions [] []) }
+        ensures room { IfOk result (λ sessions. calls ≤ vec_capacity sessions.calls) }
+        ensures cause { IfErr result (λ refusal. refusal ≡ Refusal.Memory) }
     {
         Ok(Sessions {
             lobby: Lobby::new(alloc)?,
             connections: Vec::new(alloc),
-            calls: Vec::new(alloc),
+            calls: Vec::with_capacity(alloc, calls)?,
             replies: LocalPipe::new(alloc)?,
         })
     }
@@ -55,21 +57,21 @@ impl Sessions {
         ensures goes { IfOk result (λ did. (w : World) → SessionsStand self.old w.connections w.calls
             → Goes (is_enabled w Enter) did (SessionsStand self.new (w.connections ++ no_connection ∷ []) w.calls) (SessionsStand self.new w.connections w.calls)) }
         ensures told { OnErr result (TellsTheSame self.old self.new) }
+        ensures cause { IfErr result (λ refusal. refusal ≡ Refusal.Memory) }
+        ensures enabled { OnErr result ((w : World) → SessionsStand self.old w.connections w.calls → is_enabled w Enter ≡ true) }
+        ensures calls { self.new.calls ≡ self.old.calls }
     {
+        // Where memory is refused the run ends, and the seat with it.
+        let Ok(seat) = self.lobby.enter() else {
+            return Ok(false);
+        };
         self.connections.reserve(1)?;
-        let inbound = Inbound::new(alloc)?;
-        let outbound = Outbound::new(alloc)?;
-        match self.lobby.enter() {
-            Ok(seat) => {
-                self.connections.push_reserved(Connection {
-                    seat,
-                    inbound,
-                    outbound,
-                });
-                Ok(true)
-            }
-            Err(_) => Ok(false),
-        }
+        self.connections.push_reserved(Connection {
+            seat,
+            inbound: Inbound::new(alloc)?,
+            outbound: Outbound::new(alloc)?,
+        });
+        Ok(true)
     }
 
     /// Takes a piece of a connection's bytes, unless an item closed it. Answers whether it did.
@@ -79,6 +81,9 @@ impl Sessions {
             (SessionsStand self.new (changed_at c (with_inbound (fed_with piece.now)) w.connections) w.calls)
             (SessionsStand self.new w.connections w.calls)) }
         ensures told { OnErr result (TellsTheSame self.old self.new) }
+        ensures cause { IfErr result (λ refusal. refusal ≡ Refusal.Memory) }
+        ensures enabled { OnErr result ((w : World) → SessionsStand self.old w.connections w.calls → is_enabled w (Feed c piece.now) ≡ true) }
+        ensures calls { self.new.calls ≡ self.old.calls }
     {
         let place = c as usize;
         match self.connections.get_mut(place) {
@@ -94,6 +99,9 @@ impl Sessions {
             (SessionsStand self.new (changed_at c (with_inbound offered_next) w.connections) w.calls)
             (SessionsStand self.new w.connections w.calls)) }
         ensures told { OnErr result (TellsTheSame self.old self.new) }
+        ensures cause { IfErr result (λ refusal. refusal ≡ Refusal.Memory) }
+        ensures enabled { OnErr result ((w : World) → SessionsStand self.old w.connections w.calls → is_enabled w (Offer c) ≡ true) }
+        ensures calls { self.new.calls ≡ self.old.calls }
     {
         match self.connections.get_mut(c as usize) {
             Some(connection) => connection.inbound.offer(),
@@ -108,6 +116,9 @@ impl Sessions {
             (SessionsStand self.new (changed_at c (with_outbound held_first) w.connections) w.calls)
             (SessionsStand self.new w.connections w.calls)) }
         ensures told { OnErr result (TellsTheSame self.old self.new) }
+        ensures cause { IfErr result (λ refusal. refusal ≡ Refusal.Memory) }
+        ensures enabled { OnErr result ((w : World) → SessionsStand self.old w.connections w.calls → is_enabled w (Hold c) ≡ true) }
+        ensures calls { self.new.calls ≡ self.old.calls }
     {
         match self.connections.get_mut(c as usize) {
             Some(connection) => connection.outbound.hold(self.calls.as_slice()),
@@ -117,10 +128,11 @@ impl Sessions {
 
     /// A connection's gate reads one of the marks, which stand so now. Answers whether there is such a connection.
     pub(crate) fn read(&mut self, c: u64, mark: Mark, marks: Seen) -> bool
-        ensures { (w : World) → SessionsStand self.old w.connections w.calls → marks.local ≡ w.committer.local → marks.remote ≡ w.link.remote
+        ensures goes { (w : World) → SessionsStand self.old w.connections w.calls → marks.local ≡ w.committer.local → marks.remote ≡ w.link.remote
             → Goes (is_enabled w (Read c mark)) result
             (SessionsStand self.new (changed_at c (with_outbound (having_read mark w)) w.connections) w.calls)
             (SessionsStand self.new w.connections w.calls) }
+        ensures calls { self.new.calls ≡ self.old.calls }
     {
         match self.connections.get_mut(c as usize) {
             Some(connection) => {
@@ -133,10 +145,11 @@ impl Sessions {
 
     /// A connection's gate lets out the replies that are covered. Answers whether there were any.
     pub(crate) fn release(&mut self, c: u64) -> bool
-        ensures { (w : World) → SessionsStand self.old w.connections w.calls
+        ensures goes { (w : World) → SessionsStand self.old w.connections w.calls
             → Goes (is_enabled w (Release c)) result
             (SessionsStand self.new (changed_at c (with_outbound let_out) w.connections) w.calls)
             (SessionsStand self.new w.connections w.calls) }
+        ensures calls { self.new.calls ≡ self.old.calls }
     {
         match self.connections.get_mut(c as usize) {
             Some(connection) => connection.outbound.release(),
@@ -151,6 +164,9 @@ impl Sessions {
             (SessionsStand self.new (changed_at c (with_outbound (written n)) w.connections) w.calls)
             (SessionsStand self.new w.connections w.calls)) }
         ensures told { OnErr result (TellsTheSame self.old self.new) }
+        ensures cause { IfErr result (λ refusal. refusal ≡ Refusal.Memory) }
+        ensures enabled { OnErr result ((w : World) → SessionsStand self.old w.connections w.calls → is_enabled w (Write c n) ≡ true) }
+        ensures calls { self.new.calls ≡ self.old.calls }
     {
         match self.connections.get_mut(c as usize) {
             Some(connection) => connection.outbound.write(n),
@@ -159,26 +175,26 @@ impl Sessions {
     }
 
     /// The sequencer runs a connection's first waiting item, if there is one and room for its reply and for what it changes. Answers whether
-    /// it did.
+    /// it did. Where memory is refused, that is the reply.
     pub(crate) fn turn<K: Keyspace>(
         &mut self,
         alloc: Global,
         c: u64,
         sequencer: &mut Sequencer<K>,
-    ) -> Result<bool, Refusal>
-        ensures turns { IfOk result (λ did. (w : World) → Sound w → SessionsStand self.old w.connections w.calls
+    ) -> bool
+        requires { vec_len self.old.calls < vec_capacity self.old.calls }
+        ensures turns { (w : World) → Sound w → SessionsStand self.old w.connections w.calls
             → SequencerStands w.calls w.committer.closed sequencer.old
-            → TakesTurn w c did self.new sequencer.old sequencer.new) }
+            → TakesTurn w c result self.new sequencer.old sequencer.new }
         ensures stands { (contents : Contents) → StandsFor sequencer.old contents → StandsFor sequencer.new contents }
-        ensures told { OnErr result (TellsTheSame self.old self.new) }
+        ensures calls { AddsOne self.old.calls self.new.calls }
     {
         let Some(connection) = self.connections.get_mut(c as usize) else {
-            return Ok(false);
+            return false;
         };
         if connection.outbound.made.len() == PIPE_ITEMS || connection.inbound.waiting.is_empty() {
-            return Ok(false);
+            return false;
         }
-        self.calls.reserve(1)?;
         let waiting = &mut connection.inbound.waiting;
         let Some(held) = first_reply(
             alloc,
@@ -187,7 +203,7 @@ impl Sessions {
             &mut self.replies,
             sequencer,
         ) else {
-            return Ok(false);
+            return false;
         };
         let asked = &mut connection.inbound.asked;
         write_call(
@@ -197,7 +213,7 @@ impl Sessions {
             held,
             &mut connection.outbound.made,
         );
-        Ok(true)
+        true
     }
 }
 
@@ -230,7 +246,8 @@ fn write_call(
     made: &mut LocalPipe<Made>,
 )
     requires { vec_len calls.old < vec_capacity calls.old }
-    ensures { (item : Item) (rest : List Item) → asked.old.items ≡ item ∷ rest → length made.old.items < PIPE_ITEMS
+    ensures room { AddsOne calls.old calls.new }
+    ensures written { (item : Item) (rest : List Item) → asked.old.items ≡ item ∷ rest → length made.old.items < PIPE_ITEMS
         → (calls.new.items ≡ calls.old.items ++ call_of c item held.reply ∷ []) × (asked.new.items ≡ rest)
         × (made.new.items ≡ made.old.items ++ record { call = length calls.old.items; position = held.position } ∷ []) }
 {

@@ -1,7 +1,9 @@
-use Rattle.std.proofs.Common.{sym, subst}
+use Rattle.std.proofs.Common.{refl, ap, sym, subst, ◌∙◌}
+use Rattle.kv_types.specs.declared.refusal.Refusal.{Refusal}
 use Rattle.model.specs.declared.record.Role.TheVariants.{Primary, Standby}
 use Rattle.standby.proofs.NewLemmas.{HasAll}
-use Rattle.world.proofs.FormLemmas.{engine-new, formatting-none, new-own, pair-starts, standby-new}
+use Rattle.world.specs.Causes.{UnformedBy}
+use Rattle.world.proofs.FormLemmas.{engine-new, formatting-none, new-own, pair-starts, standby-new, unformed-first, unformed-second}
 use Rattle.world.proofs.form.form.Goals as goal
 
 pub returns-in-Err-clause-moments : goal.returns-in-Err-clause-moments
@@ -22,3 +24,21 @@ returns-in-Ok-format-2-clause-stands g c =
     (made.underlies _ (new-own _ _ _ _ (sym c.lines-2.ensures.count) serving.new))
     made.link made.no_frame made.arrivals
     (standby-new _ _ _ _ following.new following.durable following.sound.0 all c.requires.following (sym made.epoch) made.epoch)
+
+pub returns-in-Err-clause-cause : goal.returns-in-Err-clause-cause
+returns-in-Err-clause-cause g c =
+    let state = g.P.Pmem.state in
+    subst (λ (r : Refusal). UnformedBy r (state c.args.primary) (state c.args.standby) (state c.args.primary) (state c.args.standby)) (sym c.in-Err.ensures) (refl, refl)
+
+pub returns-in-Err-format-clause-cause : goal.returns-in-Err-format-clause-cause
+returns-in-Err-format-clause-cause g c =
+    let state = g.P.Pmem.state in
+    let refused = c.in-Err-format.ensures in
+    unformed-first c.in-Err-format.refusal (state c.args.primary) (state c.args.standby) (state c.in-Err-format.primary) refused.causes (λ is. (refused.sized is, ap state (refused.size is))) refused.fault
+
+pub returns-in-Err-format-2-clause-cause : goal.returns-in-Err-format-2-clause-cause
+returns-in-Err-format-2-clause-cause g c =
+    let state = g.P.Pmem.state in
+    let refused = c.in-Err-format-2.ensures in
+    unformed-second c.in-Err-format-2.refusal (state c.args.primary) (state c.args.standby) (state c.into_device.result) (state c.in-Err-format-2.standby) refused.causes
+    (ap (λ d. d.failures) c.into_device.ensures ∙ c.in-Ok-format.ensures.sound.1) (λ is. (refused.sized is, ap state (refused.size is))) refused.fault

@@ -1,34 +1,51 @@
-use Rattle.std.proofs.Common.{rules, ◌≡◌, ◌<◌, List, [], ◌∷◌, ◌++◌, length, take, sym, ap, subst, ◌∙◌, arith}
+use Rattle.std.proofs.Common.{rules, ◌≡◌, ◌<◌, ◌≤◌, ℕ, List, Option, Some, slice_get, [], ◌∷◌, ◌++◌, length, take, sym, ap, subst, ◌∙◌, arith}
 use Rattle.std.proofs.lemmas.List.{take_more, take_all}
+use Rattle.std.proofs.lemmas.Option.{slice_get-get_or}
 use Rattle.machine.specs.declared.event.Event.{Event}
+use Rattle.machine.specs.Events.{start}
 use Rattle.world.specs.Headline.{StandsAfter, IsCutAfter}
+use Rattle.world.specs.Pairs.{Pair, PairStands}
 use Rattle.world.proofs.RunningLemmas.{reaches-start, reaches-world, reaches-next, reaches-cut}
 use Rattle.world.proofs.playing.play.Goals as goal
+
+-- at the start there is no call
+start-none : (pair : Pair) → (first : ℕ) × (second : ℕ) × PairStands first second pair start → length pair.sessions.calls.items ≤ 0
+start-none pair stands = omega (arith, ap length stands.2.parts.sessions.calls_are)
 
 pub loop-event-init : goal.loop-event-init
 loop-event-init g c = record {
   count = search rules;
   room = c.requires.room;
+  few = start-none _ c.requires.stands;
+  room_calls = c.requires.room_calls;
   reaches = λ first second stands. reaches-start first second c.args.done.now.items (g.S.Stepper.parts c.args.stepper.now) c.requires.none stands;
 }
 
-pub step-requires : goal.step-requires
-step-requires g c =
+pub step-requires-clause-world : goal.step-requires-clause-world
+step-requires-clause-world g c =
     let start = c.requires.stands in
     reaches-world start.0 start.1 _ _ _ _ (c.loop-event.invariant.reaches start.0 start.1 start.2)
 
+pub step-requires-clause-room : goal.step-requires-clause-room
+step-requires-clause-room g c = record { room = omega (arith, c.loop-event.invariant.few, c.loop-event.invariant.room_calls, c.loop-event-test.true) }
+
 pub returns-in-Err : goal.returns-in-Err
 returns-in-Err g c = λ first second stands.
-    let same : c.len.result ≡ c.loop-event.event-index = c.len.ensures ∙ c.loop-event.invariant.count in (
-      subst (λ n. n < length c.args.events.now) (sym same) c.loop-event-test.true,
-      subst (λ n. IsCutAfter first second (g.S.Stepper.parts c.args.stepper.now) (take n c.args.events.now) c.loop-event.done.items (g.S.Stepper.parts c.step.new.self)) (sym same)
-          (reaches-cut first second _ _ _ _ _ c.in-Err.ensures.cut (c.loop-event.invariant.reaches first second stands)),
+    let same : c.len.result ≡ c.loop-event.event-index = c.len.ensures ∙ c.loop-event.invariant.count in
+    let there : slice_get c.args.events.now c.loop-event.event-index ≡ Some c.event-item.result =
+    slice_get-get_or c.args.events.now c.loop-event.event-index c.event-item.result c.loop-event-test.true ∙ ap Some (sym c.event-item.is) in (
+      c.event-item.result,
+      ap (slice_get c.args.events.now) same ∙ there,
+      subst (λ n. IsCutAfter first second (g.S.Stepper.parts c.args.stepper.now) (take n c.args.events.now) c.event-item.result c.in-Err.refusal c.loop-event.done.items (g.S.Stepper.parts c.step.new.self)) (sym same)
+          (reaches-cut first second _ _ _ _ _ _ _ c.in-Err.ensures.cut (c.loop-event.invariant.reaches first second stands)),
     )
 
 pub loop-event-preserved : goal.loop-event-preserved
 loop-event-preserved g c = record {
   count = omega (arith, c.push_reserved.ensures.len, c.loop-event.invariant.count);
   room = omega (arith, c.push_reserved.ensures.capacity, c.loop-event.invariant.room);
+  few = omega (arith, c.in-Ok.ensures.calls.one, c.loop-event.invariant.few);
+  room_calls = omega (arith, c.in-Ok.ensures.calls.room, c.loop-event.invariant.room_calls);
   reaches = λ first second stands.
       subst (λ (passed : List Event). StandsAfter first second (g.S.Stepper.parts c.args.stepper.now) passed c.push_reserved.new.self.items (g.S.Stepper.parts c.step.new.self))
       (ap (λ event. take c.loop-event.event-index c.args.events.now ++ event ∷ []) c.event-item.is ∙ sym (take_more c.args.events.now c.loop-event.event-index c.event-item.result c.loop-event-test.true))

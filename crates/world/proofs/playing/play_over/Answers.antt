@@ -1,6 +1,7 @@
 use Rattle.std.proofs.Common.{List, ap, map, subst, sym}
 use Rattle.pmem.specs.Device.{State}
 use Rattle.model.specs.declared.record.Role.TheVariants.{Primary, Standby}
+use Rattle.world.specs.Causes.{UnformedBy}
 use Rattle.world.specs.Committings.{FormattingOnly}
 use Rattle.world.proofs.FormLemmas.{formatting-none}
 use Rattle.world.proofs.RunningLemmas.{keeps-played, keeps-unplayed}
@@ -13,6 +14,7 @@ returns-in-Err g c =
     keeps-unplayed _ _ _ _ _ _ _ _ _ _ nothing.ended nothing.none.0 nothing.none.1 (ap (map (λ bytes. bytes.items)) nothing.none.2)
     (subst (FormattingOnly Primary (state c.args.primary)) (ap state (sym nothing.devices.0)) (formatting-none Primary (state c.args.primary)))
     (subst (FormattingOnly Standby (state c.args.standby)) (ap state (sym nothing.devices.1)) (formatting-none Standby (state c.args.standby)))
+    (ap state nothing.devices.0, ap state nothing.devices.1)
 
 pub returns-in-Ok-form : goal.returns-in-Ok-form
 returns-in-Ok-form g c =
@@ -27,3 +29,5 @@ returns-in-Err-form g c =
     keeps-unplayed _ _ _ _ _ _ _ _ _ _ nothing.ended nothing.none.0 nothing.none.1 (ap (map (λ bytes. bytes.items)) nothing.none.2)
     (subst (FormattingOnly Primary (state c.args.primary)) (ap state (sym nothing.devices.0)) formatting.0)
     (subst (FormattingOnly Standby (state c.args.standby)) (ap state (sym nothing.devices.1)) formatting.1)
+    (subst (λ (p : State). UnformedBy c.in-Err-form.refusal (state c.args.primary) (state c.args.standby) p (state c.nothing-in-Err-form.result.standby)) (ap state (sym nothing.devices.0))
+    (subst (UnformedBy c.in-Err-form.refusal (state c.args.primary) (state c.args.standby) (state c.in-Err-form.primary)) (ap state (sym nothing.devices.1)) c.in-Err-form.ensures.cause))

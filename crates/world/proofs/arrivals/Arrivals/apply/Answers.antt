@@ -1,14 +1,18 @@
-use Rattle.std.proofs.Common.{◌≡◌, ℕ, ◌++◌, [], ◌∷◌, drop, List, Result, Ok, Err, refl, sym, ap, subst, ◌∙◌, arith, append-nil}
+use Rattle.std.proofs.Common.{◌≡◌, ℕ, ◌++◌, [], ◌∷◌, drop, List, Result, Ok, Err, refl, sym, ap, subst, ◌∙◌, arith, append-nil, true≢false}
 use Rattle.model.specs.Standing.{Holder}
 use Rattle.kv_types.specs.declared.refusal.Refusal.{Refusal}
+use Rattle.model.specs.Calls.{is_nonempty}
+use Rattle.machine.specs.declared.event.Event.TheVariants.{Apply}
 use Rattle.machine.specs.Events.{World, without_first}
 use Rattle.machine.specs.Sound.{Sound}
 use Rattle.standby.specs.declared.frame.Ack.{Ack}
 use Rattle.standby.specs.declared.standby.Standby.{Standby}
 use Rattle.world.specs.declared.arrivals.Arrivals.{Arrivals}
+use Rattle.world.specs.Causes.{EndsBy}
 use Rattle.world.specs.Committings.{NearOnly}
 use Rattle.world.specs.Standbys.{Node, ArrivalsStand, StandbyStands}
-use Rattle.world.proofs.StandbyLemmas.{Answers, takes_ok, takes_refused, frame-moments, StandbyStands-still}
+use Rattle.world.proofs.StandbyLemmas.{Answers, takes_ok, takes_refused, frame-ends, frame-moments, StandbyStands-still}
+use Rattle.world.proofs.EngineLemmas.{Stands-engine, rests-same}
 use Rattle.world.proofs.ArrivalLemmas.{FirstFrame, first-frame, place_within, one_change, applies}
 use Rattle.world.proofs.arrivals.Arrivals.apply.Given.{Over}
 use Rattle.world.proofs.arrivals.Arrivals.apply.Goals as goal
@@ -32,6 +36,8 @@ answers g c = record {
   taken = c.on_frame.ensures.taken;
   causes = c.on_frame.ensures.causes;
   refused = λ cause. let same = c.on_frame.ensures.refused cause in (ap g.E.Durable.contents same.0, same.1, ap g.E.Durable.device same.0);
+  fault = λ cause. (c.on_frame.ensures.fault cause).1;
+  exhausted = λ cause. let told = c.on_frame.ensures.exhausted cause in (told.0, ap g.E.Durable.device told.1);
   still = c.on_frame.ensures.still;
   sound = c.on_frame.ensures.sound;
   durable = c.on_frame.ensures.durable;
@@ -100,3 +106,24 @@ returns-in-Err-2-clause-moments g c = moments g (goal.at.returns-in-Err-2-clause
 
 pub returns-clause-moments : goal.returns-clause-moments
 returns-clause-moments g c = moments g (goal.at.returns-clause-moments g c).After-on_frame
+
+pub returns-in_err-reserve-clause-cut : goal.returns-in_err-reserve-clause-cut
+returns-in_err-reserve-clause-cut g c = λ holder w sound arrives stands.
+    let device = g.E.Durable.device c.args.standby.now.engine in (
+      ap is_nonempty (first-frame c.args.standby.now.epoch c.args.frames.now w c.args.self.now c.in-Some.place.now c.in-Some-get.frame.now c.in-Some.ensures.item.3.0 c.in-Some.ensures.lookup
+          c.in-Some-get.ensures.lookup.1 arrives).all,
+      subst (λ (r : Refusal). EndsBy r Apply (λ _ last. last holder w.calls w.standby.position device device)) (sym c.from_residual.ensures.0)
+          (refl, rests-same holder w.calls w.standby.position device device refl (Stands-engine _ _ _ _ _ _ stands.engine)),
+    )
+
+pub returns-in-Err-2-clause-cut : goal.returns-in-Err-2-clause-cut
+returns-in-Err-2-clause-cut g c = λ holder w sound arrives stands.
+    let front = (goal.at.returns-in-Err-2-clause-cut g c).After-on_frame in
+    let epoch = c.args.standby.now.epoch in
+    let frame = c.in-Some-get.frame.now in
+    let one = first g front w arrives in (
+      ap is_nonempty one.all,
+      frame-ends holder epoch w.calls w.standby frame one.span (node g c.args.standby.now) (node g c.on_frame.new.self) one.is stands
+          (one_change epoch c.args.frames.now w frame (drop 1 c.args.self.now.delivered.items) sound one) c.in-Err-2.refusal
+          (λ goes. true≢false (sym (c.goes_on.ensures.1 goes) ∙ c.if-goes_on.false)) (told g front (Err c.in-Err-2.refusal) c.in-Err-2.is),
+    )

@@ -1,5 +1,5 @@
-use Rattle.std.proofs.Common.{sym, ◌∙◌, arith}
-use Rattle.world.proofs.CommittingLemmas.{commit-full, commit-goes, commit-moments, first-lawful}
+use Rattle.std.proofs.Common.{Err, ap, sym, ◌∙◌, arith}
+use Rattle.world.proofs.CommittingLemmas.{commit-ends, commit-full, commit-goes, commit-moments, first-lawful, may-commit}
 use Rattle.world.proofs.EngineLemmas.{near-still}
 use Rattle.world.proofs.committing.Committing.commit.Goals as goal
 
@@ -35,3 +35,13 @@ pub returns-clause-moments : goal.returns-clause-moments
 returns-clause-moments g c = λ holder w sound stands engine.
     commit-moments holder w c.args.self.now c.in-Some.group c.take.new.self.items (g.E.Durable.device c.args.engine.now) (g.E.Durable.device c.commit.new.self) (g.E.Durable.contents c.args.engine.now)
     (g.E.Durable.is_faulted c.args.engine.now) c.in-Some.ensures (first-lawful (g.E.Durable.contents c.args.engine.now) c.args.self.now.waiting.items c.in-Some.group c.take.new.self.items c.requires c.in-Some.ensures) c.commit.ensures.moments sound stands engine
+
+pub returns-in_err-commit-clause-cut : goal.returns-in_err-commit-clause-cut
+returns-in_err-commit-clause-cut g c = λ lines w sound stands engine link. (
+  may-commit w c.args.self.now c.in-Some.group c.take.new.self.items c.args.link.now.items c.in-Ready.is (omega (arith, c.args.link.now.within, c.len.ensures, c.if-len-eq-PIPE_ITEMS.false)) c.in-Some.ensures stands link,
+  commit-ends lines w c.args.self.now c.in-Some.group c.take.new.self.items (g.E.Durable.device c.args.engine.now) (g.E.Durable.device c.commit.new.self) (g.E.Durable.contents c.args.engine.now)
+      (g.E.Durable.is_faulted c.args.engine.now) c.in_err-commit.field-0 c.in-Some.ensures (first-lawful (g.E.Durable.contents c.args.engine.now) c.args.self.now.waiting.items c.in-Some.group c.take.new.self.items c.requires c.in-Some.ensures)
+      c.in_err-commit.ensures.causes (λ is. c.commit.ensures.fault (c.in_err-commit.was ∙ ap Err is))
+      (λ is. let told = c.commit.ensures.exhausted (c.in_err-commit.was ∙ ap Err is) in (told.0, ap g.E.Durable.device told.1))
+      c.commit.ensures.moments sound stands engine,
+)

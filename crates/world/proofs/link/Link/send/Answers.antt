@@ -1,5 +1,5 @@
 use Rattle.std.proofs.Common.{arith}
-use Rattle.world.proofs.LinkLemmas.{sends-again, sends-none_full, sends-none, sends-first}
+use Rattle.world.proofs.LinkLemmas.{sends-again, sends-none_full, sends-none, sends-first, may-send-again, may-send-first}
 use Rattle.world.proofs.link.Link.send.Goals as goal
 
 pub returns-then-self-len-clause-goes : goal.returns-then-self-len-clause-goes
@@ -17,3 +17,15 @@ returns-clause-goes c = λ w sound stands.
     (omega arith) (omega arith) c.in-Some.ensures
     (record { epoch_is = c.in_ok-frame_of.ensures.epoch; before = c.in_ok-frame_of.ensures.before; after = c.in_ok-frame_of.ensures.after; changes = c.in_ok-frame_of.ensures.changes })
     c.in_ok-push-3.ensures.items c.in_ok-push-2.ensures.items (omega arith) (omega arith) (omega arith)
+
+pub returns-in_err-push-clause-enabled : goal.returns-in_err-push-clause-enabled
+returns-in_err-push-clause-enabled c = λ w stands. may-send-again w.calls c.args.self.now w.link stands (omega arith)
+
+pub returns-in_err-push-2-clause-enabled : goal.returns-in_err-push-2-clause-enabled
+returns-in_err-push-2-clause-enabled c = λ w stands. may-send-first w.calls c.args.self.now w.link stands c.in-Some.group c.take.new.self (omega arith) (omega arith) c.in-Some.ensures
+
+pub returns-in_err-frame_of-clause-enabled : goal.returns-in_err-frame_of-clause-enabled
+returns-in_err-frame_of-clause-enabled c = λ w stands. may-send-first w.calls c.args.self.now w.link stands c.in-Some.group c.take.new.self (omega arith) (omega arith) c.in-Some.ensures
+
+pub returns-in_err-push-3-clause-enabled : goal.returns-in_err-push-3-clause-enabled
+returns-in_err-push-3-clause-enabled c = λ w stands. may-send-first w.calls c.args.self.now w.link stands c.in-Some.group c.take.new.self (omega arith) (omega arith) c.in-Some.ensures

@@ -1,20 +1,29 @@
 use Rattle.std.proofs.Common.{◌++◌, [], ◌∷◌, List, Err, refl, ap, ◌∙◌}
 use Rattle.world.specs.declared.connection.Connection.{Connection}
 use Rattle.world.specs.declared.sessions.Sessions.{Sessions}
-use Rattle.world.proofs.SessionLemmas.{seated-goes, full-goes}
+use Rattle.world.proofs.SessionLemmas.{seated-goes, full-goes, may-enter}
 use Rattle.world.proofs.sessions.Sessions.enter.Goals as goal
 
-pub returns-in-Ok-clause-goes : goal.returns-in-Ok-clause-goes
-returns-in-Ok-clause-goes c = λ w stand.
+pub returns-clause-goes : goal.returns-clause-goes
+returns-clause-goes c = λ w stand.
     let old = c.args.self.now in
     let now : Sessions = record { lobby = c.enter.new.self; connections = c.push_reserved.new.self; calls = old.calls; replies = old.replies } in
-    let connection : Connection = record { seat = c.in-Ok.seat; inbound = c.in_ok-inbound.inbound; outbound = c.in_ok-outbound.outbound } in
-    seated-goes w old now c.in-Ok.seat c.in_ok-inbound.inbound c.in_ok-outbound.outbound stand c.in-Ok.ensures.moves c.in-Ok.ensures.lowest
-    c.in_ok-inbound.ensures (c.in_ok-outbound.ensures w.calls)
+    let connection : Connection = record { seat = c.in-Ok.seat; inbound = c.in_ok-new.inbound; outbound = c.in_ok-new-2.outbound } in
+    seated-goes w old now c.in-Ok.seat c.in_ok-new.inbound c.in_ok-new-2.outbound stand c.in-Ok.ensures.moves c.in-Ok.ensures.lowest
+    c.in_ok-new.ensures (c.in_ok-new-2.ensures w.calls)
     (c.push_reserved.ensures.items ∙ ap (λ (codes : List Connection). codes ++ connection ∷ []) c.in_ok-reserve.ensures.items) refl refl
 
-pub returns-in-Err-clause-goes : goal.returns-in-Err-clause-goes
-returns-in-Err-clause-goes c = λ w stand.
+pub returns-in_default-clause-goes : goal.returns-in_default-clause-goes
+returns-in_default-clause-goes c = λ w stand.
     let old = c.args.self.now in
-    let now : Sessions = record { lobby = c.enter.new.self; connections = c.reserve.new.self; calls = old.calls; replies = old.replies } in
-    full-goes w old now stand (c.in-Err.ensures.full.0 (ap Err c.in-Err.ensures.err.0)) c.in-Err.ensures.err.1 c.in_ok-reserve.ensures.items refl refl
+    let now : Sessions = record { lobby = c.enter.new.self; connections = old.connections; calls = old.calls; replies = old.replies } in
+    full-goes w old now stand (c.in_default.ensures.full.0 (ap Err c.in_default.ensures.err.0)) c.in_default.ensures.err.1 refl refl refl
+
+pub returns-in_err-reserve-clause-enabled : goal.returns-in_err-reserve-clause-enabled
+returns-in_err-reserve-clause-enabled c = λ w stand. may-enter w c.args.self.now _ c.in-Ok.seat stand c.in-Ok.ensures.moves c.in-Ok.ensures.lowest
+
+pub returns-in_err-new-clause-enabled : goal.returns-in_err-new-clause-enabled
+returns-in_err-new-clause-enabled c = λ w stand. may-enter w c.args.self.now _ c.in-Ok.seat stand c.in-Ok.ensures.moves c.in-Ok.ensures.lowest
+
+pub returns-in_err-new-2-clause-enabled : goal.returns-in_err-new-2-clause-enabled
+returns-in_err-new-2-clause-enabled c = λ w stand. may-enter w c.args.self.now _ c.in-Ok.seat stand c.in-Ok.ensures.moves c.in-Ok.ensures.lowest

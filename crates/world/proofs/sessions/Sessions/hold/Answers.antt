@@ -1,11 +1,12 @@
 use Rattle.std.proofs.Common.{◌&&◌, List, refl, ap, subst, ◌∙◌}
-use Rattle.std.proofs.lemmas.Result.{IfOk-weaker}
+use Rattle.std.proofs.lemmas.Result.{IfOk-weaker, on_err_weaker}
 use Rattle.model.specs.declared.call.Call.{Call}
 use Rattle.model.specs.Calls.{is_nonempty}
 use Rattle.machine.specs.Events.{held_first, get_connection}
 use Rattle.world.specs.declared.connection.Connection.{Connection}
 use Rattle.world.specs.Outbounds.{OutboundStands, HoldsFirst}
-use Rattle.world.proofs.SessionLemmas.{outbound-goes, none-goes, tells-the-same, on_err_from}
+use Rattle.world.proofs.SessionLemmas.{outbound-goes, none-goes, enabled-at, tells-the-same, on_err_from}
+use Rattle.world.proofs.OutboundLemmas.{may-hold}
 use Rattle.world.proofs.sessions.Sessions.hold.Goals as goal
 
 pub returns-in-Some-clause-goes : goal.returns-in-Some-clause-goes
@@ -31,3 +32,11 @@ pub returns-in-None-clause-goes : goal.returns-in-None-clause-goes
 returns-in-None-clause-goes c = λ w stand.
     let outbound = (get_connection w.connections c.args.c).outbound in
     none-goes (λ b. b && is_nonempty outbound.made) w c.args.self.now c.args.c c.in-None.ensures.item.3 refl stand
+
+pub returns-in-Some-clause-enabled : goal.returns-in-Some-clause-enabled
+returns-in-Some-clause-enabled c = on_err_weaker c.hold.result
+    (λ some. λ w stand.
+    let outbound = (get_connection w.connections c.args.c).outbound in
+    enabled-at (λ b. b && is_nonempty outbound.made) w c.args.self.now c.args.c c.in-Some.connection.now c.in-Some.ensures.item.3.0 c.in-Some.ensures.value stand
+    (λ stands. may-hold w.calls c.in-Some.connection.now.outbound.made.items outbound.made some stands.outbound.made))
+    c.hold.ensures.some

@@ -3,8 +3,8 @@ use Rattle.machine.specs.Events.{having_read, get_connection}
 use Rattle.world.proofs.SessionLemmas.{outbound-goes, none-goes}
 use Rattle.world.proofs.sessions.Sessions.read.Goals as goal
 
-pub returns-in-Some : goal.returns-in-Some
-returns-in-Some c = λ w stand local remote.
+pub returns-in-Some-clause-goes : goal.returns-in-Some-clause-goes
+returns-in-Some-clause-goes c = λ w stand local remote.
     outbound-goes (λ b. b) true w c.args.self.now c.args.c c.in-Some.connection.now c.read.new.self (having_read c.args.mark w)
     c.in-Some.ensures.item.3.0 c.in-Some.ensures.value stand
     (λ stands. record {
@@ -13,5 +13,5 @@ returns-in-Some c = λ w stand local remote.
       stays = λ not_did. cc;
     })
 
-pub returns-in-None : goal.returns-in-None
-returns-in-None c = λ w stand local remote. none-goes (λ b. b) w c.args.self.now c.args.c c.in-None.ensures.item.3 refl stand
+pub returns-in-None-clause-goes : goal.returns-in-None-clause-goes
+returns-in-None-clause-goes c = λ w stand local remote. none-goes (λ b. b) w c.args.self.now c.args.c c.in-None.ensures.item.3 refl stand

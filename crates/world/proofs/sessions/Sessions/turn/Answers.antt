@@ -1,8 +1,6 @@
-use Rattle.std.proofs.Common.{◌≢◌, ◌<◌, ◌++◌, [], ◌∷◌, List, length, drop, false, refl, sym, ap, subst, ◌∙◌, arith}
-use Rattle.model.specs.declared.call.Call.{Call}
+use Rattle.std.proofs.Common.{◌≢◌, ◌<◌, length, drop, false, refl, sym, subst, ◌∙◌, arith}
 use Rattle.machine.specs.declared.event.TheConstants.{PIPE_ITEMS}
 use Rattle.machine.specs.Events.{connection_of}
-use Rattle.redis_core.specs.Turns.{call_of}
 use Rattle.world.specs.declared.sessions.Sessions.{Sessions}
 use Rattle.world.specs.Running.{Runs}
 use Rattle.world.specs.Sessions.{ConnectionStands, TakesTurn}
@@ -37,7 +35,7 @@ returns-in_default-first_reply-clause-turns g c = λ w sound stands sequencer.
     no-turn-unserved w c.args.c c.args.self.now _ code _ c.args.sequencer.now c.first_reply.new.sequencer c.in-Some.ensures.item.3.0 c.in-Some.ensures.value
     (λ may. cc (c.in_default-first_reply.ensures.otherwise stands.no_reply may.is_open may.few may.waits)) sound stands sequencer
     (record { lobby = refl; connections = refl; seat = refl; parser = refl; is_closed_same = refl; gate = refl; seen = refl; released = refl })
-    refl stays.0 refl c.in_ok-reserve.ensures.items (c.in_default-first_reply.ensures.replies stands.no_reply) stays.1
+    refl stays.0 refl refl (c.in_default-first_reply.ensures.replies stands.no_reply) stays.1
 
 pub returns-clause-turns : goal.returns-clause-turns
 returns-clause-turns g c = λ w sound stands sequencer.
@@ -49,9 +47,8 @@ returns-clause-turns g c = λ w sound stands sequencer.
     let here : ConnectionStands w.calls c.args.c code (connection_of w c.args.c) = connection-stands w c.args.c old code stands lt c.in-Some.ensures.value in
     let full : c.len.result ≢ PIPE_ITEMS = c.if-len-eq-PIPE_ITEMS.false in
     let room : length code.outbound.made.items < PIPE_ITEMS = omega (arith, full, c.len.ensures, code.outbound.made.within) in
-    let written = c.write_call.ensures runs.item (drop 1 code.inbound.asked.items)
+    let written = c.write_call.ensures.written runs.item (drop 1 code.inbound.asked.items)
     (first-asked code.inbound (connection_of w c.args.c).inbound runs.item c.first_reply.new.waiting.items here.inbound runs.first) room in
     turn-taken w c.args.c old _ code _ c.args.sequencer.now c.first_reply.new.sequencer held lt c.in-Some.ensures.value room sound stands sequencer
     (record { lobby = refl; connections = refl; seat = refl; parser = refl; is_closed_same = refl; gate = refl; seen = refl; released = refl }) runs
-    written.1 (written.2 ∙ ap (λ (calls : List Call). code.outbound.made.items ++ record { call = length calls; position = held.position } ∷ []) c.in_ok-reserve.ensures.items)
-    (written.0 ∙ ap (λ (calls : List Call). calls ++ call_of c.args.c runs.item held.reply ∷ []) c.in_ok-reserve.ensures.items) (c.in-Some-first_reply.ensures.replies stands.no_reply)
+    written.1 written.2 written.0 (c.in-Some-first_reply.ensures.replies stands.no_reply)
