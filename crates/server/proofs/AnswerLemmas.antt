@@ -31,7 +31,7 @@ fed-agenda : (input : List ℕ) (rest : List Event) (done : List Bool) (worlds :
 fed-agenda input rest [] worlds feeds run c = absurd run
 fed-agenda input rest (did ∷ done) [] feeds run c = absurd run
 fed-agenda input rest (did ∷ done) (new ∷ worlds) feeds run zero =
-    let is_there : 0 < length new.connections = omega (arith, ap (λ (w : World). length w.connections) (run.0.happens run.0.done)) in
+    let is_there : 0 < length new.connections = omega (arith, ap (λ (w : World). length w.primary.connections) (run.0.happens run.0.done)) in
     subst (λ whole. IsPrefix (fed_to 0 rest done) whole) (feeds 0) (feeds-open new rest done worlds 0 run.1 is_there)
 fed-agenda input rest (did ∷ done) (new ∷ worlds) feeds run (suc c) =
     subst (λ fed. IsPrefix fed []) (sym (feeds-none (suc c) rest done (feeds (suc c)))) (IsPrefix-itself [])

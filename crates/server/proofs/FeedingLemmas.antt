@@ -16,14 +16,14 @@ use Rattle.server.specs.Agendas.{given}
 abbrev fed_in : World → ℕ → List ℕ
 fed_in w c = (connection_of w c).inbound.fed
 
-longer : (w new : World) → length new.connections ≡ length w.connections → length w.connections ≤ length new.connections
+longer : (w new : World) → length new.connections ≡ length w.primary.connections → length w.primary.connections ≤ length new.connections
 longer w new e = omega arith
 
-grows-happens : (w : World) (event : Event) (new : World) → Happens w event new → length w.connections ≤ length new.connections
-grows-happens w Enter new h = omega (arith, ap (λ x. length x.connections) h, length-append w.connections (no_connection ∷ []))
-grows-happens w (Feed c piece) new h = longer w new (ap (λ x. length x.connections) h ∙ length-changed_at c _ w.connections)
-grows-happens w (Offer c) new h = longer w new (ap (λ x. length x.connections) h ∙ length-changed_at c _ w.connections)
-grows-happens w (Turn c) new h = longer w new (ap (λ x. length x.connections) h.now ∙ length-changed_at c _ _ ∙ length-changed_at c _ w.connections)
+grows-happens : (w : World) (event : Event) (new : World) → Happens w event new → length w.primary.connections ≤ length new.connections
+grows-happens w Enter new h = omega (arith, ap (λ x. length x.connections) h, length-append w.primary.connections (no_connection ∷ []))
+grows-happens w (Feed c piece) new h = longer w new (ap (λ x. length x.connections) h ∙ length-changed_at c _ w.primary.connections)
+grows-happens w (Offer c) new h = longer w new (ap (λ x. length x.connections) h ∙ length-changed_at c _ w.primary.connections)
+grows-happens w (Turn c) new h = longer w new (ap (λ x. length x.connections) h.now ∙ length-changed_at c _ _ ∙ length-changed_at c _ w.primary.connections)
 grows-happens w CloseGroup new h = longer w new (ap (λ x. length x.connections) h)
 grows-happens w Commit new h = longer w new (ap (λ x. length x.connections) h)
 grows-happens w RaiseLocal new h = longer w new (ap (λ x. length x.connections) h)
@@ -34,14 +34,14 @@ grows-happens w (Deliver frame) new h = longer w new (ap (λ x. length x.connect
 grows-happens w Apply new h = longer w new (ap (λ x. length x.connections) h.now)
 grows-happens w (AckDelivered a) new h = longer w new (ap (λ x. length x.connections) h)
 grows-happens w RaiseRemote new h = longer w new (ap (λ x. length x.connections) h)
-grows-happens w (Hold c) new h = longer w new (ap (λ x. length x.connections) h ∙ length-changed_at c _ w.connections)
-grows-happens w (Read c mark) new h = longer w new (ap (λ x. length x.connections) h ∙ length-changed_at c _ w.connections)
-grows-happens w (Release c) new h = longer w new (ap (λ x. length x.connections) h ∙ length-changed_at c _ w.connections)
-grows-happens w (Write c n) new h = longer w new (ap (λ x. length x.connections) h ∙ length-changed_at c _ w.connections)
+grows-happens w (Hold c) new h = longer w new (ap (λ x. length x.connections) h ∙ length-changed_at c _ w.primary.connections)
+grows-happens w (Read c mark) new h = longer w new (ap (λ x. length x.connections) h ∙ length-changed_at c _ w.primary.connections)
+grows-happens w (Release c) new h = longer w new (ap (λ x. length x.connections) h ∙ length-changed_at c _ w.primary.connections)
+grows-happens w (Write c n) new h = longer w new (ap (λ x. length x.connections) h ∙ length-changed_at c _ w.primary.connections)
 
 open-step : (old : World) (event : Event) (did : Bool) (new : World) (d : ℕ) → Step old event did new → d < length old.connections → d < length new.connections
 open-step old event true new d step lt = omega (arith, grows-happens old event new (step.happens refl))
-open-step old event false new d step lt = subst (λ (w : World). d < length w.connections) (sym (step.stands refl)) lt
+open-step old event false new d step lt = subst (λ (w : World). d < length w.primary.connections) (sym (step.stands refl)) lt
 
 -- ---- one event
 
@@ -72,13 +72,13 @@ closed-by w event true d e closed = refl
 closed-by w event false d e closed = fed_by-not d event
 
 -- an open connection is fed what the event has for it, or the event has nothing for it, or it is closed
-open-by : (w : World) (event : Event) (did : Bool) (d : ℕ) → did ≡ is_enabled w event → d < length w.connections
+open-by : (w : World) (event : Event) (did : Bool) (d : ℕ) → did ≡ is_enabled w event → d < length w.primary.connections
     → (fed_by d event did ≡ fed_by d event true) ⊎ ((did ≡ false) × (is_closed_by (fed_in w d) ≡ true))
 open-by w event true d e lt = inl refl
 open-by w (Feed c piece) false d e lt =
     elim (nat_eq c d) as (λ b. nat_eq c d ≡ b → ([] ≡ cond b piece []) ⊎ ((false ≡ false) × (is_closed_by (fed_in w d) ≡ true))) [
       | true ↦ λ same.
-          let is_there : is_open w c ≡ true = lt-ltb c (length w.connections) (subst (λ x. x < length w.connections) (sym (eqb-true c d same)) lt) in
+          let is_there : is_open w c ≡ true = lt-ltb c (length w.primary.connections) (subst (λ x. x < length w.primary.connections) (sym (eqb-true c d same)) lt) in
           inr (refl, ap (λ x. is_closed_by (fed_in w x)) (sym (eqb-true c d same)) ∙ not-false (is_open w c) (is_closed_by (fed_in w c)) is_there (sym e))
       | false ↦ λ other. inl refl
     ] refl
@@ -95,7 +95,7 @@ closed-from w (event ∷ events) (did ∷ done) (new ∷ worlds) d run closed =
 closed-from w events done worlds d run closed = absurd run
 
 -- what is fed to an open connection begins what the events have for it
-pub feeds-open : (w : World) (events : List Event) (done : List Bool) (worlds : List World) (d : ℕ) → Run w events done worlds → d < length w.connections → IsPrefix (fed_to d events done) (given d events)
+pub feeds-open : (w : World) (events : List Event) (done : List Bool) (worlds : List World) (d : ℕ) → Run w events done worlds → d < length w.primary.connections → IsPrefix (fed_to d events done) (given d events)
 feeds-open w [] [] [] d run lt = IsPrefix-none []
 feeds-open w (event ∷ events) (did ∷ done) (new ∷ worlds) d run lt =
     elim (open-by w event did d run.0.done lt) [

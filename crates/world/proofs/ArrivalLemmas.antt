@@ -53,28 +53,28 @@ at_index epoch calls frames (first ∷ places) (span ∷ spans) (suc i) place ar
 
 pub delivers : (epoch : ℕ) (frames : List Frame) (w : World) (sent : List ℕ) (i place : ℕ) (old new : Arrivals) → slice_get sent i ≡ Some place
     → new.delivered.items ≡ old.delivered.items ++ place ∷ [] → new.acknowledgements.items ≡ old.acknowledgements.items
-    → ArrivalsStand epoch w.calls frames old w.standby → AreFramesAt epoch w.calls frames sent w.link.frames
-    → Goes (nat_lt i (length w.link.frames)) true (ArrivalsStand epoch w.calls frames new (delivered (option_items (slice_get w.link.frames i)) w.standby)) (ArrivalsStand epoch w.calls frames new w.standby)
+    → ArrivalsStand epoch w.primary.calls frames old w.standby → AreFramesAt epoch w.primary.calls frames sent w.wire.frames
+    → Goes (nat_lt i (length w.wire.frames)) true (ArrivalsStand epoch w.primary.calls frames new (delivered (option_items (slice_get w.wire.frames i)) w.standby)) (ArrivalsStand epoch w.primary.calls frames new w.standby)
 delivers epoch frames w sent i place old new e items acks stands are =
-    let of = at_index epoch w.calls frames sent w.link.frames i place are e in
+    let of = at_index epoch w.primary.calls frames sent w.wire.frames i place are e in
     record {
-      done = sym (lt-ltb i (length w.link.frames) (slice_get_within w.link.frames i of.span of.stands));
+      done = sym (lt-ltb i (length w.wire.frames) (slice_get_within w.wire.frames i of.span of.stands));
       goes = λ did. record {
-        delivered = subst (λ places. AreFramesAt epoch w.calls frames places (w.standby.waiting ++ option_items (slice_get w.link.frames i))) (sym items)
-            (subst (λ (found : Option Span). AreFramesAt epoch w.calls frames (old.delivered.items ++ place ∷ []) (w.standby.waiting ++ option_items found)) (sym of.stands)
-            (AreFramesAt-push epoch w.calls frames old.delivered.items w.standby.waiting place of.span stands.delivered of.is));
+        delivered = subst (λ places. AreFramesAt epoch w.primary.calls frames places (w.standby.waiting ++ option_items (slice_get w.wire.frames i))) (sym items)
+            (subst (λ (found : Option Span). AreFramesAt epoch w.primary.calls frames (old.delivered.items ++ place ∷ []) (w.standby.waiting ++ option_items found)) (sym of.stands)
+            (AreFramesAt-push epoch w.primary.calls frames old.delivered.items w.standby.waiting place of.span stands.delivered of.is));
         acknowledged = ap (map (λ (ack : Ack). ack.position)) acks ∙ stands.acknowledged;
       };
       stays = λ did. cc;
     }
 
 pub delivers_none : (epoch : ℕ) (frames : List Frame) (w : World) (sent : List ℕ) (i : ℕ) (arrivals : Arrivals) → length sent ≤ i
-    → ArrivalsStand epoch w.calls frames arrivals w.standby → AreFramesAt epoch w.calls frames sent w.link.frames
-    → Goes (nat_lt i (length w.link.frames)) false (ArrivalsStand epoch w.calls frames arrivals (delivered (option_items (slice_get w.link.frames i)) w.standby)) (ArrivalsStand epoch w.calls frames arrivals w.standby)
+    → ArrivalsStand epoch w.primary.calls frames arrivals w.standby → AreFramesAt epoch w.primary.calls frames sent w.wire.frames
+    → Goes (nat_lt i (length w.wire.frames)) false (ArrivalsStand epoch w.primary.calls frames arrivals (delivered (option_items (slice_get w.wire.frames i)) w.standby)) (ArrivalsStand epoch w.primary.calls frames arrivals w.standby)
 delivers_none epoch frames w sent i arrivals past stands are =
-    let within : length w.link.frames ≤ i = omega (arith, past, length-places epoch w.calls frames sent w.link.frames are) in
+    let within : length w.wire.frames ≤ i = omega (arith, past, length-places epoch w.primary.calls frames sent w.wire.frames are) in
     record {
-      done = sym (le-ltb i (length w.link.frames) within);
+      done = sym (le-ltb i (length w.wire.frames) within);
       goes = λ did. cc;
       stays = λ did. stands;
     }
@@ -101,31 +101,31 @@ starts_with [] place some e = absurd (omega arith)
 starts_with (first ∷ rest) place some e = ap (λ p. p ∷ rest) (sym e)
 
 pub first-frame : (epoch : ℕ) (frames : List Frame) (w : World) (arrivals : Arrivals) (place : ℕ) (frame : Frame) → 0 < length arrivals.delivered.items → place ≡ get_or arrivals.delivered.items 0 place
-    → frame ≡ get_or frames place frame → ArrivalsStand epoch w.calls frames arrivals w.standby → FirstFrame epoch w.calls frames frame (drop 1 arrivals.delivered.items) w.standby.waiting
+    → frame ≡ get_or frames place frame → ArrivalsStand epoch w.primary.calls frames arrivals w.standby → FirstFrame epoch w.primary.calls frames frame (drop 1 arrivals.delivered.items) w.standby.waiting
 first-frame epoch frames w arrivals place frame some e found stands =
-    first_of epoch w.calls frames frame place (drop 1 arrivals.delivered.items) w.standby.waiting found
-    (subst (λ places. AreFramesAt epoch w.calls frames places w.standby.waiting) (starts_with arrivals.delivered.items place some e) stands.delivered)
+    first_of epoch w.primary.calls frames frame place (drop 1 arrivals.delivered.items) w.standby.waiting found
+    (subst (λ places. AreFramesAt epoch w.primary.calls frames places w.standby.waiting) (starts_with arrivals.delivered.items place some e) stands.delivered)
 
 -- the place of a frame that came is one of those that were made
 pub place_within : (epoch : ℕ) (frames : List Frame) (w : World) (arrivals : Arrivals) (place : ℕ) → 0 < length arrivals.delivered.items → place ≡ get_or arrivals.delivered.items 0 place
-    → ArrivalsStand epoch w.calls frames arrivals w.standby → place < length frames
+    → ArrivalsStand epoch w.primary.calls frames arrivals w.standby → place < length frames
 place_within epoch frames w arrivals place some e stands =
-    first_within w.standby.waiting (subst (λ places. AreFramesAt epoch w.calls frames places w.standby.waiting) (starts_with arrivals.delivered.items place some e) stands.delivered)
+    first_within w.standby.waiting (subst (λ places. AreFramesAt epoch w.primary.calls frames places w.standby.waiting) (starts_with arrivals.delivered.items place some e) stands.delivered)
   where
-    first_within : (waiting : List Span) → AreFramesAt epoch w.calls frames (place ∷ drop 1 arrivals.delivered.items) waiting → place < length frames
+    first_within : (waiting : List Span) → AreFramesAt epoch w.primary.calls frames (place ∷ drop 1 arrivals.delivered.items) waiting → place < length frames
     first_within [] are = absurd are
     first_within (span ∷ spans) are = slice_get_within frames place are.0.frame are.0.stands
 
 -- a frame of a sound world is one change
-pub one_change : (epoch : ℕ) (frames : List Frame) (w : World) (frame : Frame) (places : List ℕ) → Sound w → (first : FirstFrame epoch w.calls frames frame places w.standby.waiting)
+pub one_change : (epoch : ℕ) (frames : List Frame) (w : World) (frame : Frame) (places : List ℕ) → Sound w → (first : FirstFrame epoch w.primary.calls frames frame places w.standby.waiting)
     → first.span.after ≡ first.span.before + 1
-one_change epoch frames w frame places sound first = (standby-first sound.sent w.link.known first.span w.standby (ap (take 1) first.all) sound.standby).one
+one_change epoch frames w frame places sound first = (standby-first sound.sent w.primary.link.known first.span w.standby (ap (take 1) first.all) sound.standby).one
 
 -- the standby took the first frame
 pub applies : (holder : Holder) (epoch : ℕ) (frames : List Frame) (w : World) (frame : Frame) (acks : List Ack) (old new : Arrivals) (before after : Node)
     → new.delivered.items ≡ drop 1 old.delivered.items → new.acknowledgements.items ≡ old.acknowledgements.items ++ acks
-    → ArrivalsStand epoch w.calls frames old w.standby → (first : FirstFrame epoch w.calls frames frame (drop 1 old.delivered.items) w.standby.waiting)
-    → Took holder epoch w.calls first.span (without_first w.standby) (map (λ (ack : Ack). ack.position) acks) before after → AppliesFirst holder epoch frames w true new before after
+    → ArrivalsStand epoch w.primary.calls frames old w.standby → (first : FirstFrame epoch w.primary.calls frames frame (drop 1 old.delivered.items) w.standby.waiting)
+    → Took holder epoch w.primary.calls first.span (without_first w.standby) (map (λ (ack : Ack). ack.position) acks) before after → AppliesFirst holder epoch frames w true new before after
 applies holder epoch frames w frame acks old new before after items told stands first took =
     let positions : List Ack → List ℕ = map (λ (ack : Ack). ack.position) in
     record {
@@ -134,8 +134,8 @@ applies holder epoch frames w frame acks old new before after items told stands 
         with_standby took.standby w,
         record { frame = first.span; first = ap (take 1) first.all; standby = took.standby; takes = took.takes; now = refl },
         record {
-          delivered = subst (λ waiting. AreFramesAt epoch w.calls frames new.delivered.items waiting) (sym (took.waiting ∙ ap (drop 1) first.all))
-              (subst (λ places. AreFramesAt epoch w.calls frames places first.spans) (sym items) first.rest);
+          delivered = subst (λ waiting. AreFramesAt epoch w.primary.calls frames new.delivered.items waiting) (sym (took.waiting ∙ ap (drop 1) first.all))
+              (subst (λ places. AreFramesAt epoch w.primary.calls frames places first.spans) (sym items) first.rest);
           acknowledged = ap positions told ∙ map-append (λ (ack : Ack). ack.position) old.acknowledgements.items acks ∙ ap (λ (xs : List ℕ). xs ++ positions acks) stands.acknowledged
               ∙ took.acknowledgements;
         },

@@ -124,37 +124,37 @@ not_third true false c z = refl
 not_third false b c z = refl
 
 -- behind a full link nothing commits
-pub commit-full : (w : World) (link : List Group) → length link ≡ PIPE_ITEMS → AreGroupsOf w.calls link w.link.waiting → false ≡ is_enabled w Commit
+pub commit-full : (w : World) (link : List Group) → length link ≡ PIPE_ITEMS → AreGroupsOf w.primary.calls link w.primary.link.waiting → false ≡ is_enabled w Commit
 commit-full w link full are =
-    not_third (is_ready w.committer.stage) (is_nonempty w.committer.waiting) (has_room w.link.waiting) (has_room-groups w.calls link w.link.waiting are ∙ le-ltb (length link) PIPE_ITEMS (omega arith))
+    not_third (is_ready w.primary.committer.stage) (is_nonempty w.primary.committer.waiting) (has_room w.primary.link.waiting) (has_room-groups w.primary.calls link w.primary.link.waiting are ∙ le-ltb (length link) PIPE_ITEMS (omega arith))
 
 -- the first group that waits may be committed
 pub may-commit : (w : World) (code : Committing) (group : Group) (rest : List Group) (link : List Group) → code.stage ≡ Ready → length link < PIPE_ITEMS → code.waiting.items ≡ group ∷ rest
-    → CommittingStands w.calls code w.committer → AreGroupsOf w.calls link w.link.waiting → is_enabled w Commit ≡ true
+    → CommittingStands w.primary.calls code w.primary.committer → AreGroupsOf w.primary.calls link w.primary.link.waiting → is_enabled w Commit ≡ true
 may-commit w code group rest link ready room waits stands are =
-    let first = first-group w.calls group rest w.committer.waiting (subst (λ groups. AreGroupsOf w.calls groups w.committer.waiting) waits stands.groups) in
-    let is_ready_now : w.committer.stage ≡ machine_stage.Ready = ready-ready w.calls w.committer.stage (subst (λ stage. StageStands w.calls stage w.committer.stage) ready stands.stage_is) in
-    sym (all_three (is_ready w.committer.stage) (is_nonempty w.committer.waiting) (has_room w.link.waiting)
-    (ap is_ready is_ready_now) (ap is_nonempty first.all) (has_room-groups w.calls link w.link.waiting are ∙ lt-ltb (length link) PIPE_ITEMS room))
+    let first = first-group w.primary.calls group rest w.primary.committer.waiting (subst (λ groups. AreGroupsOf w.primary.calls groups w.primary.committer.waiting) waits stands.groups) in
+    let is_ready_now : w.primary.committer.stage ≡ machine_stage.Ready = ready-ready w.primary.calls w.primary.committer.stage (subst (λ stage. StageStands w.primary.calls stage w.primary.committer.stage) ready stands.stage_is) in
+    sym (all_three (is_ready w.primary.committer.stage) (is_nonempty w.primary.committer.waiting) (has_room w.primary.link.waiting)
+    (ap is_ready is_ready_now) (ap is_nonempty first.all) (has_room-groups w.primary.calls link w.primary.link.waiting are ∙ lt-ltb (length link) PIPE_ITEMS room))
 
 -- the first group that waits is committed
 pub commit-goes : (holder : Holder) (w : World) (old new : Committing) (group : Group) (link : List Group) (device device' : State) (contents contents' : Contents) (is_faulted is_faulted' : Bool)
     → old.stage ≡ Ready → length link < PIPE_ITEMS → old.waiting.items ≡ group ∷ new.waiting.items → new.stage ≡ Durable group → new.local ≡ old.local
     → IsGroup contents group → Same (after_group contents group) contents' → IsDurable device' contents' → is_faulted' ≡ false
-    → CommittingStands w.calls old w.committer → EngineStands holder w.calls w.committer.position device contents is_faulted → AreGroupsOf w.calls link w.link.waiting
+    → CommittingStands w.primary.calls old w.primary.committer → EngineStands holder w.primary.calls w.primary.committer.position device contents is_faulted → AreGroupsOf w.primary.calls link w.primary.link.waiting
     → Goes (is_enabled w Commit) true
-    (CommittingStands w.calls new (committed_first w.committer.waiting w.committer) × EngineStands holder w.calls (committed_first w.committer.waiting w.committer).position device' contents' is_faulted')
-    (CommittingStands w.calls new w.committer × EngineStands holder w.calls w.committer.position device' contents' is_faulted')
+    (CommittingStands w.primary.calls new (committed_first w.primary.committer.waiting w.primary.committer) × EngineStands holder w.primary.calls (committed_first w.primary.committer.waiting w.primary.committer).position device' contents' is_faulted')
+    (CommittingStands w.primary.calls new w.primary.committer × EngineStands holder w.primary.calls w.primary.committer.position device' contents' is_faulted')
 commit-goes holder w old new group link device device' contents contents' is_faulted is_faulted' ready room waits durable local lawful moved leaves sound stands engine are =
-    let calls = w.calls in
-    let next = next-group holder calls w.committer.position contents group new.waiting.items w.committer.waiting engine.contents_at lawful
-    (subst (λ groups. AreGroupsOf calls groups w.committer.waiting) waits stands.groups) in
+    let calls = w.primary.calls in
+    let next = next-group holder calls w.primary.committer.position contents group new.waiting.items w.primary.committer.waiting engine.contents_at lawful
+    (subst (λ groups. AreGroupsOf calls groups w.primary.committer.waiting) waits stands.groups) in
     let span = next.firsts.first in
-    let is_ready_now : w.committer.stage ≡ machine_stage.Ready = ready-ready calls w.committer.stage (subst (λ stage. StageStands calls stage w.committer.stage) ready stands.stage_is) in
+    let is_ready_now : w.primary.committer.stage ≡ machine_stage.Ready = ready-ready calls w.primary.committer.stage (subst (λ stage. StageStands calls stage w.primary.committer.stage) ready stands.stage_is) in
     record {
-      done = all_three (is_ready w.committer.stage) (is_nonempty w.committer.waiting) (has_room w.link.waiting)
-          (ap is_ready is_ready_now) (ap is_nonempty next.firsts.all) (has_room-groups calls link w.link.waiting are ∙ lt-ltb (length link) PIPE_ITEMS room);
-      goes = λ did. subst (λ spans. CommittingStands calls new (committed_first spans w.committer) × EngineStands holder calls (committed_first spans w.committer).position device' contents' is_faulted') (sym next.firsts.all) (
+      done = all_three (is_ready w.primary.committer.stage) (is_nonempty w.primary.committer.waiting) (has_room w.primary.link.waiting)
+          (ap is_ready is_ready_now) (ap is_nonempty next.firsts.all) (has_room-groups calls link w.primary.link.waiting are ∙ lt-ltb (length link) PIPE_ITEMS room);
+      goes = λ did. subst (λ spans. CommittingStands calls new (committed_first spans w.primary.committer) × EngineStands holder calls (committed_first spans w.primary.committer).position device' contents' is_faulted') (sym next.firsts.all) (
         record {
           groups = next.firsts.are;
           stage_is = subst (λ stage. StageStands calls stage (machine_stage.Durable span)) (sym durable) next.firsts.is;
@@ -173,23 +173,23 @@ commit-goes holder w old new group link device device' contents contents' is_fau
 pub commit-moments : (holder : Holder) (w : World) (code : Committing) (group : Group) (rest : List Group) (device device' : State) (contents : Contents) (is_faulted : Bool)
     → code.waiting.items ≡ group ∷ rest → IsGroup contents group
     → (is_faulted ≡ false → LeavesOnly device device' (λ image. Keeps contents image ⊎ Keeps (after_group contents group) image))
-    → Sound w → CommittingStands w.calls code w.committer → EngineStands holder w.calls w.committer.position device contents is_faulted
-    → NearOnly holder w.calls w.committer.position device device'
+    → Sound w → CommittingStands w.primary.calls code w.primary.committer → EngineStands holder w.primary.calls w.primary.committer.position device contents is_faulted
+    → NearOnly holder w.primary.calls w.primary.committer.position device device'
 commit-moments holder w code group rest device device' contents is_faulted waits lawful moments sound stands engine =
-    LeavesOnly-weaken (StandsAtOrNext holder w.calls w.committer.position) (λ image. either image) (moments engine.sound)
+    LeavesOnly-weaken (StandsAtOrNext holder w.primary.calls w.primary.committer.position) (λ image. either image) (moments engine.sound)
   where
-    next : NextGroup holder w.calls w.committer.position contents group rest w.committer.waiting
-    next = next-group holder w.calls w.committer.position contents group rest w.committer.waiting engine.contents_at lawful (subst (λ groups. AreGroupsOf w.calls groups w.committer.waiting) waits stands.groups)
+    next : NextGroup holder w.primary.calls w.primary.committer.position contents group rest w.primary.committer.waiting
+    next = next-group holder w.primary.calls w.primary.committer.position contents group rest w.primary.committer.waiting engine.contents_at lawful (subst (λ groups. AreGroupsOf w.primary.calls groups w.primary.committer.waiting) waits stands.groups)
 
-    chain : IsChain w.committer.position (next.firsts.first ∷ next.firsts.others) w.committer.closed
-    chain = subst (λ spans. IsChain w.committer.position spans w.committer.closed) next.firsts.all sound.committer.waiting
+    chain : IsChain w.primary.committer.position (next.firsts.first ∷ next.firsts.others) w.primary.committer.closed
+    chain = subst (λ spans. IsChain w.primary.committer.position spans w.primary.committer.closed) next.firsts.all sound.committer.waiting
 
-    either : (image : Image) → Keeps contents image ⊎ Keeps (after_group contents group) image → StandsAtOrNext holder w.calls w.committer.position image
-    either image (inl keeps) = inl (keeps-stands holder w.calls w.committer.position contents image engine.contents_at keeps)
+    either : (image : Image) → Keeps contents image ⊎ Keeps (after_group contents group) image → StandsAtOrNext holder w.primary.calls w.primary.committer.position image
+    either image (inl keeps) = inl (keeps-stands holder w.primary.calls w.primary.committer.position contents image engine.contents_at keeps)
     either image (inr keeps) =
         inr (
           omega (arith, chain.1, next.firsts.is.span_within.within),
-          keeps-stands holder w.calls (w.committer.position + 1) (after_group contents group) image (subst (λ p. AreContentsAt holder w.calls p (after_group contents group)) chain.1 next.after) keeps,
+          keeps-stands holder w.primary.calls (w.primary.committer.position + 1) (after_group contents group) image (subst (λ p. AreContentsAt holder w.primary.calls p (after_group contents group)) chain.1 next.after) keeps,
         )
 
 -- positions rise by one a part at least
@@ -199,12 +199,12 @@ parts-rise before versions (part ∷ parts) are = omega (arith, are.0, parts-ris
 
 -- a commit that would take a counter to the limit is of one change
 pub commit-limit : (holder : Holder) (w : World) (code : Committing) (group : Group) (rest : List Group) (device : State) (contents : Contents) (is_faulted : Bool) → code.waiting.items ≡ group ∷ rest → IsGroup contents group
-    → Exhausts contents group → Sound w → CommittingStands w.calls code w.committer → EngineStands holder w.calls w.committer.position device contents is_faulted
+    → Exhausts contents group → Sound w → CommittingStands w.primary.calls code w.primary.committer → EngineStands holder w.primary.calls w.primary.committer.position device contents is_faulted
     → (image : Image) → IsImage device.words image → IsAtLimit image
 commit-limit holder w code group rest device contents is_faulted waits lawful exhausts sound stands engine image is =
-    let next = next-group holder w.calls w.committer.position contents group rest w.committer.waiting engine.contents_at lawful (subst (λ groups. AreGroupsOf w.calls groups w.committer.waiting) waits stands.groups) in
-    let chain : IsChain w.committer.position (next.firsts.first ∷ next.firsts.others) w.committer.closed =
-    subst (λ spans. IsChain w.committer.position spans w.committer.closed) next.firsts.all sound.committer.waiting in
+    let next = next-group holder w.primary.calls w.primary.committer.position contents group rest w.primary.committer.waiting engine.contents_at lawful (subst (λ groups. AreGroupsOf w.primary.calls groups w.primary.committer.waiting) waits stands.groups) in
+    let chain : IsChain w.primary.committer.position (next.firsts.first ∷ next.firsts.others) w.primary.committer.closed =
+    subst (λ spans. IsChain w.primary.committer.position spans w.primary.committer.closed) next.firsts.all sound.committer.waiting in
     let last : last_position group.before group.parts.items ≡ contents.current.position + 1 = next.firsts.is.after ∙ chain.1 ∙ ap (λ p. p + 1) (sym engine.contents_at.at) in
     let one : length group.parts.items ≤ 1 = omega (arith, last, lawful.before, parts-rise group.before contents.versions group.parts.items lawful.parts) in
     let own : last_position contents.current.position group.parts.items ≡ contents.current.position + 1 = ap (λ p. last_position p group.parts.items) (sym lawful.before) ∙ last in
@@ -225,23 +225,23 @@ pub commit-ends : (holder : Holder) (w : World) (code : Committing) (group : Gro
     → code.waiting.items ≡ group ∷ rest → IsGroup contents group → (refusal ≡ Fault) ⊎ (refusal ≡ Exhausted)
     → (refusal ≡ Fault → (is_faulted ≡ true) ⊎ (device.failures < device'.failures)) → (refusal ≡ Exhausted → Exhausts contents group × (device' ≡ device))
     → (is_faulted ≡ false → LeavesOnly device device' (λ image. Keeps contents image ⊎ Keeps (after_group contents group) image))
-    → Sound w → CommittingStands w.calls code w.committer → EngineStands holder w.calls w.committer.position device contents is_faulted
-    → EndsBy refusal Commit (λ last _. last holder w.calls w.committer.position device device')
+    → Sound w → CommittingStands w.primary.calls code w.primary.committer → EngineStands holder w.primary.calls w.primary.committer.position device contents is_faulted
+    → EndsBy refusal Commit (λ last _. last holder w.primary.calls w.primary.committer.position device device')
 commit-ends holder w code group rest device device' contents is_faulted refusal waits lawful causes fault exhausted moments sound stands engine = by causes
   where
     rose : (is_faulted ≡ true) ⊎ (device.failures < device'.failures) → device.failures < device'.failures
     rose (inl before) = absurd (true≢false (sym before ∙ engine.sound))
     rose (inr now) = now
 
-    by : (refusal ≡ Fault) ⊎ (refusal ≡ Exhausted) → EndsBy refusal Commit (λ last _. last holder w.calls w.committer.position device device')
+    by : (refusal ≡ Fault) ⊎ (refusal ≡ Exhausted) → EndsBy refusal Commit (λ last _. last holder w.primary.calls w.primary.committer.position device device')
     by (inl is) =
-        subst (λ (r : Refusal). EndsBy r Commit (λ last _. last holder w.calls w.committer.position device device')) (sym is)
+        subst (λ (r : Refusal). EndsBy r Commit (λ last _. last holder w.primary.calls w.primary.committer.position device device')) (sym is)
         (record { leaves = commit-moments holder w code group rest device device' contents is_faulted waits lawful moments sound stands engine; failures = rose (fault is) })
     by (inr is) =
         let told = exhausted is in
-        subst (λ (r : Refusal). EndsBy r Commit (λ last _. last holder w.calls w.committer.position device device')) (sym is)
+        subst (λ (r : Refusal). EndsBy r Commit (λ last _. last holder w.primary.calls w.primary.committer.position device device')) (sym is)
         (record {
-          rests = rests-same holder w.calls w.committer.position device device' told.1 (Stands-engine holder w.calls w.committer.position device contents is_faulted engine);
+          rests = rests-same holder w.primary.calls w.primary.committer.position device device' told.1 (Stands-engine holder w.primary.calls w.primary.committer.position device contents is_faulted engine);
           limit = subst (λ (d : State). (image : Image) → IsImage d.words image → IsAtLimit image) (sym told.1)
               (commit-limit holder w code group rest device contents is_faulted waits lawful told.0 sound stands engine);
         })
@@ -267,25 +267,25 @@ offered-last (Err back) old new group room last full few = absurd (omega (arith,
 
 -- the group in hand goes to the link, which has room for it
 pub hand-goes : (w : World) (old new : Committing) (group : Group) (link link' : List Group) → old.stage ≡ Shown group → new.waiting ≡ old.waiting → new.stage ≡ Ready → new.local ≡ old.local
-    → (length link < PIPE_ITEMS → link' ≡ link ++ group ∷ []) → Sound w → CommittingStands w.calls old w.committer → AreGroupsOf w.calls link w.link.waiting
+    → (length link < PIPE_ITEMS → link' ≡ link ++ group ∷ []) → Sound w → CommittingStands w.primary.calls old w.primary.committer → AreGroupsOf w.primary.calls link w.primary.link.waiting
     → Goes (is_enabled w Hand) true
-    (CommittingStands w.calls new (ready_again w.committer) × AreGroupsOf w.calls link' (w.link.waiting ++ handed w.committer.stage))
-    (CommittingStands w.calls new w.committer × AreGroupsOf w.calls link' w.link.waiting)
+    (CommittingStands w.primary.calls new (ready_again w.primary.committer) × AreGroupsOf w.primary.calls link' (w.primary.link.waiting ++ handed w.primary.committer.stage))
+    (CommittingStands w.primary.calls new w.primary.committer × AreGroupsOf w.primary.calls link' w.primary.link.waiting)
 hand-goes w old new group link link' shown waiting ready local last sound stands are =
-    let calls = w.calls in
-    let shows = shows-span calls group w.committer.stage (subst (λ stage. StageStands calls stage w.committer.stage) shown stands.stage_is) in
-    let room : length w.link.waiting < PIPE_ITEMS = subst (λ stage. HasRoomFor stage w.link.waiting) shows.shows sound.link.few in
-    let offered : link' ≡ link ++ group ∷ [] = last (omega (arith, room, length-groups calls link w.link.waiting are)) in
+    let calls = w.primary.calls in
+    let shows = shows-span calls group w.primary.committer.stage (subst (λ stage. StageStands calls stage w.primary.committer.stage) shown stands.stage_is) in
+    let room : length w.primary.link.waiting < PIPE_ITEMS = subst (λ stage. HasRoomFor stage w.primary.link.waiting) shows.shows sound.link.few in
+    let offered : link' ≡ link ++ group ∷ [] = last (omega (arith, room, length-groups calls link w.primary.link.waiting are)) in
     record {
       done = sym (ap is_shown shows.shows);
       goes = λ did. (
         record {
-          groups = subst (λ (pipe : Waiting Group). AreGroupsOf calls pipe.items w.committer.waiting) (sym waiting) stands.groups;
+          groups = subst (λ (pipe : Waiting Group). AreGroupsOf calls pipe.items w.primary.committer.waiting) (sym waiting) stands.groups;
           stage_is = subst (λ stage. StageStands calls stage machine_stage.Ready) (sym ready) tt;
           local_is = local ∙ stands.local_is;
         },
-        subst (λ stage. AreGroupsOf calls link' (w.link.waiting ++ handed stage)) (sym shows.shows)
-            (subst (λ groups. AreGroupsOf calls groups (w.link.waiting ++ shows.span ∷ [])) (sym offered) (AreGroupsOf-push calls link w.link.waiting group shows.span are shows.is)),
+        subst (λ stage. AreGroupsOf calls link' (w.primary.link.waiting ++ handed stage)) (sym shows.shows)
+            (subst (λ groups. AreGroupsOf calls groups (w.primary.link.waiting ++ shows.span ∷ [])) (sym offered) (AreGroupsOf-push calls link w.primary.link.waiting group shows.span are shows.is)),
       );
       stays = λ did. cc;
     }

@@ -50,8 +50,8 @@ goes-map goes moved stayed = record { done = goes.done; goes = λ did. moved (go
 untouched : (first second : Holder) (old new : Pair) (w w' : World) → new.device ≡ old.device → new.standby.device ≡ old.standby.device → PartsStand first second new w' → MovesBoth first second old new w w'
 untouched first second old new w w' device device' parts =
     record {
-      primary = moves-same first w'.calls w.committer.position w'.committer.position old.device new.device device (Stands-engine _ _ _ _ _ _ parts.engine);
-      standby = moves-same second w'.calls w.standby.position w'.standby.position old.standby.device new.standby.device device' (Stands-engine _ _ _ _ _ _ parts.standby.engine);
+      primary = moves-same first w'.primary.calls w.primary.committer.position w'.primary.committer.position old.device new.device device (Stands-engine _ _ _ _ _ _ parts.engine);
+      standby = moves-same second w'.primary.calls w.standby.position w'.standby.position old.standby.device new.standby.device device' (Stands-engine _ _ _ _ _ _ parts.standby.engine);
     }
 
 -- an event that touches no device
@@ -75,17 +75,17 @@ goes-steps first second w w' event false old new device device' sound happens go
 
 -- ---- cuts
 
-rests-primary : (first second : Holder) (old : Pair) (w : World) → PairStands first second old w → Rests first w.calls w.committer.position old.device old.device
-rests-primary first second old w stands = rests-same first w.calls w.committer.position old.device old.device refl (Stands-engine _ _ _ _ _ _ stands.parts.engine)
+rests-primary : (first second : Holder) (old : Pair) (w : World) → PairStands first second old w → Rests first w.primary.calls w.primary.committer.position old.device old.device
+rests-primary first second old w stands = rests-same first w.primary.calls w.primary.committer.position old.device old.device refl (Stands-engine _ _ _ _ _ _ stands.parts.engine)
 
-rests-standby : (first second : Holder) (old : Pair) (w : World) → PairStands first second old w → Rests second w.calls w.standby.position old.standby.device old.standby.device
+rests-standby : (first second : Holder) (old : Pair) (w : World) → PairStands first second old w → Rests second w.primary.calls w.standby.position old.standby.device old.standby.device
 rests-standby first second old w stands =
-    rests-same second w.calls w.standby.position old.standby.device old.standby.device refl (Stands-engine _ _ _ _ _ _ stands.parts.standby.engine)
+    rests-same second w.primary.calls w.standby.position old.standby.device old.standby.device refl (Stands-engine _ _ _ _ _ _ stands.parts.standby.engine)
 
 -- what an event that was cut did to both devices
 abbrev pub Led : ℕ → ℕ → Pair → Pair → World → Stretch → Stretch → Type 0
 Led first second old new w first_last second_last =
-    first_last first w.calls w.committer.position old.device new.device × second_last second w.calls w.standby.position old.standby.device new.standby.device
+    first_last first w.primary.calls w.primary.committer.position old.device new.device × second_last second w.primary.calls w.standby.position old.standby.device new.standby.device
 
 pub cut-for : (first second : Holder) (event : Event) (refusal : Refusal) (old new : Pair) (w : World) → PairStands first second old w → TellsTheSame old.sessions new.sessions
     → is_enabled w event ≡ true → EndsBy refusal event (Led first second old new w) → IsCut first second event refusal old new w
@@ -95,11 +95,11 @@ cut-for first second event refusal old new w stands same enabled cause =
       enabled = enabled;
       calls = same.calls ∙ sessions.calls_are;
       released = λ c. ap (λ (all : List (List ℕ)). slice_index_or all c []) same.released
-          ∙ released-told w.calls 0 old.sessions.connections.items w.connections sessions.connections_stand c;
+          ∙ released-told w.primary.calls 0 old.sessions.connections.items w.primary.connections sessions.connections_stand c;
       few = omega (
         arith,
         stands.sound.seats,
-        length-connections w.calls 0 old.sessions.connections.items w.connections sessions.connections_stand,
+        length-connections w.primary.calls 0 old.sessions.connections.items w.primary.connections sessions.connections_stand,
         ap length same.released,
         length-map old.sessions.connections.items (λ (k : Connection'). k.outbound.released.items),
         length-map new.sessions.connections.items (λ (k : Connection'). k.outbound.released.items),
@@ -115,8 +115,8 @@ cut-same first second event refusal old new w asks memory device device' same en
     cut-for first second event refusal old new w stands same enabled
     (subst (λ (r : Refusal). EndsBy r event (Led first second old new w)) (sym memory) (
       asks,
-      subst (Rests first w.calls w.committer.position old.device) (sym device) (rests-primary first second old w stands),
-      subst (Rests second w.calls w.standby.position old.standby.device) (sym device') (rests-standby first second old w stands),
+      subst (Rests first w.primary.calls w.primary.committer.position old.device) (sym device) (rests-primary first second old w stands),
+      subst (Rests second w.primary.calls w.standby.position old.standby.device) (sym device') (rests-standby first second old w stands),
     ))
 
 tells : (sessions : Sessions) → TellsTheSame sessions sessions
@@ -129,13 +129,13 @@ none-added old new same = subst (AddsOne old) (sym same) (record { one = omega a
 -- ---- what the connections do
 
 abbrev pub with_connections : List Connection → World → World
-with_connections connections w = record { connections = connections; calls = w.calls; committer = w.committer; link = w.link; standby = w.standby }
+with_connections connections w = record { connections = connections; calls = w.primary.calls; committer = w.primary.committer; link = w.primary.link; standby = w.standby }
 
 abbrev pub with_sessions : Sessions → Pair → Pair
 with_sessions sessions pair = record pair { sessions = sessions }
 
 sessions-parts : (first second : Holder) (old : Pair) (sessions : Sessions) (connections : List Connection) (w : World) → PartsStand first second old w
-    → SessionsStand sessions connections w.calls → PartsStand first second (with_sessions sessions old) (with_connections connections w)
+    → SessionsStand sessions connections w.primary.calls → PartsStand first second (with_sessions sessions old) (with_connections connections w)
 sessions-parts first second old sessions connections w parts stand =
     record {
       sessions = stand;
@@ -151,8 +151,8 @@ sessions-parts first second old sessions connections w parts stand =
 -- what the sessions did, of each world that they stood for
 abbrev pub SessionsGo : Event → (World → List Connection) → Bool → Sessions → Sessions → Type 0
 SessionsGo event change did old new =
-    (w : World) → SessionsStand old w.connections w.calls
-    → Goes (is_enabled w event) did (SessionsStand new (change w) w.calls) (SessionsStand new w.connections w.calls)
+    (w : World) → SessionsStand old w.primary.connections w.primary.calls
+    → Goes (is_enabled w event) did (SessionsStand new (change w) w.primary.calls) (SessionsStand new w.primary.connections w.primary.calls)
 
 sessions-steps : (event : Event) (change : World → List Connection) → ((w : World) → Happens w event (with_connections (change w) w))
     → (old : Pair) (sessions : Sessions) (did : Bool) → SessionsGo event change did old.sessions sessions
@@ -161,12 +161,12 @@ sessions-steps event change happens old sessions did go first second w stands =
     goes-steps first second w (with_connections (change w) w) event did old (with_sessions sessions old) refl refl stands.sound (happens w)
     (goes-map (go w stands.parts.sessions)
     (sessions-parts first second old sessions (change w) w stands.parts)
-    (sessions-parts first second old sessions w.connections w stands.parts))
+    (sessions-parts first second old sessions w.primary.connections w stands.parts))
 
 pub sessions-do : (event : Event) (change : World → List Connection) → ((w : World) → Happens w event (with_connections (change w) w)) → asks_memory event ≡ true
     → (old : Pair) (sessions : Sessions) (result : Result Bool Refusal) → IfOk result (λ did. SessionsGo event change did old.sessions sessions)
     → OnErr result (TellsTheSame old.sessions sessions) → IfErr result (λ refusal. refusal ≡ Memory)
-    → OnErr result ((w : World) → SessionsStand old.sessions w.connections w.calls → is_enabled w event ≡ true)
+    → OnErr result ((w : World) → SessionsStand old.sessions w.primary.connections w.primary.calls → is_enabled w event ≡ true)
     → sessions.calls ≡ old.sessions.calls → Does old event result (with_sessions sessions old)
 sessions-do event change happens asks old sessions (Ok did) go same memory enabled calls =
     record { steps = sessions-steps event change happens old sessions did go; cut = tt; calls = none-added _ _ calls }
@@ -188,8 +188,8 @@ sessions-did event change happens old sessions did go calls =
 -- a read needs the marks, which are the machine's
 pub read-does : (event : Event) (change : World → List Connection) → ((w : World) → Happens w event (with_connections (change w) w))
     → (old : Pair) (sessions : Sessions) (did : Bool)
-    → ((w : World) → SessionsStand old.sessions w.connections w.calls → old.committing.local ≡ w.committer.local → old.link.remote ≡ w.link.remote
-    → Goes (is_enabled w event) did (SessionsStand sessions (change w) w.calls) (SessionsStand sessions w.connections w.calls))
+    → ((w : World) → SessionsStand old.sessions w.primary.connections w.primary.calls → old.committing.local ≡ w.primary.committer.local → old.link.remote ≡ w.primary.link.remote
+    → Goes (is_enabled w event) did (SessionsStand sessions (change w) w.primary.calls) (SessionsStand sessions w.primary.connections w.primary.calls))
     → sessions.calls ≡ old.sessions.calls → Does old event (Ok did) (with_sessions sessions old)
 read-does event change happens old sessions did go calls =
     record {
@@ -197,24 +197,24 @@ read-does event change happens old sessions did go calls =
           goes-steps first second w (with_connections (change w) w) event did old (with_sessions sessions old) refl refl stands.sound (happens w)
           (goes-map (go w stands.parts.sessions stands.parts.committing.local_is stands.parts.link.remote)
           (sessions-parts first second old sessions (change w) w stands.parts)
-          (sessions-parts first second old sessions w.connections w stands.parts));
+          (sessions-parts first second old sessions w.primary.connections w stands.parts));
       cut = tt;
       calls = none-added _ _ calls;
     }
 
 -- ---- the list grows
 
-pub primary-within : (w : World) → Sound w → w.committer.position ≤ position_of w.calls
+pub primary-within : (w : World) → Sound w → w.primary.committer.position ≤ position_of w.primary.calls
 primary-within w s = omega (arith, s.committer.closed, chain-le _ _ _ s.committer.waiting)
 
-pub standby-within : (w : World) → Sound w → w.standby.position ≤ position_of w.calls
+pub standby-within : (w : World) → Sound w → w.standby.position ≤ position_of w.primary.calls
 standby-within w s = omega (arith, s.standby.behind, chain-le _ _ _ s.link.waiting, primary-within w s)
 
 abbrev pub with_turn : Sessions → Sequencing → Pair → Pair
 with_turn sessions sequencer pair = record pair { sessions = sessions; sequencer = sequencer }
 
 called-parts : (first second : Holder) (old : Pair) (sessions : Sessions) (sequencer : Sequencing) (w : World) (c : ℕ) (call : Call) → PairStands first second old w
-    → SessionsStand sessions (called c call w).connections (w.calls ++ call ∷ []) → SequencerStands (w.calls ++ call ∷ []) w.committer.closed sequencer
+    → SessionsStand sessions (called c call w).connections (w.primary.calls ++ call ∷ []) → SequencerStands (w.primary.calls ++ call ∷ []) w.primary.committer.closed sequencer
     → ((contents : Contents) → StandsFor old.sequencer contents → StandsFor sequencer contents)
     → PartsStand first second (with_turn sessions sequencer old) (called c call w)
 called-parts first second old sessions sequencer w c call stands sessions_stand sequencer_stands goes_on =
@@ -222,12 +222,12 @@ called-parts first second old sessions sequencer w c call stands sessions_stand 
     record {
       sessions = sessions_stand;
       sequencer = sequencer_stands;
-      committing = CommittingStands-grows w.calls (call ∷ []) old.committing w.committer parts.committing;
-      engine = EngineStands-grows first w.calls (call ∷ []) w.committer.position old.device old.contents old.is_faulted (primary-within w stands.sound) parts.engine;
+      committing = CommittingStands-grows w.primary.calls (call ∷ []) old.committing w.primary.committer parts.committing;
+      engine = EngineStands-grows first w.primary.calls (call ∷ []) w.primary.committer.position old.device old.contents old.is_faulted (primary-within w stands.sound) parts.engine;
       leads = record { groups_are = parts.leads.groups_are; stands = goes_on _ parts.leads.stands };
-      link = LinkStands-grows w.calls (call ∷ []) old.link w.link parts.link;
-      arrivals = ArrivalsStand-grows old.link.epoch w.calls (call ∷ []) old.link.frames.items old.arrivals w.standby parts.arrivals;
-      standby = StandbyStands-grows second old.link.epoch w.calls (call ∷ []) w.standby.position old.standby (standby-within w stands.sound) parts.standby;
+      link = LinkStands-grows w.primary.calls (call ∷ []) old.link w.primary.link parts.link;
+      arrivals = ArrivalsStand-grows old.link.epoch w.primary.calls (call ∷ []) old.link.frames.items old.arrivals w.standby parts.arrivals;
+      standby = StandbyStands-grows second old.link.epoch w.primary.calls (call ∷ []) w.standby.position old.standby (standby-within w stands.sound) parts.standby;
     }
 
 turn-steps : (first second : Holder) (old : Pair) (sessions : Sessions) (sequencer : Sequencing) (w : World) (c : ℕ) (did : Bool) → PairStands first second old w
@@ -257,7 +257,7 @@ turn-steps first second old sessions sequencer w c false stands takes goes_on =
     let parts : PartsStand first second (with_turn sessions sequencer old) w =
     record {
       sessions = stayed.0;
-      sequencer = subst (SequencerStands w.calls w.committer.closed) (sym stayed.1) before.sequencer;
+      sequencer = subst (SequencerStands w.primary.calls w.primary.committer.closed) (sym stayed.1) before.sequencer;
       committing = before.committing;
       engine = before.engine;
       leads = record { groups_are = before.leads.groups_are; stands = goes_on _ before.leads.stands };
@@ -273,7 +273,7 @@ turn-steps first second old sessions sequencer w c false stands takes goes_on =
     }
 
 pub turn-does : (old : Pair) (sessions : Sessions) (sequencer : Sequencing) (c : ℕ) (did : Bool)
-    → ((w : World) → Sound w → SessionsStand old.sessions w.connections w.calls → SequencerStands w.calls w.committer.closed old.sequencer
+    → ((w : World) → Sound w → SessionsStand old.sessions w.primary.connections w.primary.calls → SequencerStands w.primary.calls w.primary.committer.closed old.sequencer
     → TakesTurn w c did sessions old.sequencer sequencer)
     → ((contents : Contents) → StandsFor old.sequencer contents → StandsFor sequencer contents)
     → AddsOne old.sessions.calls sessions.calls → Does old (events.Turn c) (Ok did) (with_turn sessions sequencer old)
@@ -290,13 +290,13 @@ abbrev pub with_group : Committing → Sequencing → Pair → Pair
 with_group committing sequencer pair = record pair { committing = committing; sequencer = sequencer }
 
 pub close-does : (old : Pair) (committing : Committing) (sequencer : Sequencing) (result : Result Bool Refusal)
-    → IfOk result (λ did. (w : World) → CommittingStands w.calls old.committing w.committer → SequencerStands w.calls w.committer.closed old.sequencer
+    → IfOk result (λ did. (w : World) → CommittingStands w.primary.calls old.committing w.primary.committer → SequencerStands w.primary.calls w.primary.committer.closed old.sequencer
     → Goes (is_enabled w events.CloseGroup) did
-    (CommittingStands w.calls committing (closed_group w.committer) × SequencerStands w.calls (closed_group w.committer).closed sequencer)
-    (CommittingStands w.calls committing w.committer × SequencerStands w.calls w.committer.closed sequencer))
+    (CommittingStands w.primary.calls committing (closed_group w.primary.committer) × SequencerStands w.primary.calls (closed_group w.primary.committer).closed sequencer)
+    (CommittingStands w.primary.calls committing w.primary.committer × SequencerStands w.primary.calls w.primary.committer.closed sequencer))
     → ((contents : Contents) → Leads contents old.committing.waiting.items old.sequencer → Leads contents committing.waiting.items sequencer)
     → IfErr result (λ refusal. refusal ≡ Memory)
-    → OnErr result ((w : World) → CommittingStands w.calls old.committing w.committer → SequencerStands w.calls w.committer.closed old.sequencer → is_enabled w events.CloseGroup ≡ true)
+    → OnErr result ((w : World) → CommittingStands w.primary.calls old.committing w.primary.committer → SequencerStands w.primary.calls w.primary.committer.closed old.sequencer → is_enabled w events.CloseGroup ≡ true)
     → Does old events.CloseGroup result (with_group committing sequencer old)
 close-does old committing sequencer (Err refusal) go leads memory enabled =
     record {
@@ -310,7 +310,7 @@ close-does old committing sequencer (Ok did) go leads memory enabled =
     record {
       steps = λ first second w stands.
           let parts = stands.parts in
-          goes-steps first second w (with_committer (closed_group w.committer) w) events.CloseGroup did old (with_group committing sequencer old) refl refl stands.sound refl
+          goes-steps first second w (with_committer (closed_group w.primary.committer) w) events.CloseGroup did old (with_group committing sequencer old) refl refl stands.sound refl
           (goes-map (go w parts.committing parts.sequencer)
           (λ moved. record {
             sessions = parts.sessions;
@@ -352,27 +352,27 @@ committed-next from to [] committer false room chain enabled = absurd (true≢fa
 committed-next from to (group ∷ groups) committer ready room chain enabled = chain.1
 
 commit-steps : (first second : Holder) (w : World) (did : Bool) (old new : Pair) → new.standby.device ≡ old.standby.device → Sound w
-    → (did ≡ false → new.device ≡ old.device) → new.device.failures ≡ old.device.failures → NearOnly first w.calls w.committer.position old.device new.device
+    → (did ≡ false → new.device ≡ old.device) → new.device.failures ≡ old.device.failures → NearOnly first w.primary.calls w.primary.committer.position old.device new.device
     → Goes (is_enabled w events.Commit) did
-    (PartsStand first second new (with_committer (committed_first w.committer.waiting w.committer) w)) (PartsStand first second new w)
+    (PartsStand first second new (with_committer (committed_first w.primary.committer.waiting w.primary.committer) w)) (PartsStand first second new w)
     → Steps first second w events.Commit did old new
 commit-steps first second w true old new device' sound still failures only goes =
-    let committer = committed_first w.committer.waiting w.committer in
+    let committer = committed_first w.primary.committer.waiting w.primary.committer in
     let w' = with_committer committer w in
     let parts = goes.goes refl in
     let step : Step w events.Commit true w' = record { done = goes.done; happens = λ did. refl; stands = λ did. absurd (true≢false did) } in
-    let next = committed-next w.committer.position w.committer.closed w.committer.waiting w.committer (is_ready w.committer.stage) (has_room w.link.waiting) sound.committer.waiting goes.done in
+    let next = committed-next w.primary.committer.position w.primary.committer.closed w.primary.committer.waiting w.primary.committer (is_ready w.primary.committer.stage) (has_room w.primary.link.waiting) sound.committer.waiting goes.done in
     record {
       world = w';
       step = step;
       stands = record { sound = sound-step w events.Commit true w' step sound; parts = parts };
       moves = record {
-        primary = near-moves first w.calls w.committer.position committer.position old.device new.device next failures only;
-        standby = moves-same second w.calls w.standby.position w.standby.position old.standby.device new.standby.device device' (Stands-engine _ _ _ _ _ _ parts.standby.engine);
+        primary = near-moves first w.primary.calls w.primary.committer.position committer.position old.device new.device next failures only;
+        standby = moves-same second w.primary.calls w.standby.position w.standby.position old.standby.device new.standby.device device' (Stands-engine _ _ _ _ _ _ parts.standby.engine);
       };
     }
 commit-steps first second w false old new device' sound still failures only goes =
-    goes-steps first second w (with_committer (committed_first w.committer.waiting w.committer) w) events.Commit false old new (still refl) device' sound refl goes
+    goes-steps first second w (with_committer (committed_first w.primary.committer.waiting w.primary.committer) w) events.Commit false old new (still refl) device' sound refl goes
 
 -- what ended a commit is of the primary's device
 ends-commit : (refusal : Refusal) (P Q : Stretch → Stretch → Type 0) → ((last : Stretch) → P last Rests → Q last Rests) → EndsBy refusal events.Commit P → EndsBy refusal events.Commit Q
@@ -382,19 +382,19 @@ ends-commit Exhausted P Q both ends = both RestsAtLimit ends
 ends-commit refusal P Q both ends = absurd ends
 
 pub commit-does : (old : Pair) (committing : Committing) (device : State) (contents : Contents) (is_faulted : Bool) (result : Result Bool Refusal)
-    → IfOk result (λ did. (holder : Holder) (w : World) → CommittingStands w.calls old.committing w.committer
-    → EngineStands holder w.calls w.committer.position old.device old.contents old.is_faulted → AreGroupsOf w.calls old.link.waiting.items w.link.waiting
+    → IfOk result (λ did. (holder : Holder) (w : World) → CommittingStands w.primary.calls old.committing w.primary.committer
+    → EngineStands holder w.primary.calls w.primary.committer.position old.device old.contents old.is_faulted → AreGroupsOf w.primary.calls old.link.waiting.items w.primary.link.waiting
     → Goes (is_enabled w events.Commit) did
-    (CommittingStands w.calls committing (committed_first w.committer.waiting w.committer)
-    × EngineStands holder w.calls (committed_first w.committer.waiting w.committer).position device contents is_faulted)
-    (CommittingStands w.calls committing w.committer × EngineStands holder w.calls w.committer.position device contents is_faulted))
+    (CommittingStands w.primary.calls committing (committed_first w.primary.committer.waiting w.primary.committer)
+    × EngineStands holder w.primary.calls (committed_first w.primary.committer.waiting w.primary.committer).position device contents is_faulted)
+    (CommittingStands w.primary.calls committing w.primary.committer × EngineStands holder w.primary.calls w.primary.committer.position device contents is_faulted))
     → IfOk result (λ _. LeadsOn old.contents old.committing.waiting.items contents committing.waiting.items)
     → IfOk result (λ did. did ≡ false → device ≡ old.device) → OnOk result (device.failures ≡ old.device.failures)
-    → ((holder : Holder) (w : World) → Sound w → CommittingStands w.calls old.committing w.committer
-    → EngineStands holder w.calls w.committer.position old.device old.contents old.is_faulted → NearOnly holder w.calls w.committer.position old.device device)
-    → IfErr result (λ refusal. (holder : Holder) (w : World) → Sound w → CommittingStands w.calls old.committing w.committer
-    → EngineStands holder w.calls w.committer.position old.device old.contents old.is_faulted → AreGroupsOf w.calls old.link.waiting.items w.link.waiting
-    → (is_enabled w events.Commit ≡ true) × EndsBy refusal events.Commit (λ last _. last holder w.calls w.committer.position old.device device))
+    → ((holder : Holder) (w : World) → Sound w → CommittingStands w.primary.calls old.committing w.primary.committer
+    → EngineStands holder w.primary.calls w.primary.committer.position old.device old.contents old.is_faulted → NearOnly holder w.primary.calls w.primary.committer.position old.device device)
+    → IfErr result (λ refusal. (holder : Holder) (w : World) → Sound w → CommittingStands w.primary.calls old.committing w.primary.committer
+    → EngineStands holder w.primary.calls w.primary.committer.position old.device old.contents old.is_faulted → AreGroupsOf w.primary.calls old.link.waiting.items w.primary.link.waiting
+    → (is_enabled w events.Commit ≡ true) × EndsBy refusal events.Commit (λ last _. last holder w.primary.calls w.primary.committer.position old.device device))
     → Does old events.Commit result (with_engine committing device contents is_faulted old)
 commit-does old committing device contents is_faulted (Err refusal) go leads still failures only cuts =
     record {
@@ -403,7 +403,7 @@ commit-does old committing device contents is_faulted (Err refusal) go leads sti
           let new = with_engine committing device contents is_faulted old in
           let cut = cuts first w stands.sound stands.parts.committing stands.parts.engine stands.parts.link.waiting in
           cut-for first second events.Commit refusal old new w stands (tells old.sessions) cut.0
-          (ends-commit refusal (λ last _. last first w.calls w.committer.position old.device device) (Led first second old new w)
+          (ends-commit refusal (λ last _. last first w.primary.calls w.primary.committer.position old.device device) (Led first second old new w)
           (λ last broken. (broken, rests-standby first second old w stands)) cut.1);
       calls = none-added _ _ refl;
     }
@@ -414,24 +414,24 @@ commit-does old committing device contents is_faulted (Ok did) go leads still fa
           commit-steps first second w did old (with_engine committing device contents is_faulted old) refl stands.sound still failures
           (only first w stands.sound parts.committing parts.engine)
           (goes-map (go first w parts.committing parts.engine parts.link.waiting)
-          (λ moved. committed-parts first second w (committed_first w.committer.waiting w.committer) parts moved.0 moved.1 (same_closed w.committer.waiting w))
-          (λ stayed. committed-parts first second w w.committer parts stayed.0 stayed.1 refl));
+          (λ moved. committed-parts first second w (committed_first w.primary.committer.waiting w.primary.committer) parts moved.0 moved.1 (same_closed w.primary.committer.waiting w))
+          (λ stayed. committed-parts first second w w.primary.committer parts stayed.0 stayed.1 refl));
       cut = tt;
       calls = none-added _ _ refl;
     }
   where
-    same_closed : (groups : List Span) (w : World) → (committed_first groups w.committer).closed ≡ w.committer.closed
+    same_closed : (groups : List Span) (w : World) → (committed_first groups w.primary.committer).closed ≡ w.primary.committer.closed
     same_closed [] w = refl
     same_closed (group ∷ groups) w = refl
 
     committed-parts : (first second : Holder) (w : World) (committer : MachineCommitter) → PartsStand first second old w
-        → CommittingStands w.calls committing committer → EngineStands first w.calls committer.position device contents is_faulted
-        → committer.closed ≡ w.committer.closed
+        → CommittingStands w.primary.calls committing committer → EngineStands first w.primary.calls committer.position device contents is_faulted
+        → committer.closed ≡ w.primary.committer.closed
         → PartsStand first second (with_engine committing device contents is_faulted old) (with_committer committer w)
     committed-parts first second w committer parts committing_stands engine_stands closed =
         record {
           sessions = parts.sessions;
-          sequencer = subst (λ n. SequencerStands w.calls n old.sequencer) (sym closed) parts.sequencer;
+          sequencer = subst (λ n. SequencerStands w.primary.calls n old.sequencer) (sym closed) parts.sequencer;
           committing = committing_stands;
           engine = engine_stands;
           leads = leads_on old.contents old.committing.waiting.items contents committing.waiting.items old.sequencer leads parts.leads;
@@ -444,14 +444,14 @@ abbrev pub with_committing : Committing → Pair → Pair
 with_committing committing pair = record pair { committing = committing }
 
 shown-parts : (first second : Holder) (old : Pair) (committing : Committing) (w : World) (committer : MachineCommitter) → PartsStand first second old w → committing.waiting ≡ old.committing.waiting
-    → CommittingStands w.calls committing committer → committer.closed ≡ w.committer.closed → committer.position ≡ w.committer.position
+    → CommittingStands w.primary.calls committing committer → committer.closed ≡ w.primary.committer.closed → committer.position ≡ w.primary.committer.position
     → PartsStand first second (with_committing committing old) (with_committer committer w)
 shown-parts first second old committing w committer parts waiting committing_stands closed position =
     record {
       sessions = parts.sessions;
-      sequencer = subst (λ n. SequencerStands w.calls n old.sequencer) (sym closed) parts.sequencer;
+      sequencer = subst (λ n. SequencerStands w.primary.calls n old.sequencer) (sym closed) parts.sequencer;
       committing = committing_stands;
-      engine = subst (λ p. EngineStands first w.calls p old.device old.contents old.is_faulted) (sym position) parts.engine;
+      engine = subst (λ p. EngineStands first w.primary.calls p old.device old.contents old.is_faulted) (sym position) parts.engine;
       leads = subst (λ (waits : Waiting Group). Leads old.contents waits.items old.sequencer) (sym waiting) parts.leads;
       link = parts.link;
       arrivals = parts.arrivals;
@@ -459,17 +459,17 @@ shown-parts first second old committing w committer parts waiting committing_sta
     }
 
 pub raise-does : (old : Pair) (committing : Committing) (did : Bool)
-    → ((w : World) → CommittingStands w.calls old.committing w.committer → old.contents.current.position ≡ w.committer.position
-    → Goes (is_enabled w events.RaiseLocal) did (CommittingStands w.calls committing (raised_local w.committer)) (CommittingStands w.calls committing w.committer))
+    → ((w : World) → CommittingStands w.primary.calls old.committing w.primary.committer → old.contents.current.position ≡ w.primary.committer.position
+    → Goes (is_enabled w events.RaiseLocal) did (CommittingStands w.primary.calls committing (raised_local w.primary.committer)) (CommittingStands w.primary.calls committing w.primary.committer))
     → committing.waiting ≡ old.committing.waiting → Does old events.RaiseLocal (Ok did) (with_committing committing old)
 raise-does old committing did go waiting =
     record {
       steps = λ first second w stands.
           let parts = stands.parts in
-          goes-steps first second w (with_committer (raised_local w.committer) w) events.RaiseLocal did old (with_committing committing old) refl refl stands.sound refl
+          goes-steps first second w (with_committer (raised_local w.primary.committer) w) events.RaiseLocal did old (with_committing committing old) refl refl stands.sound refl
           (goes-map (go w parts.committing parts.engine.contents_at.at)
-          (λ moved. shown-parts first second old committing w (raised_local w.committer) parts waiting moved refl refl)
-          (λ stayed. shown-parts first second old committing w w.committer parts waiting stayed refl refl));
+          (λ moved. shown-parts first second old committing w (raised_local w.primary.committer) parts waiting moved refl refl)
+          (λ stayed. shown-parts first second old committing w w.primary.committer parts waiting stayed refl refl));
       cut = tt;
       calls = none-added _ _ refl;
     }
@@ -481,39 +481,39 @@ abbrev pub with_handed : Committing → Link → Pair → Pair
 with_handed committing link pair = record pair { committing = committing; link = link }
 
 pub hand-does : (old : Pair) (committing : Committing) (waiting : Waiting Group) (did : Bool)
-    → ((w : World) → Sound w → CommittingStands w.calls old.committing w.committer → AreGroupsOf w.calls old.link.waiting.items w.link.waiting
+    → ((w : World) → Sound w → CommittingStands w.primary.calls old.committing w.primary.committer → AreGroupsOf w.primary.calls old.link.waiting.items w.primary.link.waiting
     → Goes (is_enabled w events.Hand) did
-    (CommittingStands w.calls committing (ready_again w.committer) × AreGroupsOf w.calls waiting.items (w.link.waiting ++ handed w.committer.stage))
-    (CommittingStands w.calls committing w.committer × AreGroupsOf w.calls waiting.items w.link.waiting))
+    (CommittingStands w.primary.calls committing (ready_again w.primary.committer) × AreGroupsOf w.primary.calls waiting.items (w.primary.link.waiting ++ handed w.primary.committer.stage))
+    (CommittingStands w.primary.calls committing w.primary.committer × AreGroupsOf w.primary.calls waiting.items w.primary.link.waiting))
     → committing.waiting ≡ old.committing.waiting → Does old events.Hand (Ok did) (with_handed committing (record old.link { waiting = waiting }) old)
 hand-does old committing waiting did go same =
     record {
       steps = λ first second w stands.
           let parts = stands.parts in
-          goes-steps first second w (with_link (handed_to (handed w.committer.stage) w.link) (with_committer (ready_again w.committer) w)) events.Hand did
+          goes-steps first second w (with_link (handed_to (handed w.primary.committer.stage) w.primary.link) (with_committer (ready_again w.primary.committer) w)) events.Hand did
           old (with_handed committing (record old.link { waiting = waiting }) old) refl refl stands.sound refl
           (goes-map (go w stands.sound parts.committing parts.link.waiting)
           (λ moved.
-          let shown = shown-parts first second old committing w (ready_again w.committer) parts same moved.0 refl refl in
+          let shown = shown-parts first second old committing w (ready_again w.primary.committer) parts same moved.0 refl refl in
           record {
             sessions = shown.sessions;
             sequencer = shown.sequencer;
             committing = shown.committing;
             engine = shown.engine;
             leads = shown.leads;
-            link = waits (handed_to (handed w.committer.stage) w.link) w parts.link refl moved.1;
+            link = waits (handed_to (handed w.primary.committer.stage) w.primary.link) w parts.link refl moved.1;
             arrivals = parts.arrivals;
             standby = parts.standby;
           })
           (λ stayed.
-          let shown = shown-parts first second old committing w w.committer parts same stayed.0 refl refl in
+          let shown = shown-parts first second old committing w w.primary.committer parts same stayed.0 refl refl in
           record {
             sessions = shown.sessions;
             sequencer = shown.sequencer;
             committing = shown.committing;
             engine = shown.engine;
             leads = shown.leads;
-            link = waits w.link w parts.link refl stayed.1;
+            link = waits w.primary.link w parts.link refl stayed.1;
             arrivals = parts.arrivals;
             standby = parts.standby;
           }));
@@ -521,10 +521,10 @@ hand-does old committing waiting did go same =
       calls = none-added _ _ refl;
     }
   where
-    waits : (link : MachineLink) (w : World) → LinkStands w.calls old.link w.link → record w.link { waiting = link.waiting } ≡ link → AreGroupsOf w.calls waiting.items link.waiting
-        → LinkStands w.calls (record old.link { waiting = waiting }) link
+    waits : (link : MachineLink) (w : World) → LinkStands w.primary.calls old.link w.primary.link → record w.primary.link { waiting = link.waiting } ≡ link → AreGroupsOf w.primary.calls waiting.items link.waiting
+        → LinkStands w.primary.calls (record old.link { waiting = waiting }) link
     waits link w stands same_rest groups =
-        subst (LinkStands w.calls (record old.link { waiting = waiting })) same_rest
+        subst (LinkStands w.primary.calls (record old.link { waiting = waiting })) same_rest
         (record {
           waiting = groups;
           spans = stands.spans;
@@ -541,7 +541,7 @@ hand-does old committing waiting did go same =
 abbrev pub with_frames : Link → Pair → Pair
 with_frames link pair = record pair { link = link }
 
-link-parts : (first second : Holder) (old : Pair) (link : Link) (w : World) (machine : MachineLink) → PartsStand first second old w → KeepsFrames old.link link → LinkStands w.calls link machine
+link-parts : (first second : Holder) (old : Pair) (link : Link) (w : World) (machine : MachineLink) → PartsStand first second old w → KeepsFrames old.link link → LinkStands w.primary.calls link machine
     → PartsStand first second (with_frames link old) (with_link machine w)
 link-parts first second old link w machine parts keeps link_stands =
     record {
@@ -551,16 +551,16 @@ link-parts first second old link w machine parts keeps link_stands =
       engine = parts.engine;
       leads = parts.leads;
       link = link_stands;
-      arrivals = subst (λ e. ArrivalsStand e w.calls link.frames.items old.arrivals w.standby) (sym keeps.epoch)
-          (subst (λ frames. ArrivalsStand old.link.epoch w.calls frames old.arrivals w.standby) keeps.frames.joined
-          (ArrivalsStand-frames old.link.epoch w.calls old.link.frames.items keeps.frames.rest old.arrivals w.standby parts.arrivals));
-      standby = subst (λ e. StandbyStands second e w.calls w.standby.position old.standby) (sym keeps.epoch) parts.standby;
+      arrivals = subst (λ e. ArrivalsStand e w.primary.calls link.frames.items old.arrivals w.standby) (sym keeps.epoch)
+          (subst (λ frames. ArrivalsStand old.link.epoch w.primary.calls frames old.arrivals w.standby) keeps.frames.joined
+          (ArrivalsStand-frames old.link.epoch w.primary.calls old.link.frames.items keeps.frames.rest old.arrivals w.standby parts.arrivals));
+      standby = subst (λ e. StandbyStands second e w.primary.calls w.standby.position old.standby) (sym keeps.epoch) parts.standby;
     }
 
 -- what the link did, of each sound world that it stood for
 abbrev pub LinkGoes : Event → (World → MachineLink) → Bool → Link → Link → Type 0
 LinkGoes event change did old new =
-    (w : World) → Sound w → LinkStands w.calls old w.link → Goes (is_enabled w event) did (LinkStands w.calls new (change w)) (LinkStands w.calls new w.link)
+    (w : World) → Sound w → LinkStands w.primary.calls old w.primary.link → Goes (is_enabled w event) did (LinkStands w.primary.calls new (change w)) (LinkStands w.primary.calls new w.primary.link)
 
 link-steps : (event : Event) (change : World → MachineLink) → ((w : World) → Happens w event (with_link (change w) w)) → (old : Pair) (link : Link) (did : Bool)
     → LinkGoes event change did old.link link → KeepsFrames old.link link
@@ -569,17 +569,17 @@ link-steps event change happens old link did go keeps first second w stands =
     goes-steps first second w (with_link (change w) w) event did old (with_frames link old) refl refl stands.sound (happens w)
     (goes-map (go w stands.sound stands.parts.link)
     (link-parts first second old link w (change w) stands.parts keeps)
-    (link-parts first second old link w w.link stands.parts keeps))
+    (link-parts first second old link w w.primary.link stands.parts keeps))
 
 pub link-does : (event : Event) (change : World → MachineLink) → ((w : World) → Happens w event (with_link (change w) w)) → (old : Pair) (link : Link) (did : Bool)
     → LinkGoes event change did old.link link → KeepsFrames old.link link → Does old event (Ok did) (with_frames link old)
 link-does event change happens old link did go keeps =
     record { steps = link-steps event change happens old link did go keeps; cut = tt; calls = none-added _ _ refl }
 
-pub send-does : (old : Pair) (link : Link) (result : Result Bool Refusal) → IfOk result (λ did. LinkGoes events.Send (λ w. sent_next w.link.again w.link) did old.link link)
+pub send-does : (old : Pair) (link : Link) (result : Result Bool Refusal) → IfOk result (λ did. LinkGoes events.Send (λ w. sent_next w.primary.link.again w.primary.link) did old.link link)
     → OnOk result (KeepsFrames old.link link) → IfErr result (λ refusal. refusal ≡ Memory)
-    → OnErr result ((w : World) → LinkStands w.calls old.link w.link → is_enabled w events.Send ≡ true) → Does old events.Send result (with_frames link old)
-send-does old link (Ok did) go keeps memory enabled = link-does events.Send (λ w. sent_next w.link.again w.link) (λ w. refl) old link did go keeps
+    → OnErr result ((w : World) → LinkStands w.primary.calls old.link w.primary.link → is_enabled w events.Send ≡ true) → Does old events.Send result (with_frames link old)
+send-does old link (Ok did) go keeps memory enabled = link-does events.Send (λ w. sent_next w.primary.link.again w.primary.link) (λ w. refl) old link did go keeps
 send-does old link (Err refusal) go keeps memory enabled =
     record {
       steps = tt;
@@ -597,7 +597,7 @@ abbrev pub with_opened : Arrivals → Link → Pair → Pair
 with_opened arrivals link pair = record pair { arrivals = arrivals; link = link }
 
 arrivals-parts : (first second : Holder) (old : Pair) (arrivals : Arrivals) (w : World) (machine : MachineStandby) → PartsStand first second old w → machine.position ≡ w.standby.position
-    → ArrivalsStand old.link.epoch w.calls old.link.frames.items arrivals machine → PartsStand first second (with_arrivals arrivals old) (with_standby machine w)
+    → ArrivalsStand old.link.epoch w.primary.calls old.link.frames.items arrivals machine → PartsStand first second (with_arrivals arrivals old) (with_standby machine w)
 arrivals-parts first second old arrivals w machine parts position arrivals_stand =
     record {
       sessions = parts.sessions;
@@ -607,16 +607,16 @@ arrivals-parts first second old arrivals w machine parts position arrivals_stand
       leads = parts.leads;
       link = parts.link;
       arrivals = arrivals_stand;
-      standby = subst (λ p. StandbyStands second old.link.epoch w.calls p old.standby) (sym position) parts.standby;
+      standby = subst (λ p. StandbyStands second old.link.epoch w.primary.calls p old.standby) (sym position) parts.standby;
     }
 
 -- the standby told its position
 abbrev pub Acknowledges : Ack → Arrivals → Arrivals → Type 0
 Acknowledges ack old new =
-    (epoch : ℕ) (frames : List Frame) (w : World) → ArrivalsStand epoch w.calls frames old w.standby → ack.position ≡ w.standby.position → ArrivalsStand epoch w.calls frames new (acknowledged w.standby)
+    (epoch : ℕ) (frames : List Frame) (w : World) → ArrivalsStand epoch w.primary.calls frames old w.standby → ack.position ≡ w.standby.position → ArrivalsStand epoch w.primary.calls frames new (acknowledged w.standby)
 
 pub open-does : (old : Pair) (arrivals : Arrivals) (link : Link) (ack : Ack) → ack.position ≡ old.standby.contents.current.position → Acknowledges ack old.arrivals arrivals
-    → ((w : World) → LinkStands w.calls old.link w.link → LinkStands w.calls link (opened_link w.link)) → KeepsFrames old.link link
+    → ((w : World) → LinkStands w.primary.calls old.link w.primary.link → LinkStands w.primary.calls link (opened_link w.primary.link)) → KeepsFrames old.link link
     → Does old events.OpenLink (Ok true) (with_opened arrivals link old)
 open-does old arrivals link ack position acknowledges opens keeps =
     record {
@@ -624,8 +624,8 @@ open-does old arrivals link ack position acknowledges opens keeps =
           let parts = stands.parts in
           let told = acknowledges old.link.epoch old.link.frames.items w parts.arrivals (position ∙ parts.standby.engine.contents_at.at) in
           let heard = arrivals-parts first second old arrivals w (acknowledged w.standby) parts refl told in
-          let moved = link-parts first second (with_arrivals arrivals old) link (with_standby (acknowledged w.standby) w) (opened_link w.link) heard keeps (opens w parts.link) in
-          goes-steps first second w (with_link (opened_link w.link) (with_standby (acknowledged w.standby) w)) events.OpenLink true old (with_opened arrivals link old) refl refl stands.sound refl
+          let moved = link-parts first second (with_arrivals arrivals old) link (with_standby (acknowledged w.standby) w) (opened_link w.primary.link) heard keeps (opens w parts.link) in
+          goes-steps first second w (with_link (opened_link w.primary.link) (with_standby (acknowledged w.standby) w)) events.OpenLink true old (with_opened arrivals link old) refl refl stands.sound refl
           (record { done = refl; goes = λ did. moved; stays = λ did. absurd (true≢false did) });
       cut = tt;
       calls = none-added _ _ refl;
@@ -642,20 +642,20 @@ open-cut old arrivals (Err refusal) is memory =
     }
 
 pub deliver-does : (old : Pair) (arrivals : Arrivals) (sent : List ℕ) (frame : ℕ) (result : Result Bool Refusal) → sent ≡ old.link.sent.items
-    → IfOk result (λ did. (epoch : ℕ) (frames : List Frame) (w : World) → ArrivalsStand epoch w.calls frames old.arrivals w.standby
-    → AreFramesAt epoch w.calls frames sent w.link.frames
+    → IfOk result (λ did. (epoch : ℕ) (frames : List Frame) (w : World) → ArrivalsStand epoch w.primary.calls frames old.arrivals w.standby
+    → AreFramesAt epoch w.primary.calls frames sent w.wire.frames
     → Goes (is_enabled w (events.Deliver frame)) did
-    (ArrivalsStand epoch w.calls frames arrivals (delivered (option_items (slice_get w.link.frames frame)) w.standby))
-    (ArrivalsStand epoch w.calls frames arrivals w.standby))
+    (ArrivalsStand epoch w.primary.calls frames arrivals (delivered (option_items (slice_get w.wire.frames frame)) w.standby))
+    (ArrivalsStand epoch w.primary.calls frames arrivals w.standby))
     → IfErr result (λ refusal. refusal ≡ Memory) → OnErr result (frame < length sent) → Does old (events.Deliver frame) result (with_arrivals arrivals old)
 deliver-does old arrivals sent frame (Ok did) same go memory some =
     record {
       steps = λ first second w stands.
           let parts = stands.parts in
-          let came = delivered (option_items (slice_get w.link.frames frame)) w.standby in
+          let came = delivered (option_items (slice_get w.wire.frames frame)) w.standby in
           goes-steps first second w (with_standby came w) (events.Deliver frame) did old (with_arrivals arrivals old) refl refl stands.sound refl
           (goes-map (go old.link.epoch old.link.frames.items w parts.arrivals
-          (subst (λ (places : List ℕ). AreFramesAt old.link.epoch w.calls old.link.frames.items places w.link.frames) (sym same) parts.link.sent))
+          (subst (λ (places : List ℕ). AreFramesAt old.link.epoch w.primary.calls old.link.frames.items places w.wire.frames) (sym same) parts.link.sent))
           (arrivals-parts first second old arrivals w came parts refl)
           (arrivals-parts first second old arrivals w w.standby parts refl));
       cut = tt;
@@ -666,8 +666,8 @@ deliver-does old arrivals sent frame (Err refusal) same go memory some =
       steps = tt;
       cut = λ first second w stands.
           let link = stands.parts.link in
-          let is : frame < length w.link.frames = omega (arith, some, ap length same, length-places old.link.epoch w.calls old.link.frames.items old.link.sent.items w.link.frames link.sent) in
-          cut-same first second (events.Deliver frame) refusal old (with_arrivals arrivals old) w refl memory refl refl (tells old.sessions) (lt-ltb frame (length w.link.frames) is) stands;
+          let is : frame < length w.wire.frames = omega (arith, some, ap length same, length-places old.link.epoch w.primary.calls old.link.frames.items old.link.sent.items w.wire.frames link.sent) in
+          cut-same first second (events.Deliver frame) refusal old (with_arrivals arrivals old) w refl memory refl refl (tells old.sessions) (lt-ltb frame (length w.wire.frames) is) stands;
       calls = none-added _ _ refl;
     }
 
@@ -695,13 +695,13 @@ apply-steps first second old arrivals node w true stands applies =
           engine = parts.engine;
           leads = parts.leads;
           link = parts.link;
-          arrivals = subst (λ (x : World). ArrivalsStand old.link.epoch w.calls old.link.frames.items arrivals x.standby) applied.now moved.2;
-          standby = subst (λ (x : World). StandbyStands second old.link.epoch w.calls x.standby.position node) applied.now moved.3;
+          arrivals = subst (λ (x : World). ArrivalsStand old.link.epoch w.primary.calls old.link.frames.items arrivals x.standby) applied.now moved.2;
+          standby = subst (λ (x : World). StandbyStands second old.link.epoch w.primary.calls x.standby.position node) applied.now moved.3;
         };
       };
       moves = record {
-        primary = moves-same first w.calls w.committer.position w.committer.position old.device old.device refl (Stands-engine _ _ _ _ _ _ parts.engine);
-        standby = subst (λ (x : World). Moves second w.calls w.standby.position x.standby.position old.standby.device node.device) applied.now moved.4;
+        primary = moves-same first w.primary.calls w.primary.committer.position w.primary.committer.position old.device old.device refl (Stands-engine _ _ _ _ _ _ parts.engine);
+        standby = subst (λ (x : World). Moves second w.primary.calls w.standby.position x.standby.position old.standby.device node.device) applied.now moved.4;
       };
     }
 apply-steps first second old arrivals node w false stands applies =
@@ -716,7 +716,7 @@ apply-steps first second old arrivals node w false stands applies =
       leads = before.leads;
       link = before.link;
       arrivals = stayed.0;
-      standby = subst (StandbyStands second old.link.epoch w.calls w.standby.position) (sym stayed.1) before.standby;
+      standby = subst (StandbyStands second old.link.epoch w.primary.calls w.standby.position) (sym stayed.1) before.standby;
     } in
     record {
       world = w;
@@ -733,33 +733,33 @@ ends-apply Exhausted P Q both ends = both RestsAtLimit ends
 ends-apply refusal P Q both ends = absurd ends
 
 pub apply-does : (old : Pair) (arrivals : Arrivals) (node : Node) (frames : List Frame) (result : Result Bool Refusal) → frames ≡ old.link.frames.items
-    → IfOk result (λ did. (holder : Holder) (w : World) → Sound w → ArrivalsStand old.standby.epoch w.calls frames old.arrivals w.standby
-    → StandbyStands holder old.standby.epoch w.calls w.standby.position old.standby
+    → IfOk result (λ did. (holder : Holder) (w : World) → Sound w → ArrivalsStand old.standby.epoch w.primary.calls frames old.arrivals w.standby
+    → StandbyStands holder old.standby.epoch w.primary.calls w.standby.position old.standby
     → AppliesFirst holder old.standby.epoch frames w did arrivals old.standby node)
-    → ((holder : Holder) (w : World) → Sound w → ArrivalsStand old.standby.epoch w.calls frames old.arrivals w.standby
-    → StandbyStands holder old.standby.epoch w.calls w.standby.position old.standby → NearOnly holder w.calls w.standby.position old.standby.device node.device)
-    → IfErr result (λ refusal. (holder : Holder) (w : World) → Sound w → ArrivalsStand old.standby.epoch w.calls frames old.arrivals w.standby
-    → StandbyStands holder old.standby.epoch w.calls w.standby.position old.standby
-    → (is_enabled w events.Apply ≡ true) × EndsBy refusal events.Apply (λ _ last. last holder w.calls w.standby.position old.standby.device node.device))
+    → ((holder : Holder) (w : World) → Sound w → ArrivalsStand old.standby.epoch w.primary.calls frames old.arrivals w.standby
+    → StandbyStands holder old.standby.epoch w.primary.calls w.standby.position old.standby → NearOnly holder w.primary.calls w.standby.position old.standby.device node.device)
+    → IfErr result (λ refusal. (holder : Holder) (w : World) → Sound w → ArrivalsStand old.standby.epoch w.primary.calls frames old.arrivals w.standby
+    → StandbyStands holder old.standby.epoch w.primary.calls w.standby.position old.standby
+    → (is_enabled w events.Apply ≡ true) × EndsBy refusal events.Apply (λ _ last. last holder w.primary.calls w.standby.position old.standby.device node.device))
     → Does old events.Apply result (with_node arrivals node old)
 apply-does old arrivals node frames result same applies only cuts = go result applies cuts
   where
-    arrive : (first second : Holder) (w : World) → PairStands first second old w → ArrivalsStand old.standby.epoch w.calls frames old.arrivals w.standby
+    arrive : (first second : Holder) (w : World) → PairStands first second old w → ArrivalsStand old.standby.epoch w.primary.calls frames old.arrivals w.standby
     arrive first second w stands =
-        subst (λ e. ArrivalsStand e w.calls frames old.arrivals w.standby) (sym stands.parts.standby.epoch_is)
-        (subst (λ (all : List Frame). ArrivalsStand old.link.epoch w.calls all old.arrivals w.standby) (sym same) stands.parts.arrivals)
+        subst (λ e. ArrivalsStand e w.primary.calls frames old.arrivals w.standby) (sym stands.parts.standby.epoch_is)
+        (subst (λ (all : List Frame). ArrivalsStand old.link.epoch w.primary.calls all old.arrivals w.standby) (sym same) stands.parts.arrivals)
 
-    stand : (first second : Holder) (w : World) → PairStands first second old w → StandbyStands second old.standby.epoch w.calls w.standby.position old.standby
+    stand : (first second : Holder) (w : World) → PairStands first second old w → StandbyStands second old.standby.epoch w.primary.calls w.standby.position old.standby
     stand first second w stands =
-        subst (λ e. StandbyStands second e w.calls w.standby.position old.standby) (sym stands.parts.standby.epoch_is) stands.parts.standby
+        subst (λ e. StandbyStands second e w.primary.calls w.standby.position old.standby) (sym stands.parts.standby.epoch_is) stands.parts.standby
 
     go : (result : Result Bool Refusal)
-        → IfOk result (λ did. (holder : Holder) (w : World) → Sound w → ArrivalsStand old.standby.epoch w.calls frames old.arrivals w.standby
-        → StandbyStands holder old.standby.epoch w.calls w.standby.position old.standby
+        → IfOk result (λ did. (holder : Holder) (w : World) → Sound w → ArrivalsStand old.standby.epoch w.primary.calls frames old.arrivals w.standby
+        → StandbyStands holder old.standby.epoch w.primary.calls w.standby.position old.standby
         → AppliesFirst holder old.standby.epoch frames w did arrivals old.standby node)
-        → IfErr result (λ refusal. (holder : Holder) (w : World) → Sound w → ArrivalsStand old.standby.epoch w.calls frames old.arrivals w.standby
-        → StandbyStands holder old.standby.epoch w.calls w.standby.position old.standby
-        → (is_enabled w events.Apply ≡ true) × EndsBy refusal events.Apply (λ _ last. last holder w.calls w.standby.position old.standby.device node.device))
+        → IfErr result (λ refusal. (holder : Holder) (w : World) → Sound w → ArrivalsStand old.standby.epoch w.primary.calls frames old.arrivals w.standby
+        → StandbyStands holder old.standby.epoch w.primary.calls w.standby.position old.standby
+        → (is_enabled w events.Apply ≡ true) × EndsBy refusal events.Apply (λ _ last. last holder w.primary.calls w.standby.position old.standby.device node.device))
         → Does old events.Apply result (with_node arrivals node old)
     go (Ok did) applies cuts =
         record {
@@ -778,7 +778,7 @@ apply-does old arrivals node frames result same applies only cuts = go result ap
               let new = with_node arrivals node old in
               let cut = cuts second w stands.sound (arrive first second w stands) (stand first second w stands) in
               cut-for first second events.Apply refusal old new w stands (tells old.sessions) cut.0
-              (ends-apply refusal (λ _ last. last second w.calls w.standby.position old.standby.device node.device) (Led first second old new w)
+              (ends-apply refusal (λ _ last. last second w.primary.calls w.standby.position old.standby.device node.device) (Led first second old new w)
               (λ last broken. (rests-primary first second old w stands, broken)) cut.1);
           calls = none-added _ _ refl;
         }
@@ -791,20 +791,20 @@ found-there xs ys n x same within is =
     subst (λ (all : List Ack). slice_get all n ≡ Some x) same (slice_get-get_or xs n x (ltb-true n (length xs) (sym within)) ∙ ap Some (sym is))
 
 pub ack-does : (old : Pair) (n : ℕ) (ack : Ack) (link : Link) → slice_get old.arrivals.acknowledgements.items n ≡ Some ack
-    → ((w : World) → Sound w → LinkStands w.calls old.link w.link → LinkStands w.calls link (knowing ack.position w.link)) → KeepsFrames old.link link
+    → ((w : World) → Sound w → LinkStands w.primary.calls old.link w.primary.link → LinkStands w.primary.calls link (knowing ack.position w.primary.link)) → KeepsFrames old.link link
     → Does old (events.AckDelivered n) (Ok true) (with_frames link old)
 ack-does old n ack link stands_there knows keeps =
     record {
       steps = λ first second w stands.
           let parts = stands.parts in
-          let there : slice_get w.standby.acknowledgements n ≡ Some ack.position =
+          let there : slice_get w.wire.acknowledgements n ≡ Some ack.position =
           ap (λ (all : List ℕ). slice_get all n) (sym parts.arrivals.acknowledged)
           ∙ slice_get-map (λ (a : Ack). a.position) old.arrivals.acknowledgements.items n ∙ ap (option_map (λ (a : Ack). a.position)) stands_there in
-          goes-steps first second w (with_link (told (slice_get w.standby.acknowledgements n) w.link) w) (events.AckDelivered n) true old (with_frames link old) refl refl stands.sound refl
+          goes-steps first second w (with_link (told (slice_get w.wire.acknowledgements n) w.primary.link) w) (events.AckDelivered n) true old (with_frames link old) refl refl stands.sound refl
           (record {
-            done = sym (lt-ltb n (length w.standby.acknowledgements) (slice_get_within w.standby.acknowledgements n ack.position there));
-            goes = λ did. link-parts first second old link w (told (slice_get w.standby.acknowledgements n) w.link) parts keeps
-                (subst (λ (o : Option ℕ). LinkStands w.calls link (told o w.link)) (sym there) (knows w stands.sound parts.link));
+            done = sym (lt-ltb n (length w.wire.acknowledgements) (slice_get_within w.wire.acknowledgements n ack.position there));
+            goes = λ did. link-parts first second old link w (told (slice_get w.wire.acknowledgements n) w.primary.link) parts keeps
+                (subst (λ (o : Option ℕ). LinkStands w.primary.calls link (told o w.primary.link)) (sym there) (knows w stands.sound parts.link));
             stays = λ did. absurd (true≢false did);
           });
       cut = tt;
@@ -818,7 +818,7 @@ no-ack-does old n past =
           record {
             world = w;
             step = record {
-              done = sym (le-ltb n (length w.standby.acknowledgements) (omega (arith, past, ap length stands.parts.arrivals.acknowledged, length-map old.arrivals.acknowledgements.items (λ (a : Ack). a.position))));
+              done = sym (le-ltb n (length w.wire.acknowledgements) (omega (arith, past, ap length stands.parts.arrivals.acknowledged, length-map old.arrivals.acknowledgements.items (λ (a : Ack). a.position))));
               happens = λ did. absurd (true≢false (sym did));
               stands = λ did. refl;
             };

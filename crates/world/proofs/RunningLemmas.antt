@@ -36,8 +36,8 @@ use Rattle.world.proofs.SessionLemmas.{length-connections, released-told}
 
 -- one event more
 moves-push : (position : World → ℕ) (holder : Holder) (w : World) (worlds : List World) (w' : World) (old new new' : State) → AreMoves position holder w worlds old new
-    → Moves holder w'.calls (position (last_world w worlds)) (position w') new new' → AreMoves position holder w (worlds ++ w' ∷ []) old new'
-moves-push position holder w [] w' old new new' are moves = (new', subst (λ (d : State). Moves holder w'.calls (position w) (position w') d new') (sym are) moves, refl)
+    → Moves holder w'.primary.calls (position (last_world w worlds)) (position w') new new' → AreMoves position holder w (worlds ++ w' ∷ []) old new'
+moves-push position holder w [] w' old new new' are moves = (new', subst (λ (d : State). Moves holder w'.primary.calls (position w) (position w') d new') (sym are) moves, refl)
 moves-push position holder w (next ∷ worlds) w' old new new' are moves = (are.0, are.1, moves-push position holder next worlds w' are.0 new new' are.2 moves)
 
 pub reaches-world : (first second : Holder) (began : Pair) (events : List Event) (done : List Bool) (pair : Pair) → StandsAfter first second began events done pair → HasWorld pair
@@ -80,7 +80,7 @@ pub few-played : (first second : Holder) (began : Pair) (events : List Event) (e
     → length pair.sessions.connections.items ≤ SEATS
 few-played first second began events None done pair plays =
     let w = last_world start plays.reaches.worlds in
-    omega (arith, plays.stands.sound.seats, length-connections w.calls 0 pair.sessions.connections.items w.connections plays.stands.parts.sessions.connections_stand)
+    omega (arith, plays.stands.sound.seats, length-connections w.primary.calls 0 pair.sessions.connections.items w.primary.connections plays.stands.parts.sessions.connections_stand)
 few-played first second began events (Some (AtFormatting refusal)) done pair plays = absurd plays
 few-played first second began events (Some (AtEvent place refusal)) done pair plays = plays.2.cut.few
 
@@ -89,8 +89,8 @@ few-played first second began events (Some (AtEvent place refusal)) done pair pl
 -- it never falls, it is one of the list, and what was released is up to it
 record IsOfNode (position : World → ℕ) : Type 0 where
   rises : (old new : World) → Grows old new → position old ≤ position new
-  within : (w : World) → Sound w → position w ≤ position_of w.calls
-  holds : (w : World) → Sound w → (front : List Call) (call : Call) → IsReleased w.calls (released_in w) front call → position_of (front ++ call ∷ []) ≤ position w
+  within : (w : World) → Sound w → position w ≤ position_of w.primary.calls
+  holds : (w : World) → Sound w → (front : List Call) (call : Call) → IsReleased w.primary.calls (released_in w) front call → position_of (front ++ call ∷ []) ≤ position w
 
 of_primary : IsOfNode primary_position
 of_primary =
@@ -156,9 +156,9 @@ moments-from last position holder calls node from w (event ∷ events) (did ∷ 
     let sound' = sound-step w event did w' run.0 sound in
     let rises = node.rises w w' (grows-step w event did w' run.0 sound) in
     let within = node.within w' sound' in
-    let prefix : IsPrefix w'.calls calls = subst (IsPrefix w'.calls) told (grows-from w' events done worlds run.1 sound').calls in
+    let prefix : IsPrefix w'.primary.calls calls = subst (IsPrefix w'.primary.calls) told (grows-from w' events done worlds run.1 sound').calls in
     let rest = moments-from last position holder calls node from w' events done worlds are.0 reached new run.1 sound' told are.2 ends in
-    let moves = moves-grow holder w'.calls calls (position w) (position w') old are.0 prefix (omega (arith, rises, within)) within are.1 in
+    let moves = moves-grow holder w'.primary.calls calls (position w) (position w') old are.0 prefix (omega (arith, rises, within)) within are.1 in
     let onward : FromOnly holder calls (position w) old new =
     LeavesOnly-then (moves-from holder calls (position w) (position w') old are.0 rises moves) (from-lower holder calls (position w) (position w') are.0 new rises rest.from) in
     record {
@@ -183,7 +183,7 @@ promised-by events done worlds calls released primary standby run tells =
         serves = promised.serves;
         begins = promised.begins;
         covered = λ front call out.
-            let in_last : IsReleased w.calls (released_in w) front call =
+            let in_last : IsReleased w.primary.calls (released_in w) front call =
             record { rest = out.rest; stands = sym tells.list ∙ out.stands; written = omega (arith, out.written, ap length (tells.bytes call.connection)) } in
             let marks = released-covered w (sound-run events done worlds run) front call in_last in
             some-last (HasMarks front call) start worlds
@@ -231,15 +231,15 @@ played-whole first second began events done pair released same after =
     (rests-from first pair.sessions.calls.items) (rests-from second pair.sessions.calls.items) after.reaches
     (record {
       list = told;
-      bytes = λ c. ap (λ (all : List (List ℕ)). slice_index_or all c []) same ∙ released-told w.calls 0 pair.sessions.connections.items w.connections parts.sessions.connections_stand c;
+      bytes = λ c. ap (λ (all : List (List ℕ)). slice_index_or all c []) same ∙ released-told w.primary.calls 0 pair.sessions.connections.items w.primary.connections parts.sessions.connections_stand c;
       primary_position = refl;
       standby_position = refl;
     })
     tt
-    (subst (λ (calls : List Call). Rests first calls w.committer.position pair.device pair.device) (sym told)
-    (rests-same first w.calls w.committer.position pair.device pair.device refl (Stands-engine _ _ _ _ _ _ parts.engine)))
+    (subst (λ (calls : List Call). Rests first calls w.primary.committer.position pair.device pair.device) (sym told)
+    (rests-same first w.primary.calls w.primary.committer.position pair.device pair.device refl (Stands-engine _ _ _ _ _ _ parts.engine)))
     (subst (λ (calls : List Call). Rests second calls w.standby.position pair.standby.device pair.standby.device) (sym told)
-    (rests-same second w.calls w.standby.position pair.standby.device pair.standby.device refl (Stands-engine _ _ _ _ _ _ parts.standby.engine)))
+    (rests-same second w.primary.calls w.standby.position pair.standby.device pair.standby.device refl (Stands-engine _ _ _ _ _ _ parts.standby.engine)))
 
 -- ---- a run that ended in an event
 
@@ -281,7 +281,7 @@ played-cut first second began events event refusal done pair released same after
       standby_position = refl;
     })
     cut.enabled
-    (subst (λ (calls : List Call). first_last first calls w.committer.position before.device pair.device) (sym cut.calls) led.0)
+    (subst (λ (calls : List Call). first_last first calls w.primary.committer.position before.device pair.device) (sym cut.calls) led.0)
     (subst (λ (calls : List Call). second_last second calls w.standby.position before.standby.device pair.standby.device) (sym cut.calls) led.1))
     cut.cause
 

@@ -203,39 +203,39 @@ some-parts [] some = absurd (some refl)
 some-parts (part ∷ parts) some = omega arith
 
 -- no part waits, or there is no room
-pub closes-nothing : (w : World) (code : Committing) (s : Sequencing) (moved : Type 0) → CommittingStands w.calls code w.committer → SequencerStands w.calls w.committer.closed s
+pub closes-nothing : (w : World) (code : Committing) (s : Sequencing) (moved : Type 0) → CommittingStands w.primary.calls code w.primary.committer → SequencerStands w.primary.calls w.primary.committer.closed s
     → (s.waiting ≢ [] → length code.waiting.items < PIPE_ITEMS → ⊥)
-    → Goes (is_enabled w CloseGroup) false moved (CommittingStands w.calls code w.committer × SequencerStands w.calls w.committer.closed s)
+    → Goes (is_enabled w CloseGroup) false moved (CommittingStands w.primary.calls code w.primary.committer × SequencerStands w.primary.calls w.primary.committer.closed s)
 closes-nothing w code s moved stands sequencer never = record {
   done = sym (false_from_ne_true (is_enabled w CloseGroup) (λ e.
-      let parts = both (nat_lt 0 (open_changes w)) (has_room w.committer.waiting) e in
+      let parts = both (nat_lt 0 (open_changes w)) (has_room w.primary.committer.waiting) e in
       let some : 0 < open_changes w = ltb-true 0 (open_changes w) parts.0 in
-      let room : length w.committer.waiting < PIPE_ITEMS = ltb-true (length w.committer.waiting) PIPE_ITEMS parts.1 in
-      never (λ none. absurd (omega (arith, some, sequencer.count, ap length none))) (omega (arith, room, length-groups w.calls code.waiting.items w.committer.waiting stands.groups))));
+      let room : length w.primary.committer.waiting < PIPE_ITEMS = ltb-true (length w.primary.committer.waiting) PIPE_ITEMS parts.1 in
+      never (λ none. absurd (omega (arith, some, sequencer.count, ap length none))) (omega (arith, room, length-groups w.primary.calls code.waiting.items w.primary.committer.waiting stands.groups))));
   goes = λ did. cc;
   stays = λ did. (stands, sequencer);
 }
 
 -- changes that wait may be closed, where there is room for their group
-pub may-close : (w : World) (code : Committing) (s : Sequencing) → CommittingStands w.calls code w.committer → SequencerStands w.calls w.committer.closed s
+pub may-close : (w : World) (code : Committing) (s : Sequencing) → CommittingStands w.primary.calls code w.primary.committer → SequencerStands w.primary.calls w.primary.committer.closed s
     → s.waiting ≢ [] → length code.waiting.items < PIPE_ITEMS → is_enabled w CloseGroup ≡ true
 may-close w code s stands sequencer some room =
-    and_from (nat_lt 0 (open_changes w)) (has_room w.committer.waiting) (lt-ltb 0 (open_changes w) (omega (arith, some-parts s.waiting some, sequencer.count)))
-    (lt-ltb (length w.committer.waiting) PIPE_ITEMS (omega (arith, room, length-groups w.calls code.waiting.items w.committer.waiting stands.groups)))
+    and_from (nat_lt 0 (open_changes w)) (has_room w.primary.committer.waiting) (lt-ltb 0 (open_changes w) (omega (arith, some-parts s.waiting some, sequencer.count)))
+    (lt-ltb (length w.primary.committer.waiting) PIPE_ITEMS (omega (arith, room, length-groups w.primary.calls code.waiting.items w.primary.committer.waiting stands.groups)))
 
-pub closes-one : (w : World) (old new : Committing) (s s' : Sequencing) (group : Group) (stayed : Type 0) → CommittingStands w.calls old w.committer → SequencerStands w.calls w.committer.closed s
+pub closes-one : (w : World) (old new : Committing) (s s' : Sequencing) (group : Group) (stayed : Type 0) → CommittingStands w.primary.calls old w.primary.committer → SequencerStands w.primary.calls w.primary.committer.closed s
     → s.waiting ≢ [] → length old.waiting.items < PIPE_ITEMS → HandsOut s group s' → new.waiting.items ≡ old.waiting.items ++ group ∷ [] → new.stage ≡ old.stage → new.local ≡ old.local
-    → Goes (is_enabled w CloseGroup) true (CommittingStands w.calls new (closed_group w.committer) × SequencerStands w.calls (closed_group w.committer).closed s') stayed
+    → Goes (is_enabled w CloseGroup) true (CommittingStands w.primary.calls new (closed_group w.primary.committer) × SequencerStands w.primary.calls (closed_group w.primary.committer).closed s') stayed
 closes-one w old new s s' group stayed stands sequencer some room hands pushed stage_same local_same = record {
   done = sym (may-close w old s stands sequencer some room);
   goes = λ did. (
     record {
-      groups = subst (λ (groups : List Group). AreGroupsOf w.calls groups (closed_group w.committer).waiting) (sym pushed)
-          (AreGroupsOf-push w.calls old.waiting.items w.committer.waiting group _ stands.groups (IsGroupOf-handed w.calls w.committer.closed s s' group sequencer hands));
-      stage_is = subst (λ (stage : Stage). StageStands w.calls stage w.committer.stage) (sym stage_same) stands.stage_is;
+      groups = subst (λ (groups : List Group). AreGroupsOf w.primary.calls groups (closed_group w.primary.committer).waiting) (sym pushed)
+          (AreGroupsOf-push w.primary.calls old.waiting.items w.primary.committer.waiting group _ stands.groups (IsGroupOf-handed w.primary.calls w.primary.committer.closed s s' group sequencer hands));
+      stage_is = subst (λ (stage : Stage). StageStands w.primary.calls stage w.primary.committer.stage) (sym stage_same) stands.stage_is;
       local_is = local_same ∙ stands.local_is;
     },
-    sequencer-handed w.calls w.committer.closed s s' group sequencer hands,
+    sequencer-handed w.primary.calls w.primary.committer.closed s s' group sequencer hands,
   );
   stays = λ did. cc;
 }

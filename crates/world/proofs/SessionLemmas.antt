@@ -113,38 +113,38 @@ with_connection sessions c connection = record { lobby = sessions.lobby; connect
 
 -- The event's test asks first whether the connection is open, which one of the list is. What was done to the connection is done to the sessions.
 pub connection-goes : (test : Bool → Bool) (did : Bool) (w : World) (sessions : Sessions) (c : ℕ) (old new : Connection) (change : MachineConnection → MachineConnection)
-    → c < length sessions.connections.items → old ≡ slice_index_or sessions.connections.items c old → SessionsStand sessions w.connections w.calls
-    → (ConnectionStands w.calls c old (get_connection w.connections c)
-    → Goes (test true) did (ConnectionStands w.calls c new (change (get_connection w.connections c))) (ConnectionStands w.calls c new (get_connection w.connections c)))
-    → Goes (test (is_open w c)) did (SessionsStand (with_connection sessions c new) (changed_at c change w.connections) w.calls) (SessionsStand (with_connection sessions c new) w.connections w.calls)
+    → c < length sessions.connections.items → old ≡ slice_index_or sessions.connections.items c old → SessionsStand sessions w.primary.connections w.primary.calls
+    → (ConnectionStands w.primary.calls c old (get_connection w.primary.connections c)
+    → Goes (test true) did (ConnectionStands w.primary.calls c new (change (get_connection w.primary.connections c))) (ConnectionStands w.primary.calls c new (get_connection w.primary.connections c)))
+    → Goes (test (is_open w c)) did (SessionsStand (with_connection sessions c new) (changed_at c change w.primary.connections) w.primary.calls) (SessionsStand (with_connection sessions c new) w.primary.connections w.primary.calls)
 connection-goes test did w sessions c old new change within is stand went =
-    let all : ConnectionsStand w.calls 0 sessions.connections.items w.connections = stand.connections_stand in
-    let goes : Goes (test true) did (ConnectionStands w.calls c new (change (get_connection w.connections c))) (ConnectionStands w.calls c new (get_connection w.connections c)) =
-    went (subst (λ code. ConnectionStands w.calls c code (get_connection w.connections c)) (sym is) (ConnectionStands-at w.calls 0 c c sessions.connections.items w.connections old (omega arith) within all)) in
+    let all : ConnectionsStand w.primary.calls 0 sessions.connections.items w.primary.connections = stand.connections_stand in
+    let goes : Goes (test true) did (ConnectionStands w.primary.calls c new (change (get_connection w.primary.connections c))) (ConnectionStands w.primary.calls c new (get_connection w.primary.connections c)) =
+    went (subst (λ code. ConnectionStands w.primary.calls c code (get_connection w.primary.connections c)) (sym is) (ConnectionStands-at w.primary.calls 0 c c sessions.connections.items w.primary.connections old (omega arith) within all)) in
     let place : c ≡ 0 + c = omega arith in
-    let is_there : is_open w c ≡ true = lt-ltb c (length w.connections) (omega (arith, length-connections w.calls 0 sessions.connections.items w.connections all)) in
+    let is_there : is_open w c ≡ true = lt-ltb c (length w.primary.connections) (omega (arith, length-connections w.primary.calls 0 sessions.connections.items w.primary.connections all)) in
     record {
       done = goes.done ∙ ap test (sym is_there);
       goes = λ yes_did. record {
-        seats = subst (SeatsStand sessions.lobby.statuses) (sym (length-changed_at c change w.connections)) stand.seats;
-        connections_stand = ConnectionsStand-changed w.calls 0 c c sessions.connections.items w.connections new change place all (goes.goes yes_did);
+        seats = subst (SeatsStand sessions.lobby.statuses) (sym (length-changed_at c change w.primary.connections)) stand.seats;
+        connections_stand = ConnectionsStand-changed w.primary.calls 0 c c sessions.connections.items w.primary.connections new change place all (goes.goes yes_did);
         calls_are = stand.calls_are;
         no_reply = stand.no_reply;
       };
       stays = λ not_did. record {
         seats = stand.seats;
-        connections_stand = subst (ConnectionsStand w.calls 0 (slice_set sessions.connections.items c new)) (changed_at-itself c w.connections)
-            (ConnectionsStand-changed w.calls 0 c c sessions.connections.items w.connections new (λ machine. machine) place all (goes.stays not_did));
+        connections_stand = subst (ConnectionsStand w.primary.calls 0 (slice_set sessions.connections.items c new)) (changed_at-itself c w.primary.connections)
+            (ConnectionsStand-changed w.primary.calls 0 c c sessions.connections.items w.primary.connections new (λ machine. machine) place all (goes.stays not_did));
         calls_are = stand.calls_are;
         no_reply = stand.no_reply;
       };
     }
 
 pub inbound-goes : (test : Bool → Bool) (did : Bool) (w : World) (sessions : Sessions) (c : ℕ) (connection : Connection) (new : Inbound) (change : MachineInbound → MachineInbound)
-    → c < length sessions.connections.items → connection ≡ slice_index_or sessions.connections.items c connection → SessionsStand sessions w.connections w.calls
-    → (let machine = (get_connection w.connections c).inbound in InboundStands connection.inbound machine → Goes (test true) did (InboundStands new (change machine)) (InboundStands new machine))
+    → c < length sessions.connections.items → connection ≡ slice_index_or sessions.connections.items c connection → SessionsStand sessions w.primary.connections w.primary.calls
+    → (let machine = (get_connection w.primary.connections c).inbound in InboundStands connection.inbound machine → Goes (test true) did (InboundStands new (change machine)) (InboundStands new machine))
     → let now = with_connection sessions c (record { seat = connection.seat; inbound = new; outbound = connection.outbound }) in
-    Goes (test (is_open w c)) did (SessionsStand now (changed_at c (with_inbound change) w.connections) w.calls) (SessionsStand now w.connections w.calls)
+    Goes (test (is_open w c)) did (SessionsStand now (changed_at c (with_inbound change) w.primary.connections) w.primary.calls) (SessionsStand now w.primary.connections w.primary.calls)
 inbound-goes test did w sessions c connection new change within is stand went =
     connection-goes test did w sessions c connection (record { seat = connection.seat; inbound = new; outbound = connection.outbound }) (with_inbound change) within is stand (λ stands.
     let goes = went stands.inbound in
@@ -155,11 +155,11 @@ inbound-goes test did w sessions c connection new change within is stand went =
     })
 
 pub outbound-goes : (test : Bool → Bool) (did : Bool) (w : World) (sessions : Sessions) (c : ℕ) (connection : Connection) (new : Outbound) (change : MachineOutbound → MachineOutbound)
-    → c < length sessions.connections.items → connection ≡ slice_index_or sessions.connections.items c connection → SessionsStand sessions w.connections w.calls
-    → (let machine = (get_connection w.connections c).outbound in
-    OutboundStands w.calls connection.outbound machine → Goes (test true) did (OutboundStands w.calls new (change machine)) (OutboundStands w.calls new machine))
+    → c < length sessions.connections.items → connection ≡ slice_index_or sessions.connections.items c connection → SessionsStand sessions w.primary.connections w.primary.calls
+    → (let machine = (get_connection w.primary.connections c).outbound in
+    OutboundStands w.primary.calls connection.outbound machine → Goes (test true) did (OutboundStands w.primary.calls new (change machine)) (OutboundStands w.primary.calls new machine))
     → let now = with_connection sessions c (record { seat = connection.seat; inbound = connection.inbound; outbound = new }) in
-    Goes (test (is_open w c)) did (SessionsStand now (changed_at c (with_outbound change) w.connections) w.calls) (SessionsStand now w.connections w.calls)
+    Goes (test (is_open w c)) did (SessionsStand now (changed_at c (with_outbound change) w.primary.connections) w.primary.calls) (SessionsStand now w.primary.connections w.primary.calls)
 outbound-goes test did w sessions c connection new change within is stand went =
     connection-goes test did w sessions c connection (record { seat = connection.seat; inbound = connection.inbound; outbound = new }) (with_outbound change) within is stand (λ stands.
     let goes = went stands.outbound in
@@ -171,20 +171,20 @@ outbound-goes test did w sessions c connection new change within is stand went =
 
 -- the event is enabled: there is such a connection, and so is the rest of the test
 pub enabled-at : (test : Bool → Bool) (w : World) (sessions : Sessions) (c : ℕ) (old : Connection) → c < length sessions.connections.items → old ≡ slice_index_or sessions.connections.items c old
-    → SessionsStand sessions w.connections w.calls → (ConnectionStands w.calls c old (get_connection w.connections c) → test true ≡ true) → test (is_open w c) ≡ true
+    → SessionsStand sessions w.primary.connections w.primary.calls → (ConnectionStands w.primary.calls c old (get_connection w.primary.connections c) → test true ≡ true) → test (is_open w c) ≡ true
 enabled-at test w sessions c old within is stand rest =
-    let all : ConnectionsStand w.calls 0 sessions.connections.items w.connections = stand.connections_stand in
-    let is_there : is_open w c ≡ true = lt-ltb c (length w.connections) (omega (arith, within, length-connections w.calls 0 sessions.connections.items w.connections all)) in
+    let all : ConnectionsStand w.primary.calls 0 sessions.connections.items w.primary.connections = stand.connections_stand in
+    let is_there : is_open w c ≡ true = lt-ltb c (length w.primary.connections) (omega (arith, within, length-connections w.primary.calls 0 sessions.connections.items w.primary.connections all)) in
     ap test is_there
-    ∙ rest (subst (λ code. ConnectionStands w.calls c code (get_connection w.connections c)) (sym is) (ConnectionStands-at w.calls 0 c c sessions.connections.items w.connections old (omega arith) within all))
+    ∙ rest (subst (λ code. ConnectionStands w.primary.calls c code (get_connection w.primary.connections c)) (sym is) (ConnectionStands-at w.primary.calls 0 c c sessions.connections.items w.primary.connections old (omega arith) within all))
 
 -- there is no such connection, so that the event is not enabled
-pub none-goes : (test : Bool → Bool) (w : World) (sessions : Sessions) (c : ℕ) {Moved : Type 0} → length sessions.connections.items ≤ c → test false ≡ false → SessionsStand sessions w.connections w.calls
-    → Goes (test (is_open w c)) false Moved (SessionsStand sessions w.connections w.calls)
+pub none-goes : (test : Bool → Bool) (w : World) (sessions : Sessions) (c : ℕ) {Moved : Type 0} → length sessions.connections.items ≤ c → test false ≡ false → SessionsStand sessions w.primary.connections w.primary.calls
+    → Goes (test (is_open w c)) false Moved (SessionsStand sessions w.primary.connections w.primary.calls)
 none-goes test w sessions c past refused stand =
-    let over : length w.connections ≤ c = omega (arith, length-connections w.calls 0 sessions.connections.items w.connections stand.connections_stand) in
+    let over : length w.primary.connections ≤ c = omega (arith, length-connections w.primary.calls 0 sessions.connections.items w.primary.connections stand.connections_stand) in
     record {
-      done = sym refused ∙ ap test (sym (le-ltb c (length w.connections) over));
+      done = sym refused ∙ ap test (sym (le-ltb c (length w.primary.connections) over));
       goes = λ yes_did. cc;
       stays = λ _. stand;
     }
@@ -246,29 +246,29 @@ ConnectionsStand-push calls n seat (first ∷ codes) (other ∷ machines) code m
     (stand.0, ConnectionsStand-push calls (suc n) seat codes machines code machine (omega arith) stand.1 stands)
 
 -- where a seat was free, a connection may enter
-pub may-enter : (w : World) (old : Sessions) (after : Book) (seat : ℕ) → SessionsStand old w.connections w.calls → Moves old.lobby seat free taken after
-    → ((lower : ℕ) → lower < seat → slice_get old.lobby.statuses lower ≡ Some taken) → nat_lt (length w.connections) SEATS ≡ true
+pub may-enter : (w : World) (old : Sessions) (after : Book) (seat : ℕ) → SessionsStand old w.primary.connections w.primary.calls → Moves old.lobby seat free taken after
+    → ((lower : ℕ) → lower < seat → slice_get old.lobby.statuses lower ≡ Some taken) → nat_lt (length w.primary.connections) SEATS ≡ true
 may-enter w old after seat stand moves lowest =
     let within : seat < MAX_SEATS = omega (arith, slice_get_within old.lobby.statuses seat free moves.was, old.lobby.complete) in
-    let own : seat ≡ length w.connections = lowest-seat old.lobby.statuses (length w.connections) seat stand.seats moves.was within lowest in
-    lt-ltb (length w.connections) SEATS (omega arith)
+    let own : seat ≡ length w.primary.connections = lowest-seat old.lobby.statuses (length w.primary.connections) seat stand.seats moves.was within lowest in
+    lt-ltb (length w.primary.connections) SEATS (omega arith)
 
 -- it took the lowest free seat
-pub seated-goes : (w : World) (old new : Sessions) (seat : ℕ) (inbound : Inbound) (outbound : Outbound) {Stayed : Type 0} → SessionsStand old w.connections w.calls
+pub seated-goes : (w : World) (old new : Sessions) (seat : ℕ) (inbound : Inbound) (outbound : Outbound) {Stayed : Type 0} → SessionsStand old w.primary.connections w.primary.calls
     → Moves old.lobby seat free taken new.lobby → ((lower : ℕ) → lower < seat → slice_get old.lobby.statuses lower ≡ Some taken)
-    → InboundStands inbound no_connection.inbound → OutboundStands w.calls outbound no_connection.outbound
+    → InboundStands inbound no_connection.inbound → OutboundStands w.primary.calls outbound no_connection.outbound
     → new.connections.items ≡ old.connections.items ++ record { seat = seat; inbound = inbound; outbound = outbound } ∷ [] → new.calls.items ≡ old.calls.items → new.replies.items ≡ old.replies.items
-    → Goes (nat_lt (length w.connections) SEATS) true (SessionsStand new (w.connections ++ no_connection ∷ []) w.calls) Stayed
+    → Goes (nat_lt (length w.primary.connections) SEATS) true (SessionsStand new (w.primary.connections ++ no_connection ∷ []) w.primary.calls) Stayed
 seated-goes w old new seat inbound outbound stand moves lowest inbound_stands outbound_stands connections calls replies =
     let within : seat < MAX_SEATS = omega (arith, slice_get_within old.lobby.statuses seat free moves.was, old.lobby.complete) in
-    let own : seat ≡ length w.connections = lowest-seat old.lobby.statuses (length w.connections) seat stand.seats moves.was within lowest in
+    let own : seat ≡ length w.primary.connections = lowest-seat old.lobby.statuses (length w.primary.connections) seat stand.seats moves.was within lowest in
     record {
-      done = sym (lt-ltb (length w.connections) SEATS (omega arith));
+      done = sym (lt-ltb (length w.primary.connections) SEATS (omega arith));
       goes = λ _. record {
-        seats = subst (SeatsStand new.lobby.statuses) (sym (length-append w.connections (no_connection ∷ [])))
-            (SeatsStand-more old.lobby new.lobby (length w.connections) stand.seats (subst (λ place. Moves old.lobby place free taken new.lobby) own moves));
-        connections_stand = subst (λ codes. ConnectionsStand w.calls 0 codes (w.connections ++ no_connection ∷ [])) (sym connections)
-            (ConnectionsStand-push w.calls 0 seat old.connections.items w.connections (record { seat = seat; inbound = inbound; outbound = outbound }) no_connection (omega arith) stand.connections_stand
+        seats = subst (SeatsStand new.lobby.statuses) (sym (length-append w.primary.connections (no_connection ∷ [])))
+            (SeatsStand-more old.lobby new.lobby (length w.primary.connections) stand.seats (subst (λ place. Moves old.lobby place free taken new.lobby) own moves));
+        connections_stand = subst (λ codes. ConnectionsStand w.primary.calls 0 codes (w.primary.connections ++ no_connection ∷ [])) (sym connections)
+            (ConnectionsStand-push w.primary.calls 0 seat old.connections.items w.primary.connections (record { seat = seat; inbound = inbound; outbound = outbound }) no_connection (omega arith) stand.connections_stand
             (record { seat = refl; inbound = inbound_stands; outbound = outbound_stands }));
         calls_are = calls ∙ stand.calls_are;
         no_reply = replies ∙ stand.no_reply;
@@ -277,21 +277,21 @@ seated-goes w old new seat inbound outbound stand moves lowest inbound_stands ou
     }
 
 -- all seats are taken
-pub full-goes : (w : World) (old new : Sessions) {Moved : Type 0} → SessionsStand old w.connections w.calls → All (λ status. status ≡ taken) old.lobby.statuses
+pub full-goes : (w : World) (old new : Sessions) {Moved : Type 0} → SessionsStand old w.primary.connections w.primary.calls → All (λ status. status ≡ taken) old.lobby.statuses
     → new.lobby ≡ old.lobby → new.connections.items ≡ old.connections.items → new.calls.items ≡ old.calls.items → new.replies.items ≡ old.replies.items
-    → Goes (nat_lt (length w.connections) SEATS) false Moved (SessionsStand new w.connections w.calls)
+    → Goes (nat_lt (length w.primary.connections) SEATS) false Moved (SessionsStand new w.primary.connections w.primary.calls)
 full-goes w old new stand all lobby connections calls replies =
-    let count = length w.connections in
+    let count = length w.primary.connections in
     let full : SEATS ≤ count = elim (cases_lt count SEATS) [
       | inl lt ↦ absurd (not_all-taken old.lobby count all (stand.seats.are_free count (omega arith) lt))
       | inr le ↦ le
     ] in
     record {
-      done = sym (le-ltb (length w.connections) SEATS full);
+      done = sym (le-ltb (length w.primary.connections) SEATS full);
       goes = λ yes_did. cc;
       stays = λ _. record {
-        seats = subst (λ (lobby : Book). SeatsStand lobby.statuses (length w.connections)) (sym lobby) stand.seats;
-        connections_stand = subst (λ codes. ConnectionsStand w.calls 0 codes w.connections) (sym connections) stand.connections_stand;
+        seats = subst (λ (lobby : Book). SeatsStand lobby.statuses (length w.primary.connections)) (sym lobby) stand.seats;
+        connections_stand = subst (λ codes. ConnectionsStand w.primary.calls 0 codes w.primary.connections) (sym connections) stand.connections_stand;
         calls_are = calls ∙ stand.calls_are;
         no_reply = replies ∙ stand.no_reply;
       };

@@ -155,46 +155,46 @@ length-made calls [] (held ∷ helds) are = absurd are
 length-made calls (made ∷ mades) [] are = absurd are
 length-made calls (made ∷ mades) (held ∷ helds) are = ap suc (length-made calls mades helds are.1)
 
-open-while-waiting : (w : World) (c : ℕ) (s : Sequencing) → Sound w → SequencerStands w.calls w.committer.closed s → is_nonempty (connection_of w c).inbound.waiting ≡ true → is_closed s c ≡ false
+open-while-waiting : (w : World) (c : ℕ) (s : Sequencing) → Sound w → SequencerStands w.primary.calls w.primary.committer.closed s → is_nonempty (connection_of w c).inbound.waiting ≡ true → is_closed s c ≡ false
 open-while-waiting w c s sound stands waits =
     let inbound = (connection_of w c).inbound in
-    false_from_ne_true (is_closed s c) (λ closed. both_ways (list_any closes (items_of c w.calls)) (none inbound.waiting waits (sound.inbound c).order) (stands.seats c closed))
+    false_from_ne_true (is_closed s c) (λ closed. both_ways (list_any closes (items_of c w.primary.calls)) (none inbound.waiting waits (sound.inbound c).order) (stands.seats c closed))
   where
-    none : (waiting : List Item) → is_nonempty waiting ≡ true → items_of c w.calls ++ waiting ≡ take (connection_of w c).inbound.offered (asked (connection_of w c).inbound.fed) → list_any closes (items_of c w.calls) ≡ false
+    none : (waiting : List Item) → is_nonempty waiting ≡ true → items_of c w.primary.calls ++ waiting ≡ take (connection_of w c).inbound.offered (asked (connection_of w c).inbound.fed) → list_any closes (items_of c w.primary.calls) ≡ false
     none [] some order = cc
-    none (item ∷ items) some order = open-before (connection_of w c).inbound.offered (items_at SERVED_LIMITS (connection_of w c).inbound.fed) (items_of c w.calls) items item order
+    none (item ∷ items) some order = open-before (connection_of w c).inbound.offered (items_at SERVED_LIMITS (connection_of w c).inbound.fed) (items_of c w.primary.calls) items item order
 
 is_nonempty-some : {X : Type 0} (xs : List X) → is_nonempty xs ≡ true → xs ≢ []
 is_nonempty-some [] e = λ h. cc
 is_nonempty-some (x ∷ xs) e = λ h. cc
 
-enabled-runs : (w : World) (c : ℕ) (code : Connection) (s : Sequencing) → Sound w → SequencerStands w.calls w.committer.closed s → ConnectionStands w.calls c code (connection_of w c)
+enabled-runs : (w : World) (c : ℕ) (code : Connection) (s : Sequencing) → Sound w → SequencerStands w.primary.calls w.primary.committer.closed s → ConnectionStands w.primary.calls c code (connection_of w c)
     → is_enabled w (Turn c) ≡ true → MayRun code s
 enabled-runs w c code s sound stands connection e =
     let machine = connection_of w c in
     let parts = four (is_open w c) (is_nonempty machine.inbound.waiting) (has_room machine.outbound.made) (nat_lt (open_changes w) OPEN_CHANGES) e in
     record {
       waits = λ h. is_nonempty-some machine.inbound.waiting parts.1 (sym connection.inbound.waits ∙ h);
-      room = omega (arith, ltb-true (length machine.outbound.made) PIPE_ITEMS parts.2, length-made w.calls code.outbound.made.items machine.outbound.made connection.outbound.made);
+      room = omega (arith, ltb-true (length machine.outbound.made) PIPE_ITEMS parts.2, length-made w.primary.calls code.outbound.made.items machine.outbound.made connection.outbound.made);
       few = omega (arith, ltb-true (open_changes w) OPEN_CHANGES parts.3, stands.count);
       is_open = ap (is_closed s) connection.seat ∙ open-while-waiting w c s sound stands parts.1;
     }
 
-enabled-open : (w : World) (c : ℕ) → is_enabled w (Turn c) ≡ true → c < length w.connections
+enabled-open : (w : World) (c : ℕ) → is_enabled w (Turn c) ≡ true → c < length w.primary.connections
 enabled-open w c e =
     let machine = connection_of w c in
-    ltb-true c (length w.connections) (four (is_open w c) (is_nonempty machine.inbound.waiting) (has_room machine.outbound.made) (nat_lt (open_changes w) OPEN_CHANGES) e).0
+    ltb-true c (length w.primary.connections) (four (is_open w c) (is_nonempty machine.inbound.waiting) (has_room machine.outbound.made) (nat_lt (open_changes w) OPEN_CHANGES) e).0
 
-runs-enabled : (w : World) (c : ℕ) (code : Connection) (s : Sequencing) → SequencerStands w.calls w.committer.closed s → ConnectionStands w.calls c code (connection_of w c)
-    → c < length w.connections → code.inbound.waiting.items ≢ [] → length code.outbound.made.items < PIPE_ITEMS → length s.waiting < MAX_PARTS → is_enabled w (Turn c) ≡ true
+runs-enabled : (w : World) (c : ℕ) (code : Connection) (s : Sequencing) → SequencerStands w.primary.calls w.primary.committer.closed s → ConnectionStands w.primary.calls c code (connection_of w c)
+    → c < length w.primary.connections → code.inbound.waiting.items ≢ [] → length code.outbound.made.items < PIPE_ITEMS → length s.waiting < MAX_PARTS → is_enabled w (Turn c) ≡ true
 runs-enabled w c code s stands connection lt waits room few =
     let machine = connection_of w c in
     let some : is_nonempty machine.inbound.waiting ≡ true = nonempty machine.inbound.waiting (λ h. waits (connection.inbound.waits ∙ h)) in
     let fits : has_room machine.outbound.made ≡ true =
-    lt-ltb (length machine.outbound.made) PIPE_ITEMS (omega (arith, length-made w.calls code.outbound.made.items machine.outbound.made connection.outbound.made)) in
+    lt-ltb (length machine.outbound.made) PIPE_ITEMS (omega (arith, length-made w.primary.calls code.outbound.made.items machine.outbound.made connection.outbound.made)) in
     let below : nat_lt (open_changes w) OPEN_CHANGES ≡ true = lt-ltb (open_changes w) OPEN_CHANGES (omega (arith, stands.count)) in
     and_from (is_open w c && is_nonempty machine.inbound.waiting && has_room machine.outbound.made) _
-    (and_from (is_open w c && is_nonempty machine.inbound.waiting) _ (and_from (is_open w c) _ (lt-ltb c (length w.connections) lt) some) fits) below
+    (and_from (is_open w c && is_nonempty machine.inbound.waiting) _ (and_from (is_open w c) _ (lt-ltb c (length w.primary.connections) lt) some) fits) below
   where
     nonempty : (xs : List Item) → xs ≢ [] → is_nonempty xs ≡ true
     nonempty [] differ = absurd (differ refl)
@@ -207,7 +207,7 @@ none-wait (item ∷ items) e = absurd (omega (arith, eqb-true (suc (length items
 -- ---- no turn
 
 -- nothing changed where it is not enabled
-pub no-turn : (w : World) (c : ℕ) (sessions : Sessions) (s s' : Sequencing) → (is_enabled w (Turn c) ≡ true → ⊥) → SessionsStand sessions w.connections w.calls → s' ≡ s → TakesTurn w c false sessions s s'
+pub no-turn : (w : World) (c : ℕ) (sessions : Sessions) (s s' : Sequencing) → (is_enabled w (Turn c) ≡ true → ⊥) → SessionsStand sessions w.primary.connections w.primary.calls → s' ≡ s → TakesTurn w c false sessions s s'
 no-turn w c sessions s s' never stands same = record {
   done = sym (false_from_ne_true (is_enabled w (Turn c)) never);
   goes = λ did. cc;
@@ -215,14 +215,14 @@ no-turn w c sessions s s' never stands same = record {
 }
 
 -- there is no such connection
-pub no-turn-past : (w : World) (c : ℕ) (sessions : Sessions) (s : Sequencing) → length sessions.connections.items ≤ c → SessionsStand sessions w.connections w.calls → TakesTurn w c false sessions s s
+pub no-turn-past : (w : World) (c : ℕ) (sessions : Sessions) (s : Sequencing) → length sessions.connections.items ≤ c → SessionsStand sessions w.primary.connections w.primary.calls → TakesTurn w c false sessions s s
 no-turn-past w c sessions s past stands =
-    no-turn w c sessions s s (λ e. absurd (omega (arith, enabled-open w c e, length-connections w.calls 0 sessions.connections.items w.connections stands.connections_stand))) stands refl
+    no-turn w c sessions s s (λ e. absurd (omega (arith, enabled-open w c e, length-connections w.primary.calls 0 sessions.connections.items w.primary.connections stands.connections_stand))) stands refl
 
 -- the connection of a number that there is
-pub connection-stands : (w : World) (c : ℕ) (sessions : Sessions) (code : Connection) → SessionsStand sessions w.connections w.calls → c < length sessions.connections.items
-    → code ≡ slice_index_or sessions.connections.items c code → ConnectionStands w.calls c code (connection_of w c)
-connection-stands w c sessions code stands lt is = stands-at w.calls 0 sessions.connections.items w.connections c code stands.connections_stand lt is c (omega arith)
+pub connection-stands : (w : World) (c : ℕ) (sessions : Sessions) (code : Connection) → SessionsStand sessions w.primary.connections w.primary.calls → c < length sessions.connections.items
+    → code ≡ slice_index_or sessions.connections.items c code → ConnectionStands w.primary.calls c code (connection_of w c)
+connection-stands w c sessions code stands lt is = stands-at w.primary.calls 0 sessions.connections.items w.primary.connections c code stands.connections_stand lt is c (omega arith)
 
 inbound-same : (old new : Inbound) (machine : MachineInbound) → InboundStands old machine → new.parser ≡ old.parser → new.is_closed ≡ old.is_closed → new.asked.items ≡ old.asked.items → new.waiting.items ≡ old.waiting.items → InboundStands new machine
 inbound-same old new machine stands parser is_closed asked_same waiting_same = record {
@@ -249,17 +249,17 @@ pub record LeavesRest (old new : Sessions) (c : ℕ) (code code' : Connection) :
 
 -- the sequencer ran nothing
 pub no-turn-unserved : (w : World) (c : ℕ) (old new : Sessions) (code code' : Connection) (s s' : Sequencing) → c < length old.connections.items → code ≡ slice_index_or old.connections.items c code
-    → (MayRun code s → ⊥) → Sound w → SessionsStand old w.connections w.calls → SequencerStands w.calls w.committer.closed s → LeavesRest old new c code code'
+    → (MayRun code s → ⊥) → Sound w → SessionsStand old w.primary.connections w.primary.calls → SequencerStands w.primary.calls w.primary.committer.closed s → LeavesRest old new c code code'
     → code'.inbound.asked.items ≡ code.inbound.asked.items → code'.inbound.waiting.items ≡ code.inbound.waiting.items → code'.outbound.made.items ≡ code.outbound.made.items
     → new.calls.items ≡ old.calls.items → new.replies.items ≡ [] → s' ≡ s → TakesTurn w c false new s s'
 no-turn-unserved w c old new code code' s s' lt is never sound stands sequencer rest asked_same waiting_same made_same calls_same replies same =
-    let here : ConnectionStands w.calls c code (connection_of w c) = connection-stands w c old code stands lt is in
+    let here : ConnectionStands w.primary.calls c code (connection_of w c) = connection-stands w c old code stands lt is in
     let machine = connection_of w c in
-    let at : ConnectionStands w.calls (0 + c) code' machine = record {
+    let at : ConnectionStands w.primary.calls (0 + c) code' machine = record {
       seat = omega (arith, rest.seat, here.seat);
       inbound = inbound-same code.inbound code'.inbound machine.inbound here.inbound rest.parser rest.is_closed_same asked_same waiting_same;
       outbound = record {
-        made = subst (λ (mades : List Made). AreMade w.calls mades machine.outbound.made) (sym made_same) here.outbound.made;
+        made = subst (λ (mades : List Made). AreMade w.primary.calls mades machine.outbound.made) (sym made_same) here.outbound.made;
         gate = subst (λ g. GateStands g machine.outbound) (sym rest.gate) here.outbound.gate;
         released = ap (λ r. r.items) rest.released ∙ here.outbound.released;
         local = ap (λ seen. seen.local) rest.seen ∙ here.outbound.local;
@@ -267,9 +267,9 @@ no-turn-unserved w c old new code code' s s' lt is never sound stands sequencer 
       };
     } in
     no-turn w c new s s' (λ e. never (enabled-runs w c code s sound sequencer here e)) (record {
-      seats = subst (λ lobby. SeatsStand lobby.statuses (length w.connections)) (sym rest.lobby) stands.seats;
-      connections_stand = subst (λ (codes : List Connection). ConnectionsStand w.calls 0 codes w.connections) (sym rest.connections)
-          (stand-replaced w.calls 0 old.connections.items w.connections c code' stands.connections_stand at);
+      seats = subst (λ lobby. SeatsStand lobby.statuses (length w.primary.connections)) (sym rest.lobby) stands.seats;
+      connections_stand = subst (λ (codes : List Connection). ConnectionsStand w.primary.calls 0 codes w.primary.connections) (sym rest.connections)
+          (stand-replaced w.primary.calls 0 old.connections.items w.primary.connections c code' stands.connections_stand at);
       calls_are = calls_same ∙ stands.calls_are;
       no_reply = replies;
     }) same
@@ -278,30 +278,30 @@ no-turn-unserved w c old new code code' s s' lt is never sound stands sequencer 
 
 -- the sequencer ran the first item that waits
 pub turn-taken : (w : World) (c : ℕ) (old new : Sessions) (code code' : Connection) (s s' : Sequencing) (held : Held) → c < length old.connections.items → code ≡ slice_index_or old.connections.items c code
-    → length code.outbound.made.items < PIPE_ITEMS → Sound w → SessionsStand old w.connections w.calls → SequencerStands w.calls w.committer.closed s → LeavesRest old new c code code'
+    → length code.outbound.made.items < PIPE_ITEMS → Sound w → SessionsStand old w.primary.connections w.primary.calls → SequencerStands w.primary.calls w.primary.committer.closed s → LeavesRest old new c code code'
     → (runs : Runs s code.seat code.inbound.waiting.items held code'.inbound.waiting.items s')
     → code'.inbound.asked.items ≡ drop 1 code.inbound.asked.items → code'.outbound.made.items ≡ code.outbound.made.items ++ record { call = length old.calls.items; position = held.position } ∷ []
     → new.calls.items ≡ old.calls.items ++ call_of c runs.item held.reply ∷ [] → new.replies.items ≡ [] → TakesTurn w c true new s s'
 turn-taken w c old new code code' s s' held lt is room sound stands sequencer rest runs asked_now made_now calls_now replies =
     let machine = connection_of w c in
-    let here : ConnectionStands w.calls c code machine = connection-stands w c old code stands lt is in
+    let here : ConnectionStands w.primary.calls c code machine = connection-stands w c old code stands lt is in
     let call = call_of c runs.item held.reply in
-    let calls' = w.calls ++ call ∷ [] in
+    let calls' = w.primary.calls ++ call ∷ [] in
     let answers : Answers s c runs.item held.reply s' = subst (λ n. Answers s n runs.item held.reply s') here.seat runs.answers in
-    let after : SequencerStands calls' w.committer.closed s' = sequencer-answered w.calls w.committer.closed s s' c runs.item held.reply sequencer answers in
-    let lt' : c < length w.connections = omega (arith, length-connections w.calls 0 old.connections.items w.connections stands.connections_stand) in
+    let after : SequencerStands calls' w.primary.committer.closed s' = sequencer-answered w.primary.calls w.primary.committer.closed s s' c runs.item held.reply sequencer answers in
+    let lt' : c < length w.primary.connections = omega (arith, length-connections w.primary.calls 0 old.connections.items w.primary.connections stands.connections_stand) in
     let asks = first-asked code.inbound machine.inbound runs.item code'.inbound.waiting.items here.inbound runs.first in
     let reply : Held = record { reply = held.reply; position = position_of calls' } in
     let at : ConnectionStands calls' (0 + c) code' (with_outbound (with_made reply) (with_inbound taken_first machine)) = record {
       seat = omega (arith, rest.seat, here.seat);
       inbound = inbound-taken code.inbound code'.inbound machine.inbound runs.item code'.inbound.waiting.items (drop 1 code.inbound.asked.items) here.inbound runs.first asks
           rest.parser rest.is_closed_same asked_now refl;
-      outbound = outbound-made w.calls call held.position code.outbound code'.outbound machine.outbound here.outbound (runs.position ∙ after.position)
+      outbound = outbound-made w.primary.calls call held.position code.outbound code'.outbound machine.outbound here.outbound (runs.position ∙ after.position)
           (made_now ∙ ap (λ (calls : List Call). code.outbound.made.items ++ record { call = length calls; position = held.position } ∷ []) stands.calls_are) rest.gate rest.released rest.seen;
     } in
-    let taken = changed_at c (with_inbound taken_first) w.connections in
-    let count : length (changed_at c (with_outbound (with_made reply)) taken) ≡ length w.connections =
-    length-changed_at c (with_outbound (with_made reply)) taken ∙ length-changed_at c (with_inbound taken_first) w.connections in
+    let taken = changed_at c (with_inbound taken_first) w.primary.connections in
+    let count : length (changed_at c (with_outbound (with_made reply)) taken) ≡ length w.primary.connections =
+    length-changed_at c (with_outbound (with_made reply)) taken ∙ length-changed_at c (with_inbound taken_first) w.primary.connections in
     let waits : (connection_of w c).inbound.waiting ≡ runs.item ∷ code'.inbound.waiting.items = sym here.inbound.waits ∙ runs.first in
     record {
       done = sym (runs-enabled w c code s sequencer here lt' (λ none. absurd (not_both runs.item code'.inbound.waiting.items (sym runs.first ∙ none))) room runs.few);
@@ -318,8 +318,8 @@ turn-taken w c old new code code' s s' held lt is room sound stands sequencer re
           seats = subst (λ lobby. SeatsStand lobby.statuses (length (changed_at c (with_outbound (with_made reply)) taken))) (sym rest.lobby)
               (subst (SeatsStand old.lobby.statuses) (sym count) stands.seats);
           connections_stand = subst (λ (codes : List Connection). ConnectionsStand calls' 0 codes (changed_at c (with_outbound (with_made reply)) taken)) (sym rest.connections)
-              (stand-changed calls' 0 old.connections.items w.connections c code' (with_inbound taken_first) (with_outbound (with_made reply))
-              (ConnectionsStand-grows w.calls (call ∷ []) 0 old.connections.items w.connections stands.connections_stand) at);
+              (stand-changed calls' 0 old.connections.items w.primary.connections c code' (with_inbound taken_first) (with_outbound (with_made reply))
+              (ConnectionsStand-grows w.primary.calls (call ∷ []) 0 old.connections.items w.primary.connections stands.connections_stand) at);
           calls_are = calls_now ∙ ap (λ (calls : List Call). calls ++ call ∷ []) stands.calls_are;
           no_reply = replies;
         },

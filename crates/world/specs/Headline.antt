@@ -17,7 +17,7 @@ use Rattle.world.specs.declared.trace.Ended.TheVariants.{AtFormatting, AtEvent}
 
 -- the position of a node in a world
 abbrev pub primary_position : World → ℕ
-primary_position w = w.committer.position
+primary_position w = w.primary.committer.position
 
 abbrev pub standby_position : World → ℕ
 standby_position w = w.standby.position
@@ -25,7 +25,7 @@ standby_position w = w.standby.position
 -- each crash between these two states of a device leaves an image in which no call is missing that was released in this world
 abbrev pub KeepsReleased : Holder → List Call → World → State → State → Type 0
 KeepsReleased holder calls w old new =
-    (front : List Call) (call : Call) → IsReleased w.calls (released_in w) front call → FromOnly holder calls (position_of (front ++ call ∷ [])) old new
+    (front : List Call) (call : Call) → IsReleased w.primary.calls (released_in w) front call → FromOnly holder calls (position_of (front ++ call ∷ [])) old new
 
 -- The moments of a device, cut by the events of a run from this world on. A crash during an event leaves an image that stands where the node stood before
 -- it or where it stood after it. What comes behind the last event is a stretch of its own. And from each cut on, up to the end, each crash keeps what was
@@ -95,7 +95,7 @@ PlaysOn first second events (Some (AtEvent place refusal)) done calls released p
 -- the events of a run from this world on, each over its own list of calls, led a device on
 abbrev pub AreMoves : (World → ℕ) → Holder → World → List World → State → State → Type 0
 AreMoves position holder w [] old new = old ≡ new
-AreMoves position holder w (w' ∷ worlds) old new = (next : State) × Moves holder w'.calls (position w) (position w') old next × AreMoves position holder w' worlds next new
+AreMoves position holder w (w' ∷ worlds) old new = (next : State) × Moves holder w'.primary.calls (position w) (position w') old next × AreMoves position holder w' worlds next new
 
 -- since the pair began so, the machine's run over events led both devices to these states
 pub record Reaches (first second : Holder) (began : Pair) (events : List Event) (done : List Bool) (primary standby : State) : Type 0 where

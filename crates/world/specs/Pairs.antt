@@ -35,14 +35,14 @@ pub record Pair : Type 0 where
 
 -- Its parts stand for those of the machine. The primary's image is that of the first holder, the standby's that of the second.
 pub record PartsStand (first second : Holder) (pair : Pair) (w : World) : Type 0 where
-  pub sessions : SessionsStand pair.sessions w.connections w.calls
-  pub sequencer : SequencerStands w.calls w.committer.closed pair.sequencer
-  pub committing : CommittingStands w.calls pair.committing w.committer
-  pub engine : EngineStands first w.calls w.committer.position pair.device pair.contents pair.is_faulted
+  pub sessions : SessionsStand pair.sessions w.primary.connections w.primary.calls
+  pub sequencer : SequencerStands w.primary.calls w.primary.committer.closed pair.sequencer
+  pub committing : CommittingStands w.primary.calls pair.committing w.primary.committer
+  pub engine : EngineStands first w.primary.calls w.primary.committer.position pair.device pair.contents pair.is_faulted
   pub leads : Leads pair.contents pair.committing.waiting.items pair.sequencer
-  pub link : LinkStands w.calls pair.link w.link
-  pub arrivals : ArrivalsStand pair.link.epoch w.calls pair.link.frames.items pair.arrivals w.standby
-  pub standby : StandbyStands second pair.link.epoch w.calls w.standby.position pair.standby
+  pub link : LinkStands w.primary.calls pair.link w.primary.link
+  pub arrivals : ArrivalsStand pair.link.epoch w.primary.calls pair.link.frames.items pair.arrivals w.standby
+  pub standby : StandbyStands second pair.link.epoch w.primary.calls w.standby.position pair.standby
 
 -- it stands for a world that a run may reach
 pub record PairStands (first second : Holder) (pair : Pair) (w : World) : Type 0 where
@@ -63,16 +63,16 @@ pub record HasRoom (pair : Pair) : Type 0 where
 -- An enabled event was cut for this cause: the list of calls and the released bytes are those of the world before it.
 pub record IsCut (first second : Holder) (event : Event) (refusal : Refusal) (old new : Pair) (w : World) : Type 0 where
   pub enabled : is_enabled w event ≡ true
-  pub calls : new.sessions.calls.items ≡ w.calls
+  pub calls : new.sessions.calls.items ≡ w.primary.calls
   pub released : (c : ℕ) → slice_index_or (released_of new.sessions.connections.items) c [] ≡ released_in w c
   pub few : length new.sessions.connections.items ≤ SEATS
   pub cause : EndsBy refusal event (λ first_last second_last.
-      first_last first w.calls w.committer.position old.device new.device × second_last second w.calls w.standby.position old.standby.device new.standby.device)
+      first_last first w.primary.calls w.primary.committer.position old.device new.device × second_last second w.primary.calls w.standby.position old.standby.device new.standby.device)
 
 -- what led from one pair to the other moved either device from where its node stands in one world to where it stands in the other
 pub record MovesBoth (first second : Holder) (old new : Pair) (w w' : World) : Type 0 where
-  pub primary : Moves first w'.calls w.committer.position w'.committer.position old.device new.device
-  pub standby : Moves second w'.calls w.standby.position w'.standby.position old.standby.device new.standby.device
+  pub primary : Moves first w'.primary.calls w.primary.committer.position w'.primary.committer.position old.device new.device
+  pub standby : Moves second w'.primary.calls w.standby.position w'.standby.position old.standby.device new.standby.device
 
 -- the machine's step, what the pair stands for after it, and what it did to the devices
 pub record Steps (first second : Holder) (w : World) (event : Event) (did : Bool) (old new : Pair) : Type 0 where

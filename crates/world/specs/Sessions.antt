@@ -81,5 +81,5 @@ pub record SequencerStands (calls : List Call) (closed : ℕ) (s : Sequencing) :
 -- what a turn came to: the sequencer ran the first waiting item, or nothing changed
 pub record TakesTurn (w : World) (c : ℕ) (did : Bool) (sessions : Sessions) (old new : Sequencing) : Type 0 where
   pub done : did ≡ is_enabled w (Turn c)
-  pub goes : did ≡ true → (w' : World) × Turns w c w' × SessionsStand sessions w'.connections w'.calls × SequencerStands w'.calls w'.committer.closed new
-  pub stays : did ≡ false → SessionsStand sessions w.connections w.calls × (new ≡ old)
+  pub goes : did ≡ true → (w' : World) × Turns w c w' × SessionsStand sessions w'.primary.connections w'.primary.calls × SequencerStands w'.primary.calls w'.primary.committer.closed new
+  pub stays : did ≡ false → SessionsStand sessions w.primary.connections w.primary.calls × (new ≡ old)

@@ -40,6 +40,6 @@ pub record ArrivalsStand (epoch : ℕ) (calls : List Call) (frames : List Frame)
 -- the standby took the first frame that came, or there was none
 pub record AppliesFirst (holder : Holder) (epoch : ℕ) (frames : List Frame) (w : World) (did : Bool) (arrivals : Arrivals) (old new : Node) : Type 0 where
   pub done : did ≡ is_enabled w Apply
-  pub goes : did ≡ true → (w' : World) × Applies w w' × ArrivalsStand epoch w.calls frames arrivals w'.standby × StandbyStands holder epoch w.calls w'.standby.position new
-      × Moves holder w.calls w.standby.position w'.standby.position old.device new.device
-  pub stays : did ≡ false → ArrivalsStand epoch w.calls frames arrivals w.standby × (new ≡ old)
+  pub goes : did ≡ true → (w' : World) × Applies w w' × ArrivalsStand epoch w.primary.calls frames arrivals w'.standby × StandbyStands holder epoch w.primary.calls w'.standby.position new
+      × Moves holder w.primary.calls w.standby.position w'.standby.position old.device new.device
+  pub stays : did ≡ false → ArrivalsStand epoch w.primary.calls frames arrivals w.standby × (new ≡ old)

@@ -41,8 +41,8 @@ impl Arrivals {
 
     /// The standby tells its position.
     pub(crate) fn acknowledge(&mut self, ack: Ack) -> Result<(), Refusal>
-        ensures stands { OnOk result ((epoch : ℕ) (frames : List Frame) (w : World) → ArrivalsStand epoch w.calls frames self.old w.standby → ack.position ≡ w.standby.position
-            → ArrivalsStand epoch w.calls frames self.new (acknowledged w.standby)) }
+        ensures stands { OnOk result ((epoch : ℕ) (frames : List Frame) (w : World) → ArrivalsStand epoch w.primary.calls frames self.old w.standby → ack.position ≡ w.standby.position
+            → ArrivalsStand epoch w.primary.calls frames self.new (acknowledged w.standby)) }
         ensures cause { IfErr result (λ refusal. refusal ≡ Refusal.Memory) }
     {
         self.acknowledgements.push(ack)?;
@@ -51,11 +51,11 @@ impl Arrivals {
 
     /// A frame that was sent comes to the standby. Answers whether there is such a frame.
     pub(crate) fn deliver(&mut self, sent: &[usize], frame: u64) -> Result<bool, Refusal>
-        ensures goes { IfOk result (λ did. (epoch : ℕ) (frames : List Frame) (w : World) → ArrivalsStand epoch w.calls frames self.old w.standby
-            → AreFramesAt epoch w.calls frames sent.now w.link.frames
+        ensures goes { IfOk result (λ did. (epoch : ℕ) (frames : List Frame) (w : World) → ArrivalsStand epoch w.primary.calls frames self.old w.standby
+            → AreFramesAt epoch w.primary.calls frames sent.now w.wire.frames
             → Goes (is_enabled w (Deliver frame)) did
-            (ArrivalsStand epoch w.calls frames self.new (delivered (option_items (slice_get w.link.frames frame)) w.standby))
-            (ArrivalsStand epoch w.calls frames self.new w.standby)) }
+            (ArrivalsStand epoch w.primary.calls frames self.new (delivered (option_items (slice_get w.wire.frames frame)) w.standby))
+            (ArrivalsStand epoch w.primary.calls frames self.new w.standby)) }
         ensures cause { IfErr result (λ refusal. refusal ≡ Refusal.Memory) }
         ensures some { OnErr result (frame < length sent.now) }
     {
@@ -81,8 +81,8 @@ impl Arrivals {
         requires sound { E.is_faulted standby.old.engine ≡ false }
         requires durable { IsDurable (E.device standby.old.engine) (E.contents standby.old.engine) }
         ensures applies { IfOk result (λ did. (holder : Holder) (w : World) → Sound w
-            → ArrivalsStand standby.old.epoch w.calls frames.now self.old w.standby
-            → StandbyStands holder standby.old.epoch w.calls w.standby.position (record {
+            → ArrivalsStand standby.old.epoch w.primary.calls frames.now self.old w.standby
+            → StandbyStands holder standby.old.epoch w.primary.calls w.standby.position (record {
               device = E.device standby.old.engine;
               contents = E.contents standby.old.engine;
               is_faulted = E.is_faulted standby.old.engine;
@@ -108,8 +108,8 @@ impl Arrivals {
               epoch = standby.new.epoch;
             })) }
         ensures cut { IfErr result (λ refusal. (holder : Holder) (w : World) → Sound w
-            → ArrivalsStand standby.old.epoch w.calls frames.now self.old w.standby
-            → StandbyStands holder standby.old.epoch w.calls w.standby.position (record {
+            → ArrivalsStand standby.old.epoch w.primary.calls frames.now self.old w.standby
+            → StandbyStands holder standby.old.epoch w.primary.calls w.standby.position (record {
               device = E.device standby.old.engine;
               contents = E.contents standby.old.engine;
               is_faulted = E.is_faulted standby.old.engine;
@@ -118,11 +118,11 @@ impl Arrivals {
               epoch = standby.old.epoch;
             })
             → (is_enabled w Apply ≡ true)
-            × EndsBy refusal Apply (λ _ last. last holder w.calls w.standby.position (E.device standby.old.engine) (E.device standby.new.engine))) }
+            × EndsBy refusal Apply (λ _ last. last holder w.primary.calls w.standby.position (E.device standby.old.engine) (E.device standby.new.engine))) }
         // at any moment of the call
         ensures moments { (holder : Holder) (w : World) → Sound w
-            → ArrivalsStand standby.old.epoch w.calls frames.now self.old w.standby
-            → StandbyStands holder standby.old.epoch w.calls w.standby.position (record {
+            → ArrivalsStand standby.old.epoch w.primary.calls frames.now self.old w.standby
+            → StandbyStands holder standby.old.epoch w.primary.calls w.standby.position (record {
               device = E.device standby.old.engine;
               contents = E.contents standby.old.engine;
               is_faulted = E.is_faulted standby.old.engine;
@@ -130,7 +130,7 @@ impl Arrivals {
               room = standby.old.heap;
               epoch = standby.old.epoch;
             })
-            → NearOnly holder w.calls w.standby.position (E.device standby.old.engine) (E.device standby.new.engine) }
+            → NearOnly holder w.primary.calls w.standby.position (E.device standby.old.engine) (E.device standby.new.engine) }
     {
         let Some(place) = self.delivered.front() else {
             return Ok(false);

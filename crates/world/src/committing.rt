@@ -42,7 +42,7 @@ pub(crate) struct Committing {
 
 impl Committing {
     pub(crate) fn new(alloc: Global) -> Result<Committing, AllocError>
-        ensures stands { IfOk result (λ committing. CommittingStands [] committing start.committer) }
+        ensures stands { IfOk result (λ committing. CommittingStands [] committing start.primary.committer) }
         ensures none { IfOk result (λ committing. committing.waiting.items ≡ []) }
     {
         Ok(Committing {
@@ -58,13 +58,13 @@ impl Committing {
         alloc: Global,
         sequencer: &mut Sequencer<K>,
     ) -> Result<bool, Refusal>
-        ensures goes { IfOk result (λ did. (w : World) → CommittingStands w.calls self.old w.committer → SequencerStands w.calls w.committer.closed sequencer.old
+        ensures goes { IfOk result (λ did. (w : World) → CommittingStands w.primary.calls self.old w.primary.committer → SequencerStands w.primary.calls w.primary.committer.closed sequencer.old
             → Goes (is_enabled w CloseGroup) did
-            (CommittingStands w.calls self.new (closed_group w.committer) × SequencerStands w.calls (closed_group w.committer).closed sequencer.new)
-            (CommittingStands w.calls self.new w.committer × SequencerStands w.calls w.committer.closed sequencer.new)) }
+            (CommittingStands w.primary.calls self.new (closed_group w.primary.committer) × SequencerStands w.primary.calls (closed_group w.primary.committer).closed sequencer.new)
+            (CommittingStands w.primary.calls self.new w.primary.committer × SequencerStands w.primary.calls w.primary.committer.closed sequencer.new)) }
         ensures leads { (contents : Contents) → Leads contents self.old.waiting.items sequencer.old → Leads contents self.new.waiting.items sequencer.new }
         ensures cause { IfErr result (λ refusal. refusal ≡ Refusal.Memory) }
-        ensures enabled { OnErr result ((w : World) → CommittingStands w.calls self.old w.committer → SequencerStands w.calls w.committer.closed sequencer.old
+        ensures enabled { OnErr result ((w : World) → CommittingStands w.primary.calls self.old w.primary.committer → SequencerStands w.primary.calls w.primary.committer.closed sequencer.old
             → is_enabled w CloseGroup ≡ true) }
     {
         if !self.can_close(sequencer) {
@@ -90,26 +90,26 @@ impl Committing {
         link: &LocalPipe<Group>,
     ) -> Result<bool, Refusal>
         requires { AreGroups (E.contents engine.old) self.old.waiting.items }
-        ensures goes { IfOk result (λ did. (holder : Holder) (w : World) → CommittingStands w.calls self.old w.committer
-            → EngineStands holder w.calls w.committer.position (E.device engine.old) (E.contents engine.old) (E.is_faulted engine.old)
-            → AreGroupsOf w.calls link.now.items w.link.waiting
+        ensures goes { IfOk result (λ did. (holder : Holder) (w : World) → CommittingStands w.primary.calls self.old w.primary.committer
+            → EngineStands holder w.primary.calls w.primary.committer.position (E.device engine.old) (E.contents engine.old) (E.is_faulted engine.old)
+            → AreGroupsOf w.primary.calls link.now.items w.primary.link.waiting
             → Goes (is_enabled w Commit) did
-            (CommittingStands w.calls self.new (committed_first w.committer.waiting w.committer)
-            × EngineStands holder w.calls (committed_first w.committer.waiting w.committer).position (E.device engine.new) (E.contents engine.new) (E.is_faulted engine.new))
-            (CommittingStands w.calls self.new w.committer
-            × EngineStands holder w.calls w.committer.position (E.device engine.new) (E.contents engine.new) (E.is_faulted engine.new))) }
+            (CommittingStands w.primary.calls self.new (committed_first w.primary.committer.waiting w.primary.committer)
+            × EngineStands holder w.primary.calls (committed_first w.primary.committer.waiting w.primary.committer).position (E.device engine.new) (E.contents engine.new) (E.is_faulted engine.new))
+            (CommittingStands w.primary.calls self.new w.primary.committer
+            × EngineStands holder w.primary.calls w.primary.committer.position (E.device engine.new) (E.contents engine.new) (E.is_faulted engine.new))) }
         ensures leads { IfOk result (λ _. LeadsOn (E.contents engine.old) self.old.waiting.items (E.contents engine.new) self.new.waiting.items) }
         ensures stays { IfOk result (λ did. did ≡ false → engine.new ≡ engine.old) }
         ensures failures { OnOk result ((E.device engine.new).failures ≡ (E.device engine.old).failures) }
-        ensures cut { IfErr result (λ refusal. (holder : Holder) (w : World) → Sound w → CommittingStands w.calls self.old w.committer
-            → EngineStands holder w.calls w.committer.position (E.device engine.old) (E.contents engine.old) (E.is_faulted engine.old)
-            → AreGroupsOf w.calls link.now.items w.link.waiting
+        ensures cut { IfErr result (λ refusal. (holder : Holder) (w : World) → Sound w → CommittingStands w.primary.calls self.old w.primary.committer
+            → EngineStands holder w.primary.calls w.primary.committer.position (E.device engine.old) (E.contents engine.old) (E.is_faulted engine.old)
+            → AreGroupsOf w.primary.calls link.now.items w.primary.link.waiting
             → (is_enabled w Commit ≡ true)
-            × EndsBy refusal Commit (λ last _. last holder w.calls w.committer.position (E.device engine.old) (E.device engine.new))) }
+            × EndsBy refusal Commit (λ last _. last holder w.primary.calls w.primary.committer.position (E.device engine.old) (E.device engine.new))) }
         // at any moment of the call
-        ensures moments { (holder : Holder) (w : World) → Sound w → CommittingStands w.calls self.old w.committer
-            → EngineStands holder w.calls w.committer.position (E.device engine.old) (E.contents engine.old) (E.is_faulted engine.old)
-            → NearOnly holder w.calls w.committer.position (E.device engine.old) (E.device engine.new) }
+        ensures moments { (holder : Holder) (w : World) → Sound w → CommittingStands w.primary.calls self.old w.primary.committer
+            → EngineStands holder w.primary.calls w.primary.committer.position (E.device engine.old) (E.contents engine.old) (E.is_faulted engine.old)
+            → NearOnly holder w.primary.calls w.primary.committer.position (E.device engine.old) (E.device engine.new) }
     {
         let Stage::Ready = &self.stage else {
             return Ok(false);
@@ -127,10 +127,10 @@ impl Committing {
 
     /// Shows the last commit: raises the local mark to its position. Answers whether there was one to show.
     pub(crate) fn raise_local<E: Durable>(&mut self, engine: &E) -> bool
-        ensures goes { (w : World) → CommittingStands w.calls self.old w.committer → (E.contents engine.now).current.position ≡ w.committer.position
+        ensures goes { (w : World) → CommittingStands w.primary.calls self.old w.primary.committer → (E.contents engine.now).current.position ≡ w.primary.committer.position
             → Goes (is_enabled w RaiseLocal) result
-            (CommittingStands w.calls self.new (raised_local w.committer))
-            (CommittingStands w.calls self.new w.committer) }
+            (CommittingStands w.primary.calls self.new (raised_local w.primary.committer))
+            (CommittingStands w.primary.calls self.new w.primary.committer) }
         ensures waiting { self.new.waiting ≡ self.old.waiting }
     {
         match std::mem::replace(&mut self.stage, Stage::Ready) {
@@ -148,10 +148,10 @@ impl Committing {
 
     /// Hands the group on to the link. Answers whether there was one.
     pub(crate) fn hand(&mut self, link: &mut LocalPipe<Group>) -> bool
-        ensures goes { (w : World) → Sound w → CommittingStands w.calls self.old w.committer → AreGroupsOf w.calls link.old.items w.link.waiting
+        ensures goes { (w : World) → Sound w → CommittingStands w.primary.calls self.old w.primary.committer → AreGroupsOf w.primary.calls link.old.items w.primary.link.waiting
             → Goes (is_enabled w Hand) result
-            (CommittingStands w.calls self.new (ready_again w.committer) × AreGroupsOf w.calls link.new.items (w.link.waiting ++ handed w.committer.stage))
-            (CommittingStands w.calls self.new w.committer × AreGroupsOf w.calls link.new.items w.link.waiting) }
+            (CommittingStands w.primary.calls self.new (ready_again w.primary.committer) × AreGroupsOf w.primary.calls link.new.items (w.primary.link.waiting ++ handed w.primary.committer.stage))
+            (CommittingStands w.primary.calls self.new w.primary.committer × AreGroupsOf w.primary.calls link.new.items w.primary.link.waiting) }
         ensures waiting { self.new.waiting ≡ self.old.waiting }
     {
         match std::mem::replace(&mut self.stage, Stage::Ready) {

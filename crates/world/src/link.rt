@@ -36,7 +36,7 @@ pub(crate) struct Link {
 
 impl Link {
     pub(crate) fn new(alloc: Global, epoch: u64) -> Result<Link, AllocError>
-        ensures stands { IfOk result (λ link. LinkStands [] link start.link) }
+        ensures stands { IfOk result (λ link. LinkStands [] link start.primary.link) }
         ensures none { IfOk result (λ link. link.frames.items ≡ []) }
         ensures epoch { IfOk result (λ link. link.epoch ≡ epoch) }
     {
@@ -54,7 +54,7 @@ impl Link {
 
     /// All kept groups are to be sent again.
     pub(crate) fn reopen(&mut self)
-        ensures stands { (w : World) → LinkStands w.calls self.old w.link → LinkStands w.calls self.new (opened_link w.link) }
+        ensures stands { (w : World) → LinkStands w.primary.calls self.old w.primary.link → LinkStands w.primary.calls self.new (opened_link w.primary.link) }
         ensures keeps { KeepsFrames self.old self.new }
     {
         self.again = self.kept;
@@ -62,11 +62,11 @@ impl Link {
 
     /// Sends one frame: of those that are to be sent again, or else of the first group that waits. Answers whether there was one.
     pub(crate) fn send(&mut self, alloc: Global) -> Result<bool, Refusal>
-        ensures goes { IfOk result (λ did. (w : World) → Sound w → LinkStands w.calls self.old w.link
-            → Goes (is_enabled w Send) did (LinkStands w.calls self.new (sent_next w.link.again w.link)) (LinkStands w.calls self.new w.link)) }
+        ensures goes { IfOk result (λ did. (w : World) → Sound w → LinkStands w.primary.calls self.old w.primary.link
+            → Goes (is_enabled w Send) did (LinkStands w.primary.calls self.new (sent_next w.primary.link.again w.primary.link)) (LinkStands w.primary.calls self.new w.primary.link)) }
         ensures keeps { OnOk result (KeepsFrames self.old self.new) }
         ensures cause { IfErr result (λ refusal. refusal ≡ Refusal.Memory) }
-        ensures enabled { OnErr result ((w : World) → LinkStands w.calls self.old w.link → is_enabled w Send ≡ true) }
+        ensures enabled { OnErr result ((w : World) → LinkStands w.primary.calls self.old w.primary.link → is_enabled w Send ≡ true) }
     {
         if self.again < self.frames.len() {
             self.sent.push(self.again)?;
@@ -87,7 +87,7 @@ impl Link {
 
     /// An acknowledgement came: frames up to it are kept no longer.
     pub(crate) fn on_ack(&mut self, ack: Ack)
-        ensures stands { (w : World) → Sound w → LinkStands w.calls self.old w.link → LinkStands w.calls self.new (knowing ack.position w.link) }
+        ensures stands { (w : World) → Sound w → LinkStands w.primary.calls self.old w.primary.link → LinkStands w.primary.calls self.new (knowing ack.position w.primary.link) }
         ensures keeps { KeepsFrames self.old self.new }
     {
         self.kept = first_above(&self.frames, self.kept, ack.position);
@@ -97,8 +97,8 @@ impl Link {
 
     /// Raises the remote mark to what was acknowledged. Answers whether it rose.
     pub(crate) fn raise_remote(&mut self) -> bool
-        ensures goes { (w : World) → Sound w → LinkStands w.calls self.old w.link
-            → Goes (is_enabled w RaiseRemote) result (LinkStands w.calls self.new (raised_remote w.link)) (LinkStands w.calls self.new w.link) }
+        ensures goes { (w : World) → Sound w → LinkStands w.primary.calls self.old w.primary.link
+            → Goes (is_enabled w RaiseRemote) result (LinkStands w.primary.calls self.new (raised_remote w.primary.link)) (LinkStands w.primary.calls self.new w.primary.link) }
         ensures keeps { KeepsFrames self.old self.new }
     {
         let rises = self.remote < self.known;

@@ -65,7 +65,7 @@ impl Outbound {
     /// The gate reads one of the marks, which stand so now.
     pub(crate) fn read(&mut self, mark: Mark, marks: Seen)
         ensures stands { (calls : List Call) (w : World) (machine : Machine) → OutboundStands calls self.old machine
-            → marks.local ≡ w.committer.local → marks.remote ≡ w.link.remote → OutboundStands calls self.new (having_read mark w machine) }
+            → marks.local ≡ w.primary.committer.local → marks.remote ≡ w.primary.link.remote → OutboundStands calls self.new (having_read mark w machine) }
         ensures released { self.new.released ≡ self.old.released }
     {
         match mark {

@@ -54,11 +54,11 @@ impl Sessions {
 
     /// Gives a new connection a seat, if one is free. Answers whether it did.
     pub(crate) fn enter(&mut self, alloc: Global) -> Result<bool, Refusal>
-        ensures goes { IfOk result (λ did. (w : World) → SessionsStand self.old w.connections w.calls
-            → Goes (is_enabled w Enter) did (SessionsStand self.new (w.connections ++ no_connection ∷ []) w.calls) (SessionsStand self.new w.connections w.calls)) }
+        ensures goes { IfOk result (λ did. (w : World) → SessionsStand self.old w.primary.connections w.primary.calls
+            → Goes (is_enabled w Enter) did (SessionsStand self.new (w.primary.connections ++ no_connection ∷ []) w.primary.calls) (SessionsStand self.new w.primary.connections w.primary.calls)) }
         ensures told { OnErr result (TellsTheSame self.old self.new) }
         ensures cause { IfErr result (λ refusal. refusal ≡ Refusal.Memory) }
-        ensures enabled { OnErr result ((w : World) → SessionsStand self.old w.connections w.calls → is_enabled w Enter ≡ true) }
+        ensures enabled { OnErr result ((w : World) → SessionsStand self.old w.primary.connections w.primary.calls → is_enabled w Enter ≡ true) }
         ensures calls { self.new.calls ≡ self.old.calls }
     {
         // Where memory is refused the run ends, and the seat with it.
@@ -76,13 +76,13 @@ impl Sessions {
 
     /// Takes a piece of a connection's bytes, unless an item closed it. Answers whether it did.
     pub(crate) fn feed(&mut self, c: u64, piece: &Bytes) -> Result<bool, Refusal>
-        ensures goes { IfOk result (λ did. (w : World) → SessionsStand self.old w.connections w.calls
+        ensures goes { IfOk result (λ did. (w : World) → SessionsStand self.old w.primary.connections w.primary.calls
             → Goes (is_enabled w (Feed c piece.now)) did
-            (SessionsStand self.new (changed_at c (with_inbound (fed_with piece.now)) w.connections) w.calls)
-            (SessionsStand self.new w.connections w.calls)) }
+            (SessionsStand self.new (changed_at c (with_inbound (fed_with piece.now)) w.primary.connections) w.primary.calls)
+            (SessionsStand self.new w.primary.connections w.primary.calls)) }
         ensures told { OnErr result (TellsTheSame self.old self.new) }
         ensures cause { IfErr result (λ refusal. refusal ≡ Refusal.Memory) }
-        ensures enabled { OnErr result ((w : World) → SessionsStand self.old w.connections w.calls → is_enabled w (Feed c piece.now) ≡ true) }
+        ensures enabled { OnErr result ((w : World) → SessionsStand self.old w.primary.connections w.primary.calls → is_enabled w (Feed c piece.now) ≡ true) }
         ensures calls { self.new.calls ≡ self.old.calls }
     {
         let place = c as usize;
@@ -94,13 +94,13 @@ impl Sessions {
 
     /// Hands a connection's next item to the sequencer, if there is one and room for it. Answers whether it did.
     pub(crate) fn offer(&mut self, c: u64) -> Result<bool, Refusal>
-        ensures goes { IfOk result (λ did. (w : World) → SessionsStand self.old w.connections w.calls
+        ensures goes { IfOk result (λ did. (w : World) → SessionsStand self.old w.primary.connections w.primary.calls
             → Goes (is_enabled w (Offer c)) did
-            (SessionsStand self.new (changed_at c (with_inbound offered_next) w.connections) w.calls)
-            (SessionsStand self.new w.connections w.calls)) }
+            (SessionsStand self.new (changed_at c (with_inbound offered_next) w.primary.connections) w.primary.calls)
+            (SessionsStand self.new w.primary.connections w.primary.calls)) }
         ensures told { OnErr result (TellsTheSame self.old self.new) }
         ensures cause { IfErr result (λ refusal. refusal ≡ Refusal.Memory) }
-        ensures enabled { OnErr result ((w : World) → SessionsStand self.old w.connections w.calls → is_enabled w (Offer c) ≡ true) }
+        ensures enabled { OnErr result ((w : World) → SessionsStand self.old w.primary.connections w.primary.calls → is_enabled w (Offer c) ≡ true) }
         ensures calls { self.new.calls ≡ self.old.calls }
     {
         match self.connections.get_mut(c as usize) {
@@ -111,13 +111,13 @@ impl Sessions {
 
     /// A connection's gate takes the first reply that waits. Answers whether there was one.
     pub(crate) fn hold(&mut self, c: u64) -> Result<bool, Refusal>
-        ensures goes { IfOk result (λ did. (w : World) → SessionsStand self.old w.connections w.calls
+        ensures goes { IfOk result (λ did. (w : World) → SessionsStand self.old w.primary.connections w.primary.calls
             → Goes (is_enabled w (Hold c)) did
-            (SessionsStand self.new (changed_at c (with_outbound held_first) w.connections) w.calls)
-            (SessionsStand self.new w.connections w.calls)) }
+            (SessionsStand self.new (changed_at c (with_outbound held_first) w.primary.connections) w.primary.calls)
+            (SessionsStand self.new w.primary.connections w.primary.calls)) }
         ensures told { OnErr result (TellsTheSame self.old self.new) }
         ensures cause { IfErr result (λ refusal. refusal ≡ Refusal.Memory) }
-        ensures enabled { OnErr result ((w : World) → SessionsStand self.old w.connections w.calls → is_enabled w (Hold c) ≡ true) }
+        ensures enabled { OnErr result ((w : World) → SessionsStand self.old w.primary.connections w.primary.calls → is_enabled w (Hold c) ≡ true) }
         ensures calls { self.new.calls ≡ self.old.calls }
     {
         match self.connections.get_mut(c as usize) {
@@ -128,10 +128,10 @@ impl Sessions {
 
     /// A connection's gate reads one of the marks, which stand so now. Answers whether there is such a connection.
     pub(crate) fn read(&mut self, c: u64, mark: Mark, marks: Seen) -> bool
-        ensures goes { (w : World) → SessionsStand self.old w.connections w.calls → marks.local ≡ w.committer.local → marks.remote ≡ w.link.remote
+        ensures goes { (w : World) → SessionsStand self.old w.primary.connections w.primary.calls → marks.local ≡ w.primary.committer.local → marks.remote ≡ w.primary.link.remote
             → Goes (is_enabled w (Read c mark)) result
-            (SessionsStand self.new (changed_at c (with_outbound (having_read mark w)) w.connections) w.calls)
-            (SessionsStand self.new w.connections w.calls) }
+            (SessionsStand self.new (changed_at c (with_outbound (having_read mark w)) w.primary.connections) w.primary.calls)
+            (SessionsStand self.new w.primary.connections w.primary.calls) }
         ensures calls { self.new.calls ≡ self.old.calls }
     {
         match self.connections.get_mut(c as usize) {
@@ -145,10 +145,10 @@ impl Sessions {
 
     /// A connection's gate lets out the replies that are covered. Answers whether there were any.
     pub(crate) fn release(&mut self, c: u64) -> bool
-        ensures goes { (w : World) → SessionsStand self.old w.connections w.calls
+        ensures goes { (w : World) → SessionsStand self.old w.primary.connections w.primary.calls
             → Goes (is_enabled w (Release c)) result
-            (SessionsStand self.new (changed_at c (with_outbound let_out) w.connections) w.calls)
-            (SessionsStand self.new w.connections w.calls) }
+            (SessionsStand self.new (changed_at c (with_outbound let_out) w.primary.connections) w.primary.calls)
+            (SessionsStand self.new w.primary.connections w.primary.calls) }
         ensures calls { self.new.calls ≡ self.old.calls }
     {
         match self.connections.get_mut(c as usize) {
@@ -159,13 +159,13 @@ impl Sessions {
 
     /// Writes so many of the bytes that are out to a connection, if there are so many. Answers whether it did.
     pub(crate) fn write(&mut self, c: u64, n: u64) -> Result<bool, Refusal>
-        ensures goes { IfOk result (λ did. (w : World) → SessionsStand self.old w.connections w.calls
+        ensures goes { IfOk result (λ did. (w : World) → SessionsStand self.old w.primary.connections w.primary.calls
             → Goes (is_enabled w (Write c n)) did
-            (SessionsStand self.new (changed_at c (with_outbound (written n)) w.connections) w.calls)
-            (SessionsStand self.new w.connections w.calls)) }
+            (SessionsStand self.new (changed_at c (with_outbound (written n)) w.primary.connections) w.primary.calls)
+            (SessionsStand self.new w.primary.connections w.primary.calls)) }
         ensures told { OnErr result (TellsTheSame self.old self.new) }
         ensures cause { IfErr result (λ refusal. refusal ≡ Refusal.Memory) }
-        ensures enabled { OnErr result ((w : World) → SessionsStand self.old w.connections w.calls → is_enabled w (Write c n) ≡ true) }
+        ensures enabled { OnErr result ((w : World) → SessionsStand self.old w.primary.connections w.primary.calls → is_enabled w (Write c n) ≡ true) }
         ensures calls { self.new.calls ≡ self.old.calls }
     {
         match self.connections.get_mut(c as usize) {
@@ -183,8 +183,8 @@ impl Sessions {
         sequencer: &mut Sequencer<K>,
     ) -> bool
         requires { vec_len self.old.calls < vec_capacity self.old.calls }
-        ensures turns { (w : World) → Sound w → SessionsStand self.old w.connections w.calls
-            → SequencerStands w.calls w.committer.closed sequencer.old
+        ensures turns { (w : World) → Sound w → SessionsStand self.old w.primary.connections w.primary.calls
+            → SequencerStands w.primary.calls w.primary.committer.closed sequencer.old
             → TakesTurn w c result self.new sequencer.old sequencer.new }
         ensures stands { (contents : Contents) → StandsFor sequencer.old contents → StandsFor sequencer.new contents }
         ensures calls { AddsOne self.old.calls self.new.calls }

@@ -48,20 +48,20 @@ answers g c = record {
 told : (g : Over) (c : After-on_frame g) (result : Result Ack Refusal) → c.on_frame.result ≡ result → Answers c.in-Some-get.frame.now (node g c.args.standby.now) result (node g c.on_frame.new.self)
 told g c result is = subst (λ (r : Result Ack Refusal). Answers c.in-Some-get.frame.now (node g c.args.standby.now) r (node g c.on_frame.new.self)) is (answers g c)
 
-first : (g : Over) (c : After-on_frame g) (w : World) → ArrivalsStand c.args.standby.now.epoch w.calls c.args.frames.now c.args.self.now w.standby
-    → FirstFrame c.args.standby.now.epoch w.calls c.args.frames.now c.in-Some-get.frame.now (drop 1 c.args.self.now.delivered.items) w.standby.waiting
+first : (g : Over) (c : After-on_frame g) (w : World) → ArrivalsStand c.args.standby.now.epoch w.primary.calls c.args.frames.now c.args.self.now w.standby
+    → FirstFrame c.args.standby.now.epoch w.primary.calls c.args.frames.now c.in-Some-get.frame.now (drop 1 c.args.self.now.delivered.items) w.standby.waiting
 first g c w stands = first-frame c.args.standby.now.epoch c.args.frames.now w c.args.self.now c.in-Some.place.now c.in-Some-get.frame.now c.in-Some.ensures.item.3.0 c.in-Some.ensures.lookup
     c.in-Some-get.ensures.lookup.1 stands
 
 -- at any moment of the call
-moments : (g : Over) (c : After-on_frame g) (holder : Holder) (w : World) → Sound w → ArrivalsStand c.args.standby.now.epoch w.calls c.args.frames.now c.args.self.now w.standby
-    → StandbyStands holder c.args.standby.now.epoch w.calls w.standby.position (node g c.args.standby.now)
-    → NearOnly holder w.calls w.standby.position (g.E.Durable.device c.args.standby.now.engine) (g.E.Durable.device c.on_frame.new.self.engine)
+moments : (g : Over) (c : After-on_frame g) (holder : Holder) (w : World) → Sound w → ArrivalsStand c.args.standby.now.epoch w.primary.calls c.args.frames.now c.args.self.now w.standby
+    → StandbyStands holder c.args.standby.now.epoch w.primary.calls w.standby.position (node g c.args.standby.now)
+    → NearOnly holder w.primary.calls w.standby.position (g.E.Durable.device c.args.standby.now.engine) (g.E.Durable.device c.on_frame.new.self.engine)
 moments g c holder w sound arrives stands =
     let epoch = c.args.standby.now.epoch in
     let frame = c.in-Some-get.frame.now in
     let one = first g c w arrives in
-    frame-moments holder epoch w.calls w.standby frame one.span (node g c.args.standby.now) (node g c.on_frame.new.self) one.is stands
+    frame-moments holder epoch w.primary.calls w.standby frame one.span (node g c.args.standby.now) (node g c.on_frame.new.self) one.is stands
     (one_change epoch c.args.frames.now w frame (drop 1 c.args.self.now.delivered.items) sound one) c.on_frame.result (answers g c)
 
 pub returns-in_default-get-clause-applies : goal.returns-in_default-get-clause-applies
@@ -82,24 +82,24 @@ returns-clause-applies g c =
           applies holder epoch c.args.frames.now w' frame (w.in-Ok.ack ∷ []) c.args.self.now new (node g c.args.standby.now) (node g c.on_frame.new.self)
           (c.pop_front.ensures.rest ∙ ap (λ (a : Arrivals). drop 1 a.delivered.items) w.self-is)
           (ap (λ (a : Arrivals). a.acknowledgements.items) w.self-is ∙ w.push_reserved.ensures.items ∙ ap (λ (acks : List Ack). acks ++ w.in-Ok.ack ∷ []) c.in_ok-reserve.ensures.items) arrives one
-          (takes_ok holder epoch w'.calls (without_first w'.standby) frame one.span (node g c.args.standby.now) (node g c.on_frame.new.self) one.is stands w.in-Ok.ack (told g front (Ok w.in-Ok.ack) w.in-Ok.is))
+          (takes_ok holder epoch w'.primary.calls (without_first w'.standby) frame one.span (node g c.args.standby.now) (node g c.on_frame.new.self) one.is stands w.in-Ok.ack (told g front (Ok w.in-Ok.ack) w.in-Ok.is))
       | in-Err w ↦ λ holder w' sound arrives stands.
           let one = first g front w' arrives in
           applies holder epoch c.args.frames.now w' frame [] c.args.self.now new (node g c.args.standby.now) (node g c.on_frame.new.self)
           (c.pop_front.ensures.rest ∙ ap (λ (a : Arrivals). drop 1 a.delivered.items) w.self-is)
           (ap (λ (a : Arrivals). a.acknowledgements.items) w.self-is ∙ c.in_ok-reserve.ensures.items ∙ sym (append-nil c.args.self.now.acknowledgements.items)) arrives one
-          (takes_refused holder epoch w'.calls (without_first w'.standby) frame one.span (node g c.args.standby.now) (node g c.on_frame.new.self) one.is stands w.in-Err.refusal (w.goes_on.ensures.0 w.if-goes_on.true)
+          (takes_refused holder epoch w'.primary.calls (without_first w'.standby) frame one.span (node g c.args.standby.now) (node g c.on_frame.new.self) one.is stands w.in-Err.refusal (w.goes_on.ensures.0 w.if-goes_on.true)
           (told g front (Err w.in-Err.refusal) w.in-Err.is))
     ]
 
 pub returns-in_default-clause-moments : goal.returns-in_default-clause-moments
-returns-in_default-clause-moments g c = λ holder w sound arrives stands. StandbyStands-still holder c.args.standby.now.epoch w.calls w.standby.position (node g c.args.standby.now) stands
+returns-in_default-clause-moments g c = λ holder w sound arrives stands. StandbyStands-still holder c.args.standby.now.epoch w.primary.calls w.standby.position (node g c.args.standby.now) stands
 
 pub returns-in_default-get-clause-moments : goal.returns-in_default-get-clause-moments
-returns-in_default-get-clause-moments g c = λ holder w sound arrives stands. StandbyStands-still holder c.args.standby.now.epoch w.calls w.standby.position (node g c.args.standby.now) stands
+returns-in_default-get-clause-moments g c = λ holder w sound arrives stands. StandbyStands-still holder c.args.standby.now.epoch w.primary.calls w.standby.position (node g c.args.standby.now) stands
 
 pub returns-in_err-reserve-clause-moments : goal.returns-in_err-reserve-clause-moments
-returns-in_err-reserve-clause-moments g c = λ holder w sound arrives stands. StandbyStands-still holder c.args.standby.now.epoch w.calls w.standby.position (node g c.args.standby.now) stands
+returns-in_err-reserve-clause-moments g c = λ holder w sound arrives stands. StandbyStands-still holder c.args.standby.now.epoch w.primary.calls w.standby.position (node g c.args.standby.now) stands
 
 pub returns-in-Err-2-clause-moments : goal.returns-in-Err-2-clause-moments
 returns-in-Err-2-clause-moments g c = moments g (goal.at.returns-in-Err-2-clause-moments g c).After-on_frame
@@ -112,8 +112,8 @@ returns-in_err-reserve-clause-cut g c = λ holder w sound arrives stands.
     let device = g.E.Durable.device c.args.standby.now.engine in (
       ap is_nonempty (first-frame c.args.standby.now.epoch c.args.frames.now w c.args.self.now c.in-Some.place.now c.in-Some-get.frame.now c.in-Some.ensures.item.3.0 c.in-Some.ensures.lookup
           c.in-Some-get.ensures.lookup.1 arrives).all,
-      subst (λ (r : Refusal). EndsBy r Apply (λ _ last. last holder w.calls w.standby.position device device)) (sym c.from_residual.ensures.0)
-          (refl, rests-same holder w.calls w.standby.position device device refl (Stands-engine _ _ _ _ _ _ stands.engine)),
+      subst (λ (r : Refusal). EndsBy r Apply (λ _ last. last holder w.primary.calls w.standby.position device device)) (sym c.from_residual.ensures.0)
+          (refl, rests-same holder w.primary.calls w.standby.position device device refl (Stands-engine _ _ _ _ _ _ stands.engine)),
     )
 
 pub returns-in-Err-2-clause-cut : goal.returns-in-Err-2-clause-cut
@@ -123,7 +123,7 @@ returns-in-Err-2-clause-cut g c = λ holder w sound arrives stands.
     let frame = c.in-Some-get.frame.now in
     let one = first g front w arrives in (
       ap is_nonempty one.all,
-      frame-ends holder epoch w.calls w.standby frame one.span (node g c.args.standby.now) (node g c.on_frame.new.self) one.is stands
+      frame-ends holder epoch w.primary.calls w.standby frame one.span (node g c.args.standby.now) (node g c.on_frame.new.self) one.is stands
           (one_change epoch c.args.frames.now w frame (drop 1 c.args.self.now.delivered.items) sound one) c.in-Err-2.refusal
           (λ goes. true≢false (sym (c.goes_on.ensures.1 goes) ∙ c.if-goes_on.false)) (told g front (Err c.in-Err-2.refusal) c.in-Err-2.is),
     )

@@ -9,4 +9,4 @@ use Rattle.world.proofs.PairLemmas.{read-does, with_connections}
 use Rattle.world.proofs.pair.Pair.read.Goals as goal
 
 pub returns : goal.returns
-returns g c = read-does (events.Read c.args.c c.args.mark) (λ (w : World). changed_at c.args.c (with_outbound (having_read c.args.mark w)) w.connections) (λ w. refl) _ c.read.new.self c.read.result c.read.ensures.goes c.read.ensures.calls
+returns g c = read-does (events.Read c.args.c c.args.mark) (λ (w : World). changed_at c.args.c (with_outbound (having_read c.args.mark w)) w.primary.connections) (λ w. refl) _ c.read.new.self c.read.result c.read.ensures.goes c.read.ensures.calls

@@ -10,7 +10,7 @@ returns-clause-goes c = λ w stand.
     let now : Sessions = record { lobby = c.enter.new.self; connections = c.push_reserved.new.self; calls = old.calls; replies = old.replies } in
     let connection : Connection = record { seat = c.in-Ok.seat; inbound = c.in_ok-new.inbound; outbound = c.in_ok-new-2.outbound } in
     seated-goes w old now c.in-Ok.seat c.in_ok-new.inbound c.in_ok-new-2.outbound stand c.in-Ok.ensures.moves c.in-Ok.ensures.lowest
-    c.in_ok-new.ensures (c.in_ok-new-2.ensures w.calls)
+    c.in_ok-new.ensures (c.in_ok-new-2.ensures w.primary.calls)
     (c.push_reserved.ensures.items ∙ ap (λ (codes : List Connection). codes ++ connection ∷ []) c.in_ok-reserve.ensures.items) refl refl
 
 pub returns-in_default-clause-goes : goal.returns-in_default-clause-goes

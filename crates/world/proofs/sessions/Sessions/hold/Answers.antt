@@ -12,7 +12,7 @@ use Rattle.world.proofs.sessions.Sessions.hold.Goals as goal
 pub returns-in-Some-clause-goes : goal.returns-in-Some-clause-goes
 returns-in-Some-clause-goes c = IfOk-weaker c.hold.result _ _
     (λ did holds. λ w stand.
-    let outbound = (get_connection w.connections c.args.c).outbound in
+    let outbound = (get_connection w.primary.connections c.args.c).outbound in
     outbound-goes (λ b. b && is_nonempty outbound.made) did w c.args.self.now c.args.c c.in-Some.connection.now c.hold.new.self held_first
     c.in-Some.ensures.item.3.0 c.in-Some.ensures.value stand
     (λ stands.
@@ -30,13 +30,13 @@ returns-in-Some-clause-told c =
 
 pub returns-in-None-clause-goes : goal.returns-in-None-clause-goes
 returns-in-None-clause-goes c = λ w stand.
-    let outbound = (get_connection w.connections c.args.c).outbound in
+    let outbound = (get_connection w.primary.connections c.args.c).outbound in
     none-goes (λ b. b && is_nonempty outbound.made) w c.args.self.now c.args.c c.in-None.ensures.item.3 refl stand
 
 pub returns-in-Some-clause-enabled : goal.returns-in-Some-clause-enabled
 returns-in-Some-clause-enabled c = on_err_weaker c.hold.result
     (λ some. λ w stand.
-    let outbound = (get_connection w.connections c.args.c).outbound in
+    let outbound = (get_connection w.primary.connections c.args.c).outbound in
     enabled-at (λ b. b && is_nonempty outbound.made) w c.args.self.now c.args.c c.in-Some.connection.now c.in-Some.ensures.item.3.0 c.in-Some.ensures.value stand
-    (λ stands. may-hold w.calls c.in-Some.connection.now.outbound.made.items outbound.made some stands.outbound.made))
+    (λ stands. may-hold w.primary.calls c.in-Some.connection.now.outbound.made.items outbound.made some stands.outbound.made))
     c.hold.ensures.some

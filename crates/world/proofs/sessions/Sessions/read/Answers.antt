@@ -9,7 +9,7 @@ returns-in-Some-clause-goes c = λ w stand local remote.
     c.in-Some.ensures.item.3.0 c.in-Some.ensures.value stand
     (λ stands. record {
       done = refl;
-      goes = λ _. c.read.ensures.stands w.calls w (get_connection w.connections c.args.c).outbound stands local remote;
+      goes = λ _. c.read.ensures.stands w.primary.calls w (get_connection w.primary.connections c.args.c).outbound stands local remote;
       stays = λ not_did. cc;
     })
 

@@ -9,10 +9,10 @@ use Rattle.world.proofs.sessions.Sessions.write.Goals as goal
 pub returns-in-Some-clause-goes : goal.returns-in-Some-clause-goes
 returns-in-Some-clause-goes c = IfOk-weaker c.write.result _ _
     (λ did writes. λ w stand.
-    let outbound = (get_connection w.connections c.args.c).outbound in
+    let outbound = (get_connection w.primary.connections c.args.c).outbound in
     outbound-goes (λ b. b && nat_le c.args.n (length outbound.pending)) did w c.args.self.now c.args.c c.in-Some.connection.now c.write.new.self (written c.args.n)
     c.in-Some.ensures.item.3.0 c.in-Some.ensures.value stand
-    (λ stands. let went = writes w.calls outbound stands in record { done = went.done; goes = went.out; stays = went.stays }))
+    (λ stands. let went = writes w.primary.calls outbound stands in record { done = went.done; goes = went.out; stays = went.stays }))
     c.write.ensures.stands
 
 pub returns-in-Some-clause-told : goal.returns-in-Some-clause-told
@@ -23,13 +23,13 @@ returns-in-Some-clause-told c =
 
 pub returns-in-None-clause-goes : goal.returns-in-None-clause-goes
 returns-in-None-clause-goes c = λ w stand.
-    let outbound = (get_connection w.connections c.args.c).outbound in
+    let outbound = (get_connection w.primary.connections c.args.c).outbound in
     none-goes (λ b. b && nat_le c.args.n (length outbound.pending)) w c.args.self.now c.args.c c.in-None.ensures.item.3 refl stand
 
 pub returns-in-Some-clause-enabled : goal.returns-in-Some-clause-enabled
 returns-in-Some-clause-enabled c = on_err_weaker c.write.result
     (λ enough. λ w stand.
-    let outbound = (get_connection w.connections c.args.c).outbound in
+    let outbound = (get_connection w.primary.connections c.args.c).outbound in
     enabled-at (λ b. b && nat_le c.args.n (length outbound.pending)) w c.args.self.now c.args.c c.in-Some.connection.now c.in-Some.ensures.item.3.0 c.in-Some.ensures.value stand
     (λ stands. le-leb c.args.n (length outbound.pending) (omega (arith, enough, ap length stands.outbound.gate.pending))))
     c.write.ensures.enough
