@@ -6,40 +6,38 @@ use Rattle.std.proofs.lemmas.Bool.{lt-ltb, le-ltb}
 use Rattle.model.specs.declared.call.Call.{Call}
 use Rattle.model.specs.Calls.{is_nonempty}
 use Rattle.model.specs.Standing.{Holder}
-use Rattle.machine.specs.Events.{Standby as Machine, World, Span, delivered, option_items, with_standby, without_first}
-use Rattle.machine.specs.Sound.{Sound}
-use Rattle.machine.proofs.StandbyLemmas.{standby-first}
+use Rattle.machine.specs.Events.{World, Frame as Sent, Acknowledgement, delivered, option_items, with_standby, with_acknowledged, without_first}
 use Rattle.standby.specs.declared.frame.Ack.{Ack}
 use Rattle.standby.specs.declared.frame.Frame.{Frame}
 use Rattle.world.specs.declared.arrivals.Arrivals.{Arrivals}
 use Rattle.world.specs.Going.{Goes}
 use Rattle.world.specs.Links.{IsFrameOf, IsFrameAt, AreFramesAt}
-use Rattle.world.specs.Standbys.{Node, ArrivalsStand, AppliesFirst}
+use Rattle.world.specs.Standbys.{Node, ArrivalsStand, AppliesFirst, told_by}
 use Rattle.world.proofs.LinkLemmas.{AreFramesAt-grows, AreFramesAt-frames}
 use Rattle.world.proofs.StandbyLemmas.{Took}
 
 -- ---- a frame more
 
-AreFramesAt-push : (epoch : ℕ) (calls : List Call) (frames : List Frame) (places : List ℕ) (spans : List Span) (place : ℕ) (span : Span) → AreFramesAt epoch calls frames places spans
+AreFramesAt-push : (epoch : ℕ) (calls : List Call) (frames : List Frame) (places : List ℕ) (spans : List Sent) (place : ℕ) (span : Sent) → AreFramesAt epoch calls frames places spans
     → IsFrameAt epoch calls frames place span → AreFramesAt epoch calls frames (places ++ place ∷ []) (spans ++ span ∷ [])
 AreFramesAt-push epoch calls frames [] [] place span are is = (is, tt)
 AreFramesAt-push epoch calls frames [] (first ∷ spans) place span are is = absurd are
 AreFramesAt-push epoch calls frames (first ∷ places) [] place span are is = absurd are
 AreFramesAt-push epoch calls frames (first ∷ places) (of ∷ spans) place span are is = (are.0, AreFramesAt-push epoch calls frames places spans place span are.1 is)
 
-pub length-places : (epoch : ℕ) (calls : List Call) (frames : List Frame) (places : List ℕ) (spans : List Span) → AreFramesAt epoch calls frames places spans → length places ≡ length spans
+pub length-places : (epoch : ℕ) (calls : List Call) (frames : List Frame) (places : List ℕ) (spans : List Sent) → AreFramesAt epoch calls frames places spans → length places ≡ length spans
 length-places epoch calls frames [] [] are = refl
 length-places epoch calls frames [] (span ∷ spans) are = absurd are
 length-places epoch calls frames (place ∷ places) [] are = absurd are
 length-places epoch calls frames (place ∷ places) (span ∷ spans) are = ap suc (length-places epoch calls frames places spans are.1)
 
 -- the place and the span at an index belong together
-record FrameOfIndex (epoch : ℕ) (calls : List Call) (frames : List Frame) (spans : List Span) (i place : ℕ) : Type 0 where
-  span : Span
+record FrameOfIndex (epoch : ℕ) (calls : List Call) (frames : List Frame) (spans : List Sent) (i place : ℕ) : Type 0 where
+  span : Sent
   stands : slice_get spans i ≡ Some span
   is : IsFrameAt epoch calls frames place span
 
-at_index : (epoch : ℕ) (calls : List Call) (frames : List Frame) (places : List ℕ) (spans : List Span) (i place : ℕ) → AreFramesAt epoch calls frames places spans → slice_get places i ≡ Some place
+at_index : (epoch : ℕ) (calls : List Call) (frames : List Frame) (places : List ℕ) (spans : List Sent) (i place : ℕ) → AreFramesAt epoch calls frames places spans → slice_get places i ≡ Some place
     → FrameOfIndex epoch calls frames spans i place
 at_index epoch calls frames [] [] i place are e = cc
 at_index epoch calls frames [] (span ∷ spans) i place are e = absurd are
@@ -53,24 +51,26 @@ at_index epoch calls frames (first ∷ places) (span ∷ spans) (suc i) place ar
 
 pub delivers : (epoch : ℕ) (frames : List Frame) (w : World) (sent : List ℕ) (i place : ℕ) (old new : Arrivals) → slice_get sent i ≡ Some place
     → new.delivered.items ≡ old.delivered.items ++ place ∷ [] → new.acknowledgements.items ≡ old.acknowledgements.items
-    → ArrivalsStand epoch w.primary.calls frames old w.standby → AreFramesAt epoch w.primary.calls frames sent w.wire.frames
-    → Goes (nat_lt i (length w.wire.frames)) true (ArrivalsStand epoch w.primary.calls frames new (delivered (option_items (slice_get w.wire.frames i)) w.standby)) (ArrivalsStand epoch w.primary.calls frames new w.standby)
+    → ArrivalsStand epoch w.primary.calls frames old w.standby.waiting w.wire.acknowledgements → AreFramesAt epoch w.primary.calls frames sent w.wire.frames
+    → Goes (nat_lt i (length w.wire.frames)) true (ArrivalsStand epoch w.primary.calls frames new (delivered (option_items (slice_get w.wire.frames i)) w.standby).waiting w.wire.acknowledgements)
+    (ArrivalsStand epoch w.primary.calls frames new w.standby.waiting w.wire.acknowledgements)
 delivers epoch frames w sent i place old new e items acks stands are =
     let of = at_index epoch w.primary.calls frames sent w.wire.frames i place are e in
     record {
       done = sym (lt-ltb i (length w.wire.frames) (slice_get_within w.wire.frames i of.span of.stands));
       goes = λ did. record {
         delivered = subst (λ places. AreFramesAt epoch w.primary.calls frames places (w.standby.waiting ++ option_items (slice_get w.wire.frames i))) (sym items)
-            (subst (λ (found : Option Span). AreFramesAt epoch w.primary.calls frames (old.delivered.items ++ place ∷ []) (w.standby.waiting ++ option_items found)) (sym of.stands)
+            (subst (λ (found : Option Sent). AreFramesAt epoch w.primary.calls frames (old.delivered.items ++ place ∷ []) (w.standby.waiting ++ option_items found)) (sym of.stands)
             (AreFramesAt-push epoch w.primary.calls frames old.delivered.items w.standby.waiting place of.span stands.delivered of.is));
-        acknowledged = ap (map (λ (ack : Ack). ack.position)) acks ∙ stands.acknowledged;
+        acknowledged = ap (map told_by) acks ∙ stands.acknowledged;
       };
       stays = λ did. cc;
     }
 
 pub delivers_none : (epoch : ℕ) (frames : List Frame) (w : World) (sent : List ℕ) (i : ℕ) (arrivals : Arrivals) → length sent ≤ i
-    → ArrivalsStand epoch w.primary.calls frames arrivals w.standby → AreFramesAt epoch w.primary.calls frames sent w.wire.frames
-    → Goes (nat_lt i (length w.wire.frames)) false (ArrivalsStand epoch w.primary.calls frames arrivals (delivered (option_items (slice_get w.wire.frames i)) w.standby)) (ArrivalsStand epoch w.primary.calls frames arrivals w.standby)
+    → ArrivalsStand epoch w.primary.calls frames arrivals w.standby.waiting w.wire.acknowledgements → AreFramesAt epoch w.primary.calls frames sent w.wire.frames
+    → Goes (nat_lt i (length w.wire.frames)) false (ArrivalsStand epoch w.primary.calls frames arrivals (delivered (option_items (slice_get w.wire.frames i)) w.standby).waiting w.wire.acknowledgements)
+    (ArrivalsStand epoch w.primary.calls frames arrivals w.standby.waiting w.wire.acknowledgements)
 delivers_none epoch frames w sent i arrivals past stands are =
     let within : length w.wire.frames ≤ i = omega (arith, past, length-places epoch w.primary.calls frames sent w.wire.frames are) in
     record {
@@ -82,62 +82,56 @@ delivers_none epoch frames w sent i arrivals past stands are =
 -- ---- the first frame
 
 -- the machine has the span of this frame first, and the rest of the places stand for the rest
-pub record FirstFrame (epoch : ℕ) (calls : List Call) (frames : List Frame) (frame : Frame) (places : List ℕ) (waiting : List Span) : Type 0 where
-  pub span : Span
-  pub spans : List Span
+pub record FirstFrame (epoch : ℕ) (calls : List Call) (frames : List Frame) (frame : Frame) (places : List ℕ) (waiting : List Sent) : Type 0 where
+  pub span : Sent
+  pub spans : List Sent
   pub all : waiting ≡ span ∷ spans
-  pub is : IsFrameOf epoch calls frame span
+  pub epoch_is : span.epoch ≡ epoch
+  pub is : IsFrameOf epoch calls frame span.span
   pub rest : AreFramesAt epoch calls frames places spans
 
-first_of : (epoch : ℕ) (calls : List Call) (frames : List Frame) (frame : Frame) (place : ℕ) (places : List ℕ) (waiting : List Span) → frame ≡ get_or frames place frame
+first_of : (epoch : ℕ) (calls : List Call) (frames : List Frame) (frame : Frame) (place : ℕ) (places : List ℕ) (waiting : List Sent) → frame ≡ get_or frames place frame
     → AreFramesAt epoch calls frames (place ∷ places) waiting → FirstFrame epoch calls frames frame places waiting
 first_of epoch calls frames frame place places [] found are = absurd are
 first_of epoch calls frames frame place places (span ∷ spans) found are =
     let same : are.0.frame ≡ frame = sym (found ∙ get_or_from_slice_get frames place are.0.frame frame are.0.stands) in
-    record { span = span; spans = spans; all = refl; is = subst (λ f. IsFrameOf epoch calls f span) same are.0.has; rest = are.1 }
+    record { span = span; spans = spans; all = refl; epoch_is = are.0.epoch_is; is = subst (λ f. IsFrameOf epoch calls f span.span) same are.0.has; rest = are.1 }
 
 starts_with : (items : List ℕ) (place : ℕ) → 0 < length items → place ≡ get_or items 0 place → items ≡ place ∷ drop 1 items
 starts_with [] place some e = absurd (omega arith)
 starts_with (first ∷ rest) place some e = ap (λ p. p ∷ rest) (sym e)
 
 pub first-frame : (epoch : ℕ) (frames : List Frame) (w : World) (arrivals : Arrivals) (place : ℕ) (frame : Frame) → 0 < length arrivals.delivered.items → place ≡ get_or arrivals.delivered.items 0 place
-    → frame ≡ get_or frames place frame → ArrivalsStand epoch w.primary.calls frames arrivals w.standby → FirstFrame epoch w.primary.calls frames frame (drop 1 arrivals.delivered.items) w.standby.waiting
+    → frame ≡ get_or frames place frame → ArrivalsStand epoch w.primary.calls frames arrivals w.standby.waiting w.wire.acknowledgements → FirstFrame epoch w.primary.calls frames frame (drop 1 arrivals.delivered.items) w.standby.waiting
 first-frame epoch frames w arrivals place frame some e found stands =
     first_of epoch w.primary.calls frames frame place (drop 1 arrivals.delivered.items) w.standby.waiting found
     (subst (λ places. AreFramesAt epoch w.primary.calls frames places w.standby.waiting) (starts_with arrivals.delivered.items place some e) stands.delivered)
 
 -- the place of a frame that came is one of those that were made
 pub place_within : (epoch : ℕ) (frames : List Frame) (w : World) (arrivals : Arrivals) (place : ℕ) → 0 < length arrivals.delivered.items → place ≡ get_or arrivals.delivered.items 0 place
-    → ArrivalsStand epoch w.primary.calls frames arrivals w.standby → place < length frames
+    → ArrivalsStand epoch w.primary.calls frames arrivals w.standby.waiting w.wire.acknowledgements → place < length frames
 place_within epoch frames w arrivals place some e stands =
     first_within w.standby.waiting (subst (λ places. AreFramesAt epoch w.primary.calls frames places w.standby.waiting) (starts_with arrivals.delivered.items place some e) stands.delivered)
   where
-    first_within : (waiting : List Span) → AreFramesAt epoch w.primary.calls frames (place ∷ drop 1 arrivals.delivered.items) waiting → place < length frames
+    first_within : (waiting : List Sent) → AreFramesAt epoch w.primary.calls frames (place ∷ drop 1 arrivals.delivered.items) waiting → place < length frames
     first_within [] are = absurd are
     first_within (span ∷ spans) are = slice_get_within frames place are.0.frame are.0.stands
-
--- a frame of a sound world is one change
-pub one_change : (epoch : ℕ) (frames : List Frame) (w : World) (frame : Frame) (places : List ℕ) → Sound w → (first : FirstFrame epoch w.primary.calls frames frame places w.standby.waiting)
-    → first.span.after ≡ first.span.before + 1
-one_change epoch frames w frame places sound first = (standby-first sound.sent w.primary.link.known first.span w.standby (ap (take 1) first.all) sound.standby).one
 
 -- the standby took the first frame
 pub applies : (holder : Holder) (epoch : ℕ) (frames : List Frame) (w : World) (frame : Frame) (acks : List Ack) (old new : Arrivals) (before after : Node)
     → new.delivered.items ≡ drop 1 old.delivered.items → new.acknowledgements.items ≡ old.acknowledgements.items ++ acks
-    → ArrivalsStand epoch w.primary.calls frames old w.standby → (first : FirstFrame epoch w.primary.calls frames frame (drop 1 old.delivered.items) w.standby.waiting)
-    → Took holder epoch w.primary.calls first.span (without_first w.standby) (map (λ (ack : Ack). ack.position) acks) before after → AppliesFirst holder epoch frames w true new before after
+    → ArrivalsStand epoch w.primary.calls frames old w.standby.waiting w.wire.acknowledgements → (first : FirstFrame epoch w.primary.calls frames frame (drop 1 old.delivered.items) w.standby.waiting)
+    → Took holder epoch w.primary.calls first.span (without_first w.standby) (map told_by acks) before after → AppliesFirst holder epoch frames w true new before after
 applies holder epoch frames w frame acks old new before after items told stands first took =
-    let positions : List Ack → List ℕ = map (λ (ack : Ack). ack.position) in
     record {
       done = sym (ap is_nonempty first.all);
       goes = λ did. (
-        with_standby took.standby w,
-        record { frame = first.span; first = ap (take 1) first.all; standby = took.standby; takes = took.takes; now = refl },
+        with_acknowledged (map told_by acks) (with_standby took.standby w),
+        record { frame = first.span; first = ap (take 1) first.all; standby = took.standby; told = map told_by acks; takes = took.takes; now = refl },
         record {
           delivered = subst (λ waiting. AreFramesAt epoch w.primary.calls frames new.delivered.items waiting) (sym (took.waiting ∙ ap (drop 1) first.all))
               (subst (λ places. AreFramesAt epoch w.primary.calls frames places first.spans) (sym items) first.rest);
-          acknowledged = ap positions told ∙ map-append (λ (ack : Ack). ack.position) old.acknowledgements.items acks ∙ ap (λ (xs : List ℕ). xs ++ positions acks) stands.acknowledged
-              ∙ took.acknowledgements;
+          acknowledged = ap (map told_by) told ∙ map-append told_by old.acknowledgements.items acks ∙ ap (λ (xs : List Acknowledgement). xs ++ map told_by acks) stands.acknowledged;
         },
         took.stands,
         took.moves,
@@ -147,12 +141,12 @@ applies holder epoch frames w frame acks old new before after items told stands 
 
 -- ---- the list of calls, and the frames that were made, grow
 
-pub ArrivalsStand-grows : (epoch : ℕ) (calls more : List Call) (frames : List Frame) (code : Arrivals) (machine : Machine) → ArrivalsStand epoch calls frames code machine
-    → ArrivalsStand epoch (calls ++ more) frames code machine
-ArrivalsStand-grows epoch calls more frames code machine stands =
-    record { delivered = AreFramesAt-grows epoch calls more frames code.delivered.items machine.waiting stands.delivered; acknowledged = stands.acknowledged }
+pub ArrivalsStand-grows : (epoch : ℕ) (calls more : List Call) (frames : List Frame) (code : Arrivals) (waiting : List Sent) (told : List Acknowledgement) → ArrivalsStand epoch calls frames code waiting told
+    → ArrivalsStand epoch (calls ++ more) frames code waiting told
+ArrivalsStand-grows epoch calls more frames code waiting told stands =
+    record { delivered = AreFramesAt-grows epoch calls more frames code.delivered.items waiting stands.delivered; acknowledged = stands.acknowledged }
 
-pub ArrivalsStand-frames : (epoch : ℕ) (calls : List Call) (frames more : List Frame) (code : Arrivals) (machine : Machine) → ArrivalsStand epoch calls frames code machine
-    → ArrivalsStand epoch calls (frames ++ more) code machine
-ArrivalsStand-frames epoch calls frames more code machine stands =
-    record { delivered = AreFramesAt-frames epoch calls frames more code.delivered.items machine.waiting stands.delivered; acknowledged = stands.acknowledged }
+pub ArrivalsStand-frames : (epoch : ℕ) (calls : List Call) (frames more : List Frame) (code : Arrivals) (waiting : List Sent) (told : List Acknowledgement) → ArrivalsStand epoch calls frames code waiting told
+    → ArrivalsStand epoch calls (frames ++ more) code waiting told
+ArrivalsStand-frames epoch calls frames more code waiting told stands =
+    record { delivered = AreFramesAt-frames epoch calls frames more code.delivered.items waiting stands.delivered; acknowledged = stands.acknowledged }

@@ -1,5 +1,5 @@
 -- Frames, and the link that sends them, go on standing for the machine's.
-use Rattle.std.proofs.Common.{◌≡◌, ℕ, zero, suc, ◌+◌, ◌-◌, ◌<◌, ◌≤◌, List, [], ◌∷◌, ◌++◌, length, drop, Some, refl, sym, ap, ap₂, subst, ◌∙◌, append-nil, get_or, cond, nat_lt, ◌&&◌, ◌||◌, Bool, true, false, Vec, Global, length-append, length-drop, add-one, arith}
+use Rattle.std.proofs.Common.{◌≡◌, ℕ, zero, suc, ◌+◌, ◌-◌, ◌<◌, ◌≤◌, List, [], ◌∷◌, ◌++◌, length, take, drop, Some, refl, sym, ap, ap₂, subst, ◌∙◌, append-nil, get_or, cond, nat_lt, ◌&&◌, ◌||◌, Bool, true, false, Vec, Global, length-append, length-drop, add-one, arith}
 use borrow.Author.Count.{below_more}
 use Rattle.std.proofs.lemmas.Bool.{lt-ltb, le-ltb}
 use Rattle.std.proofs.Math.Bool.{and-false}
@@ -16,7 +16,7 @@ use Rattle.model.specs.Calls.{is_nonempty}
 use Rattle.model.specs.Groups.{changes_of_part, changes_of_group, last_position}
 use Rattle.machine.specs.declared.event.TheConstants.{KEPT_GROUPS}
 use Rattle.machine.specs.Sound.{IsChain}
-use Rattle.machine.specs.Events.{Link as Machine, Span, above, sent_next, sent_waiting}
+use Rattle.machine.specs.Events.{Link as Machine, Span, Frame as Sent, above, sent_next, sent_waiting, next_to_send, framed}
 use Rattle.pipes.specs.Waiting.{Waiting}
 use Rattle.standby.specs.declared.frame.Frame.{Frame}
 use Rattle.world.specs.declared.link.Link.{Link}
@@ -42,15 +42,15 @@ AreFramesOf-grows epoch calls more [] (span ∷ spans) are = absurd are
 AreFramesOf-grows epoch calls more (frame ∷ frames) [] are = absurd are
 AreFramesOf-grows epoch calls more (frame ∷ frames) (span ∷ spans) are = (IsFrameOf-grows epoch calls more frame span are.0, AreFramesOf-grows epoch calls more frames spans are.1)
 
-pub AreFramesAt-grows : (epoch : ℕ) (calls more : List Call) (frames : List Frame) (places : List ℕ) (spans : List Span) → AreFramesAt epoch calls frames places spans → AreFramesAt epoch (calls ++ more) frames places spans
+pub AreFramesAt-grows : (epoch : ℕ) (calls more : List Call) (frames : List Frame) (places : List ℕ) (spans : List Sent) → AreFramesAt epoch calls frames places spans → AreFramesAt epoch (calls ++ more) frames places spans
 AreFramesAt-grows epoch calls more frames [] [] are = tt
 AreFramesAt-grows epoch calls more frames [] (span ∷ spans) are = absurd are
 AreFramesAt-grows epoch calls more frames (place ∷ places) [] are = absurd are
 AreFramesAt-grows epoch calls more frames (place ∷ places) (span ∷ spans) are =
-    (record { frame = are.0.frame; stands = are.0.stands; has = IsFrameOf-grows epoch calls more are.0.frame span are.0.has }, AreFramesAt-grows epoch calls more frames places spans are.1)
+    (record { frame = are.0.frame; stands = are.0.stands; epoch_is = are.0.epoch_is; has = IsFrameOf-grows epoch calls more are.0.frame span.span are.0.has }, AreFramesAt-grows epoch calls more frames places spans are.1)
 
-pub LinkStands-grows : (calls more : List Call) (code : Link) (machine : Machine) → LinkStands calls code machine → LinkStands (calls ++ more) code machine
-LinkStands-grows calls more code machine stands = record {
+pub LinkStands-grows : (calls more : List Call) (code : Link) (machine : Machine) (sent : List Sent) → LinkStands calls code machine sent → LinkStands (calls ++ more) code machine sent
+LinkStands-grows calls more code machine sent stands = record {
   waiting = AreGroupsOf-grows calls more code.waiting.items machine.waiting stands.waiting;
   spans = stands.spans;
   frames = AreFramesOf-grows code.epoch calls more code.frames.items stands.spans stands.frames;
@@ -58,7 +58,7 @@ LinkStands-grows calls more code machine stands = record {
   kept = stands.kept;
   again_within = stands.again_within;
   again = stands.again;
-  sent = AreFramesAt-grows code.epoch calls more code.frames.items code.sent.items machine.frames stands.sent;
+  sent = AreFramesAt-grows code.epoch calls more code.frames.items code.sent.items sent stands.sent;
   known = stands.known;
   remote = stands.remote;
 }
@@ -70,12 +70,12 @@ slice_get-grows [] more i x e = cc
 slice_get-grows (y ∷ xs) more zero x e = e
 slice_get-grows (y ∷ xs) more (suc i) x e = slice_get-grows xs more i x e
 
-pub AreFramesAt-frames : (epoch : ℕ) (calls : List Call) (frames more : List Frame) (places : List ℕ) (spans : List Span) → AreFramesAt epoch calls frames places spans → AreFramesAt epoch calls (frames ++ more) places spans
+pub AreFramesAt-frames : (epoch : ℕ) (calls : List Call) (frames more : List Frame) (places : List ℕ) (spans : List Sent) → AreFramesAt epoch calls frames places spans → AreFramesAt epoch calls (frames ++ more) places spans
 AreFramesAt-frames epoch calls frames more [] [] are = tt
 AreFramesAt-frames epoch calls frames more [] (span ∷ spans) are = absurd are
 AreFramesAt-frames epoch calls frames more (place ∷ places) [] are = absurd are
 AreFramesAt-frames epoch calls frames more (place ∷ places) (span ∷ spans) are =
-    (record { frame = are.0.frame; stands = slice_get-grows frames more place are.0.frame are.0.stands; has = are.0.has }, AreFramesAt-frames epoch calls frames more places spans are.1)
+    (record { frame = are.0.frame; stands = slice_get-grows frames more place are.0.frame are.0.stands; epoch_is = are.0.epoch_is; has = are.0.has }, AreFramesAt-frames epoch calls frames more places spans are.1)
 
 -- ---- the frame of a group
 
@@ -138,14 +138,14 @@ length-frames epoch calls [] (span ∷ spans) are = absurd are
 length-frames epoch calls (frame ∷ frames) [] are = absurd are
 length-frames epoch calls (frame ∷ frames) (span ∷ spans) are = ap suc (length-frames epoch calls frames spans are.1)
 
-frame_at : (epoch : ℕ) (calls : List Call) (frames : List Frame) (spans : List Span) (i : ℕ) (span : Span) → AreFramesOf epoch calls frames spans → slice_get spans i ≡ Some span → IsFrameAt epoch calls frames i span
+frame_at : (epoch : ℕ) (calls : List Call) (frames : List Frame) (spans : List Span) (i : ℕ) (span : Span) → AreFramesOf epoch calls frames spans → slice_get spans i ≡ Some span → IsFrameAt epoch calls frames i (record { epoch = epoch; span = span })
 frame_at epoch calls [] [] i span are is = cc
 frame_at epoch calls [] (first ∷ spans) i span are is = absurd are
 frame_at epoch calls (frame ∷ frames) [] i span are is = absurd are
 frame_at epoch calls (frame ∷ frames) (first ∷ spans) zero span are is =
-    let same : first ≡ span = cc in record { frame = frame; stands = refl; has = subst (IsFrameOf epoch calls frame) same are.0 }
+    let same : first ≡ span = cc in record { frame = frame; stands = refl; epoch_is = refl; has = subst (IsFrameOf epoch calls frame) same are.0 }
 frame_at epoch calls (frame ∷ frames) (first ∷ spans) (suc i) span are is =
-    let at = frame_at epoch calls frames spans i span are.1 is in record { frame = at.frame; stands = at.stands; has = at.has }
+    let at = frame_at epoch calls frames spans i span are.1 is in record { frame = at.frame; stands = at.stands; epoch_is = refl; has = at.has }
 
 -- ---- what is acknowledged
 
@@ -154,7 +154,7 @@ above-all : (position from : ℕ) (groups : List Span) (to : ℕ) → position �
 above-all position from [] to le chain = refl
 above-all position from (group ∷ groups) to le chain =
     ap (λ b. cond b (group ∷ above position groups) (above position groups)) (lt-ltb position group.after (omega (arith, chain.1)))
-    ∙ ap (λ (gs : List Span). group ∷ gs) (above-all position (from + 1) groups to (omega arith) chain.2)
+    ∙ ap (λ (gs : List Span). group ∷ gs) (above-all position group.after groups to (omega (arith, chain.1)) chain.2)
 
 above-drops : (position k from : ℕ) (groups : List Span) (to : ℕ) → IsChain from groups to → ((n : ℕ) (span : Span) → n < k → slice_get groups n ≡ Some span → span.after ≤ position)
     → ((span : Span) → slice_get groups k ≡ Some span → position < span.after) → above position groups ≡ drop k groups
@@ -163,10 +163,10 @@ above-drops position (suc k) from [] to chain low high = refl
 above-drops position zero from (group ∷ groups) to chain low high =
     let lt : position < group.after = high group refl in
     ap (λ b. cond b (group ∷ above position groups) (above position groups)) (lt-ltb position group.after lt)
-    ∙ ap (λ (gs : List Span). group ∷ gs) (above-all position (from + 1) groups to (omega (arith, chain.1, lt)) chain.2)
+    ∙ ap (λ (gs : List Span). group ∷ gs) (above-all position group.after groups to (omega (arith, lt)) chain.2)
 above-drops position (suc k) from (group ∷ groups) to chain low high =
     ap (λ b. cond b (group ∷ above position groups) (above position groups)) (le-ltb position group.after (low 0 group (omega arith) refl))
-    ∙ above-drops position k (from + 1) groups to chain.2 (λ n span lt is. low (suc n) span (omega arith) is) high
+    ∙ above-drops position k group.after groups to chain.2 (λ n span lt is. low (suc n) span (omega arith) is) high
 
 slice_get-drop : {X : Type 0} (from i : ℕ) (xs : List X) → slice_get (drop from xs) i ≡ slice_get xs (from + i)
 slice_get-drop zero i xs = let e : i ≡ zero + i = omega arith in ap (slice_get xs) e
@@ -190,7 +190,7 @@ above-from epoch calls frames spans from position place start to are drops chain
 
 pub chain-behind : (from : ℕ) (front behind : List Span) (to : ℕ) → IsChain from (front ++ behind) to → (middle : ℕ) × IsChain middle behind to
 chain-behind from [] behind to chain = (from, chain)
-chain-behind from (group ∷ front) behind to chain = chain-behind (from + 1) front behind to chain.2
+chain-behind from (group ∷ front) behind to chain = chain-behind group.after front behind to chain.2
 
 -- ---- sending
 
@@ -201,7 +201,7 @@ frames-append epoch calls [] (s ∷ spans) frame span are is = absurd are
 frames-append epoch calls (f ∷ frames) [] frame span are is = absurd are
 frames-append epoch calls (f ∷ frames) (s ∷ spans) frame span are is = (are.0, frames-append epoch calls frames spans frame span are.1 is)
 
-places-append : (epoch : ℕ) (calls : List Call) (frames : List Frame) (places : List ℕ) (spans : List Span) (place : ℕ) (span : Span) → AreFramesAt epoch calls frames places spans
+places-append : (epoch : ℕ) (calls : List Call) (frames : List Frame) (places : List ℕ) (spans : List Sent) (place : ℕ) (span : Sent) → AreFramesAt epoch calls frames places spans
     → IsFrameAt epoch calls frames place span → AreFramesAt epoch calls frames (places ++ place ∷ []) (spans ++ span ∷ [])
 places-append epoch calls frames [] [] place span are is = (is, tt)
 places-append epoch calls frames [] (s ∷ spans) place span are is = absurd are
@@ -218,15 +218,15 @@ pub record IsNext (epoch : ℕ) (calls : List Call) (frames : List Frame) (spans
   pub rest : List Span
   pub here : drop place spans ≡ span ∷ rest
   pub behind : drop (suc place) spans ≡ rest
-  pub at : IsFrameAt epoch calls frames place span
+  pub at : IsFrameAt epoch calls frames place (record { epoch = epoch; span = span })
 
 next_at : (epoch : ℕ) (calls : List Call) (frames : List Frame) (spans : List Span) (place : ℕ) → AreFramesOf epoch calls frames spans → place < length frames → IsNext epoch calls frames spans place
 next_at epoch calls [] spans place are lt = absurd (omega arith)
 next_at epoch calls (frame ∷ frames) [] place are lt = absurd are
-next_at epoch calls (frame ∷ frames) (span ∷ spans) zero are lt = record { span = span; rest = spans; here = refl; behind = refl; at = record { frame = frame; stands = refl; has = are.0 } }
+next_at epoch calls (frame ∷ frames) (span ∷ spans) zero are lt = record { span = span; rest = spans; here = refl; behind = refl; at = record { frame = frame; stands = refl; epoch_is = refl; has = are.0 } }
 next_at epoch calls (frame ∷ frames) (span ∷ spans) (suc place) are lt =
     let next = next_at epoch calls frames spans place are.1 (omega arith) in
-    record { span = next.span; rest = next.rest; here = next.here; behind = next.behind; at = record { frame = next.at.frame; stands = next.at.stands; has = next.at.has } }
+    record { span = next.span; rest = next.rest; here = next.here; behind = next.behind; at = record { frame = next.at.frame; stands = next.at.stands; epoch_is = refl; has = next.at.has } }
 
 -- a group that waits, with those behind it
 pub record TakesGroup (calls : List Call) (group : Group) (groups : List Group) (spans : List Span) : Type 0 where
@@ -270,7 +270,11 @@ with_frame waiting frames sent again known code =
 abbrev with_sent : Vec ℕ Global → ℕ → ℕ → Link → Link
 with_sent sent again known code = with_frame code.waiting code.frames sent again known code
 
-module _ (calls : List Call) (code : Link) (machine : Machine) (stands : LinkStands calls code machine) where
+module _ (calls : List Call) (code : Link) (machine : Machine) (sent_frames : List Sent) (stands : LinkStands calls code machine sent_frames) where
+  -- the frames that were sent after a step
+  abbrev more_sent_frames : List Sent
+  more_sent_frames = sent_frames ++ framed code.epoch (next_to_send machine)
+
   count : length code.frames.items ≡ length stands.spans
   count = length-frames code.epoch calls code.frames.items stands.spans stands.frames
 
@@ -296,14 +300,14 @@ module _ (calls : List Call) (code : Link) (machine : Machine) (stands : LinkSta
       ∙ lt-ltb (length machine.kept) KEPT_GROUPS (omega (arith, count_kept))
 
   pub sends-again : (sent : Vec ℕ Global) (again known : ℕ) → code.again < length code.frames.items → sent.items ≡ code.sent.items ++ code.again ∷ [] → again ≡ code.again + 1 → known ≡ code.known
-      → Goes (can_send machine) true (LinkStands calls (with_sent sent again known code) (sent_next machine.again machine)) (LinkStands calls (with_sent sent again known code) machine)
+      → Goes (can_send machine) true (LinkStands calls (with_sent sent again known code) (sent_next machine.again machine) more_sent_frames) (LinkStands calls (with_sent sent again known code) machine sent_frames)
   sends-again sent again known lt more next same =
       let frames = code.frames.items in
       let first = next_at code.epoch calls frames stands.spans code.again stands.frames lt in
       let all : machine.again ≡ first.span ∷ first.rest = sym stands.again ∙ first.here in
       record {
         done = sym (may-send-again lt);
-        goes = λ did. subst (λ gs. LinkStands calls (with_sent sent again known code) (sent_next gs machine)) (sym all) (record {
+        goes = λ did. subst (λ gs. LinkStands calls (with_sent sent again known code) (sent_next gs machine) (sent_frames ++ framed code.epoch (take 1 (gs ++ machine.waiting)))) (sym all) (record {
           waiting = stands.waiting;
           spans = stands.spans;
           frames = stands.frames;
@@ -311,8 +315,8 @@ module _ (calls : List Call) (code : Link) (machine : Machine) (stands : LinkSta
           kept = stands.kept;
           again_within = omega (arith, count, lt);
           again = ap (λ n. drop n stands.spans) (next ∙ add-one code.again) ∙ first.behind;
-          sent = subst (λ places. AreFramesAt code.epoch calls frames places (machine.frames ++ first.span ∷ [])) (sym more)
-              (places-append code.epoch calls frames code.sent.items machine.frames code.again first.span stands.sent first.at);
+          sent = subst (λ places. AreFramesAt code.epoch calls frames places (sent_frames ++ record { epoch = code.epoch; span = first.span } ∷ [])) (sym more)
+              (places-append code.epoch calls frames code.sent.items sent_frames code.again (record { epoch = code.epoch; span = first.span }) stands.sent first.at);
           known = same ∙ stands.known;
           remote = stands.remote;
         });
@@ -321,7 +325,7 @@ module _ (calls : List Call) (code : Link) (machine : Machine) (stands : LinkSta
 
   -- the link keeps all groups that it may
   pub sends-none_full : length code.frames.items ≤ code.again → KEPT_GROUPS ≤ length code.frames.items - code.kept
-      → Goes (can_send machine) false (LinkStands calls code (sent_next machine.again machine)) (LinkStands calls code machine)
+      → Goes (can_send machine) false (LinkStands calls code (sent_next machine.again machine) more_sent_frames) (LinkStands calls code machine sent_frames)
   sends-none_full le full =
       record {
         done = sym (ap₂ (λ (gs : List Span) b. is_nonempty gs || (is_nonempty machine.waiting && b)) (nothing_again le) (le-ltb (length machine.kept) KEPT_GROUPS (omega (arith, count_kept)))
@@ -331,7 +335,8 @@ module _ (calls : List Call) (code : Link) (machine : Machine) (stands : LinkSta
       }
 
   pub sends-none : (waiting : Waiting Group) → length code.frames.items ≤ code.again → code.waiting.items ≡ [] → waiting.items ≡ []
-      → Goes (can_send machine) false (LinkStands calls (with_frame waiting code.frames code.sent code.again code.known code) (sent_next machine.again machine)) (LinkStands calls (with_frame waiting code.frames code.sent code.again code.known code) machine)
+      → Goes (can_send machine) false (LinkStands calls (with_frame waiting code.frames code.sent code.again code.known code) (sent_next machine.again machine) more_sent_frames)
+      (LinkStands calls (with_frame waiting code.frames code.sent code.again code.known code) machine sent_frames)
   sends-none waiting le none none' =
       let nothing : machine.waiting ≡ [] = no_group calls machine.waiting (subst (λ groups. AreGroupsOf calls groups machine.waiting) none stands.waiting) in
       record {
@@ -354,19 +359,21 @@ module _ (calls : List Call) (code : Link) (machine : Machine) (stands : LinkSta
   pub sends-first : (group : Group) (frame : Frame) (waiting : Waiting Group) (frames : Vec Frame Global) (sent : Vec ℕ Global) (place again known : ℕ)
       → length code.frames.items ≤ code.again → length code.frames.items - code.kept < KEPT_GROUPS → code.waiting.items ≡ group ∷ waiting.items → IsFrameOfGroup code.epoch group frame
       → frames.items ≡ code.frames.items ++ frame ∷ [] → sent.items ≡ code.sent.items ++ place ∷ [] → place ≡ length code.frames.items → again ≡ length frames.items → known ≡ code.known
-      → Goes (can_send machine) true (LinkStands calls (with_frame waiting frames sent again known code) (sent_next machine.again machine)) (LinkStands calls (with_frame waiting frames sent again known code) machine)
+      → Goes (can_send machine) true (LinkStands calls (with_frame waiting frames sent again known code) (sent_next machine.again machine) more_sent_frames)
+      (LinkStands calls (with_frame waiting frames sent again known code) machine sent_frames)
   sends-first group frame waiting frames sent place again known le room first of more_frames more_sent last all_sent same =
       let taken = takes_group calls group waiting.items machine.waiting (subst (λ groups. AreGroupsOf calls groups machine.waiting) first stands.waiting) in
       let is : IsFrameOf code.epoch calls frame taken.span = frame_of_group code.epoch calls group frame taken.span of taken.is in
       let spans : List Span = stands.spans ++ taken.span ∷ [] in
       let more_spans : length spans ≡ length stands.spans + 1 = length-append stands.spans (taken.span ∷ []) in
       let one_more : length frames.items ≡ length code.frames.items + 1 = ap length more_frames ∙ length-append code.frames.items (frame ∷ []) in
-      let here : IsFrameAt code.epoch calls frames.items place taken.span =
-      record { frame = frame; stands = ap₂ (λ (fs : List Frame) n. slice_get fs n) more_frames last ∙ slice_get-last code.frames.items frame; has = is } in
-      let places : AreFramesAt code.epoch calls frames.items code.sent.items machine.frames =
-      subst (λ fs. AreFramesAt code.epoch calls fs code.sent.items machine.frames) (sym more_frames) (AreFramesAt-frames code.epoch calls code.frames.items (frame ∷ []) code.sent.items machine.frames stands.sent) in
+      let one : Sent = record { epoch = code.epoch; span = taken.span } in
+      let here : IsFrameAt code.epoch calls frames.items place one =
+      record { frame = frame; stands = ap₂ (λ (fs : List Frame) n. slice_get fs n) more_frames last ∙ slice_get-last code.frames.items frame; epoch_is = refl; has = is } in
+      let places : AreFramesAt code.epoch calls frames.items code.sent.items sent_frames =
+      subst (λ fs. AreFramesAt code.epoch calls fs code.sent.items sent_frames) (sym more_frames) (AreFramesAt-frames code.epoch calls code.frames.items (frame ∷ []) code.sent.items sent_frames stands.sent) in
       let new = with_frame waiting frames sent again known code in
-      let now : LinkStands calls new (sent_waiting (taken.span ∷ taken.rest) machine) = record {
+      let now : LinkStands calls new (sent_waiting (taken.span ∷ taken.rest) machine) (sent_frames ++ one ∷ []) = record {
         waiting = taken.are;
         spans = spans;
         frames = subst (λ fs. AreFramesOf code.epoch calls fs spans) (sym more_frames) (frames-append code.epoch calls code.frames.items stands.spans frame taken.span stands.frames is);
@@ -374,13 +381,14 @@ module _ (calls : List Call) (code : Link) (machine : Machine) (stands : LinkSta
         kept = drop-append-le code.kept stands.spans (taken.span ∷ []) stands.kept_within ∙ ap (λ gs. gs ++ taken.span ∷ []) stands.kept;
         again_within = omega (arith, more_spans, one_more, count, all_sent);
         again = drop_all again spans (omega (arith, more_spans, one_more, count, all_sent));
-        sent = subst (λ all. AreFramesAt code.epoch calls frames.items all (machine.frames ++ taken.span ∷ [])) (sym more_sent)
-            (places-append code.epoch calls frames.items code.sent.items machine.frames place taken.span places here);
+        sent = subst (λ all. AreFramesAt code.epoch calls frames.items all (sent_frames ++ one ∷ [])) (sym more_sent)
+            (places-append code.epoch calls frames.items code.sent.items sent_frames place one places here);
         known = same ∙ stands.known;
         remote = stands.remote;
       } in
       record {
         done = sym (may-send-first group waiting le room first);
-        goes = λ did. subst (λ gs. LinkStands calls new (sent_next gs machine)) (sym (nothing_again le)) (subst (λ gs. LinkStands calls new (sent_waiting gs machine)) (sym taken.all) now);
+        goes = λ did. subst (λ gs. LinkStands calls new (sent_next gs machine) (sent_frames ++ framed code.epoch (take 1 (gs ++ machine.waiting)))) (sym (nothing_again le))
+            (subst (λ gs. LinkStands calls new (sent_waiting gs machine) (sent_frames ++ framed code.epoch (take 1 gs))) (sym taken.all) now);
         stays = λ did. cc;
       }

@@ -1,5 +1,5 @@
 -- Connections and the list of calls go on standing for the machine's.
-use Rattle.std.proofs.Common.{◌≡◌, ℕ, zero, suc, ◌+◌, ◌<◌, ◌≤◌, ◌++◌, Bool, true, false, nat_lt, List, [], ◌∷◌, length, Option, Some, Result, Ok, Err, All, inl, inr, slice_get, refl, sym, ap, subst, ◌∙◌, arith, length-append}
+use Rattle.std.proofs.Common.{◌≡◌, ℕ, zero, suc, ◌+◌, ◌<◌, ◌≤◌, ◌++◌, Bool, true, false, cond, nat_lt, List, [], ◌∷◌, length, Option, Some, Result, Ok, Err, All, inl, inr, slice_get, refl, sym, ap, subst, ◌∙◌, arith, length-append}
 use Rattle.std.proofs.lemmas.Bool.{lt-ltb, le-ltb, cases_eq, cases_lt}
 use Rattle.std.proofs.lemmas.Option.{slice_get_within, get_or_from_slice_get}
 use Rattle.std.proofs.Math.Seq.{map-set_same}
@@ -10,8 +10,8 @@ use Rattle.pipes.specs.declared.limits.TheConstants.{MAX_SEATS}
 use Rattle.lobby.specs.Book.{Book, Status, Moves, free, taken}
 use Rattle.model.specs.declared.call.Call.{Call}
 use Rattle.machine.specs.declared.event.TheConstants.{SEATS}
-use Rattle.machine.specs.Events.{Inbound as MachineInbound, Outbound as MachineOutbound, Connection as MachineConnection, World, no_connection, is_open, get_connection, changed_at, with_inbound, with_outbound}
-use Rattle.machine.proofs.ConnectionLemmas.{length-changed_at}
+use Rattle.machine.specs.Events.{Inbound as MachineInbound, Outbound as MachineOutbound, Connection as MachineConnection, World, new_connection, count_open, is_open, get_connection, changed_at, with_inbound, with_outbound}
+use Rattle.machine.proofs.ConnectionLemmas.{length-changed_at, get-past}
 use Rattle.world.specs.declared.inbound.Inbound.{Inbound}
 use Rattle.world.specs.declared.outbound.Made.{Made}
 use Rattle.world.specs.declared.outbound.Outbound.{Outbound}
@@ -55,6 +55,7 @@ OutboundStands-grows calls more code machine stands = record {
 pub ConnectionStands-grows : (calls more : List Call) (c : ℕ) (code : Connection) (machine : MachineConnection) → ConnectionStands calls c code machine → ConnectionStands (calls ++ more) c code machine
 ConnectionStands-grows calls more c code machine stands = record {
   seat = stands.seat;
+  is_open = stands.is_open;
   inbound = stands.inbound;
   outbound = OutboundStands-grows calls more code.outbound machine.outbound stands.outbound;
 }
@@ -122,7 +123,7 @@ connection-goes test did w sessions c old new change within is stand went =
     let goes : Goes (test true) did (ConnectionStands w.primary.calls c new (change (get_connection w.primary.connections c))) (ConnectionStands w.primary.calls c new (get_connection w.primary.connections c)) =
     went (subst (λ code. ConnectionStands w.primary.calls c code (get_connection w.primary.connections c)) (sym is) (ConnectionStands-at w.primary.calls 0 c c sessions.connections.items w.primary.connections old (omega arith) within all)) in
     let place : c ≡ 0 + c = omega arith in
-    let is_there : is_open w c ≡ true = lt-ltb c (length w.primary.connections) (omega (arith, length-connections w.primary.calls 0 sessions.connections.items w.primary.connections all)) in
+    let is_there : is_open w c ≡ true = (ConnectionStands-at w.primary.calls 0 c c sessions.connections.items w.primary.connections old (omega arith) within all).is_open in
     record {
       done = goes.done ∙ ap test (sym is_there);
       goes = λ yes_did. record {
@@ -150,8 +151,8 @@ inbound-goes test did w sessions c connection new change within is stand went =
     let goes = went stands.inbound in
     record {
       done = goes.done;
-      goes = λ yes_did. record { seat = stands.seat; inbound = goes.goes yes_did; outbound = stands.outbound };
-      stays = λ not_did. record { seat = stands.seat; inbound = goes.stays not_did; outbound = stands.outbound };
+      goes = λ yes_did. record { seat = stands.seat; is_open = stands.is_open; inbound = goes.goes yes_did; outbound = stands.outbound };
+      stays = λ not_did. record { seat = stands.seat; is_open = stands.is_open; inbound = goes.stays not_did; outbound = stands.outbound };
     })
 
 pub outbound-goes : (test : Bool → Bool) (did : Bool) (w : World) (sessions : Sessions) (c : ℕ) (connection : Connection) (new : Outbound) (change : MachineOutbound → MachineOutbound)
@@ -165,8 +166,8 @@ outbound-goes test did w sessions c connection new change within is stand went =
     let goes = went stands.outbound in
     record {
       done = goes.done;
-      goes = λ yes_did. record { seat = stands.seat; inbound = stands.inbound; outbound = goes.goes yes_did };
-      stays = λ not_did. record { seat = stands.seat; inbound = stands.inbound; outbound = goes.stays not_did };
+      goes = λ yes_did. record { seat = stands.seat; is_open = stands.is_open; inbound = stands.inbound; outbound = goes.goes yes_did };
+      stays = λ not_did. record { seat = stands.seat; is_open = stands.is_open; inbound = stands.inbound; outbound = goes.stays not_did };
     })
 
 -- the event is enabled: there is such a connection, and so is the rest of the test
@@ -184,7 +185,7 @@ pub none-goes : (test : Bool → Bool) (w : World) (sessions : Sessions) (c : �
 none-goes test w sessions c past refused stand =
     let over : length w.primary.connections ≤ c = omega (arith, length-connections w.primary.calls 0 sessions.connections.items w.primary.connections stand.connections_stand) in
     record {
-      done = sym refused ∙ ap test (sym (le-ltb c (length w.primary.connections) over));
+      done = sym refused ∙ ap test (sym (ap (λ (machine : MachineConnection). machine.is_open) (get-past w.primary.connections c over)));
       goes = λ yes_did. cc;
       stays = λ _. stand;
     }
@@ -237,6 +238,16 @@ SeatsStand-more before after count stand moves = record {
   are_free = λ seat le lt. ap (λ statuses. slice_get statuses seat) moves.becomes ∙ slice_get-set_other before.statuses count seat taken (λ same. omega arith) ∙ stand.are_free seat (omega arith) lt;
 }
 
+-- all of them are open
+open-connections : (calls : List Call) (n : ℕ) (codes : List Connection) (machines : List MachineConnection) → ConnectionsStand calls n codes machines → count_open machines ≡ length machines
+open-connections calls n [] [] stand = refl
+open-connections calls n [] (machine ∷ machines) stand = absurd stand
+open-connections calls n (code ∷ codes) [] stand = absurd stand
+open-connections calls n (code ∷ codes) (machine ∷ machines) stand =
+    let rest = open-connections calls (suc n) codes machines stand.1 in
+    let one : ◌≡◌ {A = ℕ} (cond machine.is_open 1 0) 1 = ap (λ b. cond b 1 0) stand.0.is_open in
+    omega (arith, rest, one)
+
 ConnectionsStand-push : (calls : List Call) (n seat : ℕ) (codes : List Connection) (machines : List MachineConnection) (code : Connection) (machine : MachineConnection) → seat ≡ n + length machines
     → ConnectionsStand calls n codes machines → ConnectionStands calls seat code machine → ConnectionsStand calls n (codes ++ code ∷ []) (machines ++ machine ∷ [])
 ConnectionsStand-push calls n seat [] [] code machine is stand stands = (subst (λ k. ConnectionStands calls k code machine) (omega arith) stands, tt)
@@ -256,20 +267,20 @@ may-enter w old after seat stand moves lowest =
 -- it took the lowest free seat
 pub seated-goes : (w : World) (old new : Sessions) (seat : ℕ) (inbound : Inbound) (outbound : Outbound) {Stayed : Type 0} → SessionsStand old w.primary.connections w.primary.calls
     → Moves old.lobby seat free taken new.lobby → ((lower : ℕ) → lower < seat → slice_get old.lobby.statuses lower ≡ Some taken)
-    → InboundStands inbound no_connection.inbound → OutboundStands w.primary.calls outbound no_connection.outbound
+    → InboundStands inbound new_connection.inbound → OutboundStands w.primary.calls outbound new_connection.outbound
     → new.connections.items ≡ old.connections.items ++ record { seat = seat; inbound = inbound; outbound = outbound } ∷ [] → new.calls.items ≡ old.calls.items → new.replies.items ≡ old.replies.items
-    → Goes (nat_lt (length w.primary.connections) SEATS) true (SessionsStand new (w.primary.connections ++ no_connection ∷ []) w.primary.calls) Stayed
+    → Goes (nat_lt (count_open w.primary.connections) SEATS) true (SessionsStand new (w.primary.connections ++ new_connection ∷ []) w.primary.calls) Stayed
 seated-goes w old new seat inbound outbound stand moves lowest inbound_stands outbound_stands connections calls replies =
     let within : seat < MAX_SEATS = omega (arith, slice_get_within old.lobby.statuses seat free moves.was, old.lobby.complete) in
     let own : seat ≡ length w.primary.connections = lowest-seat old.lobby.statuses (length w.primary.connections) seat stand.seats moves.was within lowest in
     record {
-      done = sym (lt-ltb (length w.primary.connections) SEATS (omega arith));
+      done = sym (lt-ltb (count_open w.primary.connections) SEATS (omega (arith, open-connections w.primary.calls 0 old.connections.items w.primary.connections stand.connections_stand)));
       goes = λ _. record {
-        seats = subst (SeatsStand new.lobby.statuses) (sym (length-append w.primary.connections (no_connection ∷ [])))
+        seats = subst (SeatsStand new.lobby.statuses) (sym (length-append w.primary.connections (new_connection ∷ [])))
             (SeatsStand-more old.lobby new.lobby (length w.primary.connections) stand.seats (subst (λ place. Moves old.lobby place free taken new.lobby) own moves));
-        connections_stand = subst (λ codes. ConnectionsStand w.primary.calls 0 codes (w.primary.connections ++ no_connection ∷ [])) (sym connections)
-            (ConnectionsStand-push w.primary.calls 0 seat old.connections.items w.primary.connections (record { seat = seat; inbound = inbound; outbound = outbound }) no_connection (omega arith) stand.connections_stand
-            (record { seat = refl; inbound = inbound_stands; outbound = outbound_stands }));
+        connections_stand = subst (λ codes. ConnectionsStand w.primary.calls 0 codes (w.primary.connections ++ new_connection ∷ [])) (sym connections)
+            (ConnectionsStand-push w.primary.calls 0 seat old.connections.items w.primary.connections (record { seat = seat; inbound = inbound; outbound = outbound }) new_connection (omega arith) stand.connections_stand
+            (record { seat = refl; is_open = refl; inbound = inbound_stands; outbound = outbound_stands }));
         calls_are = calls ∙ stand.calls_are;
         no_reply = replies ∙ stand.no_reply;
       };
@@ -279,7 +290,7 @@ seated-goes w old new seat inbound outbound stand moves lowest inbound_stands ou
 -- all seats are taken
 pub full-goes : (w : World) (old new : Sessions) {Moved : Type 0} → SessionsStand old w.primary.connections w.primary.calls → All (λ status. status ≡ taken) old.lobby.statuses
     → new.lobby ≡ old.lobby → new.connections.items ≡ old.connections.items → new.calls.items ≡ old.calls.items → new.replies.items ≡ old.replies.items
-    → Goes (nat_lt (length w.primary.connections) SEATS) false Moved (SessionsStand new w.primary.connections w.primary.calls)
+    → Goes (nat_lt (count_open w.primary.connections) SEATS) false Moved (SessionsStand new w.primary.connections w.primary.calls)
 full-goes w old new stand all lobby connections calls replies =
     let count = length w.primary.connections in
     let full : SEATS ≤ count = elim (cases_lt count SEATS) [
@@ -287,7 +298,7 @@ full-goes w old new stand all lobby connections calls replies =
       | inr le ↦ le
     ] in
     record {
-      done = sym (le-ltb (length w.primary.connections) SEATS full);
+      done = sym (le-ltb (count_open w.primary.connections) SEATS (omega (arith, full, open-connections w.primary.calls 0 old.connections.items w.primary.connections stand.connections_stand)));
       goes = λ yes_did. cc;
       stays = λ _. record {
         seats = subst (λ (lobby : Book). SeatsStand lobby.statuses (length w.primary.connections)) (sym lobby) stand.seats;

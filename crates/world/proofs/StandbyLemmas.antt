@@ -1,5 +1,5 @@
 -- What the standby does with a frame of the list is what the machine's does with its span.
-use Rattle.std.proofs.Common.{◌≡◌, ◌≢◌, ℕ, ◌+◌, ◌-◌, ◌<◌, ◌≤◌, ◌⊎◌, ⊎_elim, inl, inr, false, List, [], ◌∷◌, ◌++◌, Result, Ok, Err, IfOk, IfErr, OnOk, IsErrOf, refl, sym, ap, subst, ◌∙◌, arith, append-nil}
+use Rattle.std.proofs.Common.{◌≡◌, ◌≢◌, ℕ, ◌+◌, ◌-◌, ◌<◌, ◌≤◌, ◌⊎◌, ⊎_elim, inl, inr, false, List, [], ◌∷◌, ◌++◌, Result, Ok, Err, IfOk, IfErr, OnOk, IsErrOf, refl, sym, ap, ap₂, subst, ◌∙◌, arith}
 use Rattle.std.proofs.lemmas.Bool.{cases_lt, cases_eq}
 use Rattle.kv_types.specs.declared.refusal.Refusal.{Refusal}
 use Rattle.kv_types.specs.declared.refusal.Refusal.TheVariants.{WrongEpoch, PositionGap, Full, Memory, Fault, Exhausted}
@@ -20,14 +20,14 @@ use Rattle.mv_keyspace.specs.Tables.{records}
 use Rattle.mv_keyspace.proofs.PartTables.{map-from_table}
 use Rattle.wbl_engine.specs.Contents.{IsDurable, Keeps}
 use Rattle.machine.specs.declared.event.Event.TheVariants.{Apply}
-use Rattle.machine.specs.Events.{Standby as Machine, Span, Takes, acknowledged, moved_to}
+use Rattle.machine.specs.Events.{Standby as Machine, Span, Frame as Sent, Acknowledgement, Takes, acknowledgement_of, moved_to}
 use Rattle.standby.specs.declared.frame.Ack.{Ack}
 use Rattle.standby.specs.declared.frame.Frame.{Frame}
 use Rattle.standby.specs.Following.{Follows, IsNext, HasTaken, IsWhole, IsBeforeOrWhole, WouldExhaust}
 use Rattle.world.specs.Causes.{Breaks, IsAtLimit, RestsAtLimit, EndsBy}
 use Rattle.world.specs.Committings.{AreContentsAt, Moves, Rests, StandsAtOrNext, NearOnly}
 use Rattle.world.specs.Links.{IsFrameOf}
-use Rattle.world.specs.Standbys.{Node, StandbyStands}
+use Rattle.world.specs.Standbys.{Node, StandbyStands, told_by}
 use Rattle.world.proofs.EngineLemmas.{Stands-engine, keeps-stands, moves-same, near-still, rests-same, EngineStands-grows}
 
 -- nothing happened to the standby
@@ -53,12 +53,11 @@ pub record Answers (frame : Frame) (old : Node) (result : Result Ack Refusal) (n
   pub epoch_stays : new.epoch ≡ old.epoch
   pub moments : frame.epoch ≡ old.epoch → IsNext old.contents.current.position frame → LeavesOnly old.device new.device (IsBeforeOrWhole frame old.contents old.table)
 
--- The machine's standby after it took the span, with the acknowledgements that it made, the node that stands for it, and what its device went through.
-pub record Took (holder : Holder) (epoch : ℕ) (calls : List Call) (span : Span) (old : Machine) (acks : List ℕ) (before new : Node) : Type 0 where
+-- The machine's standby after it took the frame, with what it acknowledged, the node that stands for it, and what its device went through.
+pub record Took (holder : Holder) (epoch : ℕ) (calls : List Call) (sent : Sent) (old : Machine) (acks : List Acknowledgement) (before new : Node) : Type 0 where
   pub standby : Machine
-  pub takes : Takes span old standby
+  pub takes : Takes sent old standby acks
   pub waiting : standby.waiting ≡ old.waiting
-  pub acknowledgements : old.acknowledgements ++ acks ≡ standby.acknowledgements
   pub stands : StandbyStands holder epoch calls standby.position new
   pub moves : Moves holder calls old.position standby.position before.device new.device
 
@@ -88,8 +87,14 @@ is_full refusal (inr (inr epoch)) (inr (inr (inl fault))) = cc
 is_full refusal (inr (inr epoch)) (inr (inr (inr exhausted))) = cc
 
 -- a standby that stands at the machine's position, and a frame of the list that it answers
-module _ (holder : Holder) (epoch : ℕ) (calls : List Call) (machine : Machine) (frame : Frame) (span : Span) (old new : Node) (is : IsFrameOf epoch calls frame span)
-    (stands : StandbyStands holder epoch calls machine.position old) where
+module _ (holder : Holder) (epoch : ℕ) (calls : List Call) (machine : Machine) (frame : Frame) (sent : Sent) (old new : Node) (sent_epoch : sent.epoch ≡ epoch) (own_epoch : epoch ≡ machine.epoch)
+    (is : IsFrameOf epoch calls frame sent.span) (stands : StandbyStands holder epoch calls machine.position old) where
+  abbrev span : Span
+  span = sent.span
+
+  own : sent.epoch ≡ machine.epoch
+  own = sent_epoch ∙ own_epoch
+
   epoch_same : frame.epoch ≡ old.epoch
   epoch_same = is.epoch_is ∙ sym stands.epoch_is
 
@@ -191,50 +196,55 @@ module _ (holder : Holder) (epoch : ℕ) (calls : List Call) (machine : Machine)
       either image (inl before) = inl (keeps-stands holder calls machine.position old.contents image stands.engine.contents_at before)
       either image (inr held) = inr (whole_stands image e held)
 
+  -- what is told, where the node's epoch and this position are
+  told_as : (ack : Ack) → ack.epoch ≡ old.epoch → ack.position ≡ machine.position → told_by ack ≡ acknowledgement_of machine
+  told_as ack epoch_is position_is = ap₂ (λ e p. record { epoch = e; position = p }) (epoch_is ∙ stands.epoch_is ∙ own_epoch) position_is
+
+  moved_as : (ack : Ack) → ack.epoch ≡ old.epoch → ack.position ≡ span.after → told_by ack ≡ acknowledgement_of (moved_to span.after machine)
+  moved_as ack epoch_is position_is = ap₂ (λ e p. record { epoch = e; position = p }) (epoch_is ∙ stands.epoch_is ∙ own_epoch) position_is
+
   -- a frame that the standby acknowledged
-  pub takes_ok : (ack : Ack) → Answers frame old (Ok ack) new → Took holder epoch calls span machine (ack.position ∷ []) old new
+  pub takes_ok : (ack : Ack) → Answers frame old (Ok ack) new → Took holder epoch calls sent machine (told_by ack ∷ []) old new
   takes_ok ack answers = ⊎_elim above below (cases_lt machine.position span.after)
     where
       no_fault : {refusal : Refusal} → ¬ IsErrOf (Ok ack) refusal
       no_fault e = cc
 
-      below : span.after ≤ machine.position → Took holder epoch calls span machine (ack.position ∷ []) old new
+      below : span.after ≤ machine.position → Took holder epoch calls sent machine (told_by ack ∷ []) old new
       below le =
           let again = answers.again epoch_same (is_below le) in
           let told : ack ≡ record { epoch = old.epoch; position = old.contents.current.position } = same_ok refl again.0 in
           record {
-            standby = acknowledged machine;
-            takes = inl (le, refl);
+            standby = machine;
+            takes = inr (inl (own, le, refl, ap (λ (a : Acknowledgement). a ∷ []) (told_as ack (ap (λ (a : Ack). a.epoch) told) (ap (λ (a : Ack). a.position) told ∙ at))));
             waiting = refl;
-            acknowledgements = ap (λ p. machine.acknowledgements ++ p ∷ []) (ap (λ (a : Ack). a.position) told ∙ at);
             stands = same_stands again.1;
             moves = rests machine.position (ap (λ (n : Node). n.device) again.1) (same_stands again.1);
           }
 
-      joins : machine.position < span.after → span.before ≡ machine.position → Took holder epoch calls span machine (ack.position ∷ []) old new
+      joins : machine.position < span.after → span.before ≡ machine.position → Took holder epoch calls sent machine (told_by ack ∷ []) old new
       joins lt e =
           let next = is_next lt e in
           record {
-            standby = acknowledged (moved_to span.after machine);
-            takes = inr (inl (lt, e, refl));
+            standby = moved_to span.after machine;
+            takes = inr (inr (inl (own, lt, e, refl, ap (λ (a : Acknowledgement). a ∷ []) (moved_as ack (ap (λ (a : Ack). a.epoch) (answers.ack epoch_same next)) (ap (λ (a : Ack). a.position) (answers.ack epoch_same next) ∙ is.after)))));
             waiting = refl;
-            acknowledgements = ap (λ p. machine.acknowledgements ++ p ∷ []) (ap (λ (a : Ack). a.position) (answers.ack epoch_same next) ∙ is.after);
             stands = taken_stands e (answers.taken epoch_same next) (answers.still no_fault no_fault) (answers.sound no_fault no_fault).0 (answers.durable no_fault no_fault) answers.epoch_stays;
             moves = taken_moves e (answers.moments epoch_same next) (answers.sound no_fault no_fault).1;
           }
 
-      above : machine.position < span.after → Took holder epoch calls span machine (ack.position ∷ []) old new
+      above : machine.position < span.after → Took holder epoch calls sent machine (told_by ack ∷ []) old new
       above lt = ⊎_elim (joins lt) (λ (ne : span.before ≢ machine.position). absurd (not_both refl (answers.gap epoch_same (is_above lt) (is_apart ne)).0)) (cases_eq span.before machine.position)
 
   -- a frame that it refused, and went on
   pub takes_refused : (refusal : Refusal) → (refusal ≡ Full) ⊎ (refusal ≡ PositionGap) ⊎ (refusal ≡ WrongEpoch) → Answers frame old (Err refusal) new
-      → Took holder epoch calls span machine [] old new
+      → Took holder epoch calls sent machine [] old new
   takes_refused refusal goes_on answers = ⊎_elim above below (cases_lt machine.position span.after)
     where
-      below : span.after ≤ machine.position → Took holder epoch calls span machine [] old new
+      below : span.after ≤ machine.position → Took holder epoch calls sent machine [] old new
       below le = absurd (not_both (answers.again epoch_same (is_below le)).0 refl)
 
-      joins : machine.position < span.after → span.before ≡ machine.position → Took holder epoch calls span machine [] old new
+      joins : machine.position < span.after → span.before ≡ machine.position → Took holder epoch calls sent machine [] old new
       joins lt e =
           let full : refusal ≡ Full = is_full refusal goes_on (answers.causes epoch_same (is_next lt e)) in
           let no_fault : ¬ IsErrOf {T = Ack} (Err refusal) Fault = λ is. cc in
@@ -244,24 +254,22 @@ module _ (holder : Holder) (epoch : ℕ) (calls : List Call) (machine : Machine)
           refused_stands refused (answers.still no_fault not_exhausted) (answers.sound no_fault not_exhausted).0 (answers.durable no_fault not_exhausted) answers.epoch_stays in
           record {
             standby = machine;
-            takes = inr (inr (inl (lt, e, refl)));
+            takes = inr (inr (inr (inl (own, lt, e, refl, refl))));
             waiting = refl;
-            acknowledgements = append-nil machine.acknowledgements;
             stands = now;
             moves = rests machine.position refused.2 now;
           }
 
-      apart : machine.position < span.after → span.before ≢ machine.position → Took holder epoch calls span machine [] old new
+      apart : machine.position < span.after → span.before ≢ machine.position → Took holder epoch calls sent machine [] old new
       apart lt ne = let same = (answers.gap epoch_same (is_above lt) (is_apart ne)).1 in record {
         standby = machine;
-        takes = inr (inr (inr (lt, ne, refl)));
+        takes = inr (inr (inr (inr (own, lt, ne, refl, refl))));
         waiting = refl;
-        acknowledgements = append-nil machine.acknowledgements;
         stands = same_stands same;
         moves = rests machine.position (ap (λ (n : Node). n.device) same) (same_stands same);
       }
 
-      above : machine.position < span.after → Took holder epoch calls span machine [] old new
+      above : machine.position < span.after → Took holder epoch calls sent machine [] old new
       above lt = ⊎_elim (joins lt) (apart lt) (cases_eq span.before machine.position)
 
   -- a frame of one change: at any moment of the call, a crash leaves what was before it or all of it

@@ -13,9 +13,9 @@ use Rattle.model.specs.Calls.{MayReply, is_nonempty, items_of, position_of}
 use Rattle.model.specs.Commands.{outcome_of, closes}
 use Rattle.machine.specs.declared.event.Event.TheVariants.{Turn}
 use Rattle.machine.specs.declared.event.TheConstants.{PIPE_ITEMS, OPEN_CHANGES}
-use Rattle.machine.specs.Events.{Inbound as MachineInbound, Outbound as MachineOutbound, Connection as MachineConnection, World, asked, called, changed_at, connection_of, get_connection, has_room, is_enabled, is_open, open_changes, taken_first, with_inbound, with_made, with_outbound}
+use Rattle.machine.specs.Events.{Inbound as MachineInbound, Outbound as MachineOutbound, Connection as MachineConnection, World, asked, called, changed_at, connection_of, get_connection, has_room, may_happen, is_open, open_changes, taken_first, with_inbound, with_made, with_outbound}
 use Rattle.machine.specs.Sound.{Sound}
-use Rattle.machine.proofs.ConnectionLemmas.{length-changed_at}
+use Rattle.machine.proofs.ConnectionLemmas.{open-lt, length-changed_at}
 use Rattle.machine.proofs.SoundEvents.{four}
 use Rattle.redis_core.specs.Sequencing.{Sequencing, is_closed}
 use Rattle.redis_core.specs.Turns.{Answers, call_of}
@@ -169,7 +169,7 @@ is_nonempty-some [] e = λ h. cc
 is_nonempty-some (x ∷ xs) e = λ h. cc
 
 enabled-runs : (w : World) (c : ℕ) (code : Connection) (s : Sequencing) → Sound w → SequencerStands w.primary.calls w.primary.committer.closed s → ConnectionStands w.primary.calls c code (connection_of w c)
-    → is_enabled w (Turn c) ≡ true → MayRun code s
+    → may_happen w (Turn c) ≡ true → MayRun code s
 enabled-runs w c code s sound stands connection e =
     let machine = connection_of w c in
     let parts = four (is_open w c) (is_nonempty machine.inbound.waiting) (has_room machine.outbound.made) (nat_lt (open_changes w) OPEN_CHANGES) e in
@@ -180,13 +180,13 @@ enabled-runs w c code s sound stands connection e =
       is_open = ap (is_closed s) connection.seat ∙ open-while-waiting w c s sound stands parts.1;
     }
 
-enabled-open : (w : World) (c : ℕ) → is_enabled w (Turn c) ≡ true → c < length w.primary.connections
+enabled-open : (w : World) (c : ℕ) → may_happen w (Turn c) ≡ true → c < length w.primary.connections
 enabled-open w c e =
     let machine = connection_of w c in
-    ltb-true c (length w.primary.connections) (four (is_open w c) (is_nonempty machine.inbound.waiting) (has_room machine.outbound.made) (nat_lt (open_changes w) OPEN_CHANGES) e).0
+    open-lt w.primary.connections c (four (is_open w c) (is_nonempty machine.inbound.waiting) (has_room machine.outbound.made) (nat_lt (open_changes w) OPEN_CHANGES) e).0
 
 runs-enabled : (w : World) (c : ℕ) (code : Connection) (s : Sequencing) → SequencerStands w.primary.calls w.primary.committer.closed s → ConnectionStands w.primary.calls c code (connection_of w c)
-    → c < length w.primary.connections → code.inbound.waiting.items ≢ [] → length code.outbound.made.items < PIPE_ITEMS → length s.waiting < MAX_PARTS → is_enabled w (Turn c) ≡ true
+    → c < length w.primary.connections → code.inbound.waiting.items ≢ [] → length code.outbound.made.items < PIPE_ITEMS → length s.waiting < MAX_PARTS → may_happen w (Turn c) ≡ true
 runs-enabled w c code s stands connection lt waits room few =
     let machine = connection_of w c in
     let some : is_nonempty machine.inbound.waiting ≡ true = nonempty machine.inbound.waiting (λ h. waits (connection.inbound.waits ∙ h)) in
@@ -194,7 +194,7 @@ runs-enabled w c code s stands connection lt waits room few =
     lt-ltb (length machine.outbound.made) PIPE_ITEMS (omega (arith, length-made w.primary.calls code.outbound.made.items machine.outbound.made connection.outbound.made)) in
     let below : nat_lt (open_changes w) OPEN_CHANGES ≡ true = lt-ltb (open_changes w) OPEN_CHANGES (omega (arith, stands.count)) in
     and_from (is_open w c && is_nonempty machine.inbound.waiting && has_room machine.outbound.made) _
-    (and_from (is_open w c && is_nonempty machine.inbound.waiting) _ (and_from (is_open w c) _ (lt-ltb c (length w.primary.connections) lt) some) fits) below
+    (and_from (is_open w c && is_nonempty machine.inbound.waiting) _ (and_from (is_open w c) _ connection.is_open some) fits) below
   where
     nonempty : (xs : List Item) → xs ≢ [] → is_nonempty xs ≡ true
     nonempty [] differ = absurd (differ refl)
@@ -207,9 +207,9 @@ none-wait (item ∷ items) e = absurd (omega (arith, eqb-true (suc (length items
 -- ---- no turn
 
 -- nothing changed where it is not enabled
-pub no-turn : (w : World) (c : ℕ) (sessions : Sessions) (s s' : Sequencing) → (is_enabled w (Turn c) ≡ true → ⊥) → SessionsStand sessions w.primary.connections w.primary.calls → s' ≡ s → TakesTurn w c false sessions s s'
+pub no-turn : (w : World) (c : ℕ) (sessions : Sessions) (s s' : Sequencing) → (may_happen w (Turn c) ≡ true → ⊥) → SessionsStand sessions w.primary.connections w.primary.calls → s' ≡ s → TakesTurn w c false sessions s s'
 no-turn w c sessions s s' never stands same = record {
-  done = sym (false_from_ne_true (is_enabled w (Turn c)) never);
+  done = sym (false_from_ne_true (may_happen w (Turn c)) never);
   goes = λ did. cc;
   stays = λ did. (stands, same);
 }

@@ -1,11 +1,11 @@
 -- What the committer and its engine stand for in the machine.
-use Rattle.std.specs.Prelude.{◌≡◌, ◌⊎◌, ℕ, ◌+◌, ◌<◌, ◌≤◌, Bool, false, List, [], ◌∷◌}
+use Rattle.std.specs.Prelude.{◌≡◌, ◌⊎◌, ℕ, ◌≤◌, Bool, false, nat_eq, if◌then◌else◌, List, [], ◌∷◌}
 use Rattle.pmem.specs.Device.{State}
 use Rattle.pmem.specs.Crash.{IsImage}
 use Rattle.pmem.specs.Runs.{LeavesOnly}
 use Rattle.model.specs.declared.call.Call.{Call}
 use Rattle.model.specs.declared.group.Group.{Group}
-use Rattle.model.specs.Calls.{keyspace_after, cut_at, position_of}
+use Rattle.model.specs.Calls.{keyspace_after, cut_at}
 use Rattle.model.specs.Images.{Image, IsMapOf, entries_of_lines}
 use Rattle.model.specs.Groups.{Contents, IsConsistent, IsGroup, after_group}
 use Rattle.model.specs.Standing.{Holder, StandsAt}
@@ -13,7 +13,7 @@ use Rattle.model.specs.declared.record.Role.{Role}
 use Rattle.wbl_engine.specs.Contents.{IsDurable}
 use Rattle.wbl_engine.specs.Formatting.{IsFormatting}
 use Rattle.redis_core.specs.Sequencing.{Sequencing, StandsFor}
-use Rattle.machine.specs.Events.{Committer as Machine, Stage as MachineStage}
+use Rattle.machine.specs.Events.{Committer as Machine, Stage as MachineStage, Frame as Sent, World, committed_first}
 use Rattle.machine.specs.Worlds as machine_stage
 use Rattle.world.specs.GroupSpans.{AreGroupsOf, IsGroupOf}
 use Rattle.world.specs.declared.committing.Stage.{Stage}
@@ -63,17 +63,13 @@ pub record EngineStands (holder : Holder) (calls : List Call) (position : ℕ) (
 abbrev pub Stands : Holder → List Call → ℕ → State → Type 0
 Stands holder calls position device = (image : Image) → IsImage device.words image → StandsAt holder calls position image
 
--- the image stands at this position of the list, or at the next one
-abbrev pub StandsAtOrNext : Holder → List Call → ℕ → Image → Type 0
-StandsAtOrNext holder calls position image = StandsAt holder calls position image ⊎ ((position < position_of calls) × StandsAt holder calls (position + 1) image)
+-- the image stands at one of these two positions of the list
+abbrev pub StandsAtEither : Holder → List Call → ℕ → ℕ → Image → Type 0
+StandsAtEither holder calls position next image = StandsAt holder calls position image ⊎ StandsAt holder calls next image
 
--- each crash now leaves an image that stands at this position of the list, or at the next one
-abbrev pub StandsNear : Holder → List Call → ℕ → State → Type 0
-StandsNear holder calls position device = (image : Image) → IsImage device.words image → StandsAtOrNext holder calls position image
-
--- each crash between these two states of a device leaves an image that stands at this position of the list, or at the next one
-abbrev pub NearOnly : Holder → List Call → ℕ → State → State → Type 0
-NearOnly holder calls position old new = LeavesOnly old new (StandsAtOrNext holder calls position)
+-- each crash between these two states of a device leaves an image that stands at one of these two positions of the list
+abbrev pub NearOnly : Holder → List Call → ℕ → ℕ → State → State → Type 0
+NearOnly holder calls position next old new = LeavesOnly old new (StandsAtEither holder calls position next)
 
 -- each crash between these two states of a device leaves an image that stands at this position of the list, or at a later one
 abbrev pub FromOnly : Holder → List Call → ℕ → State → State → Type 0
@@ -81,7 +77,7 @@ FromOnly holder calls position old new = LeavesOnly old new (λ image. (p : ℕ)
 
 -- each crash between these two states of a device leaves an image that stands at one of these two positions of the list, and no fence failed
 pub record Moves (holder : Holder) (calls : List Call) (from to : ℕ) (old new : State) : Type 0 where
-  pub leaves : LeavesOnly old new (λ image. StandsAt holder calls from image ⊎ StandsAt holder calls to image)
+  pub leaves : NearOnly holder calls from to old new
   pub failures : new.failures ≡ old.failures
 
 -- each crash between these two states of a device leaves an image that stands at this position of the list, and no fence failed
@@ -92,6 +88,20 @@ pub record Rests (holder : Holder) (calls : List Call) (position : ℕ) (old new
 -- each crash between these two states of a device leaves what is there while it is formatted for this role
 abbrev pub FormattingOnly : Role → State → State → Type 0
 FormattingOnly role old new = LeavesOnly old new (IsFormatting old.words old.lines role)
+
+-- ---- the next positions
+
+-- where the primary stands after the group that it commits next
+abbrev pub next_primary : World → ℕ
+next_primary w = (committed_first w.primary.committer.waiting w.primary.committer).position
+
+abbrev pub next_from : ℕ → List Sent → ℕ
+next_from position [] = position
+next_from position (frame ∷ frames) = if nat_eq frame.span.before position then frame.span.after else position
+
+-- where the standby stands after the first frame that waits, which it takes if it begins where the standby stands
+abbrev pub next_standby : World → ℕ
+next_standby w = next_from w.standby.position w.standby.waiting
 
 -- ---- the committer
 

@@ -9,8 +9,8 @@ use Rattle.model.specs.Standing.{Holder, new_holder}
 use Rattle.machine.specs.declared.event.Event.{Event}
 use Rattle.machine.specs.Events.{Run, World, is_enabled, start, last_world}
 use Rattle.machine.specs.Promises.{IsPromised, IsReleased, released_in}
-use Rattle.world.specs.Committings.{Rests, FromOnly, Moves, FormattingOnly}
-use Rattle.world.specs.Causes.{Stretch, UnformedBy, EndsBy}
+use Rattle.world.specs.Committings.{FromOnly, Moves, FormattingOnly, next_primary, next_standby}
+use Rattle.world.specs.Causes.{Stretch, Resting, UnformedBy, EndsBy}
 use Rattle.world.specs.Pairs.{Pair, PairStands, IsCut}
 use Rattle.world.specs.declared.trace.Ended.{Ended}
 use Rattle.world.specs.declared.trace.Ended.TheVariants.{AtFormatting, AtEvent}
@@ -30,10 +30,10 @@ KeepsReleased holder calls w old new =
 -- The moments of a device, cut by the events of a run from this world on. A crash during an event leaves an image that stands where the node stood before
 -- it or where it stood after it. What comes behind the last event is a stretch of its own. And from each cut on, up to the end, each crash keeps what was
 -- released by then.
-abbrev pub AreMoments : Stretch → (World → ℕ) → Holder → List Call → World → List World → State → State → Type 0
-AreMoments last position holder calls w [] old new = KeepsReleased holder calls w old new × last holder calls (position w) old new
-AreMoments last position holder calls w (w' ∷ worlds) old new =
-    (next : State) × KeepsReleased holder calls w old new × Moves holder calls (position w) (position w') old next × AreMoments last position holder calls w' worlds next new
+abbrev pub AreMoments : Stretch → (World → ℕ) → (World → ℕ) → Holder → List Call → World → List World → State → State → Type 0
+AreMoments last position next holder calls w [] old new = KeepsReleased holder calls w old new × last holder calls (position w) (next w) old new
+AreMoments last position next holder calls w (w' ∷ worlds) old new =
+    (between : State) × KeepsReleased holder calls w old new × Moves holder calls (position w) (position w') old between × AreMoments last position next holder calls w' worlds between new
 
 -- nothing is asked of the last world of a run
 abbrev pub AnyWorld : World → Type 0
@@ -52,8 +52,8 @@ pub record IsKept (Last : World → Type 0) (first_last second_last : Stretch) (
   pub promised : IsPromised events done calls (λ c. slice_index_or released c []) primary_at standby_at
   pub last : Last (last_world start promised.worlds)
   -- the moments of either device, cut by the same events
-  pub primary_moments : AreMoments first_last primary_position first calls start promised.worlds primary primary'
-  pub standby_moments : AreMoments second_last standby_position second calls start promised.worlds standby standby'
+  pub primary_moments : AreMoments first_last primary_position next_primary first calls start promised.worlds primary primary'
+  pub standby_moments : AreMoments second_last standby_position next_standby second calls start promised.worlds standby standby'
 
 -- The first device was formatted as primary and the second as standby, and then the events happened.
 pub record IsPlayed (Last : World → Type 0) (first_last second_last : Stretch) (events : List Event) (done : List Bool) (calls : List Call) (released : List (List ℕ)) (primary standby primary' standby' : State) : Type 0 where
@@ -76,7 +76,7 @@ pub record IsUnplayed (refusal : Refusal) (done : List Bool) (calls : List Call)
 -- A run that led these two devices from their old states to their new ones went to the end of the events; or it ended before the first one; or it ended in
 -- the middle of one, which was enabled, for a cause that such an event may have.
 abbrev pub KeepsItsWord : List Event → Option Ended → List Bool → List Call → List (List ℕ) → State → State → State → State → Type 0
-KeepsItsWord events None done calls released primary standby primary' standby' = IsPlayed AnyWorld Rests Rests events done calls released primary standby primary' standby'
+KeepsItsWord events None done calls released primary standby primary' standby' = IsPlayed AnyWorld Resting Resting events done calls released primary standby primary' standby'
 KeepsItsWord events (Some (AtFormatting refusal)) done calls released primary standby primary' standby' = IsUnplayed refusal done calls released primary standby primary' standby'
 KeepsItsWord events (Some (AtEvent place refusal)) done calls released primary standby primary' standby' =
     (event : Event) × (slice_get events place ≡ Some event)
@@ -86,7 +86,7 @@ KeepsItsWord events (Some (AtEvent place refusal)) done calls released primary s
 
 -- the same of what is played on a pair of new nodes
 abbrev pub PlaysOn : Holder → Holder → List Event → Option Ended → List Bool → List Call → List (List ℕ) → State → State → State → State → Type 0
-PlaysOn first second events None done calls released primary standby primary' standby' = IsKept AnyWorld Rests Rests first second events done calls released primary standby primary' standby'
+PlaysOn first second events None done calls released primary standby primary' standby' = IsKept AnyWorld Resting Resting first second events done calls released primary standby primary' standby'
 PlaysOn first second events (Some (AtFormatting refusal)) done calls released primary standby primary' standby' = ⊥
 PlaysOn first second events (Some (AtEvent place refusal)) done calls released primary standby primary' standby' =
     (event : Event) × (slice_get events place ≡ Some event)

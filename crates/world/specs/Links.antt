@@ -3,7 +3,7 @@ use Rattle.std.specs.Prelude.{◌≡◌, ℕ, ◌-◌, ◌<◌, ◌≤◌, List,
 use Rattle.model.specs.declared.call.Call.{Call}
 use Rattle.model.specs.Positions.{changes_since}
 use Rattle.model.specs.Calls.{IsPrefix}
-use Rattle.machine.specs.Events.{Link as Machine, Span}
+use Rattle.machine.specs.Events.{Link as Machine, Span, Frame as Sent}
 use Rattle.standby.specs.declared.frame.Frame.{Frame}
 use Rattle.world.specs.GroupSpans.{IsWithin, AreGroupsOf}
 use Rattle.world.specs.declared.link.Link.{Link}
@@ -21,19 +21,20 @@ AreFramesOf epoch calls [] [] = Unit {0}
 AreFramesOf epoch calls (frame ∷ frames) (span ∷ spans) = IsFrameOf epoch calls frame span × AreFramesOf epoch calls frames spans
 AreFramesOf epoch calls _ _ = ⊥
 
--- the frame at this place is that of the span
-pub record IsFrameAt (epoch : ℕ) (calls : List Call) (frames : List Frame) (place : ℕ) (span : Span) : Type 0 where
+-- the frame at this place is the one that was sent, of this epoch
+pub record IsFrameAt (epoch : ℕ) (calls : List Call) (frames : List Frame) (place : ℕ) (sent : Sent) : Type 0 where
   pub frame : Frame
   pub stands : slice_get frames place ≡ Some frame
-  pub has : IsFrameOf epoch calls frame span
+  pub epoch_is : sent.epoch ≡ epoch
+  pub has : IsFrameOf epoch calls frame sent.span
 
-abbrev pub AreFramesAt : ℕ → List Call → List Frame → List ℕ → List Span → Type 0
+abbrev pub AreFramesAt : ℕ → List Call → List Frame → List ℕ → List Sent → Type 0
 AreFramesAt epoch calls frames [] [] = Unit {0}
-AreFramesAt epoch calls frames (place ∷ places) (span ∷ spans) = IsFrameAt epoch calls frames place span × AreFramesAt epoch calls frames places spans
+AreFramesAt epoch calls frames (place ∷ places) (sent ∷ others) = IsFrameAt epoch calls frames place sent × AreFramesAt epoch calls frames places others
 AreFramesAt epoch calls frames _ _ = ⊥
 
--- What is kept, and what is to be sent again, are the last of the frames that were ever made.
-pub record LinkStands (calls : List Call) (code : Link) (machine : Machine) : Type 0 where
+-- What is kept, and what is to be sent again, are the last of the frames that were ever made. All that were ever sent are among them.
+pub record LinkStands (calls : List Call) (code : Link) (machine : Machine) (sent_frames : List Sent) : Type 0 where
   pub waiting : AreGroupsOf calls code.waiting.items machine.waiting
   -- the spans of all frames that were ever made
   pub spans : List Span
@@ -42,7 +43,7 @@ pub record LinkStands (calls : List Call) (code : Link) (machine : Machine) : Ty
   pub kept : drop code.kept spans ≡ machine.kept
   pub again_within : code.again ≤ length spans
   pub again : drop code.again spans ≡ machine.again
-  pub sent : AreFramesAt code.epoch calls code.frames.items code.sent.items machine.frames
+  pub sent : AreFramesAt code.epoch calls code.frames.items code.sent.items sent_frames
   pub known : code.known ≡ machine.known
   pub remote : code.remote ≡ machine.remote
 

@@ -11,7 +11,7 @@ use Rattle.machine.specs.Events.{World, Step, is_enabled}
 use Rattle.machine.specs.Promises.{released_in}
 use Rattle.machine.specs.Sound.{Sound}
 use Rattle.world.specs.Causes.{EndsBy}
-use Rattle.world.specs.Committings.{EngineStands, Leads, Moves, CommittingStands}
+use Rattle.world.specs.Committings.{EngineStands, Leads, Moves, CommittingStands, next_primary, next_standby}
 use Rattle.world.specs.Links.{LinkStands}
 use Rattle.world.specs.Sessions.{SessionsStand, SequencerStands, AddsOne, released_of}
 use Rattle.world.specs.Standbys.{Node, StandbyStands, ArrivalsStand}
@@ -40,8 +40,9 @@ pub record PartsStand (first second : Holder) (pair : Pair) (w : World) : Type 0
   pub committing : CommittingStands w.primary.calls pair.committing w.primary.committer
   pub engine : EngineStands first w.primary.calls w.primary.committer.position pair.device pair.contents pair.is_faulted
   pub leads : Leads pair.contents pair.committing.waiting.items pair.sequencer
-  pub link : LinkStands w.primary.calls pair.link w.primary.link
-  pub arrivals : ArrivalsStand pair.link.epoch w.primary.calls pair.link.frames.items pair.arrivals w.standby
+  pub epoch : pair.link.epoch ≡ w.primary.epoch
+  pub link : LinkStands w.primary.calls pair.link w.primary.link w.wire.frames
+  pub arrivals : ArrivalsStand pair.link.epoch w.primary.calls pair.link.frames.items pair.arrivals w.standby.waiting w.wire.acknowledgements
   pub standby : StandbyStands second pair.link.epoch w.primary.calls w.standby.position pair.standby
 
 -- it stands for a world that a run may reach
@@ -67,7 +68,8 @@ pub record IsCut (first second : Holder) (event : Event) (refusal : Refusal) (ol
   pub released : (c : ℕ) → slice_index_or (released_of new.sessions.connections.items) c [] ≡ released_in w c
   pub few : length new.sessions.connections.items ≤ SEATS
   pub cause : EndsBy refusal event (λ first_last second_last.
-      first_last first w.primary.calls w.primary.committer.position old.device new.device × second_last second w.primary.calls w.standby.position old.standby.device new.standby.device)
+      first_last first w.primary.calls w.primary.committer.position (next_primary w) old.device new.device
+      × second_last second w.primary.calls w.standby.position (next_standby w) old.standby.device new.standby.device)
 
 -- what led from one pair to the other moved either device from where its node stands in one world to where it stands in the other
 pub record MovesBoth (first second : Holder) (old new : Pair) (w w' : World) : Type 0 where

@@ -14,7 +14,7 @@ use Rattle.model.specs.Positions.{changes_at}
 use Rattle.mv_keyspace.specs.Tables.{records}
 use Rattle.redis_core.specs.Sequencing.{Sequencing, is_closed}
 use Rattle.machine.specs.declared.event.Event.TheVariants.{Turn}
-use Rattle.machine.specs.Events.{Connection as MachineConnection, World, Turns, is_enabled}
+use Rattle.machine.specs.Events.{Connection as MachineConnection, World, Turns, may_happen}
 use Rattle.world.specs.Inbounds.{InboundStands}
 use Rattle.world.specs.Outbounds.{OutboundStands}
 use Rattle.world.specs.declared.connection.Connection.{Connection}
@@ -25,6 +25,7 @@ use Rattle.world.specs.declared.sessions.Sessions.{Sessions}
 -- connection c, in the seat of its number
 pub record ConnectionStands (calls : List Call) (c : ℕ) (code : Connection) (machine : MachineConnection) : Type 0 where
   pub seat : code.seat ≡ c
+  pub is_open : machine.is_open ≡ true
   pub inbound : InboundStands code.inbound machine.inbound
   pub outbound : OutboundStands calls code.outbound machine.outbound
 
@@ -80,6 +81,6 @@ pub record SequencerStands (calls : List Call) (closed : ℕ) (s : Sequencing) :
 
 -- what a turn came to: the sequencer ran the first waiting item, or nothing changed
 pub record TakesTurn (w : World) (c : ℕ) (did : Bool) (sessions : Sessions) (old new : Sequencing) : Type 0 where
-  pub done : did ≡ is_enabled w (Turn c)
+  pub done : did ≡ may_happen w (Turn c)
   pub goes : did ≡ true → (w' : World) × Turns w c w' × SessionsStand sessions w'.primary.connections w'.primary.calls × SequencerStands w'.primary.calls w'.primary.committer.closed new
   pub stays : did ≡ false → SessionsStand sessions w.primary.connections w.primary.calls × (new ≡ old)

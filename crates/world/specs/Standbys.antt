@@ -8,7 +8,8 @@ use Rattle.model.specs.Groups.{Contents}
 use Rattle.model.specs.Standing.{Holder}
 use Rattle.mv_keyspace.specs.Tables.{Table, records}
 use Rattle.machine.specs.declared.event.Event.TheVariants.{Apply}
-use Rattle.machine.specs.Events.{Standby as Machine, World, Span, Applies, is_enabled}
+use Rattle.machine.specs.Events.{Acknowledgement, World, Frame as Sent, Applies, may_happen}
+use Rattle.standby.specs.declared.frame.Ack.{Ack}
 use Rattle.standby.specs.declared.frame.Frame.{Frame}
 use Rattle.standby.specs.Following.{Follows}
 use Rattle.world.specs.Committings.{EngineStands, Moves}
@@ -32,14 +33,18 @@ pub record StandbyStands (holder : Holder) (epoch : ℕ) (calls : List Call) (po
   pub epoch_is : node.epoch ≡ epoch
   pub epoch_held : epoch ≡ holder.epoch
 
+-- what an acknowledgement tells
+abbrev pub told_by : Ack → Acknowledgement
+told_by ack = record { epoch = ack.epoch; position = ack.position }
+
 -- the frames that came, by their places, and the acknowledgements that were made
-pub record ArrivalsStand (epoch : ℕ) (calls : List Call) (frames : List Frame) (code : Arrivals) (machine : Machine) : Type 0 where
-  pub delivered : AreFramesAt epoch calls frames code.delivered.items machine.waiting
-  pub acknowledged : map (λ ack. ack.position) code.acknowledgements.items ≡ machine.acknowledgements
+pub record ArrivalsStand (epoch : ℕ) (calls : List Call) (frames : List Frame) (code : Arrivals) (waiting : List Sent) (told : List Acknowledgement) : Type 0 where
+  pub delivered : AreFramesAt epoch calls frames code.delivered.items waiting
+  pub acknowledged : map told_by code.acknowledgements.items ≡ told
 
 -- the standby took the first frame that came, or there was none
 pub record AppliesFirst (holder : Holder) (epoch : ℕ) (frames : List Frame) (w : World) (did : Bool) (arrivals : Arrivals) (old new : Node) : Type 0 where
-  pub done : did ≡ is_enabled w Apply
-  pub goes : did ≡ true → (w' : World) × Applies w w' × ArrivalsStand epoch w.primary.calls frames arrivals w'.standby × StandbyStands holder epoch w.primary.calls w'.standby.position new
+  pub done : did ≡ may_happen w Apply
+  pub goes : did ≡ true → (w' : World) × Applies w w' × ArrivalsStand epoch w.primary.calls frames arrivals w'.standby.waiting w'.wire.acknowledgements × StandbyStands holder epoch w.primary.calls w'.standby.position new
       × Moves holder w.primary.calls w.standby.position w'.standby.position old.device new.device
-  pub stays : did ≡ false → ArrivalsStand epoch w.primary.calls frames arrivals w.standby × (new ≡ old)
+  pub stays : did ≡ false → ArrivalsStand epoch w.primary.calls frames arrivals w.standby.waiting w.wire.acknowledgements × (new ≡ old)

@@ -1,17 +1,17 @@
 //! What came to the standby, and what it acknowledged.
-ghost use Rattle.std.specs.Prelude.{◌≡◌, ◌⊎◌, ◌↔◌, ℕ, ◌<◌, true, false, List, [], length, slice_get, IsTrue, IfOk, IfErr, OnOk, OnErr};
+ghost use Rattle.std.specs.Prelude.{◌≡◌, ◌⊎◌, ◌↔◌, ℕ, ◌<◌, true, false, List, [], ◌∷◌, ◌++◌, length, slice_get, IsTrue, IfOk, IfErr, OnOk, OnErr};
 ghost use Rattle.machine.specs.declared.event.Event.TheVariants.{Deliver, Apply};
 ghost use Rattle.model.specs.Standing.{Holder};
-ghost use Rattle.machine.specs.Events.{World, is_enabled, start, acknowledged, delivered, option_items};
+ghost use Rattle.machine.specs.Events.{World, may_happen, acknowledgement_of, delivered, option_items};
 ghost use Rattle.machine.specs.Sound.{Sound};
 ghost use Rattle.wbl_engine.specs.Contents.{IsDurable};
 ghost use Rattle.standby.specs.declared.frame.Frame.{Frame};
 ghost use Rattle.standby.specs.Following.{Follows};
 ghost use Rattle.world.specs.Going.{Goes};
 ghost use Rattle.world.specs.Causes.{EndsBy};
-ghost use Rattle.world.specs.Committings.{NearOnly};
+ghost use Rattle.world.specs.Committings.{next_standby};
 ghost use Rattle.world.specs.Links.{AreFramesAt};
-ghost use Rattle.world.specs.Standbys.{StandbyStands, ArrivalsStand, AppliesFirst};
+ghost use Rattle.world.specs.Standbys.{StandbyStands, ArrivalsStand, AppliesFirst, told_by};
 
 use kv_types::Refusal;
 use mv_keyspace::Keyspace;
@@ -31,7 +31,7 @@ pub(crate) struct Arrivals {
 
 impl Arrivals {
     pub(crate) fn new(alloc: Global) -> Arrivals
-        ensures { (epoch : ℕ) → ArrivalsStand epoch [] [] result start.standby }
+        ensures { (epoch : ℕ) → ArrivalsStand epoch [] [] result [] [] }
     {
         Arrivals {
             delivered: VecDeque::new(alloc),
@@ -41,8 +41,8 @@ impl Arrivals {
 
     /// The standby tells its position.
     pub(crate) fn acknowledge(&mut self, ack: Ack) -> Result<(), Refusal>
-        ensures stands { OnOk result ((epoch : ℕ) (frames : List Frame) (w : World) → ArrivalsStand epoch w.primary.calls frames self.old w.standby → ack.position ≡ w.standby.position
-            → ArrivalsStand epoch w.primary.calls frames self.new (acknowledged w.standby)) }
+        ensures stands { OnOk result ((epoch : ℕ) (frames : List Frame) (w : World) → ArrivalsStand epoch w.primary.calls frames self.old w.standby.waiting w.wire.acknowledgements → told_by ack ≡ acknowledgement_of w.standby
+            → ArrivalsStand epoch w.primary.calls frames self.new w.standby.waiting (w.wire.acknowledgements ++ acknowledgement_of w.standby ∷ [])) }
         ensures cause { IfErr result (λ refusal. refusal ≡ Refusal.Memory) }
     {
         self.acknowledgements.push(ack)?;
@@ -51,11 +51,11 @@ impl Arrivals {
 
     /// A frame that was sent comes to the standby. Answers whether there is such a frame.
     pub(crate) fn deliver(&mut self, sent: &[usize], frame: u64) -> Result<bool, Refusal>
-        ensures goes { IfOk result (λ did. (epoch : ℕ) (frames : List Frame) (w : World) → ArrivalsStand epoch w.primary.calls frames self.old w.standby
+        ensures goes { IfOk result (λ did. (epoch : ℕ) (frames : List Frame) (w : World) → ArrivalsStand epoch w.primary.calls frames self.old w.standby.waiting w.wire.acknowledgements
             → AreFramesAt epoch w.primary.calls frames sent.now w.wire.frames
-            → Goes (is_enabled w (Deliver frame)) did
-            (ArrivalsStand epoch w.primary.calls frames self.new (delivered (option_items (slice_get w.wire.frames frame)) w.standby))
-            (ArrivalsStand epoch w.primary.calls frames self.new w.standby)) }
+            → Goes (may_happen w (Deliver frame)) did
+            (ArrivalsStand epoch w.primary.calls frames self.new (delivered (option_items (slice_get w.wire.frames frame)) w.standby).waiting w.wire.acknowledgements)
+            (ArrivalsStand epoch w.primary.calls frames self.new w.standby.waiting w.wire.acknowledgements)) }
         ensures cause { IfErr result (λ refusal. refusal ≡ Refusal.Memory) }
         ensures some { OnErr result (frame < length sent.now) }
     {
@@ -81,7 +81,8 @@ impl Arrivals {
         requires sound { E.is_faulted standby.old.engine ≡ false }
         requires durable { IsDurable (E.device standby.old.engine) (E.contents standby.old.engine) }
         ensures applies { IfOk result (λ did. (holder : Holder) (w : World) → Sound w
-            → ArrivalsStand standby.old.epoch w.primary.calls frames.now self.old w.standby
+            → standby.old.epoch ≡ w.standby.epoch
+            → ArrivalsStand standby.old.epoch w.primary.calls frames.now self.old w.standby.waiting w.wire.acknowledgements
             → StandbyStands holder standby.old.epoch w.primary.calls w.standby.position (record {
               device = E.device standby.old.engine;
               contents = E.contents standby.old.engine;
@@ -121,7 +122,8 @@ impl Arrivals {
             × EndsBy refusal Apply (λ _ last. last holder w.primary.calls w.standby.position (E.device standby.old.engine) (E.device standby.new.engine))) }
         // at any moment of the call
         ensures moments { (holder : Holder) (w : World) → Sound w
-            → ArrivalsStand standby.old.epoch w.primary.calls frames.now self.old w.standby
+            → standby.old.epoch ≡ w.standby.epoch
+            → ArrivalsStand standby.old.epoch w.primary.calls frames.now self.old w.standby.waiting w.wire.acknowledgements
             → StandbyStands holder standby.old.epoch w.primary.calls w.standby.position (record {
               device = E.device standby.old.engine;
               contents = E.contents standby.old.engine;
@@ -130,7 +132,7 @@ impl Arrivals {
               room = standby.old.heap;
               epoch = standby.old.epoch;
             })
-            → NearOnly holder w.primary.calls w.standby.position (E.device standby.old.engine) (E.device standby.new.engine) }
+            → NearOnly holder w.primary.calls w.standby.position (next_standby w) (E.device standby.old.engine) (E.device standby.new.engine) }
     {
         let Some(place) = self.delivered.front() else {
             return Ok(false);

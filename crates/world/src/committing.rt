@@ -1,15 +1,16 @@
 //! The primary's committer: a group is committed, then shown, then handed on, in three turns.
 ghost use Rattle.std.specs.Prelude.{◌≡◌, ◌≢◌, ◌<◌, ◌↔◌, ℕ, true, false, [], ◌++◌, length, IfOk, IfErr, OnOk, OnErr, IsTrue};
+ghost use Rattle.model.specs.Calls.{position_of};
 ghost use Rattle.model.specs.Groups.{Contents};
 ghost use Rattle.model.specs.Standing.{Holder};
 ghost use Rattle.machine.specs.declared.event.Event.TheVariants.{CloseGroup, Commit, RaiseLocal, Hand};
-ghost use Rattle.machine.specs.Events.{World, is_enabled, start, closed_group, committed_first, raised_local, ready_again, handed};
+ghost use Rattle.machine.specs.Events.{World, may_happen, start, closed_group, committed_first, raised_local, ready_again, handed};
 ghost use Rattle.machine.specs.Sound.{Sound};
 ghost use Rattle.world.specs.Going.{Goes};
 ghost use Rattle.world.specs.Causes.{EndsBy};
 ghost use Rattle.world.specs.GroupSpans.{AreGroupsOf};
 ghost use Rattle.world.specs.Sessions.{SequencerStands};
-ghost use Rattle.world.specs.Committings.{AreGroups, Leads, LeadsOn, EngineStands, NearOnly, CommittingStands};
+ghost use Rattle.world.specs.Committings.{AreGroups, Leads, LeadsOn, EngineStands, NearOnly, CommittingStands, next_primary};
 
 use kv_types::Refusal;
 use model::Group;
@@ -52,15 +53,15 @@ impl Committing {
         })
     }
 
-    /// Takes the sequencer's oldest changes as a group, if there are any and room for it. Answers whether it did.
+    /// Takes all changes that wait at the sequencer as one group, if there are any and room for it. Answers whether it did.
     pub(crate) fn close_group<K: Keyspace>(
         &mut self,
         alloc: Global,
         sequencer: &mut Sequencer<K>,
     ) -> Result<bool, Refusal>
         ensures goes { IfOk result (λ did. (w : World) → CommittingStands w.primary.calls self.old w.primary.committer → SequencerStands w.primary.calls w.primary.committer.closed sequencer.old
-            → Goes (is_enabled w CloseGroup) did
-            (CommittingStands w.primary.calls self.new (closed_group w.primary.committer) × SequencerStands w.primary.calls (closed_group w.primary.committer).closed sequencer.new)
+            → Goes (may_happen w CloseGroup) did
+            (CommittingStands w.primary.calls self.new (closed_group (position_of w.primary.calls) w.primary.committer) × SequencerStands w.primary.calls (position_of w.primary.calls) sequencer.new)
             (CommittingStands w.primary.calls self.new w.primary.committer × SequencerStands w.primary.calls w.primary.committer.closed sequencer.new)) }
         ensures leads { (contents : Contents) → Leads contents self.old.waiting.items sequencer.old → Leads contents self.new.waiting.items sequencer.new }
         ensures cause { IfErr result (λ refusal. refusal ≡ Refusal.Memory) }
@@ -93,7 +94,7 @@ impl Committing {
         ensures goes { IfOk result (λ did. (holder : Holder) (w : World) → CommittingStands w.primary.calls self.old w.primary.committer
             → EngineStands holder w.primary.calls w.primary.committer.position (E.device engine.old) (E.contents engine.old) (E.is_faulted engine.old)
             → AreGroupsOf w.primary.calls link.now.items w.primary.link.waiting
-            → Goes (is_enabled w Commit) did
+            → Goes (may_happen w Commit) did
             (CommittingStands w.primary.calls self.new (committed_first w.primary.committer.waiting w.primary.committer)
             × EngineStands holder w.primary.calls (committed_first w.primary.committer.waiting w.primary.committer).position (E.device engine.new) (E.contents engine.new) (E.is_faulted engine.new))
             (CommittingStands w.primary.calls self.new w.primary.committer
@@ -109,7 +110,7 @@ impl Committing {
         // at any moment of the call
         ensures moments { (holder : Holder) (w : World) → Sound w → CommittingStands w.primary.calls self.old w.primary.committer
             → EngineStands holder w.primary.calls w.primary.committer.position (E.device engine.old) (E.contents engine.old) (E.is_faulted engine.old)
-            → NearOnly holder w.primary.calls w.primary.committer.position (E.device engine.old) (E.device engine.new) }
+            → NearOnly holder w.primary.calls w.primary.committer.position (next_primary w) (E.device engine.old) (E.device engine.new) }
     {
         let Stage::Ready = &self.stage else {
             return Ok(false);
@@ -128,7 +129,7 @@ impl Committing {
     /// Shows the last commit: raises the local mark to its position. Answers whether there was one to show.
     pub(crate) fn raise_local<E: Durable>(&mut self, engine: &E) -> bool
         ensures goes { (w : World) → CommittingStands w.primary.calls self.old w.primary.committer → (E.contents engine.now).current.position ≡ w.primary.committer.position
-            → Goes (is_enabled w RaiseLocal) result
+            → Goes (may_happen w RaiseLocal) result
             (CommittingStands w.primary.calls self.new (raised_local w.primary.committer))
             (CommittingStands w.primary.calls self.new w.primary.committer) }
         ensures waiting { self.new.waiting ≡ self.old.waiting }
@@ -149,7 +150,7 @@ impl Committing {
     /// Hands the group on to the link. Answers whether there was one.
     pub(crate) fn hand(&mut self, link: &mut LocalPipe<Group>) -> bool
         ensures goes { (w : World) → Sound w → CommittingStands w.primary.calls self.old w.primary.committer → AreGroupsOf w.primary.calls link.old.items w.primary.link.waiting
-            → Goes (is_enabled w Hand) result
+            → Goes (may_happen w Hand) result
             (CommittingStands w.primary.calls self.new (ready_again w.primary.committer) × AreGroupsOf w.primary.calls link.new.items (w.primary.link.waiting ++ handed w.primary.committer.stage))
             (CommittingStands w.primary.calls self.new w.primary.committer × AreGroupsOf w.primary.calls link.new.items w.primary.link.waiting) }
         ensures waiting { self.new.waiting ≡ self.old.waiting }

@@ -54,10 +54,10 @@ fn make_between<K: Keyspace + Drop>(
     ensures underlies { IfOk result (λ between. (contents : Contents) → IsNew lines contents.current.role contents → StandsFor between.sequencer contents) }
     ensures committing { IfOk result (λ between. CommittingStands [] between.committing start.primary.committer) }
     ensures none { IfOk result (λ between. between.committing.waiting.items ≡ []) }
-    ensures link { IfOk result (λ between. LinkStands [] between.link start.primary.link) }
+    ensures link { IfOk result (λ between. LinkStands [] between.link start.primary.link []) }
     ensures epoch { IfOk result (λ between. between.link.epoch ≡ FIRST_EPOCH) }
     ensures no_frame { IfOk result (λ between. between.link.frames.items ≡ []) }
-    ensures arrivals { IfOk result (λ between. (epoch : ℕ) → ArrivalsStand epoch [] [] between.arrivals start.standby) }
+    ensures arrivals { IfOk result (λ between. (epoch : ℕ) → ArrivalsStand epoch [] [] between.arrivals [] []) }
     ensures cause { IfErr result (λ refusal. refusal ≡ Refusal.Memory) }
 {
     Ok(Between {

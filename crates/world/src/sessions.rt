@@ -4,7 +4,7 @@ ghost use Rattle.kv_types.specs.declared.item.Item.{Item};
 ghost use Rattle.model.specs.Groups.{Contents};
 ghost use Rattle.model.specs.declared.group.TheConstants.{MAX_PARTS};
 ghost use Rattle.machine.specs.declared.event.Event.TheVariants.{Enter, Feed, Offer, Hold, Read, Release, Write};
-ghost use Rattle.machine.specs.Events.{World, is_enabled, no_connection, changed_at, with_inbound, with_outbound, fed_with, offered_next, held_first, having_read, let_out, written};
+ghost use Rattle.machine.specs.Events.{World, may_happen, new_connection, changed_at, with_inbound, with_outbound, fed_with, offered_next, held_first, having_read, let_out, written};
 ghost use Rattle.machine.specs.Sound.{Sound};
 ghost use Rattle.redis_core.specs.Sequencing.{StandsFor, is_closed};
 ghost use Rattle.redis_core.specs.Turns.{call_of};
@@ -55,7 +55,7 @@ impl Sessions {
     /// Gives a new connection a seat, if one is free. Answers whether it did.
     pub(crate) fn enter(&mut self, alloc: Global) -> Result<bool, Refusal>
         ensures goes { IfOk result (λ did. (w : World) → SessionsStand self.old w.primary.connections w.primary.calls
-            → Goes (is_enabled w Enter) did (SessionsStand self.new (w.primary.connections ++ no_connection ∷ []) w.primary.calls) (SessionsStand self.new w.primary.connections w.primary.calls)) }
+            → Goes (may_happen w Enter) did (SessionsStand self.new (w.primary.connections ++ new_connection ∷ []) w.primary.calls) (SessionsStand self.new w.primary.connections w.primary.calls)) }
         ensures told { OnErr result (TellsTheSame self.old self.new) }
         ensures cause { IfErr result (λ refusal. refusal ≡ Refusal.Memory) }
         ensures enabled { OnErr result ((w : World) → SessionsStand self.old w.primary.connections w.primary.calls → is_enabled w Enter ≡ true) }
@@ -77,7 +77,7 @@ impl Sessions {
     /// Takes a piece of a connection's bytes, unless an item closed it. Answers whether it did.
     pub(crate) fn feed(&mut self, c: u64, piece: &Bytes) -> Result<bool, Refusal>
         ensures goes { IfOk result (λ did. (w : World) → SessionsStand self.old w.primary.connections w.primary.calls
-            → Goes (is_enabled w (Feed c piece.now)) did
+            → Goes (may_happen w (Feed c piece.now)) did
             (SessionsStand self.new (changed_at c (with_inbound (fed_with piece.now)) w.primary.connections) w.primary.calls)
             (SessionsStand self.new w.primary.connections w.primary.calls)) }
         ensures told { OnErr result (TellsTheSame self.old self.new) }
@@ -95,7 +95,7 @@ impl Sessions {
     /// Hands a connection's next item to the sequencer, if there is one and room for it. Answers whether it did.
     pub(crate) fn offer(&mut self, c: u64) -> Result<bool, Refusal>
         ensures goes { IfOk result (λ did. (w : World) → SessionsStand self.old w.primary.connections w.primary.calls
-            → Goes (is_enabled w (Offer c)) did
+            → Goes (may_happen w (Offer c)) did
             (SessionsStand self.new (changed_at c (with_inbound offered_next) w.primary.connections) w.primary.calls)
             (SessionsStand self.new w.primary.connections w.primary.calls)) }
         ensures told { OnErr result (TellsTheSame self.old self.new) }
@@ -112,7 +112,7 @@ impl Sessions {
     /// A connection's gate takes the first reply that waits. Answers whether there was one.
     pub(crate) fn hold(&mut self, c: u64) -> Result<bool, Refusal>
         ensures goes { IfOk result (λ did. (w : World) → SessionsStand self.old w.primary.connections w.primary.calls
-            → Goes (is_enabled w (Hold c)) did
+            → Goes (may_happen w (Hold c)) did
             (SessionsStand self.new (changed_at c (with_outbound held_first) w.primary.connections) w.primary.calls)
             (SessionsStand self.new w.primary.connections w.primary.calls)) }
         ensures told { OnErr result (TellsTheSame self.old self.new) }
@@ -129,7 +129,7 @@ impl Sessions {
     /// A connection's gate reads one of the marks, which stand so now. Answers whether there is such a connection.
     pub(crate) fn read(&mut self, c: u64, mark: Mark, marks: Seen) -> bool
         ensures goes { (w : World) → SessionsStand self.old w.primary.connections w.primary.calls → marks.local ≡ w.primary.committer.local → marks.remote ≡ w.primary.link.remote
-            → Goes (is_enabled w (Read c mark)) result
+            → Goes (may_happen w (Read c mark)) result
             (SessionsStand self.new (changed_at c (with_outbound (having_read mark w)) w.primary.connections) w.primary.calls)
             (SessionsStand self.new w.primary.connections w.primary.calls) }
         ensures calls { self.new.calls ≡ self.old.calls }
@@ -146,7 +146,7 @@ impl Sessions {
     /// A connection's gate lets out the replies that are covered. Answers whether there were any.
     pub(crate) fn release(&mut self, c: u64) -> bool
         ensures goes { (w : World) → SessionsStand self.old w.primary.connections w.primary.calls
-            → Goes (is_enabled w (Release c)) result
+            → Goes (may_happen w (Release c)) result
             (SessionsStand self.new (changed_at c (with_outbound let_out) w.primary.connections) w.primary.calls)
             (SessionsStand self.new w.primary.connections w.primary.calls) }
         ensures calls { self.new.calls ≡ self.old.calls }
@@ -160,7 +160,7 @@ impl Sessions {
     /// Writes so many of the bytes that are out to a connection, if there are so many. Answers whether it did.
     pub(crate) fn write(&mut self, c: u64, n: u64) -> Result<bool, Refusal>
         ensures goes { IfOk result (λ did. (w : World) → SessionsStand self.old w.primary.connections w.primary.calls
-            → Goes (is_enabled w (Write c n)) did
+            → Goes (may_happen w (Write c n)) did
             (SessionsStand self.new (changed_at c (with_outbound (written n)) w.primary.connections) w.primary.calls)
             (SessionsStand self.new w.primary.connections w.primary.calls)) }
         ensures told { OnErr result (TellsTheSame self.old self.new) }

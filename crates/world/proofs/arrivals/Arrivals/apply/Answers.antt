@@ -13,7 +13,7 @@ use Rattle.world.specs.Committings.{NearOnly}
 use Rattle.world.specs.Standbys.{Node, ArrivalsStand, StandbyStands}
 use Rattle.world.proofs.StandbyLemmas.{Answers, takes_ok, takes_refused, frame-ends, frame-moments, StandbyStands-still}
 use Rattle.world.proofs.EngineLemmas.{Stands-engine, rests-same}
-use Rattle.world.proofs.ArrivalLemmas.{FirstFrame, first-frame, place_within, one_change, applies}
+use Rattle.world.proofs.ArrivalLemmas.{FirstFrame, first-frame, place_within, applies}
 use Rattle.world.proofs.arrivals.Arrivals.apply.Given.{Over}
 use Rattle.world.proofs.arrivals.Arrivals.apply.Goals as goal
 use Rattle.world.proofs.arrivals.Arrivals.apply.Goals.{After-on_frame, in-Ok, in-Err}
@@ -48,24 +48,24 @@ answers g c = record {
 told : (g : Over) (c : After-on_frame g) (result : Result Ack Refusal) → c.on_frame.result ≡ result → Answers c.in-Some-get.frame.now (node g c.args.standby.now) result (node g c.on_frame.new.self)
 told g c result is = subst (λ (r : Result Ack Refusal). Answers c.in-Some-get.frame.now (node g c.args.standby.now) r (node g c.on_frame.new.self)) is (answers g c)
 
-first : (g : Over) (c : After-on_frame g) (w : World) → ArrivalsStand c.args.standby.now.epoch w.primary.calls c.args.frames.now c.args.self.now w.standby
+first : (g : Over) (c : After-on_frame g) (w : World) → ArrivalsStand c.args.standby.now.epoch w.primary.calls c.args.frames.now c.args.self.now w.standby.waiting w.wire.acknowledgements
     → FirstFrame c.args.standby.now.epoch w.primary.calls c.args.frames.now c.in-Some-get.frame.now (drop 1 c.args.self.now.delivered.items) w.standby.waiting
 first g c w stands = first-frame c.args.standby.now.epoch c.args.frames.now w c.args.self.now c.in-Some.place.now c.in-Some-get.frame.now c.in-Some.ensures.item.3.0 c.in-Some.ensures.lookup
     c.in-Some-get.ensures.lookup.1 stands
 
 -- at any moment of the call
-moments : (g : Over) (c : After-on_frame g) (holder : Holder) (w : World) → Sound w → ArrivalsStand c.args.standby.now.epoch w.primary.calls c.args.frames.now c.args.self.now w.standby
+moments : (g : Over) (c : After-on_frame g) (holder : Holder) (w : World) → Sound w → c.args.standby.now.epoch ≡ w.standby.epoch → ArrivalsStand c.args.standby.now.epoch w.primary.calls c.args.frames.now c.args.self.now w.standby.waiting w.wire.acknowledgements
     → StandbyStands holder c.args.standby.now.epoch w.primary.calls w.standby.position (node g c.args.standby.now)
     → NearOnly holder w.primary.calls w.standby.position (g.E.Durable.device c.args.standby.now.engine) (g.E.Durable.device c.on_frame.new.self.engine)
-moments g c holder w sound arrives stands =
+moments g c holder w sound epochs arrives stands =
     let epoch = c.args.standby.now.epoch in
     let frame = c.in-Some-get.frame.now in
     let one = first g c w arrives in
-    frame-moments holder epoch w.primary.calls w.standby frame one.span (node g c.args.standby.now) (node g c.on_frame.new.self) one.is stands
-    (one_change epoch c.args.frames.now w frame (drop 1 c.args.self.now.delivered.items) sound one) c.on_frame.result (answers g c)
+    frame-moments holder epoch w.primary.calls w.standby frame one.span (node g c.args.standby.now) (node g c.on_frame.new.self) one.epoch_is epochs one.is stands
+    c.on_frame.result (answers g c)
 
 pub returns-in_default-get-clause-applies : goal.returns-in_default-get-clause-applies
-returns-in_default-get-clause-applies g c = λ holder w sound arrives stands.
+returns-in_default-get-clause-applies g c = λ holder w sound epochs arrives stands.
     let within = place_within c.args.standby.now.epoch c.args.frames.now w c.args.self.now c.in-Some.place.now c.in-Some.ensures.item.3.0 c.in-Some.ensures.lookup arrives in
     let past = c.in_default-get.ensures.lookup.3 in
     record { done = absurd (omega (arith, within, past)); goes = λ did. cc; stays = λ did. (arrives, refl {a = node g c.args.standby.now}) }
@@ -77,29 +77,29 @@ returns-clause-applies g c =
     let frame = c.in-Some-get.frame.now in
     let new : Arrivals = record { delivered = c.pop_front.new.self; acknowledgements = c.match-on_frame.self.acknowledgements } in
     elim c.match-on_frame.branch [
-      | in-Ok w ↦ λ holder w' sound arrives stands.
+      | in-Ok w ↦ λ holder w' sound epochs arrives stands.
           let one = first g front w' arrives in
           applies holder epoch c.args.frames.now w' frame (w.in-Ok.ack ∷ []) c.args.self.now new (node g c.args.standby.now) (node g c.on_frame.new.self)
           (c.pop_front.ensures.rest ∙ ap (λ (a : Arrivals). drop 1 a.delivered.items) w.self-is)
           (ap (λ (a : Arrivals). a.acknowledgements.items) w.self-is ∙ w.push_reserved.ensures.items ∙ ap (λ (acks : List Ack). acks ++ w.in-Ok.ack ∷ []) c.in_ok-reserve.ensures.items) arrives one
-          (takes_ok holder epoch w'.primary.calls (without_first w'.standby) frame one.span (node g c.args.standby.now) (node g c.on_frame.new.self) one.is stands w.in-Ok.ack (told g front (Ok w.in-Ok.ack) w.in-Ok.is))
-      | in-Err w ↦ λ holder w' sound arrives stands.
+          (takes_ok holder epoch w'.primary.calls (without_first w'.standby) frame one.span (node g c.args.standby.now) (node g c.on_frame.new.self) one.epoch_is epochs one.is stands w.in-Ok.ack (told g front (Ok w.in-Ok.ack) w.in-Ok.is))
+      | in-Err w ↦ λ holder w' sound epochs arrives stands.
           let one = first g front w' arrives in
           applies holder epoch c.args.frames.now w' frame [] c.args.self.now new (node g c.args.standby.now) (node g c.on_frame.new.self)
           (c.pop_front.ensures.rest ∙ ap (λ (a : Arrivals). drop 1 a.delivered.items) w.self-is)
           (ap (λ (a : Arrivals). a.acknowledgements.items) w.self-is ∙ c.in_ok-reserve.ensures.items ∙ sym (append-nil c.args.self.now.acknowledgements.items)) arrives one
-          (takes_refused holder epoch w'.primary.calls (without_first w'.standby) frame one.span (node g c.args.standby.now) (node g c.on_frame.new.self) one.is stands w.in-Err.refusal (w.goes_on.ensures.0 w.if-goes_on.true)
+          (takes_refused holder epoch w'.primary.calls (without_first w'.standby) frame one.span (node g c.args.standby.now) (node g c.on_frame.new.self) one.epoch_is epochs one.is stands w.in-Err.refusal (w.goes_on.ensures.0 w.if-goes_on.true)
           (told g front (Err w.in-Err.refusal) w.in-Err.is))
     ]
 
 pub returns-in_default-clause-moments : goal.returns-in_default-clause-moments
-returns-in_default-clause-moments g c = λ holder w sound arrives stands. StandbyStands-still holder c.args.standby.now.epoch w.primary.calls w.standby.position (node g c.args.standby.now) stands
+returns-in_default-clause-moments g c = λ holder w sound epochs arrives stands. StandbyStands-still holder c.args.standby.now.epoch w.primary.calls w.standby.position (node g c.args.standby.now) stands
 
 pub returns-in_default-get-clause-moments : goal.returns-in_default-get-clause-moments
-returns-in_default-get-clause-moments g c = λ holder w sound arrives stands. StandbyStands-still holder c.args.standby.now.epoch w.primary.calls w.standby.position (node g c.args.standby.now) stands
+returns-in_default-get-clause-moments g c = λ holder w sound epochs arrives stands. StandbyStands-still holder c.args.standby.now.epoch w.primary.calls w.standby.position (node g c.args.standby.now) stands
 
 pub returns-in_err-reserve-clause-moments : goal.returns-in_err-reserve-clause-moments
-returns-in_err-reserve-clause-moments g c = λ holder w sound arrives stands. StandbyStands-still holder c.args.standby.now.epoch w.primary.calls w.standby.position (node g c.args.standby.now) stands
+returns-in_err-reserve-clause-moments g c = λ holder w sound epochs arrives stands. StandbyStands-still holder c.args.standby.now.epoch w.primary.calls w.standby.position (node g c.args.standby.now) stands
 
 pub returns-in-Err-2-clause-moments : goal.returns-in-Err-2-clause-moments
 returns-in-Err-2-clause-moments g c = moments g (goal.at.returns-in-Err-2-clause-moments g c).After-on_frame
