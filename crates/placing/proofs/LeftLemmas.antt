@@ -7,11 +7,12 @@ use Rattle.model.specs.declared.group.PlacedChange.{PlacedChange}
 use Rattle.model.specs.declared.group.PlacedChange.TheVariants as placed
 use Rattle.model.specs.declared.image.TheConstants.{STAMP_WINDOW}
 use Rattle.model.specs.Images.{Version}
-use Rattle.model.specs.Groups.{Contents, Versions, change_of, put_of, puts_of_part, change_versions, changes_versions, parts_versions, ended_where_begun, version_of_put, last_position, IsPlaced, IsUnused, AreApart, is_put_at}
-use Rattle.model.proofs.GroupsLemmas.{changes_versions-none}
+use Rattle.model.specs.Groups.{Contents, Versions, change_of, put_of, puts_of_part, change_versions, changes_versions, part_versions, parts_versions, ended_where_begun, version_of_put, last_position, IsPlaced, IsUnused, AreApart, is_put_at}
+use Rattle.model.proofs.GroupsLemmas.{parts_versions-none}
 use Rattle.extent_heap.specs.Room.{Room}
 use Rattle.mv_keyspace.specs.Tables.{puts_of}
 use Rattle.placing.specs.Left.{HasNoFreeLine, IsTaken, IsLeftOf}
+use Rattle.placing.proofs.PartsLemmas.{puts_alone}
 use Rattle.placing.proofs.TakenLemmas.{All-map, All-front, All-rest, IsFree, IsWithin, lines_within, lines_apart, not_put_at}
 
 -- ---- what is free of the heap is free in the contents
@@ -85,7 +86,14 @@ module _ (Good : ℕ → ℕ → Type 0) where
   good_changes position versions (c ∷ changes) good new =
       good_changes position (change_versions position versions c) changes (good_change position versions c good (All-front HasGood (put_of c) (puts_of changes) new)) (All-rest HasGood (put_of c) (puts_of changes) new)
 
--- ---- the contents after a part
+  -- and so have they after parts
+  pub good_parts : (versions : Versions) (parts : List Part) → AllGood versions → AllByRecursion HasGood (flat_map puts_of_part parts) → AllGood (parts_versions versions parts)
+  good_parts versions [] good new = good
+  good_parts versions (part ∷ parts) good new =
+      good_parts (part_versions versions part) parts
+      (good_changes part.position versions part.changes.items good (All-front HasGood (puts_of_part part) (flat_map puts_of_part parts) new)) (All-rest HasGood (puts_of_part part) (flat_map puts_of_part parts) new)
+
+-- ---- the contents after parts
 
 abbrev pub after_parts : Contents → List Part → Contents
 after_parts contents parts =
@@ -107,18 +115,19 @@ after_parts contents parts =
 pub still_free : (a b : Bool) → IsTrue a → b ≡ false → IsTrue (a && not b)
 still_free a b free none = ap (λ x. x && not b) free ∙ ap not none
 
-module _ (contents : Contents) (room : Room) (part : Part) (left : IsLeftOf contents room) (taken : AllByRecursion (IsTaken room) (puts_of_part part)) where
-  none_alone : (i : ℕ) → is_put_at i (puts_of_part part) ≡ false → is_put_at i (puts_of_part part ++ []) ≡ false
-  none_alone i none = ap (is_put_at i) (append-nil (puts_of_part part)) ∙ none
+-- what is left beside the parts is free after them
+pub left-after_parts : (contents : Contents) (room : Room) (parts : List Part) → IsLeftOf contents room → AllByRecursion (IsTaken room) (flat_map puts_of_part parts) → IsLeftOf (after_parts contents parts) room
+left-after_parts contents room parts left taken =
+    let puts = flat_map puts_of_part parts in
+    record {
+      entries = λ i free.
+          let before = left.entries i free in
+          let none = not_put_at room puts i taken free in
+          (before.0, still_free (contents.is_free i) (is_put_at i puts) before.1 none, parts_versions-none contents.versions parts i before.2 none);
+      lines = left.lines;
+      apart = good_parts (HasNoFreeLine room) contents.versions parts left.apart (All-map (IsTaken room) (HasGood (HasNoFreeLine room)) (λ put is. is.lines) puts taken);
+    }
 
-  -- what is left beside the part is free after it
-  pub left-after : IsLeftOf (after_parts contents (part ∷ [])) room
-  left-after = record {
-    entries = λ i free.
-        let before = left.entries i free in
-        let none = not_put_at room (puts_of_part part) i taken free in
-        (before.0, still_free (contents.is_free i) (is_put_at i (puts_of_part part ++ [])) before.1 (none_alone i none), changes_versions-none part.position contents.versions part.changes.items i before.2 none);
-    lines = left.lines;
-    apart = good_changes (HasNoFreeLine room) part.position contents.versions part.changes.items left.apart
-        (All-map (IsTaken room) (HasGood (HasNoFreeLine room)) (λ put is. is.lines) (puts_of_part part) taken);
-  }
+-- and so it is after one
+pub left-after : (contents : Contents) (room : Room) (part : Part) → IsLeftOf contents room → AllByRecursion (IsTaken room) (puts_of_part part) → IsLeftOf (after_parts contents (part ∷ [])) room
+left-after contents room part left taken = left-after_parts contents room (part ∷ []) left (puts_alone (IsTaken room) part taken)

@@ -1,21 +1,22 @@
--- A sequencer goes on standing for the contents of an engine: where a part begins to wait, and where the oldest leaves as a group.
-use Rattle.std.proofs.Common.{◌≡◌, ℕ, ◌+◌, ◌<◌, Bool, false, ◌||◌, List, [], ◌∷◌, ◌++◌, None, refl, sym, ap, subst, ◌∙◌, arith, append-nil, ne_eqb}
+-- A sequencer goes on standing for the contents of an engine: where a part begins to wait, and where all leave as a group.
+use Rattle.std.proofs.Common.{◌≡◌, ℕ, ◌+◌, ◌<◌, ◌≤◌, Bool, List, [], ◌∷◌, ◌++◌, length, None, refl, sym, ap, subst, ◌∙◌, arith}
 use Rattle.std.specs.List.{AllByRecursion}
 use Rattle.kv_types.specs.declared.change.Change.{Change}
 use Rattle.model.specs.declared.group.Group.{Group}
 use Rattle.model.specs.declared.group.Part.{Part}
 use Rattle.model.specs.declared.group.Put.{Put}
-use Rattle.model.specs.Groups.{Contents, IsGroup, after_group, puts_of_part, parts_versions, IsPlaced, IsApartFrom, IsUnused, AreApart, AreAllApart, HasItsLines, is_put_at}
-use Rattle.model.proofs.GroupsLemmas.{parts_versions-none, AreAllApart-front, AreAllApart-rest}
+use Rattle.model.specs.declared.group.TheConstants.{MAX_PARTS}
+use Rattle.model.specs.Groups.{Contents, IsGroup, after_group, last_position, puts_of_part, parts_versions, AreParts, IsPlaced, IsUnused, AreAllApart, HasItsLines}
+use Rattle.model.proofs.GroupsLemmas.{parts_versions-none}
 use Rattle.extent_heap.specs.Room.{Room}
 use Rattle.mv_keyspace.specs.Tables.{Table, IsTable, AreEnded, place_all}
 use Rattle.mv_keyspace.proofs.VersionTables.{AreEmpty}
 use Rattle.mv_keyspace.proofs.PartTables.{AreDistinct, IsTable-changes, names-ended}
 use Rattle.placing.specs.Left.{IsTaken, IsLeftOf}
 use Rattle.placing.specs.Places.{TakesPlaces}
-use Rattle.placing.proofs.TakenLemmas.{All-map, All-both, All-front, All-rest, All-append, IsFree, taken_within, places_within, places_free, places_taken, places_fitting, places_apart, AreAllApart-append, not_put_at, AreDistinct-from_apart}
-use Rattle.placing.proofs.LeftLemmas.{placed_of_free, unused_of_free, swapped, left_within, HasGood, good_changes, after_parts, still_free, left-after}
-use Rattle.placing.proofs.PartsLemmas.{parts_versions-append, last_position-append, AreParts-append, puts_of_parts-append, IsGroup-alone}
+use Rattle.placing.proofs.TakenLemmas.{All-map, All-append, IsFree, taken_within, places_within, places_free, places_taken, places_fitting, places_apart, AreAllApart-append, not_put_at, AreDistinct-from_apart}
+use Rattle.placing.proofs.LeftLemmas.{placed_of_free, unused_of_free, left_within, after_parts, left-after_parts}
+use Rattle.placing.proofs.PartsLemmas.{parts_versions-append, last_position-append, AreParts-append, puts_of_parts-append}
 use Rattle.redis_core.specs.Sequencing.{Sequencing, puts_of_parts, StandsFor, Underlies, HandsOut, starts}
 use Rattle.redis_core.specs.Turns.{Moves}
 
@@ -91,80 +92,36 @@ StandsFor-starts table room position closed contents under = record {
   table = under.table_is;
 }
 
--- ---- the oldest part leaves
-
--- each of the later puts is apart from all of the earlier ones
-all_pairs : (xs ys : List Put) → AreAllApart (xs ++ ys) → AllByRecursion (λ y. AllByRecursion (λ x. IsApartFrom x y) xs) ys
-all_pairs [] ys apart = nothing ys
-  where
-    nothing : (ys : List Put) → AllByRecursion (λ y. AllByRecursion (λ x. IsApartFrom x y) []) ys
-    nothing [] = tt
-    nothing (y ∷ ys) = (tt, nothing ys)
-all_pairs (x ∷ xs) ys apart =
-    All-both (IsApartFrom x) (λ y. AllByRecursion (λ x'. IsApartFrom x' y) xs) (λ y. AllByRecursion (λ x'. IsApartFrom x' y) (x ∷ xs)) (λ y h k. (h, k)) ys (All-rest (IsApartFrom x) xs ys apart.0) (all_pairs xs ys apart.1)
-
-beside : (xs : List Put) (y : Put) → AllByRecursion (λ x. IsApartFrom x y) xs → is_put_at y.entry.0 xs ≡ false
-beside [] y apart = refl
-beside (x ∷ xs) y apart = ap (λ b. b || is_put_at y.entry.0 xs) (ne_eqb y.entry.0 x.entry.0 (λ same. apart.0.entries (sym same))) ∙ beside xs y apart.1
-
-module _ (s : Sequencing) (contents : Contents) (part : Part) (rest : List Part) (stands : StandsFor (record s { waiting = part ∷ rest }) contents) where
-  abbrev first : List Put
-  first = puts_of_part part
-
-  abbrev others : List Put
-  others = puts_of_parts rest
-
-  abbrev next : Contents
-  next = after_parts contents (part ∷ [])
-
-  taken_first : AllByRecursion (IsTaken s.room) first
-  taken_first = All-front (IsTaken s.room) first others stands.taken
-
-  none_at : (i : ℕ) → is_put_at i first ≡ false → is_put_at i (first ++ []) ≡ false
-  none_at i none = ap (is_put_at i) (append-nil first) ∙ none
-
-  left_next : IsLeftOf next s.room
-  left_next = left-after contents s.room part stands.left taken_first
-
-  unused_next : (put : Put) → IsUnused contents.versions contents.is_free put → AllByRecursion (λ x. IsApartFrom x put) first → IsUnused next.versions next.is_free put
-  unused_next put unused apart =
-      let Good = AreApart put.extent.first_line put.extent.lines in
-      record {
-        entry = still_free (contents.is_free put.entry.0) (is_put_at put.entry.0 (first ++ [])) unused.entry (none_at put.entry.0 (beside first put apart));
-        lines = good_changes Good part.position contents.versions part.changes.items unused.lines
-            (All-map (λ x. IsApartFrom x put) (HasGood Good) (λ x h. swapped x.extent.first_line x.extent.lines put.extent.first_line put.extent.lines h.lines) first apart);
-      }
-
-  stands_next : StandsFor (record s { before = part.position; waiting = rest }) next
-  stands_next = record {
-    before = refl;
-    last = stands.last;
-    parts = stands.parts.2;
-    placed = All-rest (IsPlaced contents.lines) first others stands.placed;
-    fitting = All-rest HasItsLines first others stands.fitting;
-    unused = All-both (IsUnused contents.versions contents.is_free) (λ put. AllByRecursion (λ x. IsApartFrom x put) first) (IsUnused next.versions next.is_free) unused_next others
-        (All-rest (IsUnused contents.versions contents.is_free) first others stands.unused) (all_pairs first others stands.apart);
-    apart = AreAllApart-rest first others stands.apart;
-    taken = All-rest (IsTaken s.room) first others stands.taken;
-    left = left_next;
-    table = stands.table;
-  }
-
-  front_only : (P : Put → Type 0) → AllByRecursion P (first ++ others) → AllByRecursion P first
-  front_only P h = All-front P first others h
-
-  group_next : (group : Group) → group.parts.items ≡ part ∷ [] → group.before ≡ s.before → IsGroup contents group
-  group_next group one before =
-      IsGroup-alone contents part group one (before ∙ stands.before) (subst (λ first. first < part.position) stands.before stands.parts.0)
-      stands.parts.1 (front_only (IsPlaced contents.lines) stands.placed) (front_only HasItsLines stands.fitting)
-      (front_only (IsUnused contents.versions contents.is_free) stands.unused) (AreAllApart-front first others stands.apart)
+-- ---- all parts leave
 
 -- what is handed out is what a commit asks for, and the sequencer stands for what the commit makes of the contents
 pub StandsFor-group : (old : Sequencing) (group : Group) (new : Sequencing) → HandsOut old group new → (contents : Contents) → StandsFor old contents → IsGroup contents group × StandsFor new (after_group contents group)
 StandsFor-group old group new hands contents stands =
-    let whole = subst (λ parts. StandsFor (record old { waiting = parts }) contents) hands.oldest stands in
-    let later = subst (λ items. StandsFor (record old { before = hands.part.position; waiting = hands.rest }) (after_parts contents items)) (sym hands.alone) (stands_next old contents hands.part hands.rest whole) in
-    (group_next old contents hands.part hands.rest whole group hands.alone hands.before, subst (λ s. StandsFor s (after_group contents group)) (sym hands.after) later)
+    let parts = old.waiting in
+    let is : (P : List Part → Type 0) → P parts → P group.parts.items = λ P h. subst P (sym hands.all) h in
+    let group_is : IsGroup contents group = record {
+      before = hands.before ∙ stands.before;
+      some = is (λ items. 0 < length items) hands.some;
+      few = is (λ items. length items ≤ MAX_PARTS) hands.few;
+      parts = subst (λ first. AreParts first contents.versions group.parts.items) (sym hands.before) (is (AreParts old.before contents.versions) stands.parts);
+      placed = is (λ items. AllByRecursion (IsPlaced contents.lines) (puts_of_parts items)) stands.placed;
+      fitting = is (λ items. AllByRecursion HasItsLines (puts_of_parts items)) stands.fitting;
+      unused = is (λ items. AllByRecursion (IsUnused contents.versions contents.is_free) (puts_of_parts items)) stands.unused;
+      apart = is (λ items. AreAllApart (puts_of_parts items)) stands.apart;
+    } in
+    let later : StandsFor (record old { before = old.position; waiting = [] }) (after_parts contents parts) = record {
+      before = sym stands.last ∙ ap (λ first. last_position first parts) stands.before;
+      last = refl;
+      parts = tt;
+      placed = tt;
+      fitting = tt;
+      unused = tt;
+      apart = tt;
+      taken = tt;
+      left = left-after_parts contents old.room parts stands.left stands.taken;
+      table = stands.table;
+    } in
+    (group_is, subst (λ s. StandsFor s (after_group contents group)) (sym hands.after) (is (λ items. StandsFor (record old { before = old.position; waiting = [] }) (after_parts contents items)) later))
 
 -- whatever a call moved, the sequencer goes on standing for the contents
 pub StandsFor-moves : (changes : List Change) (old new : Sequencing) → Moves changes old new → new.before ≡ old.before → (contents : Contents) → StandsFor old contents → StandsFor new contents

@@ -1,7 +1,8 @@
 -- What a sequencer holds, and that its tables say what an engine will hold once the waiting parts have committed.
-use Rattle.std.specs.Prelude.{◌≡◌, ℕ, Bool, false, List, [], ◌∷◌, slice_index_or}
+use Rattle.std.specs.Prelude.{◌≡◌, ℕ, Bool, false, List, [], ◌∷◌, slice_index_or, length, ◌≤◌, ◌<◌}
 use Rattle.std.specs.List.{flat_map, AllByRecursion}
 use Rattle.model.specs.declared.group.Group.{Group}
+use Rattle.model.specs.declared.group.TheConstants.{MAX_PARTS}
 use Rattle.model.specs.declared.group.Part.{Part}
 use Rattle.model.specs.declared.group.Put.{Put}
 use Rattle.model.specs.Groups.{Contents, AreAllApart, AreParts, HasItsLines, IsPlaced, IsUnused, last_position, parts_versions, puts_of_part}
@@ -53,11 +54,10 @@ pub record Underlies (contents : Contents) (table : Table) (room : Room) (positi
 abbrev pub starts : Table → Room → ℕ → List Bool → Sequencing
 starts table room position closed = record { table = table; room = room; position = position; before = position; waiting = []; closed = closed }
 
--- The oldest part that waits leaves as a group of its own.
+-- All parts that wait leave as one group.
 pub record HandsOut (old : Sequencing) (group : Group) (new : Sequencing) : Type 0 where
-  pub part : Part
-  pub rest : List Part
-  pub oldest : old.waiting ≡ part ∷ rest
-  pub alone : group.parts.items ≡ part ∷ []
+  pub some : 0 < length old.waiting
+  pub few : length old.waiting ≤ MAX_PARTS
+  pub all : group.parts.items ≡ old.waiting
   pub before : group.before ≡ old.before
-  pub after : new ≡ record old { before = part.position; waiting = rest }
+  pub after : new ≡ record old { before = old.position; waiting = [] }

@@ -22,7 +22,6 @@ use mv_keyspace::Keyspace;
 use pipes::{Inlet, MAX_SEATS, Outlet, Seat};
 use placing::perform;
 use std::alloc::Global;
-use std::collections::VecDeque;
 use std::marker::Model;
 
 /// Turns what each seat asks into calls of one list, one a turn, and keeps what they changed until a group takes it.
@@ -35,12 +34,13 @@ pub struct Sequencer<K: Keyspace> {
     heap: ExtentHeap,
     position: u64,
     before: u64,
-    waiting: VecDeque<Part>,
+    waiting: Vec<Part>,
     // By the number of the seat.
     closed: Vec<bool>,
 }
 
 impl<K: Keyspace> Model for Sequencer<K> {
+    ghost use Rattle.std.specs.Prelude.{vec_capacity};
     ghost use Rattle.redis_core.specs.Keeping.{IsReady};
     ghost use Rattle.redis_core.specs.Sequencing.{Sequencing};
 
@@ -55,7 +55,7 @@ impl<K: Keyspace> Model for Sequencer<K> {
       closed = s.closed.items;
     } };
 
-    ghost invariant = { λ s. IsReady (K.table s.keyspace) s.heap s.waiting.items s.waiting.cap s.closed.items };
+    ghost invariant = { λ s. IsReady (K.table s.keyspace) s.heap s.waiting.items (vec_capacity s.waiting) s.closed.items };
 }
 
 impl<K: Keyspace + Drop> Sequencer<K> {
@@ -75,7 +75,7 @@ impl<K: Keyspace + Drop> Sequencer<K> {
         ensures stands { IfOk result (λ s. (contents : Contents) → Underlies contents (K.table keyspace) heap position → StandsFor s contents) }
         ensures err { IfErr result (λ refusal. refusal ≡ Refusal.Memory) }
     {
-        let waiting = VecDeque::with_capacity(alloc, MAX_PARTS)?;
+        let waiting = Vec::with_capacity(alloc, MAX_PARTS)?;
         let closed = vec![in alloc; false; MAX_SEATS]?;
         Ok(Sequencer {
             keyspace,
@@ -153,11 +153,11 @@ impl<K: Keyspace> Sequencer<K> {
         }
     }
 
-    /// Hands out the oldest part that waits, as a group of its own.
+    /// Hands out all parts that wait, as one group.
     ///
     /// # Errors
     ///
-    /// `PipeFull` where there was no known room, `Memory` where a growth was refused. The part goes on waiting.
+    /// `PipeFull` where there was no known room, `Memory` where a growth was refused. The parts go on waiting.
     pub fn close_group<G: Outlet<Item = Group>>(
         &mut self,
         alloc: Global,
@@ -175,13 +175,9 @@ impl<K: Keyspace> Sequencer<K> {
         if outlet.room() == 0 {
             return Err(Refusal::PipeFull);
         }
-        let mut parts = Vec::with_capacity(alloc, 1)?;
-        let Some(part) = self.waiting.pop_front() else {
-            unreachable!()
-        };
-        let before = self.before;
-        self.before = part.position;
-        parts.push_reserved(part);
+        let empty = Vec::with_capacity(alloc, MAX_PARTS)?;
+        let parts = std::mem::replace(&mut self.waiting, empty);
+        let before = std::mem::replace(&mut self.before, self.position);
         match outlet.offer(Group { before, parts }) {
             Ok(()) => Ok(()),
             Err(_) => unreachable!(),
@@ -233,7 +229,7 @@ impl<K: Keyspace> Sequencer<K> {
         let position = self.position + 1;
         let part = perform(alloc, &mut self.keyspace, &mut self.heap, changes, position)?;
         self.position = position;
-        self.waiting.push_back_reserved(part);
+        self.waiting.push_reserved(part);
         Ok(())
     }
 }

@@ -19,11 +19,11 @@ use Rattle.wbl_engine.specs.Contents.{Exhausts, Keeps, IsDurable, Same}
 use Rattle.pipes.specs.Waiting.{Waiting}
 use Rattle.machine.specs.declared.event.TheConstants.{PIPE_ITEMS}
 use Rattle.machine.specs.declared.event.Event.TheVariants.{Commit, Hand}
-use Rattle.machine.specs.Events.{Committer as Machine, Stage as MachineStage, Span, World, committed_first, handed, has_room, is_enabled, is_ready, is_shown, ready_again}
+use Rattle.machine.specs.Events.{Committer as Machine, Stage as MachineStage, Span, World, committed_first, handed, has_room, may_happen, is_ready, is_shown, ready_again}
 use Rattle.machine.specs.Worlds as machine_stage
 use Rattle.machine.specs.Sound.{HasRoomFor, IsChain, Sound}
 use Rattle.world.specs.Causes.{Breaks, IsAtLimit, RestsAtLimit, EndsBy}
-use Rattle.world.specs.Committings.{AreContentsAt, AreGroups, CommittingStands, EngineStands, StageStands, StandsAtOrNext, NearOnly}
+use Rattle.world.specs.Committings.{AreContentsAt, AreGroups, CommittingStands, EngineStands, StageStands, StandsAtEither, NearOnly, next_primary}
 use Rattle.world.specs.Going.{Goes}
 use Rattle.world.specs.GroupSpans.{AreGroupsOf, IsGroupOf}
 use Rattle.world.specs.declared.committing.Stage.{Stage}
@@ -124,13 +124,13 @@ not_third true false c z = refl
 not_third false b c z = refl
 
 -- behind a full link nothing commits
-pub commit-full : (w : World) (link : List Group) → length link ≡ PIPE_ITEMS → AreGroupsOf w.primary.calls link w.primary.link.waiting → false ≡ is_enabled w Commit
+pub commit-full : (w : World) (link : List Group) → length link ≡ PIPE_ITEMS → AreGroupsOf w.primary.calls link w.primary.link.waiting → false ≡ may_happen w Commit
 commit-full w link full are =
     not_third (is_ready w.primary.committer.stage) (is_nonempty w.primary.committer.waiting) (has_room w.primary.link.waiting) (has_room-groups w.primary.calls link w.primary.link.waiting are ∙ le-ltb (length link) PIPE_ITEMS (omega arith))
 
 -- the first group that waits may be committed
 pub may-commit : (w : World) (code : Committing) (group : Group) (rest : List Group) (link : List Group) → code.stage ≡ Ready → length link < PIPE_ITEMS → code.waiting.items ≡ group ∷ rest
-    → CommittingStands w.primary.calls code w.primary.committer → AreGroupsOf w.primary.calls link w.primary.link.waiting → is_enabled w Commit ≡ true
+    → CommittingStands w.primary.calls code w.primary.committer → AreGroupsOf w.primary.calls link w.primary.link.waiting → may_happen w Commit ≡ true
 may-commit w code group rest link ready room waits stands are =
     let first = first-group w.primary.calls group rest w.primary.committer.waiting (subst (λ groups. AreGroupsOf w.primary.calls groups w.primary.committer.waiting) waits stands.groups) in
     let is_ready_now : w.primary.committer.stage ≡ machine_stage.Ready = ready-ready w.primary.calls w.primary.committer.stage (subst (λ stage. StageStands w.primary.calls stage w.primary.committer.stage) ready stands.stage_is) in
@@ -142,7 +142,7 @@ pub commit-goes : (holder : Holder) (w : World) (old new : Committing) (group : 
     → old.stage ≡ Ready → length link < PIPE_ITEMS → old.waiting.items ≡ group ∷ new.waiting.items → new.stage ≡ Durable group → new.local ≡ old.local
     → IsGroup contents group → Same (after_group contents group) contents' → IsDurable device' contents' → is_faulted' ≡ false
     → CommittingStands w.primary.calls old w.primary.committer → EngineStands holder w.primary.calls w.primary.committer.position device contents is_faulted → AreGroupsOf w.primary.calls link w.primary.link.waiting
-    → Goes (is_enabled w Commit) true
+    → Goes (may_happen w Commit) true
     (CommittingStands w.primary.calls new (committed_first w.primary.committer.waiting w.primary.committer) × EngineStands holder w.primary.calls (committed_first w.primary.committer.waiting w.primary.committer).position device' contents' is_faulted')
     (CommittingStands w.primary.calls new w.primary.committer × EngineStands holder w.primary.calls w.primary.committer.position device' contents' is_faulted')
 commit-goes holder w old new group link device device' contents contents' is_faulted is_faulted' ready room waits durable local lawful moved leaves sound stands engine are =
@@ -174,51 +174,49 @@ pub commit-moments : (holder : Holder) (w : World) (code : Committing) (group : 
     → code.waiting.items ≡ group ∷ rest → IsGroup contents group
     → (is_faulted ≡ false → LeavesOnly device device' (λ image. Keeps contents image ⊎ Keeps (after_group contents group) image))
     → Sound w → CommittingStands w.primary.calls code w.primary.committer → EngineStands holder w.primary.calls w.primary.committer.position device contents is_faulted
-    → NearOnly holder w.primary.calls w.primary.committer.position device device'
+    → NearOnly holder w.primary.calls w.primary.committer.position (next_primary w) device device'
 commit-moments holder w code group rest device device' contents is_faulted waits lawful moments sound stands engine =
-    LeavesOnly-weaken (StandsAtOrNext holder w.primary.calls w.primary.committer.position) (λ image. either image) (moments engine.sound)
+    LeavesOnly-weaken (StandsAtEither holder w.primary.calls w.primary.committer.position (next_primary w)) (λ image. either image) (moments engine.sound)
   where
     next : NextGroup holder w.primary.calls w.primary.committer.position contents group rest w.primary.committer.waiting
     next = next-group holder w.primary.calls w.primary.committer.position contents group rest w.primary.committer.waiting engine.contents_at lawful (subst (λ groups. AreGroupsOf w.primary.calls groups w.primary.committer.waiting) waits stands.groups)
 
-    chain : IsChain w.primary.committer.position (next.firsts.first ∷ next.firsts.others) w.primary.committer.closed
-    chain = subst (λ spans. IsChain w.primary.committer.position spans w.primary.committer.closed) next.firsts.all sound.committer.waiting
+    ends : next_primary w ≡ next.firsts.first.after
+    ends = ap (λ spans. (committed_first spans w.primary.committer).position) next.firsts.all
 
-    either : (image : Image) → Keeps contents image ⊎ Keeps (after_group contents group) image → StandsAtOrNext holder w.primary.calls w.primary.committer.position image
+    either : (image : Image) → Keeps contents image ⊎ Keeps (after_group contents group) image → StandsAtEither holder w.primary.calls w.primary.committer.position (next_primary w) image
     either image (inl keeps) = inl (keeps-stands holder w.primary.calls w.primary.committer.position contents image engine.contents_at keeps)
     either image (inr keeps) =
-        inr (
-          omega (arith, chain.1, next.firsts.is.span_within.within),
-          keeps-stands holder w.primary.calls (w.primary.committer.position + 1) (after_group contents group) image (subst (λ p. AreContentsAt holder w.primary.calls p (after_group contents group)) chain.1 next.after) keeps,
-        )
+        inr (keeps-stands holder w.primary.calls (next_primary w) (after_group contents group) image (subst (λ p. AreContentsAt holder w.primary.calls p (after_group contents group)) (sym ends) next.after) keeps)
 
 -- positions rise by one a part at least
 parts-rise : (before : ℕ) (versions : Versions) (parts : List Part) → AreParts before versions parts → before + length parts ≤ last_position before parts
 parts-rise before versions [] are = omega arith
 parts-rise before versions (part ∷ parts) are = omega (arith, are.0, parts-rise part.position (part_versions versions part) parts are.2)
 
--- a commit that would take a counter to the limit is of one change
+-- a commit that would take a counter to the limit: a group takes a stamp a part, and its positions rise by one a part at least
 pub commit-limit : (holder : Holder) (w : World) (code : Committing) (group : Group) (rest : List Group) (device : State) (contents : Contents) (is_faulted : Bool) → code.waiting.items ≡ group ∷ rest → IsGroup contents group
-    → Exhausts contents group → Sound w → CommittingStands w.primary.calls code w.primary.committer → EngineStands holder w.primary.calls w.primary.committer.position device contents is_faulted
-    → (image : Image) → IsImage device.words image → IsAtLimit image
-commit-limit holder w code group rest device contents is_faulted waits lawful exhausts sound stands engine image is =
-    let next = next-group holder w.primary.calls w.primary.committer.position contents group rest w.primary.committer.waiting engine.contents_at lawful (subst (λ groups. AreGroupsOf w.primary.calls groups w.primary.committer.waiting) waits stands.groups) in
-    let chain : IsChain w.primary.committer.position (next.firsts.first ∷ next.firsts.others) w.primary.committer.closed =
-    subst (λ spans. IsChain w.primary.committer.position spans w.primary.committer.closed) next.firsts.all sound.committer.waiting in
-    let last : last_position group.before group.parts.items ≡ contents.current.position + 1 = next.firsts.is.after ∙ chain.1 ∙ ap (λ p. p + 1) (sym engine.contents_at.at) in
-    let one : length group.parts.items ≤ 1 = omega (arith, last, lawful.before, parts-rise group.before contents.versions group.parts.items lawful.parts) in
-    let own : last_position contents.current.position group.parts.items ≡ contents.current.position + 1 = ap (λ p. last_position p group.parts.items) (sym lawful.before) ∙ last in
+    → Exhausts contents group → CommittingStands w.primary.calls code w.primary.committer → EngineStands holder w.primary.calls w.primary.committer.position device contents is_faulted
+    → (image : Image) → IsImage device.words image → IsAtLimit (next_primary w - w.primary.committer.position) image
+commit-limit holder w code group rest device contents is_faulted waits lawful exhausts stands engine image is =
+    let position = w.primary.committer.position in
+    let next = next-group holder w.primary.calls position contents group rest w.primary.committer.waiting engine.contents_at lawful (subst (λ groups. AreGroupsOf w.primary.calls groups w.primary.committer.waiting) waits stands.groups) in
+    let ends : next_primary w ≡ next.firsts.first.after = ap (λ spans. (committed_first spans w.primary.committer).position) next.firsts.all in
+    let last : last_position group.before group.parts.items ≡ next_primary w = next.firsts.is.after ∙ sym ends in
+    let own : last_position contents.current.position group.parts.items ≡ next_primary w = ap (λ p. last_position p group.parts.items) (sym lawful.before) ∙ last in
+    let at : contents.current.position ≡ position = engine.contents_at.at in
+    let few : contents.current.position + length group.parts.items ≤ next_primary w = omega (arith, last, lawful.before, parts-rise group.before contents.versions group.parts.items lawful.parts) in
     record {
       current = contents.current;
       has_record = (engine.durable image is).has_record;
-      reached = reached exhausts one own;
+      reached = reached (next_primary w - position) exhausts (omega (arith, few, at)) (omega (arith, own, at, few));
     }
   where
-    reached : Exhausts contents group → length group.parts.items ≤ 1 → last_position contents.current.position group.parts.items ≡ contents.current.position + 1
-        → (COUNTER_LIMIT ≤ contents.current.cp + 1 + 1 + STAMP_WINDOW) ⊎ (COUNTER_LIMIT ≤ contents.current.position + 1) ⊎ (COUNTER_LIMIT ≤ contents.current.number + 1)
-    reached (inl stamps) one own = inl (omega (arith, stamps, one))
-    reached (inr (inl position)) one own = inr (inl (omega (arith, position, own)))
-    reached (inr (inr number)) one own = inr (inr number)
+    reached : (more : ℕ) → Exhausts contents group → length group.parts.items ≤ more → last_position contents.current.position group.parts.items ≡ contents.current.position + more
+        → (COUNTER_LIMIT ≤ contents.current.cp + more + 1 + STAMP_WINDOW) ⊎ (COUNTER_LIMIT ≤ contents.current.position + more) ⊎ (COUNTER_LIMIT ≤ contents.current.number + 1)
+    reached more (inl stamps) few own = inl (omega (arith, stamps, few))
+    reached more (inr (inl position)) few own = inr (inl (omega (arith, position, own)))
+    reached more (inr (inr number)) few own = inr (inr number)
 
 -- the engine refused to commit: a fence failed, or a counter is at its limit
 pub commit-ends : (holder : Holder) (w : World) (code : Committing) (group : Group) (rest : List Group) (device device' : State) (contents : Contents) (is_faulted : Bool) (refusal : Refusal)
@@ -226,24 +224,24 @@ pub commit-ends : (holder : Holder) (w : World) (code : Committing) (group : Gro
     → (refusal ≡ Fault → (is_faulted ≡ true) ⊎ (device.failures < device'.failures)) → (refusal ≡ Exhausted → Exhausts contents group × (device' ≡ device))
     → (is_faulted ≡ false → LeavesOnly device device' (λ image. Keeps contents image ⊎ Keeps (after_group contents group) image))
     → Sound w → CommittingStands w.primary.calls code w.primary.committer → EngineStands holder w.primary.calls w.primary.committer.position device contents is_faulted
-    → EndsBy refusal Commit (λ last _. last holder w.primary.calls w.primary.committer.position device device')
+    → EndsBy refusal Commit (λ last _. last holder w.primary.calls w.primary.committer.position (next_primary w) device device')
 commit-ends holder w code group rest device device' contents is_faulted refusal waits lawful causes fault exhausted moments sound stands engine = by causes
   where
     rose : (is_faulted ≡ true) ⊎ (device.failures < device'.failures) → device.failures < device'.failures
     rose (inl before) = absurd (true≢false (sym before ∙ engine.sound))
     rose (inr now) = now
 
-    by : (refusal ≡ Fault) ⊎ (refusal ≡ Exhausted) → EndsBy refusal Commit (λ last _. last holder w.primary.calls w.primary.committer.position device device')
+    by : (refusal ≡ Fault) ⊎ (refusal ≡ Exhausted) → EndsBy refusal Commit (λ last _. last holder w.primary.calls w.primary.committer.position (next_primary w) device device')
     by (inl is) =
-        subst (λ (r : Refusal). EndsBy r Commit (λ last _. last holder w.primary.calls w.primary.committer.position device device')) (sym is)
+        subst (λ (r : Refusal). EndsBy r Commit (λ last _. last holder w.primary.calls w.primary.committer.position (next_primary w) device device')) (sym is)
         (record { leaves = commit-moments holder w code group rest device device' contents is_faulted waits lawful moments sound stands engine; failures = rose (fault is) })
     by (inr is) =
         let told = exhausted is in
-        subst (λ (r : Refusal). EndsBy r Commit (λ last _. last holder w.primary.calls w.primary.committer.position device device')) (sym is)
+        subst (λ (r : Refusal). EndsBy r Commit (λ last _. last holder w.primary.calls w.primary.committer.position (next_primary w) device device')) (sym is)
         (record {
           rests = rests-same holder w.primary.calls w.primary.committer.position device device' told.1 (Stands-engine holder w.primary.calls w.primary.committer.position device contents is_faulted engine);
-          limit = subst (λ (d : State). (image : Image) → IsImage d.words image → IsAtLimit image) (sym told.1)
-              (commit-limit holder w code group rest device contents is_faulted waits lawful told.0 sound stands engine);
+          limit = subst (λ (d : State). (image : Image) → IsImage d.words image → IsAtLimit (next_primary w - w.primary.committer.position) image) (sym told.1)
+              (commit-limit holder w code group rest device contents is_faulted waits lawful told.0 stands engine);
         })
 
 -- ---- a group handed on
@@ -268,7 +266,7 @@ offered-last (Err back) old new group room last full few = absurd (omega (arith,
 -- the group in hand goes to the link, which has room for it
 pub hand-goes : (w : World) (old new : Committing) (group : Group) (link link' : List Group) → old.stage ≡ Shown group → new.waiting ≡ old.waiting → new.stage ≡ Ready → new.local ≡ old.local
     → (length link < PIPE_ITEMS → link' ≡ link ++ group ∷ []) → Sound w → CommittingStands w.primary.calls old w.primary.committer → AreGroupsOf w.primary.calls link w.primary.link.waiting
-    → Goes (is_enabled w Hand) true
+    → Goes (may_happen w Hand) true
     (CommittingStands w.primary.calls new (ready_again w.primary.committer) × AreGroupsOf w.primary.calls link' (w.primary.link.waiting ++ handed w.primary.committer.stage))
     (CommittingStands w.primary.calls new w.primary.committer × AreGroupsOf w.primary.calls link' w.primary.link.waiting)
 hand-goes w old new group link link' shown waiting ready local last sound stands are =

@@ -16,7 +16,7 @@ use Rattle.model.proofs.StandingLemmas.{Holds-versions}
 use Rattle.wbl_engine.specs.Contents.{Keeps}
 use Rattle.machine.specs.Events.{Span}
 use Rattle.world.specs.GroupSpans.{IsGroupOf}
-use Rattle.world.specs.Committings.{AreContentsAt, EngineStands, Moves, Rests, Stands, StandsAtOrNext, NearOnly}
+use Rattle.world.specs.Committings.{AreContentsAt, EngineStands, Moves, Rests, Stands, StandsAtEither, NearOnly}
 
 -- ---- what a crash leaves
 
@@ -37,9 +37,9 @@ pub Stands-engine : (holder : Holder) (calls : List Call) (p : ℕ) (device : St
 Stands-engine holder calls p device contents is_faulted stands = λ image is. keeps-stands holder calls p contents image stands.contents_at (stands.durable image is)
 
 -- nothing happened to the device
-pub near-still : (holder : Holder) (calls : List Call) (p : ℕ) (device : State) (contents : Contents) (is_faulted : Bool) → EngineStands holder calls p device contents is_faulted → NearOnly holder calls p device device
-near-still holder calls p device contents is_faulted stands =
-    none_leaves device (StandsAtOrNext holder calls p) (λ image is. inl (Stands-engine holder calls p device contents is_faulted stands image is))
+pub near-still : (holder : Holder) (calls : List Call) (p q : ℕ) (device : State) (contents : Contents) (is_faulted : Bool) → EngineStands holder calls p device contents is_faulted → NearOnly holder calls p q device device
+near-still holder calls p q device contents is_faulted stands =
+    none_leaves device (StandsAtEither holder calls p q) (λ image is. inl (Stands-engine holder calls p device contents is_faulted stands image is))
 
 pub rests-same : (holder : Holder) (calls : List Call) (p : ℕ) (old new : State) → new ≡ old → Stands holder calls p old → Rests holder calls p old new
 rests-same holder calls p old new same stands =
@@ -48,15 +48,7 @@ rests-same holder calls p old new same stands =
 -- nothing happened to the device, wherever its node was said to stand before
 pub moves-same : (holder : Holder) (calls : List Call) (p q : ℕ) (old new : State) → new ≡ old → Stands holder calls q new → Moves holder calls p q old new
 moves-same holder calls p q old new same stands = subst (λ (d : State). Moves holder calls p q d new) same
-    (record { leaves = none_leaves new (λ image. StandsAt holder calls p image ⊎ StandsAt holder calls q image) (λ image is. inr (stands image is)); failures = refl })
-
--- the node moved by one change
-pub near-moves : (holder : Holder) (calls : List Call) (p q : ℕ) (old new : State) → q ≡ p + 1 → new.failures ≡ old.failures → NearOnly holder calls p old new → Moves holder calls p q old new
-near-moves holder calls p q old new next failures only = record { leaves = LeavesOnly-weaken (λ image. StandsAt holder calls p image ⊎ StandsAt holder calls q image) either only; failures = failures }
-  where
-    either : (image : Image) → StandsAtOrNext holder calls p image → StandsAt holder calls p image ⊎ StandsAt holder calls q image
-    either image (inl here) = inl here
-    either image (inr there) = inr (subst (λ n. StandsAt holder calls n image) (sym next) there.1)
+    (record { leaves = none_leaves new (StandsAtEither holder calls p q) (λ image is. inr (stands image is)); failures = refl })
 
 -- ---- while the list grows
 

@@ -1,5 +1,5 @@
 -- What each event does to the pair, of what it does to its parts.
-use Rattle.std.proofs.Common.{◌≡◌, ℕ, ◌+◌, ◌≤◌, ◌&&◌, Bool, true, false, nat_lt, List, [], ◌∷◌, ◌++◌, length, option_map, slice_get, slice_index_or, Option, Some, Result, Ok, Err, IfOk, IfErr, OnOk, OnErr, IsErr, Vec, Global, ◌<◌, refl, sym, ap, subst, ◌∙◌, arith, inl, true≢false}
+use Rattle.std.proofs.Common.{◌≡◌, ℕ, ◌+◌, ◌≤◌, ◌&&◌, Bool, true, false, nat_lt, List, [], ◌∷◌, ◌++◌, length, option_map, slice_get, slice_index_or, Option, Some, Result, Ok, Err, IfOk, IfErr, OnOk, OnErr, IsErr, Vec, Global, ◌<◌, refl, sym, ap, subst, ◌∙◌, arith, inl, true≢false, cond, eq-eqb, ap₂, All}
 use Rattle.std.proofs.lemmas.Bool.{lt-ltb, le-ltb, ltb-true}
 use Rattle.std.proofs.lemmas.List.{length-map}
 use Rattle.std.proofs.lemmas.Option.{slice_get-get_or, slice_get-map, slice_get_within}
@@ -17,17 +17,19 @@ use Rattle.standby.specs.declared.frame.Frame.{Frame}
 use Rattle.standby.specs.declared.frame.Ack.{Ack}
 use Rattle.machine.specs.declared.event.Event.{Event}
 use Rattle.machine.specs.declared.event.Event.TheVariants as events
-use Rattle.machine.specs.Events.{Connection, World, Committer as MachineCommitter, Link as MachineLink, Standby as MachineStandby, Span, Happens, Step, Turns, is_enabled, is_ready, has_room, called, opened_link, acknowledged, sent_next, closed_group, committed_first, raised_local, ready_again, handed, handed_to, delivered, option_items, knowing, told, with_link, with_standby, with_committer}
-use Rattle.machine.specs.Sound.{IsChain, Sound}
+use Rattle.machine.specs.Events.{Connection, World, Committer as MachineCommitter, Link as MachineLink, Standby as MachineStandby, Frame as Sent, Acknowledgement, Span, Happens, Step, Turns, may_happen, is_enabled, called, opened_link, acknowledgement_of, next_to_send, framed, sent, sent_next, closed_group, committed_first, raised_local, ready_again, handed, handed_to, delivered, option_items, knowing, told, with_connections, with_link, with_standby, with_committer, with_sent, with_acknowledged}
+use Rattle.std.proofs.lemmas.List.Elements.{All-head}
+use Rattle.machine.specs.Sound.{IsToldWithin, Sound}
+use Rattle.machine.proofs.StandbyLemmas.{all-at}
 use Rattle.machine.proofs.GroupLemmas.{chain-le}
-use Rattle.machine.proofs.SoundEvents.{sound-step}
+use Rattle.machine.proofs.SoundEvents.{sound-step, enabled-is}
 use Rattle.world.specs.Going.{Goes}
 use Rattle.world.specs.GroupSpans.{AreGroupsOf}
-use Rattle.world.specs.Causes.{Stretch, Breaks, RestsAtLimit, EndsBy, asks_memory}
-use Rattle.world.specs.Committings.{EngineStands, Leads, LeadsOn, NearOnly, Moves, Rests, CommittingStands}
+use Rattle.world.specs.Causes.{Stretch, Breaks, RestsAtLimit, EndsBy, asks_memory, Resting}
+use Rattle.world.specs.Committings.{EngineStands, Leads, LeadsOn, NearOnly, Moves, Rests, CommittingStands, next_primary, next_standby}
 use Rattle.world.specs.Links.{LinkStands, KeepsFrames, AreFramesAt}
 use Rattle.world.specs.Sessions.{SessionsStand, SequencerStands, AddsOne, TakesTurn, TellsTheSame}
-use Rattle.world.specs.Standbys.{Node, StandbyStands, ArrivalsStand, AppliesFirst}
+use Rattle.world.specs.Standbys.{Node, StandbyStands, ArrivalsStand, AppliesFirst, told_by}
 use Rattle.world.specs.Pairs.{Pair, PartsStand, PairStands, IsCut, MovesBoth, Steps, Does}
 use Rattle.world.specs.declared.arrivals.Arrivals.{Arrivals}
 use Rattle.world.specs.declared.connection.Connection.{Connection as Connection'}
@@ -56,9 +58,9 @@ untouched first second old new w w' device device' parts =
 
 -- an event that touches no device
 pub goes-steps : (first second : Holder) (w w' : World) (event : Event) (did : Bool) (old new : Pair) → new.device ≡ old.device → new.standby.device ≡ old.standby.device → Sound w → Happens w event w'
-    → Goes (is_enabled w event) did (PartsStand first second new w') (PartsStand first second new w) → Steps first second w event did old new
+    → Goes (may_happen w event) did (PartsStand first second new w') (PartsStand first second new w) → Steps first second w event did old new
 goes-steps first second w w' event true old new device device' sound happens goes =
-    let step : Step w event true w' = record { done = goes.done; happens = λ did. happens; stands = λ did. absurd (true≢false did) } in
+    let step : Step w event true w' = record { done = goes.done ∙ sym (enabled-is w event sound); happens = λ did. happens; stands = λ did. absurd (true≢false did) } in
     record {
       world = w';
       step = step;
@@ -68,7 +70,7 @@ goes-steps first second w w' event true old new device device' sound happens goe
 goes-steps first second w w' event false old new device device' sound happens goes =
     record {
       world = w;
-      step = record { done = goes.done; happens = λ did. absurd (true≢false (sym did)); stands = λ did. refl };
+      step = record { done = goes.done ∙ sym (enabled-is w event sound); happens = λ did. absurd (true≢false (sym did)); stands = λ did. refl };
       stands = record { sound = sound; parts = goes.stays refl };
       moves = untouched first second old new w w device device' (goes.stays refl);
     }
@@ -83,22 +85,23 @@ rests-standby first second old w stands =
     rests-same second w.primary.calls w.standby.position old.standby.device old.standby.device refl (Stands-engine _ _ _ _ _ _ stands.parts.standby.engine)
 
 -- what an event that was cut did to both devices
-abbrev pub Led : ℕ → ℕ → Pair → Pair → World → Stretch → Stretch → Type 0
+abbrev pub Led : Holder → Holder → Pair → Pair → World → Stretch → Stretch → Type 0
 Led first second old new w first_last second_last =
-    first_last first w.primary.calls w.primary.committer.position old.device new.device × second_last second w.primary.calls w.standby.position old.standby.device new.standby.device
+    first_last first w.primary.calls w.primary.committer.position (next_primary w) old.device new.device
+    × second_last second w.primary.calls w.standby.position (next_standby w) old.standby.device new.standby.device
 
 pub cut-for : (first second : Holder) (event : Event) (refusal : Refusal) (old new : Pair) (w : World) → PairStands first second old w → TellsTheSame old.sessions new.sessions
-    → is_enabled w event ≡ true → EndsBy refusal event (Led first second old new w) → IsCut first second event refusal old new w
+    → may_happen w event ≡ true → EndsBy refusal event (Led first second old new w) → IsCut first second event refusal old new w
 cut-for first second event refusal old new w stands same enabled cause =
     let sessions = stands.parts.sessions in
     record {
-      enabled = enabled;
+      enabled = enabled-is w event stands.sound ∙ enabled;
       calls = same.calls ∙ sessions.calls_are;
       released = λ c. ap (λ (all : List (List ℕ)). slice_index_or all c []) same.released
           ∙ released-told w.primary.calls 0 old.sessions.connections.items w.primary.connections sessions.connections_stand c;
       few = omega (
         arith,
-        stands.sound.seats,
+        stands.sound.connections.seats,
         length-connections w.primary.calls 0 old.sessions.connections.items w.primary.connections sessions.connections_stand,
         ap length same.released,
         length-map old.sessions.connections.items (λ (k : Connection'). k.outbound.released.items),
@@ -109,7 +112,7 @@ cut-for first second event refusal old new w stands same enabled cause =
 
 -- memory was refused, and neither device was touched
 pub cut-same : (first second : Holder) (event : Event) (refusal : Refusal) (old new : Pair) (w : World) → asks_memory event ≡ true → refusal ≡ Memory → new.device ≡ old.device
-    → new.standby.device ≡ old.standby.device → TellsTheSame old.sessions new.sessions → is_enabled w event ≡ true → PairStands first second old w
+    → new.standby.device ≡ old.standby.device → TellsTheSame old.sessions new.sessions → may_happen w event ≡ true → PairStands first second old w
     → IsCut first second event refusal old new w
 cut-same first second event refusal old new w asks memory device device' same enabled stands =
     cut-for first second event refusal old new w stands same enabled
@@ -128,9 +131,6 @@ none-added old new same = subst (AddsOne old) (sym same) (record { one = omega a
 
 -- ---- what the connections do
 
-abbrev pub with_connections : List Connection → World → World
-with_connections connections w = record { connections = connections; calls = w.primary.calls; committer = w.primary.committer; link = w.primary.link; standby = w.standby }
-
 abbrev pub with_sessions : Sessions → Pair → Pair
 with_sessions sessions pair = record pair { sessions = sessions }
 
@@ -143,6 +143,7 @@ sessions-parts first second old sessions connections w parts stand =
       committing = parts.committing;
       engine = parts.engine;
       leads = parts.leads;
+      epoch = parts.epoch;
       link = parts.link;
       arrivals = parts.arrivals;
       standby = parts.standby;
@@ -152,7 +153,7 @@ sessions-parts first second old sessions connections w parts stand =
 abbrev pub SessionsGo : Event → (World → List Connection) → Bool → Sessions → Sessions → Type 0
 SessionsGo event change did old new =
     (w : World) → SessionsStand old w.primary.connections w.primary.calls
-    → Goes (is_enabled w event) did (SessionsStand new (change w) w.primary.calls) (SessionsStand new w.primary.connections w.primary.calls)
+    → Goes (may_happen w event) did (SessionsStand new (change w) w.primary.calls) (SessionsStand new w.primary.connections w.primary.calls)
 
 sessions-steps : (event : Event) (change : World → List Connection) → ((w : World) → Happens w event (with_connections (change w) w))
     → (old : Pair) (sessions : Sessions) (did : Bool) → SessionsGo event change did old.sessions sessions
@@ -166,7 +167,7 @@ sessions-steps event change happens old sessions did go first second w stands =
 pub sessions-do : (event : Event) (change : World → List Connection) → ((w : World) → Happens w event (with_connections (change w) w)) → asks_memory event ≡ true
     → (old : Pair) (sessions : Sessions) (result : Result Bool Refusal) → IfOk result (λ did. SessionsGo event change did old.sessions sessions)
     → OnErr result (TellsTheSame old.sessions sessions) → IfErr result (λ refusal. refusal ≡ Memory)
-    → OnErr result ((w : World) → SessionsStand old.sessions w.primary.connections w.primary.calls → is_enabled w event ≡ true)
+    → OnErr result ((w : World) → SessionsStand old.sessions w.primary.connections w.primary.calls → may_happen w event ≡ true)
     → sessions.calls ≡ old.sessions.calls → Does old event result (with_sessions sessions old)
 sessions-do event change happens asks old sessions (Ok did) go same memory enabled calls =
     record { steps = sessions-steps event change happens old sessions did go; cut = tt; calls = none-added _ _ calls }
@@ -189,7 +190,7 @@ sessions-did event change happens old sessions did go calls =
 pub read-does : (event : Event) (change : World → List Connection) → ((w : World) → Happens w event (with_connections (change w) w))
     → (old : Pair) (sessions : Sessions) (did : Bool)
     → ((w : World) → SessionsStand old.sessions w.primary.connections w.primary.calls → old.committing.local ≡ w.primary.committer.local → old.link.remote ≡ w.primary.link.remote
-    → Goes (is_enabled w event) did (SessionsStand sessions (change w) w.primary.calls) (SessionsStand sessions w.primary.connections w.primary.calls))
+    → Goes (may_happen w event) did (SessionsStand sessions (change w) w.primary.calls) (SessionsStand sessions w.primary.connections w.primary.calls))
     → sessions.calls ≡ old.sessions.calls → Does old event (Ok did) (with_sessions sessions old)
 read-does event change happens old sessions did go calls =
     record {
@@ -214,7 +215,7 @@ abbrev pub with_turn : Sessions → Sequencing → Pair → Pair
 with_turn sessions sequencer pair = record pair { sessions = sessions; sequencer = sequencer }
 
 called-parts : (first second : Holder) (old : Pair) (sessions : Sessions) (sequencer : Sequencing) (w : World) (c : ℕ) (call : Call) → PairStands first second old w
-    → SessionsStand sessions (called c call w).connections (w.primary.calls ++ call ∷ []) → SequencerStands (w.primary.calls ++ call ∷ []) w.primary.committer.closed sequencer
+    → SessionsStand sessions (called c call w).primary.connections (w.primary.calls ++ call ∷ []) → SequencerStands (w.primary.calls ++ call ∷ []) w.primary.committer.closed sequencer
     → ((contents : Contents) → StandsFor old.sequencer contents → StandsFor sequencer contents)
     → PartsStand first second (with_turn sessions sequencer old) (called c call w)
 called-parts first second old sessions sequencer w c call stands sessions_stand sequencer_stands goes_on =
@@ -225,8 +226,9 @@ called-parts first second old sessions sequencer w c call stands sessions_stand 
       committing = CommittingStands-grows w.primary.calls (call ∷ []) old.committing w.primary.committer parts.committing;
       engine = EngineStands-grows first w.primary.calls (call ∷ []) w.primary.committer.position old.device old.contents old.is_faulted (primary-within w stands.sound) parts.engine;
       leads = record { groups_are = parts.leads.groups_are; stands = goes_on _ parts.leads.stands };
-      link = LinkStands-grows w.primary.calls (call ∷ []) old.link w.primary.link parts.link;
-      arrivals = ArrivalsStand-grows old.link.epoch w.primary.calls (call ∷ []) old.link.frames.items old.arrivals w.standby parts.arrivals;
+      epoch = parts.epoch;
+      link = LinkStands-grows w.primary.calls (call ∷ []) old.link w.primary.link w.wire.frames parts.link;
+      arrivals = ArrivalsStand-grows old.link.epoch w.primary.calls (call ∷ []) old.link.frames.items old.arrivals w.standby.waiting w.wire.acknowledgements parts.arrivals;
       standby = StandbyStands-grows second old.link.epoch w.primary.calls (call ∷ []) w.standby.position old.standby (standby-within w stands.sound) parts.standby;
     }
 
@@ -239,9 +241,9 @@ turn-steps first second old sessions sequencer w c true stands takes goes_on =
     let w' = called c turns.call w in
     let parts : PartsStand first second (with_turn sessions sequencer old) w' =
     called-parts first second old sessions sequencer w c turns.call stands
-    (subst (λ (x : World). SessionsStand sessions x.connections x.calls) turns.now moved.2)
-    (subst (λ (x : World). SequencerStands x.calls x.committer.closed sequencer) turns.now moved.3) goes_on in
-    let step : Step w (events.Turn c) true w' = record { done = takes.done; happens = λ did. subst (Turns w c) turns.now turns; stands = λ did. absurd (true≢false did) } in
+    (subst (λ (x : World). SessionsStand sessions x.primary.connections x.primary.calls) turns.now moved.2)
+    (subst (λ (x : World). SequencerStands x.primary.calls x.primary.committer.closed sequencer) turns.now moved.3) goes_on in
+    let step : Step w (events.Turn c) true w' = record { done = takes.done ∙ sym (enabled-is w (events.Turn c) stands.sound); happens = λ did. subst (Turns w c) turns.now turns; stands = λ did. absurd (true≢false did) } in
     record {
       world = w';
       step = step;
@@ -261,13 +263,14 @@ turn-steps first second old sessions sequencer w c false stands takes goes_on =
       committing = before.committing;
       engine = before.engine;
       leads = record { groups_are = before.leads.groups_are; stands = goes_on _ before.leads.stands };
+      epoch = before.epoch;
       link = before.link;
       arrivals = before.arrivals;
       standby = before.standby;
     } in
     record {
       world = w;
-      step = record { done = takes.done; happens = λ did. absurd (true≢false (sym did)); stands = λ did. refl };
+      step = record { done = takes.done ∙ sym (enabled-is w (events.Turn c) stands.sound); happens = λ did. absurd (true≢false (sym did)); stands = λ did. refl };
       stands = record { sound = stands.sound; parts = parts };
       moves = untouched first second old (with_turn sessions sequencer old) w w refl refl parts;
     }
@@ -291,12 +294,12 @@ with_group committing sequencer pair = record pair { committing = committing; se
 
 pub close-does : (old : Pair) (committing : Committing) (sequencer : Sequencing) (result : Result Bool Refusal)
     → IfOk result (λ did. (w : World) → CommittingStands w.primary.calls old.committing w.primary.committer → SequencerStands w.primary.calls w.primary.committer.closed old.sequencer
-    → Goes (is_enabled w events.CloseGroup) did
-    (CommittingStands w.primary.calls committing (closed_group w.primary.committer) × SequencerStands w.primary.calls (closed_group w.primary.committer).closed sequencer)
+    → Goes (may_happen w events.CloseGroup) did
+    (CommittingStands w.primary.calls committing (closed_group (position_of w.primary.calls) w.primary.committer) × SequencerStands w.primary.calls (position_of w.primary.calls) sequencer)
     (CommittingStands w.primary.calls committing w.primary.committer × SequencerStands w.primary.calls w.primary.committer.closed sequencer))
     → ((contents : Contents) → Leads contents old.committing.waiting.items old.sequencer → Leads contents committing.waiting.items sequencer)
     → IfErr result (λ refusal. refusal ≡ Memory)
-    → OnErr result ((w : World) → CommittingStands w.primary.calls old.committing w.primary.committer → SequencerStands w.primary.calls w.primary.committer.closed old.sequencer → is_enabled w events.CloseGroup ≡ true)
+    → OnErr result ((w : World) → CommittingStands w.primary.calls old.committing w.primary.committer → SequencerStands w.primary.calls w.primary.committer.closed old.sequencer → may_happen w events.CloseGroup ≡ true)
     → Does old events.CloseGroup result (with_group committing sequencer old)
 close-does old committing sequencer (Err refusal) go leads memory enabled =
     record {
@@ -310,7 +313,7 @@ close-does old committing sequencer (Ok did) go leads memory enabled =
     record {
       steps = λ first second w stands.
           let parts = stands.parts in
-          goes-steps first second w (with_committer (closed_group w.primary.committer) w) events.CloseGroup did old (with_group committing sequencer old) refl refl stands.sound refl
+          goes-steps first second w (with_committer (closed_group (position_of w.primary.calls) w.primary.committer) w) events.CloseGroup did old (with_group committing sequencer old) refl refl stands.sound refl
           (goes-map (go w parts.committing parts.sequencer)
           (λ moved. record {
             sessions = parts.sessions;
@@ -318,6 +321,7 @@ close-does old committing sequencer (Ok did) go leads memory enabled =
             committing = moved.0;
             engine = parts.engine;
             leads = leads old.contents parts.leads;
+            epoch = parts.epoch;
             link = parts.link;
             arrivals = parts.arrivals;
             standby = parts.standby;
@@ -328,6 +332,7 @@ close-does old committing sequencer (Ok did) go leads memory enabled =
             committing = stayed.0;
             engine = parts.engine;
             leads = leads old.contents parts.leads;
+            epoch = parts.epoch;
             link = parts.link;
             arrivals = parts.arrivals;
             standby = parts.standby;
@@ -344,30 +349,22 @@ with_engine committing device contents is_faulted pair =
 leads_on : (old : Contents) (groups : List Group) (new : Contents) (rest : List Group) (sequencer : Sequencing) → LeadsOn old groups new rest → Leads old groups sequencer → Leads new rest sequencer
 leads_on old groups new rest sequencer on leads = record { groups_are = on.groups_are; stands = subst (StandsFor sequencer) (sym on.same) leads.stands }
 
--- a group that waits is one change
-committed-next : (from to : ℕ) (groups : List Span) (committer : MachineCommitter) (ready room : Bool) → IsChain from groups to → true ≡ (ready && is_nonempty groups && room)
-    → (committed_first groups committer).position ≡ from + 1
-committed-next from to [] committer true room chain enabled = absurd (true≢false enabled)
-committed-next from to [] committer false room chain enabled = absurd (true≢false enabled)
-committed-next from to (group ∷ groups) committer ready room chain enabled = chain.1
-
 commit-steps : (first second : Holder) (w : World) (did : Bool) (old new : Pair) → new.standby.device ≡ old.standby.device → Sound w
-    → (did ≡ false → new.device ≡ old.device) → new.device.failures ≡ old.device.failures → NearOnly first w.primary.calls w.primary.committer.position old.device new.device
-    → Goes (is_enabled w events.Commit) did
+    → (did ≡ false → new.device ≡ old.device) → new.device.failures ≡ old.device.failures → NearOnly first w.primary.calls w.primary.committer.position (next_primary w) old.device new.device
+    → Goes (may_happen w events.Commit) did
     (PartsStand first second new (with_committer (committed_first w.primary.committer.waiting w.primary.committer) w)) (PartsStand first second new w)
     → Steps first second w events.Commit did old new
 commit-steps first second w true old new device' sound still failures only goes =
     let committer = committed_first w.primary.committer.waiting w.primary.committer in
     let w' = with_committer committer w in
     let parts = goes.goes refl in
-    let step : Step w events.Commit true w' = record { done = goes.done; happens = λ did. refl; stands = λ did. absurd (true≢false did) } in
-    let next = committed-next w.primary.committer.position w.primary.committer.closed w.primary.committer.waiting w.primary.committer (is_ready w.primary.committer.stage) (has_room w.primary.link.waiting) sound.committer.waiting goes.done in
+    let step : Step w events.Commit true w' = record { done = goes.done ∙ sym (enabled-is w events.Commit sound); happens = λ did. refl; stands = λ did. absurd (true≢false did) } in
     record {
       world = w';
       step = step;
       stands = record { sound = sound-step w events.Commit true w' step sound; parts = parts };
       moves = record {
-        primary = near-moves first w.primary.calls w.primary.committer.position committer.position old.device new.device next failures only;
+        primary = record { leaves = only; failures = failures };
         standby = moves-same second w.primary.calls w.standby.position w.standby.position old.standby.device new.standby.device device' (Stands-engine _ _ _ _ _ _ parts.standby.engine);
       };
     }
@@ -375,7 +372,7 @@ commit-steps first second w false old new device' sound still failures only goes
     goes-steps first second w (with_committer (committed_first w.primary.committer.waiting w.primary.committer) w) events.Commit false old new (still refl) device' sound refl goes
 
 -- what ended a commit is of the primary's device
-ends-commit : (refusal : Refusal) (P Q : Stretch → Stretch → Type 0) → ((last : Stretch) → P last Rests → Q last Rests) → EndsBy refusal events.Commit P → EndsBy refusal events.Commit Q
+ends-commit : (refusal : Refusal) (P Q : Stretch → Stretch → Type 0) → ((last : Stretch) → P last Resting → Q last Resting) → EndsBy refusal events.Commit P → EndsBy refusal events.Commit Q
 ends-commit Memory P Q both ends = absurd (true≢false (sym ends.0))
 ends-commit Fault P Q both ends = both Breaks ends
 ends-commit Exhausted P Q both ends = both RestsAtLimit ends
@@ -384,17 +381,17 @@ ends-commit refusal P Q both ends = absurd ends
 pub commit-does : (old : Pair) (committing : Committing) (device : State) (contents : Contents) (is_faulted : Bool) (result : Result Bool Refusal)
     → IfOk result (λ did. (holder : Holder) (w : World) → CommittingStands w.primary.calls old.committing w.primary.committer
     → EngineStands holder w.primary.calls w.primary.committer.position old.device old.contents old.is_faulted → AreGroupsOf w.primary.calls old.link.waiting.items w.primary.link.waiting
-    → Goes (is_enabled w events.Commit) did
+    → Goes (may_happen w events.Commit) did
     (CommittingStands w.primary.calls committing (committed_first w.primary.committer.waiting w.primary.committer)
     × EngineStands holder w.primary.calls (committed_first w.primary.committer.waiting w.primary.committer).position device contents is_faulted)
     (CommittingStands w.primary.calls committing w.primary.committer × EngineStands holder w.primary.calls w.primary.committer.position device contents is_faulted))
     → IfOk result (λ _. LeadsOn old.contents old.committing.waiting.items contents committing.waiting.items)
     → IfOk result (λ did. did ≡ false → device ≡ old.device) → OnOk result (device.failures ≡ old.device.failures)
     → ((holder : Holder) (w : World) → Sound w → CommittingStands w.primary.calls old.committing w.primary.committer
-    → EngineStands holder w.primary.calls w.primary.committer.position old.device old.contents old.is_faulted → NearOnly holder w.primary.calls w.primary.committer.position old.device device)
+    → EngineStands holder w.primary.calls w.primary.committer.position old.device old.contents old.is_faulted → NearOnly holder w.primary.calls w.primary.committer.position (next_primary w) old.device device)
     → IfErr result (λ refusal. (holder : Holder) (w : World) → Sound w → CommittingStands w.primary.calls old.committing w.primary.committer
     → EngineStands holder w.primary.calls w.primary.committer.position old.device old.contents old.is_faulted → AreGroupsOf w.primary.calls old.link.waiting.items w.primary.link.waiting
-    → (is_enabled w events.Commit ≡ true) × EndsBy refusal events.Commit (λ last _. last holder w.primary.calls w.primary.committer.position old.device device))
+    → (may_happen w events.Commit ≡ true) × EndsBy refusal events.Commit (λ last _. last holder w.primary.calls w.primary.committer.position (next_primary w) old.device device))
     → Does old events.Commit result (with_engine committing device contents is_faulted old)
 commit-does old committing device contents is_faulted (Err refusal) go leads still failures only cuts =
     record {
@@ -403,7 +400,7 @@ commit-does old committing device contents is_faulted (Err refusal) go leads sti
           let new = with_engine committing device contents is_faulted old in
           let cut = cuts first w stands.sound stands.parts.committing stands.parts.engine stands.parts.link.waiting in
           cut-for first second events.Commit refusal old new w stands (tells old.sessions) cut.0
-          (ends-commit refusal (λ last _. last first w.primary.calls w.primary.committer.position old.device device) (Led first second old new w)
+          (ends-commit refusal (λ last _. last first w.primary.calls w.primary.committer.position (next_primary w) old.device device) (Led first second old new w)
           (λ last broken. (broken, rests-standby first second old w stands)) cut.1);
       calls = none-added _ _ refl;
     }
@@ -435,6 +432,7 @@ commit-does old committing device contents is_faulted (Ok did) go leads still fa
           committing = committing_stands;
           engine = engine_stands;
           leads = leads_on old.contents old.committing.waiting.items contents committing.waiting.items old.sequencer leads parts.leads;
+          epoch = parts.epoch;
           link = parts.link;
           arrivals = parts.arrivals;
           standby = parts.standby;
@@ -453,6 +451,7 @@ shown-parts first second old committing w committer parts waiting committing_sta
       committing = committing_stands;
       engine = subst (λ p. EngineStands first w.primary.calls p old.device old.contents old.is_faulted) (sym position) parts.engine;
       leads = subst (λ (waits : Waiting Group). Leads old.contents waits.items old.sequencer) (sym waiting) parts.leads;
+      epoch = parts.epoch;
       link = parts.link;
       arrivals = parts.arrivals;
       standby = parts.standby;
@@ -460,7 +459,7 @@ shown-parts first second old committing w committer parts waiting committing_sta
 
 pub raise-does : (old : Pair) (committing : Committing) (did : Bool)
     → ((w : World) → CommittingStands w.primary.calls old.committing w.primary.committer → old.contents.current.position ≡ w.primary.committer.position
-    → Goes (is_enabled w events.RaiseLocal) did (CommittingStands w.primary.calls committing (raised_local w.primary.committer)) (CommittingStands w.primary.calls committing w.primary.committer))
+    → Goes (may_happen w events.RaiseLocal) did (CommittingStands w.primary.calls committing (raised_local w.primary.committer)) (CommittingStands w.primary.calls committing w.primary.committer))
     → committing.waiting ≡ old.committing.waiting → Does old events.RaiseLocal (Ok did) (with_committing committing old)
 raise-does old committing did go waiting =
     record {
@@ -482,7 +481,7 @@ with_handed committing link pair = record pair { committing = committing; link =
 
 pub hand-does : (old : Pair) (committing : Committing) (waiting : Waiting Group) (did : Bool)
     → ((w : World) → Sound w → CommittingStands w.primary.calls old.committing w.primary.committer → AreGroupsOf w.primary.calls old.link.waiting.items w.primary.link.waiting
-    → Goes (is_enabled w events.Hand) did
+    → Goes (may_happen w events.Hand) did
     (CommittingStands w.primary.calls committing (ready_again w.primary.committer) × AreGroupsOf w.primary.calls waiting.items (w.primary.link.waiting ++ handed w.primary.committer.stage))
     (CommittingStands w.primary.calls committing w.primary.committer × AreGroupsOf w.primary.calls waiting.items w.primary.link.waiting))
     → committing.waiting ≡ old.committing.waiting → Does old events.Hand (Ok did) (with_handed committing (record old.link { waiting = waiting }) old)
@@ -501,6 +500,7 @@ hand-does old committing waiting did go same =
             committing = shown.committing;
             engine = shown.engine;
             leads = shown.leads;
+            epoch = parts.epoch;
             link = waits (handed_to (handed w.primary.committer.stage) w.primary.link) w parts.link refl moved.1;
             arrivals = parts.arrivals;
             standby = parts.standby;
@@ -513,6 +513,7 @@ hand-does old committing waiting did go same =
             committing = shown.committing;
             engine = shown.engine;
             leads = shown.leads;
+            epoch = parts.epoch;
             link = waits w.primary.link w parts.link refl stayed.1;
             arrivals = parts.arrivals;
             standby = parts.standby;
@@ -521,10 +522,10 @@ hand-does old committing waiting did go same =
       calls = none-added _ _ refl;
     }
   where
-    waits : (link : MachineLink) (w : World) → LinkStands w.primary.calls old.link w.primary.link → record w.primary.link { waiting = link.waiting } ≡ link → AreGroupsOf w.primary.calls waiting.items link.waiting
-        → LinkStands w.primary.calls (record old.link { waiting = waiting }) link
+    waits : (link : MachineLink) (w : World) → LinkStands w.primary.calls old.link w.primary.link w.wire.frames → record w.primary.link { waiting = link.waiting } ≡ link → AreGroupsOf w.primary.calls waiting.items link.waiting
+        → LinkStands w.primary.calls (record old.link { waiting = waiting }) link w.wire.frames
     waits link w stands same_rest groups =
-        subst (LinkStands w.primary.calls (record old.link { waiting = waiting })) same_rest
+        subst (λ (l : MachineLink). LinkStands w.primary.calls (record old.link { waiting = waiting }) l w.wire.frames) same_rest
         (record {
           waiting = groups;
           spans = stands.spans;
@@ -541,45 +542,59 @@ hand-does old committing waiting did go same =
 abbrev pub with_frames : Link → Pair → Pair
 with_frames link pair = record pair { link = link }
 
-link-parts : (first second : Holder) (old : Pair) (link : Link) (w : World) (machine : MachineLink) → PartsStand first second old w → KeepsFrames old.link link → LinkStands w.primary.calls link machine
-    → PartsStand first second (with_frames link old) (with_link machine w)
-link-parts first second old link w machine parts keeps link_stands =
+link-parts : (first second : Holder) (old : Pair) (link : Link) (w : World) (machine : MachineLink) (frames : List Sent) → PartsStand first second old w → KeepsFrames old.link link
+    → LinkStands w.primary.calls link machine frames
+    → PartsStand first second (with_frames link old) (record w { primary = record w.primary { link = machine }; wire = record w.wire { frames = frames } })
+link-parts first second old link w machine frames parts keeps link_stands =
+    let waiting = w.standby.waiting in
+    let told = w.wire.acknowledgements in
     record {
       sessions = parts.sessions;
       sequencer = parts.sequencer;
       committing = parts.committing;
       engine = parts.engine;
       leads = parts.leads;
+      epoch = keeps.epoch ∙ parts.epoch;
       link = link_stands;
-      arrivals = subst (λ e. ArrivalsStand e w.primary.calls link.frames.items old.arrivals w.standby) (sym keeps.epoch)
-          (subst (λ frames. ArrivalsStand old.link.epoch w.primary.calls frames old.arrivals w.standby) keeps.frames.joined
-          (ArrivalsStand-frames old.link.epoch w.primary.calls old.link.frames.items keeps.frames.rest old.arrivals w.standby parts.arrivals));
+      arrivals = subst (λ e. ArrivalsStand e w.primary.calls link.frames.items old.arrivals waiting told) (sym keeps.epoch)
+          (subst (λ all. ArrivalsStand old.link.epoch w.primary.calls all old.arrivals waiting told) keeps.frames.joined
+          (ArrivalsStand-frames old.link.epoch w.primary.calls old.link.frames.items keeps.frames.rest old.arrivals waiting told parts.arrivals));
       standby = subst (λ e. StandbyStands second e w.primary.calls w.standby.position old.standby) (sym keeps.epoch) parts.standby;
     }
 
 -- what the link did, of each sound world that it stood for
-abbrev pub LinkGoes : Event → (World → MachineLink) → Bool → Link → Link → Type 0
-LinkGoes event change did old new =
-    (w : World) → Sound w → LinkStands w.primary.calls old w.primary.link → Goes (is_enabled w event) did (LinkStands w.primary.calls new (change w)) (LinkStands w.primary.calls new w.primary.link)
+abbrev pub LinkGoes : Event → (World → MachineLink) → (World → List Sent) → Bool → Link → Link → Type 0
+LinkGoes event change sends did old new =
+    (w : World) → Sound w → LinkStands w.primary.calls old w.primary.link w.wire.frames
+    → Goes (may_happen w event) did (LinkStands w.primary.calls new (change w) (sends w)) (LinkStands w.primary.calls new w.primary.link w.wire.frames)
 
-link-steps : (event : Event) (change : World → MachineLink) → ((w : World) → Happens w event (with_link (change w) w)) → (old : Pair) (link : Link) (did : Bool)
-    → LinkGoes event change did old.link link → KeepsFrames old.link link
+link-steps : (event : Event) (change : World → MachineLink) (sends : World → List Sent)
+    → (old : Pair) (link : Link) (did : Bool)
+    → ((w : World) → old.link.epoch ≡ w.primary.epoch → Happens w event (record w { primary = record w.primary { link = change w }; wire = record w.wire { frames = sends w } }))
+    → LinkGoes event change sends did old.link link → KeepsFrames old.link link
     → (first second : Holder) (w : World) → PairStands first second old w → Steps first second w event did old (with_frames link old)
-link-steps event change happens old link did go keeps first second w stands =
-    goes-steps first second w (with_link (change w) w) event did old (with_frames link old) refl refl stands.sound (happens w)
+link-steps event change sends old link did happens go keeps first second w stands =
+    goes-steps first second w (record w { primary = record w.primary { link = change w }; wire = record w.wire { frames = sends w } }) event did old (with_frames link old) refl refl stands.sound (happens w stands.parts.epoch)
     (goes-map (go w stands.sound stands.parts.link)
-    (link-parts first second old link w (change w) stands.parts keeps)
-    (link-parts first second old link w w.primary.link stands.parts keeps))
+    (link-parts first second old link w (change w) (sends w) stands.parts keeps)
+    (link-parts first second old link w w.primary.link w.wire.frames stands.parts keeps))
 
 pub link-does : (event : Event) (change : World → MachineLink) → ((w : World) → Happens w event (with_link (change w) w)) → (old : Pair) (link : Link) (did : Bool)
-    → LinkGoes event change did old.link link → KeepsFrames old.link link → Does old event (Ok did) (with_frames link old)
+    → LinkGoes event change (λ w. w.wire.frames) did old.link link → KeepsFrames old.link link → Does old event (Ok did) (with_frames link old)
 link-does event change happens old link did go keeps =
-    record { steps = link-steps event change happens old link did go keeps; cut = tt; calls = none-added _ _ refl }
+    record { steps = link-steps event change (λ w. w.wire.frames) old link did (λ w same. happens w) go keeps; cut = tt; calls = none-added _ _ refl }
 
-pub send-does : (old : Pair) (link : Link) (result : Result Bool Refusal) → IfOk result (λ did. LinkGoes events.Send (λ w. sent_next w.primary.link.again w.primary.link) did old.link link)
+pub send-does : (old : Pair) (link : Link) (result : Result Bool Refusal)
+    → IfOk result (λ did. LinkGoes events.Send (λ w. sent_next w.primary.link.again w.primary.link) (λ w. w.wire.frames ++ framed old.link.epoch (next_to_send w.primary.link)) did old.link link)
     → OnOk result (KeepsFrames old.link link) → IfErr result (λ refusal. refusal ≡ Memory)
-    → OnErr result ((w : World) → LinkStands w.primary.calls old.link w.primary.link → is_enabled w events.Send ≡ true) → Does old events.Send result (with_frames link old)
-send-does old link (Ok did) go keeps memory enabled = link-does events.Send (λ w. sent_next w.primary.link.again w.primary.link) (λ w. refl) old link did go keeps
+    → OnErr result ((w : World) → LinkStands w.primary.calls old.link w.primary.link w.wire.frames → may_happen w events.Send ≡ true) → Does old events.Send result (with_frames link old)
+send-does old link (Ok did) go keeps memory enabled =
+    record {
+      steps = link-steps events.Send (λ w. sent_next w.primary.link.again w.primary.link) (λ w. w.wire.frames ++ framed old.link.epoch (next_to_send w.primary.link)) old link did
+          (λ w same. ap (λ epoch. with_sent (framed epoch (next_to_send w.primary.link)) (with_link (sent_next w.primary.link.again w.primary.link) w)) same) go keeps;
+      cut = tt;
+      calls = none-added _ _ refl;
+    }
 send-does old link (Err refusal) go keeps memory enabled =
     record {
       steps = tt;
@@ -596,36 +611,47 @@ with_arrivals arrivals pair = record pair { arrivals = arrivals }
 abbrev pub with_opened : Arrivals → Link → Pair → Pair
 with_opened arrivals link pair = record pair { arrivals = arrivals; link = link }
 
-arrivals-parts : (first second : Holder) (old : Pair) (arrivals : Arrivals) (w : World) (machine : MachineStandby) → PartsStand first second old w → machine.position ≡ w.standby.position
-    → ArrivalsStand old.link.epoch w.primary.calls old.link.frames.items arrivals machine → PartsStand first second (with_arrivals arrivals old) (with_standby machine w)
-arrivals-parts first second old arrivals w machine parts position arrivals_stand =
+arrivals-parts : (first second : Holder) (old : Pair) (arrivals : Arrivals) (w : World) (machine : MachineStandby) (told : List Acknowledgement) → PartsStand first second old w → machine.position ≡ w.standby.position
+    → ArrivalsStand old.link.epoch w.primary.calls old.link.frames.items arrivals machine.waiting told
+    → PartsStand first second (with_arrivals arrivals old) (record w { standby = machine; wire = record w.wire { acknowledgements = told } })
+arrivals-parts first second old arrivals w machine told parts position arrivals_stand =
     record {
       sessions = parts.sessions;
       sequencer = parts.sequencer;
       committing = parts.committing;
       engine = parts.engine;
       leads = parts.leads;
+      epoch = parts.epoch;
       link = parts.link;
       arrivals = arrivals_stand;
       standby = subst (λ p. StandbyStands second old.link.epoch w.primary.calls p old.standby) (sym position) parts.standby;
     }
 
+-- the epoch of the standby's node is the machine's
+own-epoch : (first second : Holder) (old : Pair) (w : World) → PairStands first second old w → old.standby.epoch ≡ w.standby.epoch
+own-epoch first second old w stands = stands.parts.standby.epoch_is ∙ stands.parts.epoch ∙ sym stands.sound.standby.epoch_is
+
 -- the standby told its position
 abbrev pub Acknowledges : Ack → Arrivals → Arrivals → Type 0
 Acknowledges ack old new =
-    (epoch : ℕ) (frames : List Frame) (w : World) → ArrivalsStand epoch w.primary.calls frames old w.standby → ack.position ≡ w.standby.position → ArrivalsStand epoch w.primary.calls frames new (acknowledged w.standby)
+    (epoch : ℕ) (frames : List Frame) (w : World) → ArrivalsStand epoch w.primary.calls frames old w.standby.waiting w.wire.acknowledgements → told_by ack ≡ acknowledgement_of w.standby
+    → ArrivalsStand epoch w.primary.calls frames new w.standby.waiting (w.wire.acknowledgements ++ acknowledgement_of w.standby ∷ [])
 
-pub open-does : (old : Pair) (arrivals : Arrivals) (link : Link) (ack : Ack) → ack.position ≡ old.standby.contents.current.position → Acknowledges ack old.arrivals arrivals
-    → ((w : World) → LinkStands w.primary.calls old.link w.primary.link → LinkStands w.primary.calls link (opened_link w.primary.link)) → KeepsFrames old.link link
+pub open-does : (old : Pair) (arrivals : Arrivals) (link : Link) (ack : Ack) → ack ≡ record { epoch = old.standby.epoch; position = old.standby.contents.current.position } → Acknowledges ack old.arrivals arrivals
+    → ((w : World) → LinkStands w.primary.calls old.link w.primary.link w.wire.frames → LinkStands w.primary.calls link (opened_link w.primary.link) w.wire.frames) → KeepsFrames old.link link
     → Does old events.OpenLink (Ok true) (with_opened arrivals link old)
-open-does old arrivals link ack position acknowledges opens keeps =
+open-does old arrivals link ack is acknowledges opens keeps =
     record {
       steps = λ first second w stands.
           let parts = stands.parts in
-          let told = acknowledges old.link.epoch old.link.frames.items w parts.arrivals (position ∙ parts.standby.engine.contents_at.at) in
-          let heard = arrivals-parts first second old arrivals w (acknowledged w.standby) parts refl told in
-          let moved = link-parts first second (with_arrivals arrivals old) link (with_standby (acknowledged w.standby) w) (opened_link w.primary.link) heard keeps (opens w parts.link) in
-          goes-steps first second w (with_link (opened_link w.primary.link) (with_standby (acknowledged w.standby) w)) events.OpenLink true old (with_opened arrivals link old) refl refl stands.sound refl
+          let epoch : ack.epoch ≡ w.standby.epoch = ap (λ (a : Ack). a.epoch) is ∙ own-epoch first second old w stands in
+          let position : ack.position ≡ w.standby.position = ap (λ (a : Ack). a.position) is ∙ parts.standby.engine.contents_at.at in
+          let own : told_by ack ≡ acknowledgement_of w.standby = ap₂ (λ e p. record { epoch = e; position = p }) epoch position in
+          let told = acknowledges old.link.epoch old.link.frames.items w parts.arrivals own in
+          let w' = with_acknowledged (acknowledgement_of w.standby ∷ []) w in
+          let heard : PartsStand first second (with_arrivals arrivals old) w' = arrivals-parts first second old arrivals w w.standby (w.wire.acknowledgements ++ acknowledgement_of w.standby ∷ []) parts refl told in
+          let moved = link-parts first second (with_arrivals arrivals old) link w' (opened_link w.primary.link) w.wire.frames heard keeps (opens w parts.link) in
+          goes-steps first second w (with_link (opened_link w.primary.link) w') events.OpenLink true old (with_opened arrivals link old) refl refl stands.sound refl
           (record { done = refl; goes = λ did. moved; stays = λ did. absurd (true≢false did) });
       cut = tt;
       calls = none-added _ _ refl;
@@ -642,11 +668,11 @@ open-cut old arrivals (Err refusal) is memory =
     }
 
 pub deliver-does : (old : Pair) (arrivals : Arrivals) (sent : List ℕ) (frame : ℕ) (result : Result Bool Refusal) → sent ≡ old.link.sent.items
-    → IfOk result (λ did. (epoch : ℕ) (frames : List Frame) (w : World) → ArrivalsStand epoch w.primary.calls frames old.arrivals w.standby
+    → IfOk result (λ did. (epoch : ℕ) (frames : List Frame) (w : World) → ArrivalsStand epoch w.primary.calls frames old.arrivals w.standby.waiting w.wire.acknowledgements
     → AreFramesAt epoch w.primary.calls frames sent w.wire.frames
-    → Goes (is_enabled w (events.Deliver frame)) did
-    (ArrivalsStand epoch w.primary.calls frames arrivals (delivered (option_items (slice_get w.wire.frames frame)) w.standby))
-    (ArrivalsStand epoch w.primary.calls frames arrivals w.standby))
+    → Goes (may_happen w (events.Deliver frame)) did
+    (ArrivalsStand epoch w.primary.calls frames arrivals (delivered (option_items (slice_get w.wire.frames frame)) w.standby).waiting w.wire.acknowledgements)
+    (ArrivalsStand epoch w.primary.calls frames arrivals w.standby.waiting w.wire.acknowledgements))
     → IfErr result (λ refusal. refusal ≡ Memory) → OnErr result (frame < length sent) → Does old (events.Deliver frame) result (with_arrivals arrivals old)
 deliver-does old arrivals sent frame (Ok did) same go memory some =
     record {
@@ -656,8 +682,8 @@ deliver-does old arrivals sent frame (Ok did) same go memory some =
           goes-steps first second w (with_standby came w) (events.Deliver frame) did old (with_arrivals arrivals old) refl refl stands.sound refl
           (goes-map (go old.link.epoch old.link.frames.items w parts.arrivals
           (subst (λ (places : List ℕ). AreFramesAt old.link.epoch w.primary.calls old.link.frames.items places w.wire.frames) (sym same) parts.link.sent))
-          (arrivals-parts first second old arrivals w came parts refl)
-          (arrivals-parts first second old arrivals w w.standby parts refl));
+          (arrivals-parts first second old arrivals w came w.wire.acknowledgements parts refl)
+          (arrivals-parts first second old arrivals w w.standby w.wire.acknowledgements parts refl));
       cut = tt;
       calls = none-added _ _ refl;
     }
@@ -680,9 +706,9 @@ apply-steps first second old arrivals node w true stands applies =
     let parts = stands.parts in
     let moved = applies.goes refl in
     let applied = moved.1 in
-    let w' = with_standby applied.standby w in
+    let w' = with_acknowledged applied.told (with_standby applied.standby w) in
     let step : Step w events.Apply true w' =
-    record { done = applies.done; happens = λ did. record { frame = applied.frame; first = applied.first; standby = applied.standby; takes = applied.takes; now = refl }; stands = λ did. absurd (true≢false did) } in
+    record { done = applies.done ∙ sym (enabled-is w events.Apply stands.sound); happens = λ did. record { frame = applied.frame; first = applied.first; standby = applied.standby; told = applied.told; takes = applied.takes; now = refl }; stands = λ did. absurd (true≢false did) } in
     record {
       world = w';
       step = step;
@@ -694,8 +720,9 @@ apply-steps first second old arrivals node w true stands applies =
           committing = parts.committing;
           engine = parts.engine;
           leads = parts.leads;
+          epoch = parts.epoch;
           link = parts.link;
-          arrivals = subst (λ (x : World). ArrivalsStand old.link.epoch w.primary.calls old.link.frames.items arrivals x.standby) applied.now moved.2;
+          arrivals = subst (λ (x : World). ArrivalsStand old.link.epoch w.primary.calls old.link.frames.items arrivals x.standby.waiting x.wire.acknowledgements) applied.now moved.2;
           standby = subst (λ (x : World). StandbyStands second old.link.epoch w.primary.calls x.standby.position node) applied.now moved.3;
         };
       };
@@ -714,57 +741,58 @@ apply-steps first second old arrivals node w false stands applies =
       committing = before.committing;
       engine = before.engine;
       leads = before.leads;
+      epoch = before.epoch;
       link = before.link;
       arrivals = stayed.0;
       standby = subst (StandbyStands second old.link.epoch w.primary.calls w.standby.position) (sym stayed.1) before.standby;
     } in
     record {
       world = w;
-      step = record { done = applies.done; happens = λ did. absurd (true≢false (sym did)); stands = λ did. refl };
+      step = record { done = applies.done ∙ sym (enabled-is w events.Apply stands.sound); happens = λ did. absurd (true≢false (sym did)); stands = λ did. refl };
       stands = record { sound = stands.sound; parts = parts };
       moves = untouched first second old (with_node arrivals node old) w w refl (ap (λ (n : Node). n.device) stayed.1) parts;
     }
 
 -- what ended an application is of the standby's device
-ends-apply : (refusal : Refusal) (P Q : Stretch → Stretch → Type 0) → ((last : Stretch) → P Rests last → Q Rests last) → EndsBy refusal events.Apply P → EndsBy refusal events.Apply Q
-ends-apply Memory P Q both ends = (ends.0, both Rests ends.1)
+ends-apply : (refusal : Refusal) (P Q : Stretch → Stretch → Type 0) → ((last : Stretch) → P Resting last → Q Resting last) → EndsBy refusal events.Apply P → EndsBy refusal events.Apply Q
+ends-apply Memory P Q both ends = (ends.0, both Resting ends.1)
 ends-apply Fault P Q both ends = both Breaks ends
 ends-apply Exhausted P Q both ends = both RestsAtLimit ends
 ends-apply refusal P Q both ends = absurd ends
 
 pub apply-does : (old : Pair) (arrivals : Arrivals) (node : Node) (frames : List Frame) (result : Result Bool Refusal) → frames ≡ old.link.frames.items
-    → IfOk result (λ did. (holder : Holder) (w : World) → Sound w → ArrivalsStand old.standby.epoch w.primary.calls frames old.arrivals w.standby
+    → IfOk result (λ did. (holder : Holder) (w : World) → Sound w → old.standby.epoch ≡ w.standby.epoch → ArrivalsStand old.standby.epoch w.primary.calls frames old.arrivals w.standby.waiting w.wire.acknowledgements
     → StandbyStands holder old.standby.epoch w.primary.calls w.standby.position old.standby
     → AppliesFirst holder old.standby.epoch frames w did arrivals old.standby node)
-    → ((holder : Holder) (w : World) → Sound w → ArrivalsStand old.standby.epoch w.primary.calls frames old.arrivals w.standby
-    → StandbyStands holder old.standby.epoch w.primary.calls w.standby.position old.standby → NearOnly holder w.primary.calls w.standby.position old.standby.device node.device)
-    → IfErr result (λ refusal. (holder : Holder) (w : World) → Sound w → ArrivalsStand old.standby.epoch w.primary.calls frames old.arrivals w.standby
+    → ((holder : Holder) (w : World) → Sound w → old.standby.epoch ≡ w.standby.epoch → ArrivalsStand old.standby.epoch w.primary.calls frames old.arrivals w.standby.waiting w.wire.acknowledgements
+    → StandbyStands holder old.standby.epoch w.primary.calls w.standby.position old.standby → NearOnly holder w.primary.calls w.standby.position (next_standby w) old.standby.device node.device)
+    → IfErr result (λ refusal. (holder : Holder) (w : World) → Sound w → old.standby.epoch ≡ w.standby.epoch → ArrivalsStand old.standby.epoch w.primary.calls frames old.arrivals w.standby.waiting w.wire.acknowledgements
     → StandbyStands holder old.standby.epoch w.primary.calls w.standby.position old.standby
-    → (is_enabled w events.Apply ≡ true) × EndsBy refusal events.Apply (λ _ last. last holder w.primary.calls w.standby.position old.standby.device node.device))
+    → (may_happen w events.Apply ≡ true) × EndsBy refusal events.Apply (λ _ last. last holder w.primary.calls w.standby.position (next_standby w) old.standby.device node.device))
     → Does old events.Apply result (with_node arrivals node old)
 apply-does old arrivals node frames result same applies only cuts = go result applies cuts
   where
-    arrive : (first second : Holder) (w : World) → PairStands first second old w → ArrivalsStand old.standby.epoch w.primary.calls frames old.arrivals w.standby
+    arrive : (first second : Holder) (w : World) → PairStands first second old w → ArrivalsStand old.standby.epoch w.primary.calls frames old.arrivals w.standby.waiting w.wire.acknowledgements
     arrive first second w stands =
-        subst (λ e. ArrivalsStand e w.primary.calls frames old.arrivals w.standby) (sym stands.parts.standby.epoch_is)
-        (subst (λ (all : List Frame). ArrivalsStand old.link.epoch w.primary.calls all old.arrivals w.standby) (sym same) stands.parts.arrivals)
+        subst (λ e. ArrivalsStand e w.primary.calls frames old.arrivals w.standby.waiting w.wire.acknowledgements) (sym stands.parts.standby.epoch_is)
+        (subst (λ (all : List Frame). ArrivalsStand old.link.epoch w.primary.calls all old.arrivals w.standby.waiting w.wire.acknowledgements) (sym same) stands.parts.arrivals)
 
     stand : (first second : Holder) (w : World) → PairStands first second old w → StandbyStands second old.standby.epoch w.primary.calls w.standby.position old.standby
     stand first second w stands =
         subst (λ e. StandbyStands second e w.primary.calls w.standby.position old.standby) (sym stands.parts.standby.epoch_is) stands.parts.standby
 
     go : (result : Result Bool Refusal)
-        → IfOk result (λ did. (holder : Holder) (w : World) → Sound w → ArrivalsStand old.standby.epoch w.primary.calls frames old.arrivals w.standby
+        → IfOk result (λ did. (holder : Holder) (w : World) → Sound w → old.standby.epoch ≡ w.standby.epoch → ArrivalsStand old.standby.epoch w.primary.calls frames old.arrivals w.standby.waiting w.wire.acknowledgements
         → StandbyStands holder old.standby.epoch w.primary.calls w.standby.position old.standby
         → AppliesFirst holder old.standby.epoch frames w did arrivals old.standby node)
-        → IfErr result (λ refusal. (holder : Holder) (w : World) → Sound w → ArrivalsStand old.standby.epoch w.primary.calls frames old.arrivals w.standby
+        → IfErr result (λ refusal. (holder : Holder) (w : World) → Sound w → old.standby.epoch ≡ w.standby.epoch → ArrivalsStand old.standby.epoch w.primary.calls frames old.arrivals w.standby.waiting w.wire.acknowledgements
         → StandbyStands holder old.standby.epoch w.primary.calls w.standby.position old.standby
-        → (is_enabled w events.Apply ≡ true) × EndsBy refusal events.Apply (λ _ last. last holder w.primary.calls w.standby.position old.standby.device node.device))
+        → (may_happen w events.Apply ≡ true) × EndsBy refusal events.Apply (λ _ last. last holder w.primary.calls w.standby.position (next_standby w) old.standby.device node.device))
         → Does old events.Apply result (with_node arrivals node old)
     go (Ok did) applies cuts =
         record {
           steps = λ first second w stands.
-              let applied = applies second w stands.sound (arrive first second w stands) (stand first second w stands) in
+              let applied = applies second w stands.sound (own-epoch first second old w stands) (arrive first second w stands) (stand first second w stands) in
               apply-steps first second old arrivals node w did stands
               (subst (λ (all : List Frame). AppliesFirst second old.link.epoch all w did arrivals old.standby node) same
               (subst (λ e. AppliesFirst second e frames w did arrivals old.standby node) stands.parts.standby.epoch_is applied));
@@ -776,9 +804,9 @@ apply-does old arrivals node frames result same applies only cuts = go result ap
           steps = tt;
           cut = λ first second w stands.
               let new = with_node arrivals node old in
-              let cut = cuts second w stands.sound (arrive first second w stands) (stand first second w stands) in
+              let cut = cuts second w stands.sound (own-epoch first second old w stands) (arrive first second w stands) (stand first second w stands) in
               cut-for first second events.Apply refusal old new w stands (tells old.sessions) cut.0
-              (ends-apply refusal (λ _ last. last second w.primary.calls w.standby.position old.standby.device node.device) (Led first second old new w)
+              (ends-apply refusal (λ _ last. last second w.primary.calls w.standby.position (next_standby w) old.standby.device node.device) (Led first second old new w)
               (λ last broken. (rests-primary first second old w stands, broken)) cut.1);
           calls = none-added _ _ refl;
         }
@@ -791,25 +819,31 @@ found-there xs ys n x same within is =
     subst (λ (all : List Ack). slice_get all n ≡ Some x) same (slice_get-get_or xs n x (ltb-true n (length xs) (sym within)) ∙ ap Some (sym is))
 
 pub ack-does : (old : Pair) (n : ℕ) (ack : Ack) (link : Link) → slice_get old.arrivals.acknowledgements.items n ≡ Some ack
-    → ((w : World) → Sound w → LinkStands w.primary.calls old.link w.primary.link → LinkStands w.primary.calls link (knowing ack.position w.primary.link)) → KeepsFrames old.link link
+    → ((w : World) → Sound w → LinkStands w.primary.calls old.link w.primary.link w.wire.frames → LinkStands w.primary.calls link (knowing ack.position w.primary.link) w.wire.frames) → KeepsFrames old.link link
     → Does old (events.AckDelivered n) (Ok true) (with_frames link old)
 ack-does old n ack link stands_there knows keeps =
     record {
       steps = λ first second w stands.
           let parts = stands.parts in
-          let there : slice_get w.wire.acknowledgements n ≡ Some ack.position =
-          ap (λ (all : List ℕ). slice_get all n) (sym parts.arrivals.acknowledged)
-          ∙ slice_get-map (λ (a : Ack). a.position) old.arrivals.acknowledgements.items n ∙ ap (option_map (λ (a : Ack). a.position)) stands_there in
-          goes-steps first second w (with_link (told (slice_get w.wire.acknowledgements n) w.primary.link) w) (events.AckDelivered n) true old (with_frames link old) refl refl stands.sound refl
+          let there : slice_get w.wire.acknowledgements n ≡ Some (told_by ack) =
+          ap (λ (all : List Acknowledgement). slice_get all n) (sym parts.arrivals.acknowledged)
+          ∙ slice_get-map told_by old.arrivals.acknowledgements.items n ∙ ap (option_map told_by) stands_there in
+          let own : ack.epoch ≡ w.primary.epoch = told-epoch w.primary.epoch w.standby.position w.wire.acknowledgements n (told_by ack) stands.sound.wire.acknowledged there in
+          let knows_now : told w.primary.epoch (slice_get w.wire.acknowledgements n) w.primary.link ≡ knowing ack.position w.primary.link =
+          ap (λ (o : Option Acknowledgement). told w.primary.epoch o w.primary.link) there ∙ ap (λ b. cond b (knowing ack.position w.primary.link) w.primary.link) (eq-eqb ack.epoch w.primary.epoch own) in
+          goes-steps first second w (with_link (told w.primary.epoch (slice_get w.wire.acknowledgements n) w.primary.link) w) (events.AckDelivered n) true old (with_frames link old) refl refl stands.sound refl
           (record {
-            done = sym (lt-ltb n (length w.wire.acknowledgements) (slice_get_within w.wire.acknowledgements n ack.position there));
-            goes = λ did. link-parts first second old link w (told (slice_get w.wire.acknowledgements n) w.primary.link) parts keeps
-                (subst (λ (o : Option ℕ). LinkStands w.primary.calls link (told o w.primary.link)) (sym there) (knows w stands.sound parts.link));
+            done = sym (lt-ltb n (length w.wire.acknowledgements) (slice_get_within w.wire.acknowledgements n (told_by ack) there));
+            goes = λ did. link-parts first second old link w (told w.primary.epoch (slice_get w.wire.acknowledgements n) w.primary.link) w.wire.frames parts keeps
+                (subst (λ (l : MachineLink). LinkStands w.primary.calls link l w.wire.frames) (sym knows_now) (knows w stands.sound parts.link));
             stays = λ did. absurd (true≢false did);
           });
       cut = tt;
       calls = none-added _ _ refl;
     }
+  where
+    told-epoch : (epoch position : ℕ) (told : List Acknowledgement) (i : ℕ) (one : Acknowledgement) → All (IsToldWithin epoch position) told → slice_get told i ≡ Some one → one.epoch ≡ epoch
+    told-epoch epoch position told i one all is = (All-head (IsToldWithin epoch position) one [] (subst (λ (o : Option Acknowledgement). All (IsToldWithin epoch position) (option_items o)) is (all-at (IsToldWithin epoch position) told i all))).epoch_is
 
 pub no-ack-does : (old : Pair) (n : ℕ) → length old.arrivals.acknowledgements.items ≤ n → Does old (events.AckDelivered n) (Ok false) old
 no-ack-does old n past =
@@ -818,7 +852,7 @@ no-ack-does old n past =
           record {
             world = w;
             step = record {
-              done = sym (le-ltb n (length w.wire.acknowledgements) (omega (arith, past, ap length stands.parts.arrivals.acknowledged, length-map old.arrivals.acknowledgements.items (λ (a : Ack). a.position))));
+              done = sym (enabled-is w (events.AckDelivered n) stands.sound ∙ le-ltb n (length w.wire.acknowledgements) (omega (arith, past, ap length stands.parts.arrivals.acknowledged, length-map old.arrivals.acknowledgements.items told_by)));
               happens = λ did. absurd (true≢false (sym did));
               stands = λ did. refl;
             };

@@ -1,5 +1,5 @@
 -- A run goes on from event to event, and what is told of it at its end.
-use Rattle.std.proofs.Common.{◌≡◌, ◌⊎◌, ℕ, ◌+◌, ◌≤◌, Bool, List, [], ◌∷◌, ◌++◌, length, take, true, slice_get, slice_index_or, Option, Some, None, refl, sym, ap, subst, ◌∙◌, arith, le_refl, append_assoc, inl, inr}
+use Rattle.std.proofs.Common.{◌≡◌, ◌⊎◌, ℕ, ◌+◌, ◌≤◌, Bool, List, [], ◌∷◌, ◌++◌, length, take, true, slice_get, slice_index_or, Option, Some, None, refl, sym, ap, subst, ◌∙◌, arith, le_refl, append_assoc, inl, inr, cond, nat_eq, eqb-true, All, false, ◌<◌}
 use Rattle.pmem.specs.Device.{State}
 use Rattle.kv_types.specs.declared.refusal.Refusal.{Refusal}
 use Rattle.kv_types.specs.declared.refusal.Refusal.TheVariants.{Memory, Fault, Exhausted}
@@ -13,16 +13,17 @@ use Rattle.model.proofs.StandingLemmas.{StandsAt-append}
 use Rattle.machine.specs.declared.event.Event.{Event}
 use Rattle.machine.specs.declared.event.Event.TheVariants.{Commit, Apply}
 use Rattle.machine.specs.declared.event.TheConstants.{SEATS}
-use Rattle.machine.specs.Events.{Run, World, start, last_world}
+use Rattle.machine.specs.Events.{Run, World, Span, Frame as Sent, Committer, committed_first, start, last_world}
 use Rattle.machine.specs.Laws.{Grows}
 use Rattle.machine.specs.Promises.{HasMarks, IsPromised, IsReleased, Tells, released_in}
-use Rattle.machine.specs.Sound.{Sound}
+use Rattle.machine.specs.Sound.{IsChain, IsFrameWithin, Sound}
+use Rattle.std.proofs.lemmas.List.Elements.{All-head}
 use Rattle.machine.proofs.GrowLemmas.{grows-step, grows-from}
 use Rattle.machine.proofs.PromiseLemmas.{promised-told, released-covered}
 use Rattle.machine.proofs.RunLemmas.{run-push, last_world-push, some-last, sound-start, sound-run}
 use Rattle.machine.proofs.SoundEvents.{sound-step}
-use Rattle.world.specs.Causes.{Stretch, UnformedBy, Breaks, RestsAtLimit, EndsBy}
-use Rattle.world.specs.Committings.{StandsAtOrNext, NearOnly, FromOnly, Moves, Rests, FormattingOnly}
+use Rattle.world.specs.Causes.{Stretch, UnformedBy, Breaks, RestsAtLimit, EndsBy, Resting}
+use Rattle.world.specs.Committings.{StandsAtEither, NearOnly, FromOnly, Moves, Rests, FormattingOnly, next_primary, next_from, next_standby}
 use Rattle.world.specs.declared.trace.Ended.{Ended}
 use Rattle.world.specs.declared.trace.Ended.TheVariants.{AtFormatting, AtEvent}
 use Rattle.world.specs.Headline.{AnyWorld, Enables, primary_position, standby_position, KeepsReleased, AreMoments, IsKept, IsPlayed, KeepsItsWord, PlaysOn, AreMoves, Reaches, StandsAfter, IsCutAfter, Plays}
@@ -80,32 +81,48 @@ pub few-played : (first second : Holder) (began : Pair) (events : List Event) (e
     → length pair.sessions.connections.items ≤ SEATS
 few-played first second began events None done pair plays =
     let w = last_world start plays.reaches.worlds in
-    omega (arith, plays.stands.sound.seats, length-connections w.primary.calls 0 pair.sessions.connections.items w.primary.connections plays.stands.parts.sessions.connections_stand)
+    omega (arith, plays.stands.sound.connections.seats, length-connections w.primary.calls 0 pair.sessions.connections.items w.primary.connections plays.stands.parts.sessions.connections_stand)
 few-played first second began events (Some (AtFormatting refusal)) done pair plays = absurd plays
 few-played first second began events (Some (AtEvent place refusal)) done pair plays = plays.2.cut.few
 
 -- ---- the position of a node
 
--- it never falls, it is one of the list, and what was released is up to it
-record IsOfNode (position : World → ℕ) : Type 0 where
+-- it never falls, it is one of the list, what was released is up to it, and the node goes to no lower one
+record IsOfNode (position next : World → ℕ) : Type 0 where
   rises : (old new : World) → Grows old new → position old ≤ position new
   within : (w : World) → Sound w → position w ≤ position_of w.primary.calls
   holds : (w : World) → Sound w → (front : List Call) (call : Call) → IsReleased w.primary.calls (released_in w) front call → position_of (front ++ call ∷ []) ≤ position w
+  onward : (w : World) → Sound w → position w ≤ next w
 
-of_primary : IsOfNode primary_position
+next_of_groups : (from to : ℕ) (groups : List Span) (committer : Committer) → IsChain from groups to → committer.position ≡ from → from ≤ (committed_first groups committer).position
+next_of_groups from to [] committer chain same = omega (arith, same)
+next_of_groups from to (group ∷ groups) committer chain same = omega (arith, chain.1)
+
+next_of_frames : (epoch sent position : ℕ) (frames : List Sent) → All (IsFrameWithin epoch sent) frames → position ≤ next_from position frames
+next_of_frames epoch sent position [] all = le_refl position
+next_of_frames epoch sent position (frame ∷ frames) all =
+    let rising = (All-head (IsFrameWithin epoch sent) frame frames all).span.rising in
+    elim (nat_eq frame.span.before position) as (λ b. nat_eq frame.span.before position ≡ b → position ≤ cond b frame.span.after position) [
+      | true ↦ λ e. let same : frame.span.before ≡ position = eqb-true frame.span.before position e in omega (arith, rising, same)
+      | false ↦ λ e. le_refl position
+    ] refl
+
+of_primary : IsOfNode primary_position next_primary
 of_primary =
     record {
       rises = λ old new grows. grows.primary_position;
       within = primary-within;
       holds = λ w s front call released. omega (arith, (released-covered w s front call released).0, s.committer.mark);
+      onward = λ w s. next_of_groups w.primary.committer.position w.primary.committer.closed w.primary.committer.waiting w.primary.committer s.committer.waiting refl;
     }
 
-of_standby : IsOfNode standby_position
+of_standby : IsOfNode standby_position next_standby
 of_standby =
     record {
       rises = λ old new grows. grows.standby_position;
       within = standby-within;
       holds = λ w s front call released. omega (arith, (released-covered w s front call released).1, s.link.remote, s.standby.known);
+      onward = λ w s. next_of_frames w.primary.epoch s.sent w.standby.position w.standby.waiting s.standby.frames;
     }
 
 -- ---- the moments of a run
@@ -130,34 +147,41 @@ moves-from holder calls p q old new le moves = LeavesOnly-weaken (λ image. (n :
 rests-from : (holder : Holder) (calls : List Call) (p : ℕ) (old new : State) → Rests holder calls p old new → FromOnly holder calls p old new
 rests-from holder calls p old new rests = LeavesOnly-weaken (λ image. (n : ℕ) × (p ≤ n) × StandsAt holder calls n image) (λ image stands. (p, le_refl p, stands)) rests.leaves
 
-near-from : (holder : Holder) (calls : List Call) (p : ℕ) (old new : State) → NearOnly holder calls p old new → FromOnly holder calls p old new
-near-from holder calls p old new near = LeavesOnly-weaken (λ image. (n : ℕ) × (p ≤ n) × StandsAt holder calls n image) either near
+-- no crash of a last stretch leaves an image below the position
+abbrev IsLast : Stretch → Type 0
+IsLast last = (holder : Holder) (calls : List Call) (p q : ℕ) (old new : State) → p ≤ q → last holder calls p q old new → FromOnly holder calls p old new
+
+resting-from : IsLast Resting
+resting-from holder calls p q old new le rests = rests-from holder calls p old new rests
+
+near-from : (holder : Holder) (calls : List Call) (p q : ℕ) (old new : State) → p ≤ q → NearOnly holder calls p q old new → FromOnly holder calls p old new
+near-from holder calls p q old new le near = LeavesOnly-weaken (λ image. (n : ℕ) × (p ≤ n) × StandsAt holder calls n image) either near
   where
-    either : (image : Image) → StandsAtOrNext holder calls p image → (n : ℕ) × (p ≤ n) × StandsAt holder calls n image
+    either : (image : Image) → StandsAtEither holder calls p q image → (n : ℕ) × (p ≤ n) × StandsAt holder calls n image
     either image (inl here) = (p, le_refl p, here)
-    either image (inr next) = (p + 1, omega arith, next.1)
+    either image (inr next) = (q, le, next)
 
 from-lower : (holder : Holder) (calls : List Call) (p q : ℕ) (old new : State) → p ≤ q → FromOnly holder calls q old new → FromOnly holder calls p old new
 from-lower holder calls p q old new le only = LeavesOnly-weaken (λ image. (n : ℕ) × (p ≤ n) × StandsAt holder calls n image) (λ image from. (from.0, omega (arith, le, from.1), from.2)) only
 
 -- the moments from a world on, and that no crash leaves an image below where the node stands in it
-record MomentsFrom (last : Stretch) (position : World → ℕ) (holder : Holder) (calls : List Call) (w : World) (worlds : List World) (old new : State) : Type 0 where
+record MomentsFrom (last : Stretch) (position next : World → ℕ) (holder : Holder) (calls : List Call) (w : World) (worlds : List World) (old new : State) : Type 0 where
   from : FromOnly holder calls (position w) old new
-  moments : AreMoments last position holder calls w worlds old new
+  moments : AreMoments last position next holder calls w worlds old new
 
-moments-from : (last : Stretch) (position : World → ℕ) (holder : Holder) (calls : List Call) → IsOfNode position → ((p : ℕ) (old new : State) → last holder calls p old new → FromOnly holder calls p old new)
-    → (w : World) (events : List Event) (done : List Bool) (worlds : List World) (old reached new : State) → Run w events done worlds → Sound w → (last_world w worlds).calls ≡ calls
-    → AreMoves position holder w worlds old reached → last holder calls (position (last_world w worlds)) reached new → MomentsFrom last position holder calls w worlds old new
-moments-from last position holder calls node from w [] [] [] old reached new run sound told are ends =
-    let all : last holder calls (position w) old new = subst (λ (d : State). last holder calls (position w) d new) (sym are) ends in
-    let onward = from (position w) old new all in
+moments-from : (last : Stretch) (position next : World → ℕ) (holder : Holder) (calls : List Call) → IsOfNode position next → ((p q : ℕ) (old new : State) → p ≤ q → last holder calls p q old new → FromOnly holder calls p old new)
+    → (w : World) (events : List Event) (done : List Bool) (worlds : List World) (old reached new : State) → Run w events done worlds → Sound w → (last_world w worlds).primary.calls ≡ calls
+    → AreMoves position holder w worlds old reached → last holder calls (position (last_world w worlds)) (next (last_world w worlds)) reached new → MomentsFrom last position next holder calls w worlds old new
+moments-from last position next holder calls node from w [] [] [] old reached new run sound told are ends =
+    let all : last holder calls (position w) (next w) old new = subst (λ (d : State). last holder calls (position w) (next w) d new) (sym are) ends in
+    let onward = from (position w) (next w) old new (node.onward w sound) all in
     record { from = onward; moments = (λ front call released. from-lower holder calls _ (position w) old new (node.holds w sound front call released) onward, all) }
-moments-from last position holder calls node from w (event ∷ events) (did ∷ done) (w' ∷ worlds) old reached new run sound told are ends =
+moments-from last position next holder calls node from w (event ∷ events) (did ∷ done) (w' ∷ worlds) old reached new run sound told are ends =
     let sound' = sound-step w event did w' run.0 sound in
     let rises = node.rises w w' (grows-step w event did w' run.0 sound) in
     let within = node.within w' sound' in
     let prefix : IsPrefix w'.primary.calls calls = subst (IsPrefix w'.primary.calls) told (grows-from w' events done worlds run.1 sound').calls in
-    let rest = moments-from last position holder calls node from w' events done worlds are.0 reached new run.1 sound' told are.2 ends in
+    let rest = moments-from last position next holder calls node from w' events done worlds are.0 reached new run.1 sound' told are.2 ends in
     let moves = moves-grow holder w'.primary.calls calls (position w) (position w') old are.0 prefix (omega (arith, rises, within)) within are.1 in
     let onward : FromOnly holder calls (position w) old new =
     LeavesOnly-then (moves-from holder calls (position w) (position w') old are.0 rises moves) (from-lower holder calls (position w) (position w') are.0 new rises rest.from) in
@@ -165,7 +189,7 @@ moments-from last position holder calls node from w (event ∷ events) (did ∷ 
       from = onward;
       moments = (are.0, λ front call released. from-lower holder calls _ (position w) old new (node.holds w sound front call released) onward, moves, rest.moments);
     }
-moments-from last position holder calls node from w events done worlds old reached new run sound told are ends = absurd run
+moments-from last position next holder calls node from w events done worlds old reached new run sound told are ends = absurd run
 
 -- ---- what is told at the end
 
@@ -196,39 +220,39 @@ promised-by events done worlds calls released primary standby run tells =
     )
 
 kept : (Last : World → Type 0) (first_last second_last : Stretch) (first second : Holder) (began : Pair) (events : List Event) (done : List Bool) (calls : List Call) (released : List (List ℕ)) (primary standby primary' standby' : State)
-    → ((p : ℕ) (old new : State) → first_last first calls p old new → FromOnly first calls p old new)
-    → ((p : ℕ) (old new : State) → second_last second calls p old new → FromOnly second calls p old new)
+    → ((p q : ℕ) (old new : State) → p ≤ q → first_last first calls p q old new → FromOnly first calls p old new)
+    → ((p q : ℕ) (old new : State) → p ≤ q → second_last second calls p q old new → FromOnly second calls p old new)
     → (reaches : Reaches first second began events done primary standby)
     → Tells (last_world start reaches.worlds) calls (λ c. slice_index_or released c []) (primary_position (last_world start reaches.worlds)) (standby_position (last_world start reaches.worlds))
     → Last (last_world start reaches.worlds)
-    → first_last first calls (primary_position (last_world start reaches.worlds)) primary primary'
-    → second_last second calls (standby_position (last_world start reaches.worlds)) standby standby'
+    → first_last first calls (primary_position (last_world start reaches.worlds)) (next_primary (last_world start reaches.worlds)) primary primary'
+    → second_last second calls (standby_position (last_world start reaches.worlds)) (next_standby (last_world start reaches.worlds)) standby standby'
     → IsKept Last first_last second_last first second events done calls released began.device began.standby.device primary' standby'
 kept Last first_last second_last first second began events done calls released primary standby primary' standby' first_from second_from reaches tells last primary_ends standby_ends =
     let w = last_world start reaches.worlds in
     let promised = promised-by events done reaches.worlds calls (λ c. slice_index_or released c []) (primary_position w) (standby_position w) reaches.run tells in
-    let primary_moments = moments-from first_last primary_position first calls of_primary first_from start events done reaches.worlds began.device primary primary' reaches.run sound-start (sym tells.list)
+    let primary_moments = moments-from first_last primary_position next_primary first calls of_primary first_from start events done reaches.worlds began.device primary primary' reaches.run sound-start (sym tells.list)
     reaches.primary_moves primary_ends in
-    let standby_moments = moments-from second_last standby_position second calls of_standby second_from start events done reaches.worlds began.standby.device standby standby' reaches.run sound-start (sym tells.list)
+    let standby_moments = moments-from second_last standby_position next_standby second calls of_standby second_from start events done reaches.worlds began.standby.device standby standby' reaches.run sound-start (sym tells.list)
     reaches.standby_moves standby_ends in
     record {
       primary_at = primary_position w;
       standby_at = standby_position w;
       promised = promised.0;
       last = subst (λ (worlds : List World). Last (last_world start worlds)) (sym promised.1) last;
-      primary_moments = subst (λ (worlds : List World). AreMoments first_last primary_position first calls start worlds began.device primary') (sym promised.1) primary_moments.moments;
-      standby_moments = subst (λ (worlds : List World). AreMoments second_last standby_position second calls start worlds began.standby.device standby') (sym promised.1) standby_moments.moments;
+      primary_moments = subst (λ (worlds : List World). AreMoments first_last primary_position next_primary first calls start worlds began.device primary') (sym promised.1) primary_moments.moments;
+      standby_moments = subst (λ (worlds : List World). AreMoments second_last standby_position next_standby second calls start worlds began.standby.device standby') (sym promised.1) standby_moments.moments;
     }
 
 played-whole : (first second : Holder) (began : Pair) (events : List Event) (done : List Bool) (pair : Pair) (released : List (List ℕ)) → released ≡ released_of pair.sessions.connections.items
     → StandsAfter first second began events done pair
-    → IsKept AnyWorld Rests Rests first second events done pair.sessions.calls.items released began.device began.standby.device pair.device pair.standby.device
+    → IsKept AnyWorld Resting Resting first second events done pair.sessions.calls.items released began.device began.standby.device pair.device pair.standby.device
 played-whole first second began events done pair released same after =
     let w = last_world start after.reaches.worlds in
     let parts = after.stands.parts in
     let told = parts.sessions.calls_are in
-    kept AnyWorld Rests Rests first second began events done pair.sessions.calls.items released pair.device pair.standby.device pair.device pair.standby.device
-    (rests-from first pair.sessions.calls.items) (rests-from second pair.sessions.calls.items) after.reaches
+    kept AnyWorld Resting Resting first second began events done pair.sessions.calls.items released pair.device pair.standby.device pair.device pair.standby.device
+    (resting-from first pair.sessions.calls.items) (resting-from second pair.sessions.calls.items) after.reaches
     (record {
       list = told;
       bytes = λ c. ap (λ (all : List (List ℕ)). slice_index_or all c []) same ∙ released-told w.primary.calls 0 pair.sessions.connections.items w.primary.connections parts.sessions.connections_stand c;
@@ -243,23 +267,19 @@ played-whole first second began events done pair released same after =
 
 -- ---- a run that ended in an event
 
--- no crash of a last stretch leaves an image below the position
-abbrev IsLast : Stretch → Type 0
-IsLast last = (holder : Holder) (calls : List Call) (p : ℕ) (old new : State) → last holder calls p old new → FromOnly holder calls p old new
-
 breaks-from : IsLast Breaks
-breaks-from holder calls p old new breaks = near-from holder calls p old new breaks.leaves
+breaks-from holder calls p q old new le breaks = near-from holder calls p q old new le breaks.leaves
 
 limit-from : IsLast RestsAtLimit
-limit-from holder calls p old new rests = rests-from holder calls p old new rests.rests
+limit-from holder calls p q old new le rests = rests-from holder calls p old new rests.rests
 
 pub ends-as : (refusal : Refusal) (event : Event) (P Q : Stretch → Stretch → Type 0) → ((first_last second_last : Stretch) → IsLast first_last → IsLast second_last → P first_last second_last → Q first_last second_last)
     → EndsBy refusal event P → EndsBy refusal event Q
-ends-as Memory event P Q so ends = (ends.0, so Rests Rests rests-from rests-from ends.1)
-ends-as Fault Commit P Q so ends = so Breaks Rests breaks-from rests-from ends
-ends-as Fault Apply P Q so ends = so Rests Breaks rests-from breaks-from ends
-ends-as Exhausted Commit P Q so ends = so RestsAtLimit Rests limit-from rests-from ends
-ends-as Exhausted Apply P Q so ends = so Rests RestsAtLimit rests-from limit-from ends
+ends-as Memory event P Q so ends = (ends.0, so Resting Resting resting-from resting-from ends.1)
+ends-as Fault Commit P Q so ends = so Breaks Resting breaks-from resting-from ends
+ends-as Fault Apply P Q so ends = so Resting Breaks resting-from breaks-from ends
+ends-as Exhausted Commit P Q so ends = so RestsAtLimit Resting limit-from resting-from ends
+ends-as Exhausted Apply P Q so ends = so Resting RestsAtLimit resting-from limit-from ends
 ends-as refusal event P Q so ends = absurd ends
 
 played-cut : (first second : Holder) (began : Pair) (events : List Event) (event : Event) (refusal : Refusal) (done : List Bool) (pair : Pair) (released : List (List ℕ))
@@ -281,8 +301,8 @@ played-cut first second began events event refusal done pair released same after
       standby_position = refl;
     })
     cut.enabled
-    (subst (λ (calls : List Call). first_last first calls w.primary.committer.position before.device pair.device) (sym cut.calls) led.0)
-    (subst (λ (calls : List Call). second_last second calls w.standby.position before.standby.device pair.standby.device) (sym cut.calls) led.1))
+    (subst (λ (calls : List Call). first_last first calls w.primary.committer.position (next_primary w) before.device pair.device) (sym cut.calls) led.0)
+    (subst (λ (calls : List Call). second_last second calls w.standby.position (next_standby w) before.standby.device pair.standby.device) (sym cut.calls) led.1))
     cut.cause
 
 pub plays-on : (first second : Holder) (began : Pair) (events : List Event) (ended : Option Ended) (done : List Bool) (pair : Pair) (released : List (List ℕ)) (primary standby : State)

@@ -1,5 +1,5 @@
 -- The sequencer goes on standing for the list of calls.
-use Rattle.std.proofs.Common.{◌≡◌, ◌≢◌, ℕ, zero, suc, ◌+◌, ◌-◌, ◌<◌, ◌≤◌, ◌++◌, ◌||◌, Bool, true, false, cond, nat_lt, List, [], ◌∷◌, length, take, slice_index_or, slice_set, refl, sym, ap, ap₂, subst, ◌∙◌, arith, add-zero, length-append, inl, inr, get_or-set_same, get_or-set_other}
+use Rattle.std.proofs.Common.{◌≡◌, ◌≢◌, ℕ, zero, suc, ◌+◌, ◌-◌, ◌<◌, ◌≤◌, ◌++◌, ◌||◌, Bool, true, false, cond, nat_lt, List, [], ◌∷◌, length, take, slice_index_or, slice_set, refl, sym, ap, ap₂, subst, ◌∙◌, arith, le_refl, add-zero, length-append, inl, inr, get_or-set_same, get_or-set_other}
 use Rattle.std.proofs.lemmas.Bool.{and_from, cases_eq, cases_lt, false_from_ne_true, lt-ltb, ltb-true, or_left, or_right}
 use Rattle.std.proofs.lemmas.List.{set_past}
 use Rattle.std.proofs.lemmas.List.Folds.{list_any-append}
@@ -22,7 +22,7 @@ use Rattle.redis_core.specs.Sequencing.{HandsOut, Sequencing, StandsFor}
 use Rattle.redis_core.specs.Turns.{Answers, Moves, call_of}
 use Rattle.machine.specs.declared.event.Event.TheVariants.{CloseGroup}
 use Rattle.machine.specs.declared.event.TheConstants.{PIPE_ITEMS}
-use Rattle.machine.specs.Events.{Span, World, closed_group, has_room, is_enabled, open_changes}
+use Rattle.machine.specs.Events.{Span, World, closed_group, has_room, may_happen, open_changes}
 use Rattle.machine.proofs.SoundEvents.{both}
 use Rattle.world.specs.declared.committing.Committing.{Committing}
 use Rattle.world.specs.declared.committing.Stage.{Stage}
@@ -143,29 +143,40 @@ sequencer-answered calls closed old new c item reply stands answers =
 
 -- ---- a group is closed
 
--- the oldest part leaves
-pub sequencer-handed : (calls : List Call) (closed : ℕ) (old new : Sequencing) (group : Group) → SequencerStands calls closed old → HandsOut old group new → SequencerStands calls (closed + 1) new
+-- the changes of parts that wait are those of the list from where they begin
+changes-open : (calls : List Call) (from : ℕ) (parts : List Part) → AreOpen calls from parts → flat_map changes_of_part parts ≡ changes_since calls from (length parts)
+changes-open calls from [] are = refl
+changes-open calls from (part ∷ parts) are = ap₂ (λ (xs ys : List Change). xs ++ ys) are.1 (changes-open calls (from + 1) parts are.2)
+
+-- and they end where the last of them ends
+last-open : (calls : List Call) (from : ℕ) (parts : List Part) → AreOpen calls from parts → last_position from parts ≡ from + length parts
+last-open calls from [] are = sym (add-zero from)
+last-open calls from (part ∷ parts) are =
+    let rest = last-open calls (from + 1) parts are.2 in
+    ap (λ n. last_position n parts) are.0 ∙ rest ∙ omega arith
+
+-- all parts leave
+pub sequencer-handed : (calls : List Call) (closed : ℕ) (old new : Sequencing) (group : Group) → SequencerStands calls closed old → HandsOut old group new → SequencerStands calls (position_of calls) new
 sequencer-handed calls closed old new group stands hands =
-    let open_parts : AreOpen calls closed (hands.part ∷ hands.rest) = subst (λ (parts : List Part). AreOpen calls closed parts) hands.oldest stands.waiting in
-    subst (SequencerStands calls (closed + 1)) (sym hands.after) (record {
+    subst (SequencerStands calls (position_of calls)) (sym hands.after) (record {
       table = stands.table;
       position = stands.position;
-      before = open_parts.0;
-      waiting = open_parts.2;
-      count = omega (arith, stands.count, ap length hands.oldest);
+      before = stands.position;
+      waiting = tt;
+      count = add-zero (position_of calls);
       seats = stands.seats;
     })
 
--- and it is the group of the next position
-pub IsGroupOf-handed : (calls : List Call) (closed : ℕ) (old new : Sequencing) (group : Group) → SequencerStands calls closed old → HandsOut old group new → IsGroupOf calls group (record { before = closed; after = closed + 1 })
+-- and they are the group of all positions behind those that were closed
+pub IsGroupOf-handed : (calls : List Call) (closed : ℕ) (old new : Sequencing) (group : Group) → SequencerStands calls closed old → HandsOut old group new
+    → IsGroupOf calls group (record { before = closed; after = position_of calls })
 IsGroupOf-handed calls closed old new group stands hands =
-    let open_parts : AreOpen calls closed (hands.part ∷ hands.rest) = subst (λ (parts : List Part). AreOpen calls closed parts) hands.oldest stands.waiting in
-    let one : closed + 1 - closed ≡ 1 = omega arith in
+    let count : position_of calls - closed ≡ length old.waiting = omega (arith, stands.count) in
     record {
-      span_within = record { rising = omega arith; within = omega (arith, stands.count, ap length hands.oldest) };
+      span_within = record { rising = omega (arith, stands.count, hands.some); within = le_refl (position_of calls) };
       before = hands.before ∙ stands.before;
-      after = ap (last_position group.before) hands.alone ∙ open_parts.0;
-      changes = ap (flat_map changes_of_part) hands.alone ∙ ap (λ changes. changes ++ []) open_parts.1 ∙ sym (ap (changes_since calls closed) one);
+      after = ap₂ last_position (hands.before ∙ stands.before) hands.all ∙ last-open calls closed old.waiting stands.waiting ∙ stands.count;
+      changes = ap (flat_map changes_of_part) hands.all ∙ changes-open calls closed old.waiting stands.waiting ∙ sym (ap (changes_since calls closed) count);
     }
 
 pub AreGroupsOf-push : (calls : List Call) (groups : List Group) (spans : List Span) (group : Group) (span : Span) → AreGroupsOf calls groups spans → IsGroupOf calls group span → AreGroupsOf calls (groups ++ group ∷ []) (spans ++ span ∷ [])
@@ -205,9 +216,9 @@ some-parts (part ∷ parts) some = omega arith
 -- no part waits, or there is no room
 pub closes-nothing : (w : World) (code : Committing) (s : Sequencing) (moved : Type 0) → CommittingStands w.primary.calls code w.primary.committer → SequencerStands w.primary.calls w.primary.committer.closed s
     → (s.waiting ≢ [] → length code.waiting.items < PIPE_ITEMS → ⊥)
-    → Goes (is_enabled w CloseGroup) false moved (CommittingStands w.primary.calls code w.primary.committer × SequencerStands w.primary.calls w.primary.committer.closed s)
+    → Goes (may_happen w CloseGroup) false moved (CommittingStands w.primary.calls code w.primary.committer × SequencerStands w.primary.calls w.primary.committer.closed s)
 closes-nothing w code s moved stands sequencer never = record {
-  done = sym (false_from_ne_true (is_enabled w CloseGroup) (λ e.
+  done = sym (false_from_ne_true (may_happen w CloseGroup) (λ e.
       let parts = both (nat_lt 0 (open_changes w)) (has_room w.primary.committer.waiting) e in
       let some : 0 < open_changes w = ltb-true 0 (open_changes w) parts.0 in
       let room : length w.primary.committer.waiting < PIPE_ITEMS = ltb-true (length w.primary.committer.waiting) PIPE_ITEMS parts.1 in
@@ -218,19 +229,19 @@ closes-nothing w code s moved stands sequencer never = record {
 
 -- changes that wait may be closed, where there is room for their group
 pub may-close : (w : World) (code : Committing) (s : Sequencing) → CommittingStands w.primary.calls code w.primary.committer → SequencerStands w.primary.calls w.primary.committer.closed s
-    → s.waiting ≢ [] → length code.waiting.items < PIPE_ITEMS → is_enabled w CloseGroup ≡ true
+    → s.waiting ≢ [] → length code.waiting.items < PIPE_ITEMS → may_happen w CloseGroup ≡ true
 may-close w code s stands sequencer some room =
     and_from (nat_lt 0 (open_changes w)) (has_room w.primary.committer.waiting) (lt-ltb 0 (open_changes w) (omega (arith, some-parts s.waiting some, sequencer.count)))
     (lt-ltb (length w.primary.committer.waiting) PIPE_ITEMS (omega (arith, room, length-groups w.primary.calls code.waiting.items w.primary.committer.waiting stands.groups)))
 
 pub closes-one : (w : World) (old new : Committing) (s s' : Sequencing) (group : Group) (stayed : Type 0) → CommittingStands w.primary.calls old w.primary.committer → SequencerStands w.primary.calls w.primary.committer.closed s
     → s.waiting ≢ [] → length old.waiting.items < PIPE_ITEMS → HandsOut s group s' → new.waiting.items ≡ old.waiting.items ++ group ∷ [] → new.stage ≡ old.stage → new.local ≡ old.local
-    → Goes (is_enabled w CloseGroup) true (CommittingStands w.primary.calls new (closed_group w.primary.committer) × SequencerStands w.primary.calls (closed_group w.primary.committer).closed s') stayed
+    → Goes (may_happen w CloseGroup) true (CommittingStands w.primary.calls new (closed_group (position_of w.primary.calls) w.primary.committer) × SequencerStands w.primary.calls (position_of w.primary.calls) s') stayed
 closes-one w old new s s' group stayed stands sequencer some room hands pushed stage_same local_same = record {
   done = sym (may-close w old s stands sequencer some room);
   goes = λ did. (
     record {
-      groups = subst (λ (groups : List Group). AreGroupsOf w.primary.calls groups (closed_group w.primary.committer).waiting) (sym pushed)
+      groups = subst (λ (groups : List Group). AreGroupsOf w.primary.calls groups (closed_group (position_of w.primary.calls) w.primary.committer).waiting) (sym pushed)
           (AreGroupsOf-push w.primary.calls old.waiting.items w.primary.committer.waiting group _ stands.groups (IsGroupOf-handed w.primary.calls w.primary.committer.closed s s' group sequencer hands));
       stage_is = subst (λ (stage : Stage). StageStands w.primary.calls stage w.primary.committer.stage) (sym stage_same) stands.stage_is;
       local_is = local_same ∙ stands.local_is;

@@ -1,5 +1,5 @@
 -- What the standby does with a frame of the list is what the machine's does with its span.
-use Rattle.std.proofs.Common.{◌≡◌, ◌≢◌, ℕ, ◌+◌, ◌-◌, ◌<◌, ◌≤◌, ◌⊎◌, ⊎_elim, inl, inr, false, List, [], ◌∷◌, ◌++◌, Result, Ok, Err, IfOk, IfErr, OnOk, IsErrOf, refl, sym, ap, ap₂, subst, ◌∙◌, arith}
+use Rattle.std.proofs.Common.{◌≡◌, ◌≢◌, ℕ, ◌+◌, ◌-◌, ◌<◌, ◌≤◌, ◌⊎◌, ⊎_elim, inl, inr, false, List, [], ◌∷◌, ◌++◌, Result, Ok, Err, IfOk, IfErr, OnOk, IsErrOf, refl, sym, ap, ap₂, subst, ◌∙◌, arith, cond, eq-eqb}
 use Rattle.std.proofs.lemmas.Bool.{cases_lt, cases_eq}
 use Rattle.kv_types.specs.declared.refusal.Refusal.{Refusal}
 use Rattle.kv_types.specs.declared.refusal.Refusal.TheVariants.{WrongEpoch, PositionGap, Full, Memory, Fault, Exhausted}
@@ -25,14 +25,14 @@ use Rattle.standby.specs.declared.frame.Ack.{Ack}
 use Rattle.standby.specs.declared.frame.Frame.{Frame}
 use Rattle.standby.specs.Following.{Follows, IsNext, HasTaken, IsWhole, IsBeforeOrWhole, WouldExhaust}
 use Rattle.world.specs.Causes.{Breaks, IsAtLimit, RestsAtLimit, EndsBy}
-use Rattle.world.specs.Committings.{AreContentsAt, Moves, Rests, StandsAtOrNext, NearOnly}
+use Rattle.world.specs.Committings.{AreContentsAt, Moves, Rests, StandsAtEither, NearOnly, next_from}
 use Rattle.world.specs.Links.{IsFrameOf}
 use Rattle.world.specs.Standbys.{Node, StandbyStands, told_by}
 use Rattle.world.proofs.EngineLemmas.{Stands-engine, keeps-stands, moves-same, near-still, rests-same, EngineStands-grows}
 
 -- nothing happened to the standby
-pub StandbyStands-still : (holder : Holder) (epoch : ℕ) (calls : List Call) (p : ℕ) (node : Node) → StandbyStands holder epoch calls p node → NearOnly holder calls p node.device node.device
-StandbyStands-still holder epoch calls p node stands = near-still holder calls p node.device node.contents node.is_faulted stands.engine
+pub StandbyStands-still : (holder : Holder) (epoch : ℕ) (calls : List Call) (p q : ℕ) (node : Node) → StandbyStands holder epoch calls p node → NearOnly holder calls p q node.device node.device
+StandbyStands-still holder epoch calls p q node stands = near-still holder calls p q node.device node.contents node.is_faulted stands.engine
 
 -- ---- what a standby answers to a frame
 
@@ -272,49 +272,53 @@ module _ (holder : Holder) (epoch : ℕ) (calls : List Call) (machine : Machine)
       above : machine.position < span.after → Took holder epoch calls sent machine [] old new
       above lt = ⊎_elim (joins lt) (apart lt) (cases_eq span.before machine.position)
 
-  -- a frame of one change: at any moment of the call, a crash leaves what was before it or all of it
-  pub frame-moments : span.after ≡ span.before + 1 → (result : Result Ack Refusal) → Answers frame old result new → NearOnly holder calls machine.position old.device new.device
-  frame-moments one result answers = ⊎_elim above below (cases_lt machine.position span.after)
-    where
-      still : new ≡ old → NearOnly holder calls machine.position old.device new.device
-      still same =
-          subst (λ (node : Node). NearOnly holder calls machine.position old.device node.device) (sym same)
-          (StandbyStands-still holder epoch calls machine.position old stands)
+  -- where the standby stands after the frame
+  abbrev next : ℕ
+  next = next_from machine.position (sent ∷ [])
 
-      below : span.after ≤ machine.position → NearOnly holder calls machine.position old.device new.device
+  next-joined : span.before ≡ machine.position → next ≡ span.after
+  next-joined e = ap (λ b. cond b span.after machine.position) (eq-eqb span.before machine.position e)
+
+  -- at any moment of the call, a crash leaves what was before the frame or all of it
+  pub frame-moments : (result : Result Ack Refusal) → Answers frame old result new → NearOnly holder calls machine.position next old.device new.device
+  frame-moments result answers = ⊎_elim above below (cases_lt machine.position span.after)
+    where
+      still : new ≡ old → NearOnly holder calls machine.position next old.device new.device
+      still same =
+          subst (λ (node : Node). NearOnly holder calls machine.position next old.device node.device) (sym same)
+          (StandbyStands-still holder epoch calls machine.position next old stands)
+
+      below : span.after ≤ machine.position → NearOnly holder calls machine.position next old.device new.device
       below le = still (answers.again epoch_same (is_below le)).1
 
-      whole : (image : Image) → span.before ≡ machine.position → (after : Contents) × IsWhole frame old.contents old.table after × Keeps after image → StandsAt holder calls (machine.position + 1) image
-      whole image e held = let next : span.after ≡ machine.position + 1 = omega (arith, one, e) in subst (λ p. StandsAt holder calls p image) next (whole_stands image e held)
+      either : span.before ≡ machine.position → (image : Image) → IsBeforeOrWhole frame old.contents old.table image → StandsAtEither holder calls machine.position next image
+      either e image (inl before) = inl (keeps-stands holder calls machine.position old.contents image stands.engine.contents_at before)
+      either e image (inr held) = inr (subst (λ p. StandsAt holder calls p image) (sym (next-joined e)) (whole_stands image e held))
 
-      either : machine.position < span.after → span.before ≡ machine.position → (image : Image) → IsBeforeOrWhole frame old.contents old.table image → StandsAtOrNext holder calls machine.position image
-      either lt e image (inl before) = inl (keeps-stands holder calls machine.position old.contents image stands.engine.contents_at before)
-      either lt e image (inr held) = inr (omega (arith, lt, is.span_within.within), whole image e held)
+      joins : machine.position < span.after → span.before ≡ machine.position → NearOnly holder calls machine.position next old.device new.device
+      joins lt e = LeavesOnly-weaken (StandsAtEither holder calls machine.position next) (λ image. either e image) (answers.moments epoch_same (is_next lt e))
 
-      joins : machine.position < span.after → span.before ≡ machine.position → NearOnly holder calls machine.position old.device new.device
-      joins lt e = LeavesOnly-weaken (StandsAtOrNext holder calls machine.position) (λ image. either lt e image) (answers.moments epoch_same (is_next lt e))
-
-      above : machine.position < span.after → NearOnly holder calls machine.position old.device new.device
+      above : machine.position < span.after → NearOnly holder calls machine.position next old.device new.device
       above lt = ⊎_elim (joins lt) (λ (ne : span.before ≢ machine.position). still (answers.gap epoch_same (is_above lt) (is_apart ne)).1) (cases_eq span.before machine.position)
 
-  -- a frame of one change that would take a counter to the limit
-  frame-limit : span.after ≡ span.before + 1 → span.before ≡ machine.position → WouldExhaust old.contents frame → (image : Image) → IsImage old.device.words image → IsAtLimit image
-  frame-limit one e would image at_image =
-      record { current = old.contents.current; has_record = (stands.engine.durable image at_image).has_record; reached = reached would }
+  -- a frame that would take a counter to the limit: it takes one stamp
+  frame-limit : machine.position < span.after → span.before ≡ machine.position → WouldExhaust old.contents frame → (image : Image) → IsImage old.device.words image → IsAtLimit (next - machine.position) image
+  frame-limit lt e would image at_image =
+      record { current = old.contents.current; has_record = (stands.engine.durable image at_image).has_record; reached = reached (next - machine.position) (omega (arith, lt, next-joined e), omega (arith, lt, next-joined e, is.after, at)) would }
     where
-      reached : WouldExhaust old.contents frame
-          → (COUNTER_LIMIT ≤ old.contents.current.cp + 1 + 1 + STAMP_WINDOW) ⊎ (COUNTER_LIMIT ≤ old.contents.current.position + 1) ⊎ (COUNTER_LIMIT ≤ old.contents.current.number + 1)
-      reached (inl stamps) = inl stamps
-      reached (inr (inl position)) = inr (inl (omega (arith, position, is.after, one, e, at)))
-      reached (inr (inr number)) = inr (inr number)
+      reached : (more : ℕ) → (0 < more) × (frame.after ≡ old.contents.current.position + more) → WouldExhaust old.contents frame
+          → (COUNTER_LIMIT ≤ old.contents.current.cp + more + 1 + STAMP_WINDOW) ⊎ (COUNTER_LIMIT ≤ old.contents.current.position + more) ⊎ (COUNTER_LIMIT ≤ old.contents.current.number + 1)
+      reached more some (inl stamps) = inl (omega (arith, stamps, some.0))
+      reached more some (inr (inl position)) = inr (inl (omega (arith, position, some.1)))
+      reached more some (inr (inr number)) = inr (inr number)
 
   -- a frame that it refused, and did not go on: memory was refused, a fence failed, or a counter is at its limit
-  pub frame-ends : span.after ≡ span.before + 1 → (refusal : Refusal) → ¬ GoesOn refusal → Answers frame old (Err refusal) new
-      → EndsBy refusal Apply (λ _ last. last holder calls machine.position old.device new.device)
-  frame-ends one refusal stops answers = ⊎_elim above below (cases_lt machine.position span.after)
+  pub frame-ends : (refusal : Refusal) → ¬ GoesOn refusal → Answers frame old (Err refusal) new
+      → EndsBy refusal Apply (λ _ last. last holder calls machine.position next old.device new.device)
+  frame-ends refusal stops answers = ⊎_elim above below (cases_lt machine.position span.after)
     where
       Ends : Refusal → Type 0
-      Ends r = EndsBy r Apply (λ _ last. last holder calls machine.position old.device new.device)
+      Ends r = EndsBy r Apply (λ _ last. last holder calls machine.position next old.device new.device)
 
       rests_now : new.device ≡ old.device → Rests holder calls machine.position old.device new.device
       rests_now same = rests-same holder calls machine.position old.device new.device same (Stands-engine _ _ _ _ _ _ stands.engine)
@@ -322,20 +326,20 @@ module _ (holder : Holder) (epoch : ℕ) (calls : List Call) (machine : Machine)
       below : span.after ≤ machine.position → Ends refusal
       below le = absurd (not_both (answers.again epoch_same (is_below le)).0 refl)
 
-      by : span.before ≡ machine.position → (refusal ≡ Full) ⊎ (refusal ≡ Memory) ⊎ (refusal ≡ Fault) ⊎ (refusal ≡ Exhausted) → Ends refusal
-      by e (inl full) = absurd (stops (inl full))
-      by e (inr (inl memory)) = subst Ends (sym memory) (refl, rests_now (answers.refused (inr (ap Err memory))).2)
-      by e (inr (inr (inl fault))) = subst Ends (sym fault) (record { leaves = frame-moments one (Err refusal) answers; failures = answers.fault (ap Err fault) })
-      by e (inr (inr (inr exhausted))) =
+      by : machine.position < span.after → span.before ≡ machine.position → (refusal ≡ Full) ⊎ (refusal ≡ Memory) ⊎ (refusal ≡ Fault) ⊎ (refusal ≡ Exhausted) → Ends refusal
+      by lt e (inl full) = absurd (stops (inl full))
+      by lt e (inr (inl memory)) = subst Ends (sym memory) (refl, rests_now (answers.refused (inr (ap Err memory))).2)
+      by lt e (inr (inr (inl fault))) = subst Ends (sym fault) (record { leaves = frame-moments (Err refusal) answers; failures = answers.fault (ap Err fault) })
+      by lt e (inr (inr (inr exhausted))) =
           let told = answers.exhausted (ap Err exhausted) in
           subst Ends (sym exhausted)
           (record {
             rests = rests_now told.1;
-            limit = subst (λ (d : State). (image : Image) → IsImage d.words image → IsAtLimit image) (sym told.1) (frame-limit one e told.0);
+            limit = subst (λ (d : State). (image : Image) → IsImage d.words image → IsAtLimit (next - machine.position) image) (sym told.1) (frame-limit lt e told.0);
           })
 
       joins : machine.position < span.after → span.before ≡ machine.position → Ends refusal
-      joins lt e = by e (answers.causes epoch_same (is_next lt e))
+      joins lt e = by lt e (answers.causes epoch_same (is_next lt e))
 
       above : machine.position < span.after → Ends refusal
       above lt = ⊎_elim (joins lt) (λ (ne : span.before ≢ machine.position). absurd (stops (inr (inl (same_err refl (answers.gap epoch_same (is_above lt) (is_apart ne)).0))))) (cases_eq span.before machine.position)

@@ -9,7 +9,7 @@ ghost use Rattle.standby.specs.declared.frame.Frame.{Frame};
 ghost use Rattle.standby.specs.Following.{Follows};
 ghost use Rattle.world.specs.Going.{Goes};
 ghost use Rattle.world.specs.Causes.{EndsBy};
-ghost use Rattle.world.specs.Committings.{next_standby};
+ghost use Rattle.world.specs.Committings.{NearOnly, next_standby};
 ghost use Rattle.world.specs.Links.{AreFramesAt};
 ghost use Rattle.world.specs.Standbys.{StandbyStands, ArrivalsStand, AppliesFirst, told_by};
 
@@ -109,7 +109,8 @@ impl Arrivals {
               epoch = standby.new.epoch;
             })) }
         ensures cut { IfErr result (λ refusal. (holder : Holder) (w : World) → Sound w
-            → ArrivalsStand standby.old.epoch w.primary.calls frames.now self.old w.standby
+            → standby.old.epoch ≡ w.standby.epoch
+            → ArrivalsStand standby.old.epoch w.primary.calls frames.now self.old w.standby.waiting w.wire.acknowledgements
             → StandbyStands holder standby.old.epoch w.primary.calls w.standby.position (record {
               device = E.device standby.old.engine;
               contents = E.contents standby.old.engine;
@@ -118,8 +119,8 @@ impl Arrivals {
               room = standby.old.heap;
               epoch = standby.old.epoch;
             })
-            → (is_enabled w Apply ≡ true)
-            × EndsBy refusal Apply (λ _ last. last holder w.primary.calls w.standby.position (E.device standby.old.engine) (E.device standby.new.engine))) }
+            → (may_happen w Apply ≡ true)
+            × EndsBy refusal Apply (λ _ last. last holder w.primary.calls w.standby.position (next_standby w) (E.device standby.old.engine) (E.device standby.new.engine))) }
         // at any moment of the call
         ensures moments { (holder : Holder) (w : World) → Sound w
             → standby.old.epoch ≡ w.standby.epoch

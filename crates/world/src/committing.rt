@@ -66,7 +66,7 @@ impl Committing {
         ensures leads { (contents : Contents) → Leads contents self.old.waiting.items sequencer.old → Leads contents self.new.waiting.items sequencer.new }
         ensures cause { IfErr result (λ refusal. refusal ≡ Refusal.Memory) }
         ensures enabled { OnErr result ((w : World) → CommittingStands w.primary.calls self.old w.primary.committer → SequencerStands w.primary.calls w.primary.committer.closed sequencer.old
-            → is_enabled w CloseGroup ≡ true) }
+            → may_happen w CloseGroup ≡ true) }
     {
         if !self.can_close(sequencer) {
             return Ok(false);
@@ -105,8 +105,8 @@ impl Committing {
         ensures cut { IfErr result (λ refusal. (holder : Holder) (w : World) → Sound w → CommittingStands w.primary.calls self.old w.primary.committer
             → EngineStands holder w.primary.calls w.primary.committer.position (E.device engine.old) (E.contents engine.old) (E.is_faulted engine.old)
             → AreGroupsOf w.primary.calls link.now.items w.primary.link.waiting
-            → (is_enabled w Commit ≡ true)
-            × EndsBy refusal Commit (λ last _. last holder w.primary.calls w.primary.committer.position (E.device engine.old) (E.device engine.new))) }
+            → (may_happen w Commit ≡ true)
+            × EndsBy refusal Commit (λ last _. last holder w.primary.calls w.primary.committer.position (next_primary w) (E.device engine.old) (E.device engine.new))) }
         // at any moment of the call
         ensures moments { (holder : Holder) (w : World) → Sound w → CommittingStands w.primary.calls self.old w.primary.committer
             → EngineStands holder w.primary.calls w.primary.committer.position (E.device engine.old) (E.contents engine.old) (E.is_faulted engine.old)

@@ -68,7 +68,7 @@ impl Link {
             (LinkStands w.primary.calls self.new w.primary.link w.wire.frames)) }
         ensures keeps { OnOk result (KeepsFrames self.old self.new) }
         ensures cause { IfErr result (λ refusal. refusal ≡ Refusal.Memory) }
-        ensures enabled { OnErr result ((w : World) → LinkStands w.primary.calls self.old w.primary.link → is_enabled w Send ≡ true) }
+        ensures enabled { OnErr result ((w : World) → LinkStands w.primary.calls self.old w.primary.link w.wire.frames → may_happen w Send ≡ true) }
     {
         if self.again < self.frames.len() {
             self.sent.push(self.again)?;

@@ -58,7 +58,7 @@ impl Sessions {
             → Goes (may_happen w Enter) did (SessionsStand self.new (w.primary.connections ++ new_connection ∷ []) w.primary.calls) (SessionsStand self.new w.primary.connections w.primary.calls)) }
         ensures told { OnErr result (TellsTheSame self.old self.new) }
         ensures cause { IfErr result (λ refusal. refusal ≡ Refusal.Memory) }
-        ensures enabled { OnErr result ((w : World) → SessionsStand self.old w.primary.connections w.primary.calls → is_enabled w Enter ≡ true) }
+        ensures enabled { OnErr result ((w : World) → SessionsStand self.old w.primary.connections w.primary.calls → may_happen w Enter ≡ true) }
         ensures calls { self.new.calls ≡ self.old.calls }
     {
         // Where memory is refused the run ends, and the seat with it.
@@ -82,7 +82,7 @@ impl Sessions {
             (SessionsStand self.new w.primary.connections w.primary.calls)) }
         ensures told { OnErr result (TellsTheSame self.old self.new) }
         ensures cause { IfErr result (λ refusal. refusal ≡ Refusal.Memory) }
-        ensures enabled { OnErr result ((w : World) → SessionsStand self.old w.primary.connections w.primary.calls → is_enabled w (Feed c piece.now) ≡ true) }
+        ensures enabled { OnErr result ((w : World) → SessionsStand self.old w.primary.connections w.primary.calls → may_happen w (Feed c piece.now) ≡ true) }
         ensures calls { self.new.calls ≡ self.old.calls }
     {
         let place = c as usize;
@@ -100,7 +100,7 @@ impl Sessions {
             (SessionsStand self.new w.primary.connections w.primary.calls)) }
         ensures told { OnErr result (TellsTheSame self.old self.new) }
         ensures cause { IfErr result (λ refusal. refusal ≡ Refusal.Memory) }
-        ensures enabled { OnErr result ((w : World) → SessionsStand self.old w.primary.connections w.primary.calls → is_enabled w (Offer c) ≡ true) }
+        ensures enabled { OnErr result ((w : World) → SessionsStand self.old w.primary.connections w.primary.calls → may_happen w (Offer c) ≡ true) }
         ensures calls { self.new.calls ≡ self.old.calls }
     {
         match self.connections.get_mut(c as usize) {
@@ -117,7 +117,7 @@ impl Sessions {
             (SessionsStand self.new w.primary.connections w.primary.calls)) }
         ensures told { OnErr result (TellsTheSame self.old self.new) }
         ensures cause { IfErr result (λ refusal. refusal ≡ Refusal.Memory) }
-        ensures enabled { OnErr result ((w : World) → SessionsStand self.old w.primary.connections w.primary.calls → is_enabled w (Hold c) ≡ true) }
+        ensures enabled { OnErr result ((w : World) → SessionsStand self.old w.primary.connections w.primary.calls → may_happen w (Hold c) ≡ true) }
         ensures calls { self.new.calls ≡ self.old.calls }
     {
         match self.connections.get_mut(c as usize) {
@@ -165,7 +165,7 @@ impl Sessions {
             (SessionsStand self.new w.primary.connections w.primary.calls)) }
         ensures told { OnErr result (TellsTheSame self.old self.new) }
         ensures cause { IfErr result (λ refusal. refusal ≡ Refusal.Memory) }
-        ensures enabled { OnErr result ((w : World) → SessionsStand self.old w.primary.connections w.primary.calls → is_enabled w (Write c n) ≡ true) }
+        ensures enabled { OnErr result ((w : World) → SessionsStand self.old w.primary.connections w.primary.calls → may_happen w (Write c n) ≡ true) }
         ensures calls { self.new.calls ≡ self.old.calls }
     {
         match self.connections.get_mut(c as usize) {

@@ -19,5 +19,5 @@ returns-clause-ok g c =
     (record {
       performs = subst (λ (s : Sequencing). Performs s.table s.room (s.position + 1) c.args.changes.items part (g.K.Keyspace.table c.perform.new.keyspace) c.perform.new.heap) c.self.view_is performs;
       position = sym performs.position_is;
-      waiting = c.push_back_reserved.ensures.items ∙ ap (λ (s : Sequencing). s.waiting ++ part ∷ []) c.self.view_is;
+      waiting = c.push_reserved.ensures.items ∙ ap (λ (s : Sequencing). s.waiting ++ part ∷ []) c.self.view_is;
     })

@@ -3,13 +3,13 @@ use Rattle.model.specs.Standing.{Holder}
 use Rattle.kv_types.specs.declared.refusal.Refusal.{Refusal}
 use Rattle.model.specs.Calls.{is_nonempty}
 use Rattle.machine.specs.declared.event.Event.TheVariants.{Apply}
-use Rattle.machine.specs.Events.{World, without_first}
+use Rattle.machine.specs.Events.{World, Frame as Sent, without_first}
 use Rattle.machine.specs.Sound.{Sound}
 use Rattle.standby.specs.declared.frame.Ack.{Ack}
 use Rattle.standby.specs.declared.standby.Standby.{Standby}
 use Rattle.world.specs.declared.arrivals.Arrivals.{Arrivals}
 use Rattle.world.specs.Causes.{EndsBy}
-use Rattle.world.specs.Committings.{NearOnly}
+use Rattle.world.specs.Committings.{NearOnly, next_from, next_standby}
 use Rattle.world.specs.Standbys.{Node, ArrivalsStand, StandbyStands}
 use Rattle.world.proofs.StandbyLemmas.{Answers, takes_ok, takes_refused, frame-ends, frame-moments, StandbyStands-still}
 use Rattle.world.proofs.EngineLemmas.{Stands-engine, rests-same}
@@ -56,13 +56,13 @@ first g c w stands = first-frame c.args.standby.now.epoch c.args.frames.now w c.
 -- at any moment of the call
 moments : (g : Over) (c : After-on_frame g) (holder : Holder) (w : World) → Sound w → c.args.standby.now.epoch ≡ w.standby.epoch → ArrivalsStand c.args.standby.now.epoch w.primary.calls c.args.frames.now c.args.self.now w.standby.waiting w.wire.acknowledgements
     → StandbyStands holder c.args.standby.now.epoch w.primary.calls w.standby.position (node g c.args.standby.now)
-    → NearOnly holder w.primary.calls w.standby.position (g.E.Durable.device c.args.standby.now.engine) (g.E.Durable.device c.on_frame.new.self.engine)
+    → NearOnly holder w.primary.calls w.standby.position (next_standby w) (g.E.Durable.device c.args.standby.now.engine) (g.E.Durable.device c.on_frame.new.self.engine)
 moments g c holder w sound epochs arrives stands =
     let epoch = c.args.standby.now.epoch in
     let frame = c.in-Some-get.frame.now in
     let one = first g c w arrives in
-    frame-moments holder epoch w.primary.calls w.standby frame one.span (node g c.args.standby.now) (node g c.on_frame.new.self) one.epoch_is epochs one.is stands
-    c.on_frame.result (answers g c)
+    subst (λ (frames : List Sent). NearOnly holder w.primary.calls w.standby.position (next_from w.standby.position frames) (g.E.Durable.device c.args.standby.now.engine) (g.E.Durable.device c.on_frame.new.self.engine)) (sym one.all)
+    (frame-moments holder epoch w.primary.calls w.standby frame one.span (node g c.args.standby.now) (node g c.on_frame.new.self) one.epoch_is epochs one.is stands c.on_frame.result (answers g c))
 
 pub returns-in_default-get-clause-applies : goal.returns-in_default-get-clause-applies
 returns-in_default-get-clause-applies g c = λ holder w sound epochs arrives stands.
@@ -93,13 +93,13 @@ returns-clause-applies g c =
     ]
 
 pub returns-in_default-clause-moments : goal.returns-in_default-clause-moments
-returns-in_default-clause-moments g c = λ holder w sound epochs arrives stands. StandbyStands-still holder c.args.standby.now.epoch w.primary.calls w.standby.position (node g c.args.standby.now) stands
+returns-in_default-clause-moments g c = λ holder w sound epochs arrives stands. StandbyStands-still holder c.args.standby.now.epoch w.primary.calls w.standby.position (next_standby w) (node g c.args.standby.now) stands
 
 pub returns-in_default-get-clause-moments : goal.returns-in_default-get-clause-moments
-returns-in_default-get-clause-moments g c = λ holder w sound epochs arrives stands. StandbyStands-still holder c.args.standby.now.epoch w.primary.calls w.standby.position (node g c.args.standby.now) stands
+returns-in_default-get-clause-moments g c = λ holder w sound epochs arrives stands. StandbyStands-still holder c.args.standby.now.epoch w.primary.calls w.standby.position (next_standby w) (node g c.args.standby.now) stands
 
 pub returns-in_err-reserve-clause-moments : goal.returns-in_err-reserve-clause-moments
-returns-in_err-reserve-clause-moments g c = λ holder w sound epochs arrives stands. StandbyStands-still holder c.args.standby.now.epoch w.primary.calls w.standby.position (node g c.args.standby.now) stands
+returns-in_err-reserve-clause-moments g c = λ holder w sound epochs arrives stands. StandbyStands-still holder c.args.standby.now.epoch w.primary.calls w.standby.position (next_standby w) (node g c.args.standby.now) stands
 
 pub returns-in-Err-2-clause-moments : goal.returns-in-Err-2-clause-moments
 returns-in-Err-2-clause-moments g c = moments g (goal.at.returns-in-Err-2-clause-moments g c).After-on_frame
@@ -108,22 +108,22 @@ pub returns-clause-moments : goal.returns-clause-moments
 returns-clause-moments g c = moments g (goal.at.returns-clause-moments g c).After-on_frame
 
 pub returns-in_err-reserve-clause-cut : goal.returns-in_err-reserve-clause-cut
-returns-in_err-reserve-clause-cut g c = λ holder w sound arrives stands.
+returns-in_err-reserve-clause-cut g c = λ holder w sound epochs arrives stands.
     let device = g.E.Durable.device c.args.standby.now.engine in (
       ap is_nonempty (first-frame c.args.standby.now.epoch c.args.frames.now w c.args.self.now c.in-Some.place.now c.in-Some-get.frame.now c.in-Some.ensures.item.3.0 c.in-Some.ensures.lookup
           c.in-Some-get.ensures.lookup.1 arrives).all,
-      subst (λ (r : Refusal). EndsBy r Apply (λ _ last. last holder w.primary.calls w.standby.position device device)) (sym c.from_residual.ensures.0)
+      subst (λ (r : Refusal). EndsBy r Apply (λ _ last. last holder w.primary.calls w.standby.position (next_standby w) device device)) (sym c.from_residual.ensures.0)
           (refl, rests-same holder w.primary.calls w.standby.position device device refl (Stands-engine _ _ _ _ _ _ stands.engine)),
     )
 
 pub returns-in-Err-2-clause-cut : goal.returns-in-Err-2-clause-cut
-returns-in-Err-2-clause-cut g c = λ holder w sound arrives stands.
+returns-in-Err-2-clause-cut g c = λ holder w sound epochs arrives stands.
     let front = (goal.at.returns-in-Err-2-clause-cut g c).After-on_frame in
     let epoch = c.args.standby.now.epoch in
     let frame = c.in-Some-get.frame.now in
     let one = first g front w arrives in (
       ap is_nonempty one.all,
-      frame-ends holder epoch w.primary.calls w.standby frame one.span (node g c.args.standby.now) (node g c.on_frame.new.self) one.is stands
-          (one_change epoch c.args.frames.now w frame (drop 1 c.args.self.now.delivered.items) sound one) c.in-Err-2.refusal
-          (λ goes. true≢false (sym (c.goes_on.ensures.1 goes) ∙ c.if-goes_on.false)) (told g front (Err c.in-Err-2.refusal) c.in-Err-2.is),
+      subst (λ (frames : List Sent). EndsBy c.in-Err-2.refusal Apply (λ _ last. last holder w.primary.calls w.standby.position (next_from w.standby.position frames) (g.E.Durable.device c.args.standby.now.engine) (g.E.Durable.device c.on_frame.new.self.engine))) (sym one.all)
+          (frame-ends holder epoch w.primary.calls w.standby frame one.span (node g c.args.standby.now) (node g c.on_frame.new.self) one.epoch_is epochs one.is stands c.in-Err-2.refusal
+          (λ goes. true≢false (sym (c.goes_on.ensures.1 goes) ∙ c.if-goes_on.false)) (told g front (Err c.in-Err-2.refusal) c.in-Err-2.is)),
     )

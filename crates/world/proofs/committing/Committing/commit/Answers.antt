@@ -1,19 +1,20 @@
 use Rattle.std.proofs.Common.{Err, ap, sym, ◌∙◌, arith}
 use Rattle.world.proofs.CommittingLemmas.{commit-ends, commit-full, commit-goes, commit-moments, first-lawful, may-commit}
 use Rattle.world.proofs.EngineLemmas.{near-still}
+use Rattle.world.specs.Committings.{next_primary}
 use Rattle.world.proofs.committing.Committing.commit.Goals as goal
 
 pub returns-in_default-clause-moments : goal.returns-in_default-clause-moments
 returns-in_default-clause-moments g c = λ holder w sound stands engine.
-    near-still holder w.primary.calls w.primary.committer.position (g.E.Durable.device c.args.engine.now) (g.E.Durable.contents c.args.engine.now) (g.E.Durable.is_faulted c.args.engine.now) engine
+    near-still holder w.primary.calls w.primary.committer.position (next_primary w) (g.E.Durable.device c.args.engine.now) (g.E.Durable.contents c.args.engine.now) (g.E.Durable.is_faulted c.args.engine.now) engine
 
 pub returns-then-len-eq-PIPE_ITEMS-clause-moments : goal.returns-then-len-eq-PIPE_ITEMS-clause-moments
 returns-then-len-eq-PIPE_ITEMS-clause-moments g c = λ holder w sound stands engine.
-    near-still holder w.primary.calls w.primary.committer.position (g.E.Durable.device c.args.engine.now) (g.E.Durable.contents c.args.engine.now) (g.E.Durable.is_faulted c.args.engine.now) engine
+    near-still holder w.primary.calls w.primary.committer.position (next_primary w) (g.E.Durable.device c.args.engine.now) (g.E.Durable.contents c.args.engine.now) (g.E.Durable.is_faulted c.args.engine.now) engine
 
 pub returns-in_default-take-clause-moments : goal.returns-in_default-take-clause-moments
 returns-in_default-take-clause-moments g c = λ holder w sound stands engine.
-    near-still holder w.primary.calls w.primary.committer.position (g.E.Durable.device c.args.engine.now) (g.E.Durable.contents c.args.engine.now) (g.E.Durable.is_faulted c.args.engine.now) engine
+    near-still holder w.primary.calls w.primary.committer.position (next_primary w) (g.E.Durable.device c.args.engine.now) (g.E.Durable.contents c.args.engine.now) (g.E.Durable.is_faulted c.args.engine.now) engine
 
 pub returns-in_err-commit-clause-moments : goal.returns-in_err-commit-clause-moments
 returns-in_err-commit-clause-moments g c = λ holder w sound stands engine.

@@ -9,4 +9,4 @@ pub returns-in_err-acknowledge : goal.returns-in_err-acknowledge
 returns-in_err-acknowledge g c = open-cut _ c.acknowledge.new.self c.from_residual.result c.from_residual.ensures.0 (cc)
 
 pub returns : goal.returns
-returns g c = open-does _ c.acknowledge.new.self c.reopen.new.self c.ack.result (ap (λ (a : Ack). a.position) c.ack.ensures) c.in_ok-acknowledge.ensures.stands c.reopen.ensures.stands c.reopen.ensures.keeps
+returns g c = open-does _ c.acknowledge.new.self c.reopen.new.self c.ack.result c.ack.ensures c.in_ok-acknowledge.ensures.stands c.reopen.ensures.stands c.reopen.ensures.keeps
