@@ -15,13 +15,13 @@ use Rattle.kv_types.specs.Keyspaces.{Keyspace, play_all, value_at}
 use Rattle.kv_types.specs.declared.record_id.RecordId.TheVariants.{Str}
 use Rattle.model.specs.declared.group.PlacedChange.TheVariants as placed
 use Rattle.model.specs.declared.call.TheConstants.{MAX_CHANGE_BYTES}
-use Rattle.model.specs.Calls.{MayReply, is_put, writes, unless_error, changes_of, is_nonempty, memory_reply, full_reply, too_large_reply}
+use Rattle.model.specs.Calls.{MayStand, is_put, writes, unless_error, changes_of, is_nonempty, memory_reply, full_reply, too_large_reply}
 use Rattle.model.specs.Commands.{Command, Get, Set, Misuse, UnknownName, WrongNumberOfWords, LongKey, misuse_message, outcome_of, outcome_of_reading, read_command, bulk_or_null, does, closes}
 use Rattle.mv_keyspace.specs.Tables.{records}
 use Rattle.mv_keyspace.proofs.TableLemmas.{records-place_all}
 use Rattle.extent_heap.specs.Room.{Room}
 use Rattle.placing.specs.Places.{HasRoomFor}
-use Rattle.redis_core.specs.Sequencing.{Sequencing}
+use Rattle.redis_core.specs.Sequencing.{Sequencing, state_of}
 use Rattle.redis_core.specs.Serving.{outcome_at, Serves, IsTooFull, refusal_reply, reply_of}
 use Rattle.redis_core.specs.Turns.{call_of, AddsPart, Moves, Answers}
 
@@ -146,7 +146,7 @@ pub serves_outcome : (old : Sequencing) (item : Item) (reply : Reply) (changes :
     → changes_size changes ≤ MAX_CHANGE_BYTES → Moves changes old new → new.before ≡ old.before → new.closed ≡ old.closed → Serves old item reply new
 serves_outcome old item reply changes new reply_is changes_are fits moves before closed =
     let s = records old.table in
-    let made : changes_of s (call_of 0 item reply) ≡ changes =
+    let made : changes_of (state_of old) (call_of 0 item reply) ≡ changes =
     ap (λ r. unless_error r (outcome_at old item).changes) reply_is ∙ unless_error-outcome s item ∙ sym changes_are in
     record {
       legal = inr (inr (inl (subst (λ cs. changes_size cs ≤ MAX_CHANGE_BYTES) changes_are fits, reply_is)));
@@ -160,7 +160,7 @@ pub serves_too_large : (old : Sequencing) (item : Item) (changes : List Change) 
 serves_too_large old item changes reply changes_are large is = record {
   legal = inr (inl (subst (λ cs. MAX_CHANGE_BYTES < changes_size cs) changes_are large, is));
   not_full = λ e. let byte : SameByte 104 116 = ap error_byte (sym is ∙ e) in omega arith;
-  moves = subst (λ r. Moves (changes_of (records old.table) (call_of 0 item r)) old old) (sym is) (record { table = refl; room = refl; position = refl; waiting = refl });
+  moves = subst (λ r. Moves (changes_of (state_of old) (call_of 0 item r)) old old) (sym is) (record { table = refl; room = refl; position = refl; waiting = refl });
   before = refl;
   closed = refl;
 }
@@ -173,7 +173,7 @@ module _ (old : Sequencing) (seat : ℕ) (item : Item) where
 
   answers_served : (reply : Reply) (mid : Sequencing) → Serves old item reply mid → Answers old seat item reply (after_seat mid)
   answers_served reply mid serves =
-      let changes = changes_of (records old.table) (call_of seat item reply) in
+      let changes = changes_of (state_of old) (call_of seat item reply) in
       record {
         legal = serves.legal;
         full_only = λ e. absurd (serves.not_full e);
@@ -184,7 +184,7 @@ module _ (old : Sequencing) (seat : ℕ) (item : Item) where
         closed = ap (λ seats. slice_set seats seat (closes item)) serves.closed;
       }
 
-  answers_error : (text : List ℕ) → MayReply (outcome_at old item) (Error text) → (Error text ≡ full_reply → ¬ HasRoomFor old.room (outcome_at old item).changes) → Answers old seat item (Error text) (after_seat old)
+  answers_error : (text : List ℕ) → MayStand (outcome_at old item) (Error text) → (Error text ≡ full_reply → ¬ HasRoomFor old.room (outcome_at old item).changes) → Answers old seat item (Error text) (after_seat old)
   answers_error text legal full_only = record {
     legal = legal;
     full_only = full_only;

@@ -5,9 +5,10 @@ use Rattle.model.specs.declared.group.Group.{Group}
 use Rattle.model.specs.declared.group.TheConstants.{MAX_PARTS}
 use Rattle.model.specs.declared.group.Part.{Part}
 use Rattle.model.specs.declared.group.Put.{Put}
+use Rattle.model.specs.States.{State, idle_state}
 use Rattle.model.specs.Groups.{Contents, AreAllApart, AreParts, HasItsLines, IsPlaced, IsUnused, last_position, parts_versions, puts_of_part}
 use Rattle.extent_heap.specs.Room.{Room}
-use Rattle.mv_keyspace.specs.Tables.{Table, IsTable}
+use Rattle.mv_keyspace.specs.Tables.{Table, IsTable, records}
 use Rattle.placing.specs.Left.{IsTaken, IsLeftOf}
 
 pub record Sequencing : Type 0 where
@@ -23,6 +24,10 @@ pub record Sequencing : Type 0 where
   pub waiting : List Part
   -- for each seat, whether a fault was answered there
   pub closed : List Bool
+
+-- the state that calls are made at; no session of a seat is kept yet, as all are idle
+abbrev pub state_of : Sequencing → State
+state_of s = idle_state (records s.table)
 
 abbrev pub is_closed : Sequencing → ℕ → Bool
 is_closed s seat = slice_index_or s.closed seat false

@@ -6,11 +6,11 @@ use Rattle.kv_types.specs.declared.refusal.Refusal.TheVariants as refusal
 use Rattle.kv_types.specs.declared.reply.Reply.{Reply}
 use Rattle.kv_types.specs.Changes.{changes_size}
 use Rattle.model.specs.declared.call.TheConstants.{MAX_CHANGE_BYTES}
-use Rattle.model.specs.Calls.{MayReply, changes_of, full_reply, memory_reply}
+use Rattle.model.specs.Calls.{MayStand, changes_of, full_reply, memory_reply}
 use Rattle.model.specs.Commands.{Outcome, outcome_of}
 use Rattle.mv_keyspace.specs.Tables.{records}
 use Rattle.placing.specs.Places.{HasRoomFor}
-use Rattle.redis_core.specs.Sequencing.{Sequencing}
+use Rattle.redis_core.specs.Sequencing.{Sequencing, state_of}
 use Rattle.redis_core.specs.Turns.{Moves, call_of}
 
 -- what the item asks for
@@ -19,9 +19,9 @@ outcome_at s item = outcome_of (records s.table) item
 
 -- The item got a reply of its own, and its changes were made. The seat does not matter.
 pub record Serves (old : Sequencing) (item : Item) (reply : Reply) (new : Sequencing) : Type 0 where
-  pub legal : MayReply (outcome_at old item) reply
+  pub legal : MayStand (outcome_at old item) reply
   pub not_full : reply ≢ full_reply
-  pub moves : Moves (changes_of (records old.table) (call_of 0 item reply)) old new
+  pub moves : Moves (changes_of (state_of old) (call_of 0 item reply)) old new
   pub before : new.before ≡ old.before
   pub closed : new.closed ≡ old.closed
 

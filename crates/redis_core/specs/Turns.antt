@@ -5,12 +5,12 @@ use Rattle.kv_types.specs.declared.item.Item.{Item}
 use Rattle.kv_types.specs.declared.reply.Reply.{Reply}
 use Rattle.model.specs.declared.call.Call.{Call}
 use Rattle.model.specs.declared.group.Part.{Part}
-use Rattle.model.specs.Calls.{MayReply, after_call, changes_of, full_reply, is_changing}
-use Rattle.model.specs.Commands.{outcome_of, closes}
+use Rattle.model.specs.Calls.{MayReply, after_call, changes_of, full_reply, is_changing, outcome_at}
+use Rattle.model.specs.Commands.{closes}
 use Rattle.mv_keyspace.specs.Tables.{records}
 use Rattle.placing.specs.Places.{HasRoomFor}
 use Rattle.placing.specs.Performs.{Performs}
-use Rattle.redis_core.specs.Sequencing.{Sequencing}
+use Rattle.redis_core.specs.Sequencing.{Sequencing, state_of}
 use Rattle.redis_core.specs.declared.turn.Turn.{Turn}
 use Rattle.redis_core.specs.declared.turn.Turn.TheVariants.{Served, Idle, Blocked, GroupFull, Ended}
 
@@ -38,11 +38,11 @@ Moves (change ∷ changes) old new = (part : Part) × AddsPart old part (change 
 
 -- One legal entry of the list: the reply that an item got, made at what the sequencer held before it.
 pub record Answers (old : Sequencing) (seat : ℕ) (item : Item) (reply : Reply) (new : Sequencing) : Type 0 where
-  pub legal : MayReply (outcome_of (records old.table) item) reply
-  pub full_only : reply ≡ full_reply → ¬ HasRoomFor old.room (outcome_of (records old.table) item).changes
-  pub keyspace : records new.table ≡ after_call (records old.table) (call_of seat item reply)
-  pub position : new.position ≡ old.position + (if is_changing (records old.table) (call_of seat item reply) then 1 else 0)
-  pub moves : Moves (changes_of (records old.table) (call_of seat item reply)) old new
+  pub legal : MayReply (state_of old) (call_of seat item reply)
+  pub full_only : reply ≡ full_reply → ¬ HasRoomFor old.room (outcome_at (state_of old) seat item).changes
+  pub keyspace : records new.table ≡ (after_call (state_of old) (call_of seat item reply)).keyspace
+  pub position : new.position ≡ old.position + (if is_changing (state_of old) (call_of seat item reply) then 1 else 0)
+  pub moves : Moves (changes_of (state_of old) (call_of seat item reply)) old new
   pub before : new.before ≡ old.before
   -- the seat is closed from now on if the item closes its connection
   pub closed : new.closed ≡ slice_set old.closed seat (closes item)

@@ -1,5 +1,5 @@
 -- The committer and its engine go on standing for the machine's.
-use Rattle.std.proofs.Common.{◌≡◌, ◌⊎◌, inl, inr, true≢false, ℕ, ◌+◌, ◌-◌, ◌<◌, ◌≤◌, ◌++◌, ◌&&◌, Bool, true, false, nat_lt, List, [], ◌∷◌, length, Result, Ok, Err, OnOk, OnErr, refl, sym, ap, subst, ◌∙◌, arith}
+use Rattle.std.proofs.Common.{◌≡◌, ◌⊎◌, inl, inr, true≢false, ℕ, ◌+◌, ◌-◌, ◌<◌, ◌≤◌, ◌++◌, ◌&&◌, Bool, true, false, nat_lt, List, [], ◌∷◌, length, Result, Ok, Err, IfErr, IsErrOf, OnOk, OnErr, refl, sym, ap, subst, ◌∙◌, arith}
 use Rattle.std.proofs.lemmas.Bool.{lt-ltb, le-ltb}
 use Rattle.pmem.specs.Device.{State}
 use Rattle.pmem.specs.Crash.{IsImage}
@@ -13,7 +13,7 @@ use Rattle.model.specs.Calls.{is_nonempty}
 use Rattle.model.specs.Images.{Image}
 use Rattle.model.specs.declared.group.Part.{Part}
 use Rattle.model.specs.declared.image.TheConstants.{COUNTER_LIMIT, STAMP_WINDOW}
-use Rattle.model.specs.Groups.{AreParts, Contents, IsGroup, Versions, after_group, last_position, next_record, part_versions}
+use Rattle.model.specs.Groups.{AreParts, Contents, IsGroup, Versions, after_group, last_position, part_versions}
 use Rattle.model.specs.Standing.{Holder}
 use Rattle.wbl_engine.specs.Contents.{Exhausts, Keeps, IsDurable, Same}
 use Rattle.pipes.specs.Waiting.{Waiting}
@@ -22,7 +22,7 @@ use Rattle.machine.specs.declared.event.Event.TheVariants.{Commit, Hand}
 use Rattle.machine.specs.Events.{Committer as Machine, Stage as MachineStage, Span, World, committed_first, handed, has_room, may_happen, is_ready, is_shown, ready_again}
 use Rattle.machine.specs.Worlds as machine_stage
 use Rattle.machine.specs.Sound.{HasRoomFor, IsChain, Sound}
-use Rattle.world.specs.Causes.{Breaks, IsAtLimit, RestsAtLimit, EndsBy}
+use Rattle.world.specs.Causes.{IsAtLimit, EndsBy}
 use Rattle.world.specs.Committings.{AreContentsAt, AreGroups, CommittingStands, EngineStands, StageStands, StandsAtEither, NearOnly, next_primary}
 use Rattle.world.specs.Going.{Goes}
 use Rattle.world.specs.GroupSpans.{AreGroupsOf, IsGroupOf}
@@ -219,25 +219,27 @@ commit-limit holder w code group rest device contents is_faulted waits lawful ex
     reached more (inr (inr number)) few own = inr (inr number)
 
 -- the engine refused to commit: a fence failed, or a counter is at its limit
-pub commit-ends : (holder : Holder) (w : World) (code : Committing) (group : Group) (rest : List Group) (device device' : State) (contents : Contents) (is_faulted : Bool) (refusal : Refusal)
-    → code.waiting.items ≡ group ∷ rest → IsGroup contents group → (refusal ≡ Fault) ⊎ (refusal ≡ Exhausted)
-    → (refusal ≡ Fault → (is_faulted ≡ true) ⊎ (device.failures < device'.failures)) → (refusal ≡ Exhausted → Exhausts contents group × (device' ≡ device))
+pub commit-ends : (holder : Holder) (w : World) (code : Committing) (group : Group) (rest : List Group) (device device' : State) (contents : Contents) (is_faulted : Bool)
+    (result : Result ℕ Refusal) (refusal : Refusal) → result ≡ Err refusal
+    → code.waiting.items ≡ group ∷ rest → IsGroup contents group → IfErr result (λ r. (r ≡ Fault) ⊎ (r ≡ Exhausted))
+    → (IsErrOf result Fault → (is_faulted ≡ true) ⊎ (device.failures < device'.failures)) → (IsErrOf result Exhausted → Exhausts contents group × (device' ≡ device))
     → (is_faulted ≡ false → LeavesOnly device device' (λ image. Keeps contents image ⊎ Keeps (after_group contents group) image))
     → Sound w → CommittingStands w.primary.calls code w.primary.committer → EngineStands holder w.primary.calls w.primary.committer.position device contents is_faulted
     → EndsBy refusal Commit (λ last _. last holder w.primary.calls w.primary.committer.position (next_primary w) device device')
-commit-ends holder w code group rest device device' contents is_faulted refusal waits lawful causes fault exhausted moments sound stands engine = by causes
+commit-ends holder w code group rest device device' contents is_faulted result refusal is waits lawful causes fault exhausted moments sound stands engine =
+    by (subst (λ (r : Result ℕ Refusal). IfErr r (λ e. (e ≡ Fault) ⊎ (e ≡ Exhausted))) is causes)
   where
     rose : (is_faulted ≡ true) ⊎ (device.failures < device'.failures) → device.failures < device'.failures
     rose (inl before) = absurd (true≢false (sym before ∙ engine.sound))
     rose (inr now) = now
 
     by : (refusal ≡ Fault) ⊎ (refusal ≡ Exhausted) → EndsBy refusal Commit (λ last _. last holder w.primary.calls w.primary.committer.position (next_primary w) device device')
-    by (inl is) =
-        subst (λ (r : Refusal). EndsBy r Commit (λ last _. last holder w.primary.calls w.primary.committer.position (next_primary w) device device')) (sym is)
-        (record { leaves = commit-moments holder w code group rest device device' contents is_faulted waits lawful moments sound stands engine; failures = rose (fault is) })
-    by (inr is) =
-        let told = exhausted is in
-        subst (λ (r : Refusal). EndsBy r Commit (λ last _. last holder w.primary.calls w.primary.committer.position (next_primary w) device device')) (sym is)
+    by (inl cause) =
+        subst (λ (r : Refusal). EndsBy r Commit (λ last _. last holder w.primary.calls w.primary.committer.position (next_primary w) device device')) (sym cause)
+        (record { leaves = commit-moments holder w code group rest device device' contents is_faulted waits lawful moments sound stands engine; failures = rose (fault (is ∙ ap Err cause)) })
+    by (inr cause) =
+        let told = exhausted (is ∙ ap Err cause) in
+        subst (λ (r : Refusal). EndsBy r Commit (λ last _. last holder w.primary.calls w.primary.committer.position (next_primary w) device device')) (sym cause)
         (record {
           rests = rests-same holder w.primary.calls w.primary.committer.position device device' told.1 (Stands-engine holder w.primary.calls w.primary.committer.position device contents is_faulted engine);
           limit = subst (λ (d : State). (image : Image) → IsImage d.words image → IsAtLimit (next_primary w - w.primary.committer.position) image) (sym told.1)

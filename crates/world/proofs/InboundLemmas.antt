@@ -1,11 +1,11 @@
 -- The inbound half of a connection goes on standing for the machine's.
-use Rattle.std.proofs.Common.{◌≡◌, ℕ, zero, suc, ◌+◌, ◌-◌, ◌<◌, ◌≤◌, ◌++◌, ◌||◌, ◌&&◌, not, Bool, true, false, cond, nat_lt, List, [], ◌∷◌, length, take, drop, Option, Some, None, Result, Ok, Err, refl, sym, ap, subst, ◌∙◌, append_assoc, append-nil, arith, length-append, length-drop}
+use Rattle.std.proofs.Common.{◌≡◌, ℕ, zero, suc, ◌-◌, ◌<◌, ◌≤◌, ◌++◌, ◌||◌, ◌&&◌, true, false, nat_lt, List, [], ◌∷◌, length, take, drop, Option, Some, None, Result, Ok, Err, refl, sym, ap, ◌∙◌, append_assoc, arith, length-append, length-drop}
 use Rattle.std.proofs.lemmas.Bool.{lt-ltb, and_from}
 use Rattle.std.proofs.lemmas.List.{take-append-le}
 use Rattle.std.proofs.lemmas.List.Folds.{list_any-append}
 use Rattle.std.specs.List.{list_any}
 use Rattle.kv_types.specs.declared.item.Item.{Item}
-use Rattle.kv_types.specs.declared.item.Item.TheVariants.{Request, Fault}
+use Rattle.kv_types.specs.declared.item.Item.TheVariants.{Request}
 use Rattle.kv_types.specs.declared.limits.Limits.{Limits}
 use Rattle.kv_types.specs.declared.limits.TheConstants.{SERVED_LIMITS}
 use Rattle.kv_types.specs.Requests.{item_of}
@@ -14,10 +14,10 @@ use Rattle.model.specs.Commands.{closes}
 use Rattle.model.specs.Calls.{up_to_closing}
 use Rattle.model.proofs.ServesLemmas.{up_to_closing-open}
 use Rattle.machine.specs.declared.event.TheConstants.{PIPE_ITEMS}
-use Rattle.machine.specs.Events.{Inbound as Machine, asked, is_closed_by, fed_with, has_room, no_connection}
+use Rattle.machine.specs.Events.{Inbound as Machine, asked, fed_with, has_room, no_connection}
 use Rattle.resp_codec.specs.Parsing.{fed, ahead}
 use Rattle.world.specs.declared.inbound.Inbound.{Inbound}
-use Rattle.world.specs.Inbounds.{HasParsed, InboundStands}
+use Rattle.world.specs.Inbounds.{InboundStands}
 
 -- ---- a fault is the last item
 

@@ -1,8 +1,6 @@
 -- The outbound half of a connection goes on standing for the machine's.
-use Rattle.std.proofs.Common.{◌≡◌, ◌≢◌, ℕ, zero, suc, ◌+◌, ◌≤◌, ◌++◌, ◌&&◌, Bool, true, false, cond, nat_le, List, [], ◌∷◌, length, take, drop, Option, Some, None, refl, sym, ap, ap₂, subst, ◌∙◌, append_assoc, append-nil, arith, length-append, IsTrue, Bor}
+use Rattle.std.proofs.Common.{◌≡◌, ◌≢◌, ℕ, ◌+◌, ◌++◌, ◌&&◌, Bool, true, false, cond, nat_le, List, [], ◌∷◌, length, take, drop, refl, sym, ap, ap₂, subst, ◌∙◌, append_assoc, append-nil, arith, length-append}
 use Rattle.std.proofs.lemmas.List.{take_at, drop_at}
-use Rattle.std.proofs.lemmas.List.Concat.{flat_map-append}
-use Rattle.std.specs.Prelude.{slice_get}
 use Rattle.kv_types.specs.declared.reply.Held.{Held}
 use Rattle.kv_types.specs.Replies.{text_of}
 use Rattle.model.specs.declared.call.Call.{Call}
@@ -12,8 +10,7 @@ use Rattle.reply_gate.specs.declared.held_text.HeldText.{HeldText}
 use Rattle.reply_gate.specs.Gates.{Held as Gate, is_first_covered, covered_bytes}
 use Rattle.reply_gate.specs.Gates.{is_covered as is_text_covered, uncovered_rest as uncovered_texts}
 use Rattle.world.specs.declared.outbound.Made.{Made}
-use Rattle.world.specs.declared.outbound.Outbound.{Outbound}
-use Rattle.world.specs.Outbounds.{IsMade, AreMade, IsHeld, AreHeld, GateStands, OutboundStands, HoldsFirst, LetsOut}
+use Rattle.world.specs.Outbounds.{IsMade, AreMade, IsHeld, AreHeld, GateStands}
 
 texts_of-append : (xs ys : List Held) → texts_of (xs ++ ys) ≡ texts_of xs ++ texts_of ys
 texts_of-append [] ys = refl

@@ -1,5 +1,5 @@
 -- What each event does to the pair, of what it does to its parts.
-use Rattle.std.proofs.Common.{◌≡◌, ℕ, ◌+◌, ◌≤◌, ◌&&◌, Bool, true, false, nat_lt, List, [], ◌∷◌, ◌++◌, length, option_map, slice_get, slice_index_or, Option, Some, Result, Ok, Err, IfOk, IfErr, OnOk, OnErr, IsErr, Vec, Global, ◌<◌, refl, sym, ap, subst, ◌∙◌, arith, inl, true≢false, cond, eq-eqb, ap₂, All}
+use Rattle.std.proofs.Common.{◌≡◌, ℕ, ◌+◌, ◌≤◌, ◌&&◌, Bool, true, false, nat_lt, List, [], ◌∷◌, ◌++◌, length, option_map, slice_get, slice_index_or, Option, Some, Result, Ok, Err, IfOk, IfErr, OnOk, OnErr, Vec, Global, ◌<◌, refl, sym, ap, subst, ◌∙◌, arith, true≢false, cond, eq-eqb, ap₂, All}
 use Rattle.std.proofs.lemmas.Bool.{lt-ltb, le-ltb, ltb-true}
 use Rattle.std.proofs.lemmas.List.{length-map}
 use Rattle.std.proofs.lemmas.Option.{slice_get-get_or, slice_get-map, slice_get_within}
@@ -118,8 +118,10 @@ cut-same first second event refusal old new w asks memory device device' same en
     cut-for first second event refusal old new w stands same enabled
     (subst (λ (r : Refusal). EndsBy r event (Led first second old new w)) (sym memory) (
       asks,
-      subst (Rests first w.primary.calls w.primary.committer.position old.device) (sym device) (rests-primary first second old w stands),
-      subst (Rests second w.primary.calls w.standby.position old.standby.device) (sym device') (rests-standby first second old w stands),
+      (
+        subst (Rests first w.primary.calls w.primary.committer.position old.device) (sym device) (rests-primary first second old w stands),
+        subst (Rests second w.primary.calls w.standby.position old.standby.device) (sym device') (rests-standby first second old w stands),
+      ),
     ))
 
 tells : (sessions : Sessions) → TellsTheSame sessions sessions
@@ -657,15 +659,15 @@ open-does old arrivals link ack is acknowledges opens keeps =
       calls = none-added _ _ refl;
     }
 
-pub open-cut : (old : Pair) (arrivals : Arrivals) (result : Result Bool Refusal) → IsErr result → IfErr result (λ refusal. refusal ≡ Memory)
+pub open-cut : (old : Pair) (arrivals : Arrivals) (result : Result Bool Refusal) (refusal : Refusal) → result ≡ Err refusal → refusal ≡ Memory
     → Does old events.OpenLink result (with_arrivals arrivals old)
-open-cut old arrivals (Ok did) is memory = absurd (true≢false (sym is))
-open-cut old arrivals (Err refusal) is memory =
-    record {
+open-cut old arrivals result refusal is memory =
+    subst (λ (r : Result Bool Refusal). Does old events.OpenLink r (with_arrivals arrivals old)) (sym is)
+    (record {
       steps = tt;
       cut = λ first second w stands. cut-same first second events.OpenLink refusal old (with_arrivals arrivals old) w refl memory refl refl (tells old.sessions) refl stands;
       calls = none-added _ _ refl;
-    }
+    })
 
 pub deliver-does : (old : Pair) (arrivals : Arrivals) (sent : List ℕ) (frame : ℕ) (result : Result Bool Refusal) → sent ≡ old.link.sent.items
     → IfOk result (λ did. (epoch : ℕ) (frames : List Frame) (w : World) → ArrivalsStand epoch w.primary.calls frames old.arrivals w.standby.waiting w.wire.acknowledgements

@@ -1,9 +1,9 @@
 -- A run goes on from event to event, and what is told of it at its end.
-use Rattle.std.proofs.Common.{◌≡◌, ◌⊎◌, ℕ, ◌+◌, ◌≤◌, Bool, List, [], ◌∷◌, ◌++◌, length, take, true, slice_get, slice_index_or, Option, Some, None, refl, sym, ap, subst, ◌∙◌, arith, le_refl, append_assoc, inl, inr, cond, nat_eq, eqb-true, All, false, ◌<◌}
+use Rattle.std.proofs.Common.{◌≡◌, ◌⊎◌, ℕ, ◌+◌, ◌≤◌, Bool, List, [], ◌∷◌, ◌++◌, length, take, slice_index_or, Option, Some, None, refl, sym, ap, subst, ◌∙◌, arith, le_refl, append_assoc, inl, inr, true, cond, nat_eq, eqb-true, All, false, ◌<◌}
 use Rattle.pmem.specs.Device.{State}
 use Rattle.kv_types.specs.declared.refusal.Refusal.{Refusal}
 use Rattle.kv_types.specs.declared.refusal.Refusal.TheVariants.{Memory, Fault, Exhausted}
-use Rattle.pmem.proofs.Leaving.{none_leaves, LeavesOnly-then, LeavesOnly-weaken}
+use Rattle.pmem.proofs.Leaving.{LeavesOnly-then, LeavesOnly-weaken}
 use Rattle.model.specs.declared.call.Call.{Call}
 use Rattle.model.specs.declared.record.Role.TheVariants.{Primary, Standby}
 use Rattle.model.specs.Calls.{IsPrefix, position_of}
@@ -26,7 +26,7 @@ use Rattle.world.specs.Causes.{Stretch, UnformedBy, Breaks, RestsAtLimit, EndsBy
 use Rattle.world.specs.Committings.{StandsAtEither, NearOnly, FromOnly, Moves, Rests, FormattingOnly, next_primary, next_from, next_standby}
 use Rattle.world.specs.declared.trace.Ended.{Ended}
 use Rattle.world.specs.declared.trace.Ended.TheVariants.{AtFormatting, AtEvent}
-use Rattle.world.specs.Headline.{AnyWorld, Enables, primary_position, standby_position, KeepsReleased, AreMoments, IsKept, IsPlayed, KeepsItsWord, PlaysOn, AreMoves, Reaches, StandsAfter, IsCutAfter, Plays}
+use Rattle.world.specs.Headline.{AnyWorld, Enables, primary_position, standby_position, AreMoments, IsKept, KeepsItsWord, PlaysOn, AreMoves, Reaches, StandsAfter, IsCutAfter, Plays}
 use Rattle.world.specs.Pairs.{Pair, PairStands, HasWorld, IsCut, Steps}
 use Rattle.world.specs.Sessions.{released_of}
 use Rattle.world.proofs.EngineLemmas.{Stands-engine, rests-same}
@@ -326,15 +326,14 @@ pub keeps-played : (events : List Event) (ended : Option Ended) (done : List Boo
 keeps-played events None done calls released primary standby formatted formatted' primary' standby' formatting formatting' plays =
     record { primary_formatted = formatted; standby_formatted = formatted'; primary_formatting = formatting; standby_formatting = formatting'; kept = plays }
 keeps-played events (Some (AtFormatting refusal)) done calls released primary standby formatted formatted' primary' standby' formatting formatting' plays = absurd plays
-keeps-played events (Some (AtEvent place refusal)) done calls released primary standby formatted formatted' primary' standby' formatting formatting' plays =
-    (
-      plays.0,
-      plays.1,
-      ends-as refusal plays.0 _ _
-          (λ first_last second_last first_from second_from played.
-          record { primary_formatted = formatted; standby_formatted = formatted'; primary_formatting = formatting; standby_formatting = formatting'; kept = played })
-          plays.2,
-    )
+keeps-played events (Some (AtEvent place refusal)) done calls released primary standby formatted formatted' primary' standby' formatting formatting' plays = (
+  plays.0,
+  plays.1,
+  ends-as refusal plays.0 _ _
+      (λ first_last second_last first_from second_from played.
+      record { primary_formatted = formatted; standby_formatted = formatted'; primary_formatting = formatting; standby_formatting = formatting'; kept = played })
+      plays.2,
+)
 
 -- a run that ended before the first event
 pub keeps-unplayed : (events : List Event) (ended : Option Ended) (refusal : Refusal) (done : List Bool) (calls : List Call) (released : List (List ℕ)) (primary standby primary' standby' : State)

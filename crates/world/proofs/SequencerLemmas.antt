@@ -1,5 +1,5 @@
 -- The sequencer goes on standing for the list of calls.
-use Rattle.std.proofs.Common.{◌≡◌, ◌≢◌, ℕ, zero, suc, ◌+◌, ◌-◌, ◌<◌, ◌≤◌, ◌++◌, ◌||◌, Bool, true, false, cond, nat_lt, List, [], ◌∷◌, length, take, slice_index_or, slice_set, refl, sym, ap, ap₂, subst, ◌∙◌, arith, le_refl, add-zero, length-append, inl, inr, get_or-set_same, get_or-set_other}
+use Rattle.std.proofs.Common.{◌≡◌, ◌≢◌, ℕ, zero, suc, ◌+◌, ◌-◌, ◌<◌, ◌≤◌, ◌++◌, ◌||◌, Bool, true, false, cond, nat_lt, List, [], ◌∷◌, length, take, slice_index_or, slice_set, Result, Err, IfErr, IsErrOf, ◌⊎◌, refl, sym, ap, ap₂, subst, ◌∙◌, arith, add-zero, length-append, inl, inr, get_or-set_same, get_or-set_other, le_refl}
 use Rattle.std.proofs.lemmas.Bool.{and_from, cases_eq, cases_lt, false_from_ne_true, lt-ltb, ltb-true, or_left, or_right}
 use Rattle.std.proofs.lemmas.List.{set_past}
 use Rattle.std.proofs.lemmas.List.Folds.{list_any-append}
@@ -8,6 +8,8 @@ use Rattle.kv_types.specs.declared.change.Change.{Change}
 use Rattle.kv_types.specs.declared.item.Item.{Item}
 use Rattle.kv_types.specs.declared.reply.Reply.{Reply}
 use Rattle.kv_types.specs.Keyspaces.{Keyspace}
+use Rattle.kv_types.specs.declared.refusal.Refusal.{Refusal}
+use Rattle.kv_types.specs.declared.refusal.Refusal.TheVariants.{Memory, PipeFull}
 use Rattle.model.specs.declared.call.Call.{Call}
 use Rattle.model.specs.declared.group.Group.{Group}
 use Rattle.model.specs.declared.group.Part.{Part}
@@ -233,6 +235,15 @@ pub may-close : (w : World) (code : Committing) (s : Sequencing) → CommittingS
 may-close w code s stands sequencer some room =
     and_from (nat_lt 0 (open_changes w)) (has_room w.primary.committer.waiting) (lt-ltb 0 (open_changes w) (omega (arith, some-parts s.waiting some, sequencer.count)))
     (lt-ltb (length w.primary.committer.waiting) PIPE_ITEMS (omega (arith, room, length-groups w.primary.calls code.waiting.items w.primary.committer.waiting stands.groups)))
+
+-- a group that has room was refused for want of memory alone
+pub only-memory : (waiting : ℕ) (result : Result (Unit {0}) Refusal) (refusal : Refusal) → result ≡ Err refusal → IfErr result (λ r. (r ≡ PipeFull) ⊎ (r ≡ Memory))
+    → (IsErrOf result PipeFull → PIPE_ITEMS - waiting ≡ 0) → waiting < PIPE_ITEMS → refusal ≡ Memory
+only-memory waiting result refusal is causes full few = by (subst (λ (r : Result (Unit {0}) Refusal). IfErr r (λ e. (e ≡ PipeFull) ⊎ (e ≡ Memory))) is causes)
+  where
+    by : (refusal ≡ PipeFull) ⊎ (refusal ≡ Memory) → refusal ≡ Memory
+    by (inl pipe) = absurd (omega (arith, full (is ∙ ap Err pipe), few))
+    by (inr memory) = memory
 
 pub closes-one : (w : World) (old new : Committing) (s s' : Sequencing) (group : Group) (stayed : Type 0) → CommittingStands w.primary.calls old w.primary.committer → SequencerStands w.primary.calls w.primary.committer.closed s
     → s.waiting ≢ [] → length old.waiting.items < PIPE_ITEMS → HandsOut s group s' → new.waiting.items ≡ old.waiting.items ++ group ∷ [] → new.stage ≡ old.stage → new.local ≡ old.local

@@ -24,7 +24,7 @@ use Rattle.machine.specs.Events.{Standby as Machine, Span, Frame as Sent, Acknow
 use Rattle.standby.specs.declared.frame.Ack.{Ack}
 use Rattle.standby.specs.declared.frame.Frame.{Frame}
 use Rattle.standby.specs.Following.{Follows, IsNext, HasTaken, IsWhole, IsBeforeOrWhole, WouldExhaust}
-use Rattle.world.specs.Causes.{Breaks, IsAtLimit, RestsAtLimit, EndsBy}
+use Rattle.world.specs.Causes.{IsAtLimit, EndsBy}
 use Rattle.world.specs.Committings.{AreContentsAt, Moves, Rests, StandsAtEither, NearOnly, next_from}
 use Rattle.world.specs.Links.{IsFrameOf}
 use Rattle.world.specs.Standbys.{Node, StandbyStands, told_by}

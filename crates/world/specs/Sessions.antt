@@ -1,13 +1,12 @@
 -- What the connections and the list of calls stand for in the machine.
-use Rattle.std.specs.Prelude.{◌≡◌, ℕ, suc, ◌+◌, ◌<◌, ◌≤◌, Bool, true, false, List, [], ◌∷◌, ◌++◌, length, map, slice_get, Some, Vec, vec_capacity}
+use Rattle.std.specs.Prelude.{◌≡◌, ℕ, suc, ◌+◌, ◌<◌, ◌≤◌, Bool, true, false, List, [], ◌∷◌, length, map, slice_get, Some, Vec, vec_capacity}
 use Rattle.std.specs.Global.{Global}
 use Rattle.std.specs.List.{list_any}
-use Rattle.kv_types.specs.Keyspaces.{Keyspace}
 use Rattle.pipes.specs.declared.limits.TheConstants.{MAX_SEATS}
 use Rattle.lobby.specs.Book.{Status, free, taken}
 use Rattle.model.specs.declared.call.Call.{Call}
 use Rattle.model.specs.declared.group.Part.{Part}
-use Rattle.model.specs.Calls.{IsPrefix, items_of, keyspace_after, position_of}
+use Rattle.model.specs.Calls.{items_of, keyspace_after, position_of}
 use Rattle.model.specs.Commands.{closes}
 use Rattle.model.specs.Groups.{changes_of_part}
 use Rattle.model.specs.Positions.{changes_at}

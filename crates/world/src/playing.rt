@@ -22,8 +22,8 @@ use std::alloc::{AllocError, Global};
 use wbl_engine::{Durable, WblEngine};
 
 /// Formats the first device as primary and the second as standby, and lets the events happen to them and to their connections, one after another: one
-/// that is enabled does its step, another changes nothing. Where memory is refused for an event, or a fence fails in it, the run ends there. All
-/// devices come back in their order.
+/// that is enabled does its step, another changes nothing. Where memory is refused for an enabled event, or a fence fails in it, the run ends there and
+/// says why; a turn that is refused memory answers so, and the run goes on. All devices come back in their order.
 ///
 /// This is the promise of the whole server, for any devices and any list of events: one sequential Redis answers the list of calls, which takes each
 /// connection's requests in order; the bytes released to each connection begin its replies; each released call was covered, and is in what both

@@ -9,7 +9,7 @@ use standby::{Ack, Frame};
 pub enum Ended {
     /// Before the first event, at the making of the nodes; also `WrongSize`, where a device has fewer than 4,096 lines or more than 2^31.
     AtFormatting(Refusal),
-    /// At the event at this place. All events before it are done.
+    /// At the event at this place, which was enabled. All events before it are done.
     AtEvent(usize, Refusal),
 }
 

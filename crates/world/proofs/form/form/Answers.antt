@@ -28,7 +28,7 @@ returns-in-Ok-format-2-clause-stands g c =
 pub returns-in-Err-clause-cause : goal.returns-in-Err-clause-cause
 returns-in-Err-clause-cause g c =
     let state = g.P.Pmem.state in
-    subst (λ (r : Refusal). UnformedBy r (state c.args.primary) (state c.args.standby) (state c.args.primary) (state c.args.standby)) (sym c.in-Err.ensures) (refl, refl)
+    subst (λ (r : Refusal). UnformedBy r (state c.args.primary) (state c.args.standby) (state c.args.primary) (state c.args.standby)) (sym c.in-Err.ensures.cause) (refl, refl)
 
 pub returns-in-Err-format-clause-cause : goal.returns-in-Err-format-clause-cause
 returns-in-Err-format-clause-cause g c =

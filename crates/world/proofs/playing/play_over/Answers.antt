@@ -1,4 +1,4 @@
-use Rattle.std.proofs.Common.{List, ap, map, subst, sym}
+use Rattle.std.proofs.Common.{ap, map, subst, sym}
 use Rattle.pmem.specs.Device.{State}
 use Rattle.model.specs.declared.record.Role.TheVariants.{Primary, Standby}
 use Rattle.world.specs.Causes.{UnformedBy}

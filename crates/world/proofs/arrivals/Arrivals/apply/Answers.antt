@@ -1,6 +1,8 @@
 use Rattle.std.proofs.Common.{◌≡◌, ℕ, ◌++◌, [], ◌∷◌, drop, List, Result, Ok, Err, refl, sym, ap, subst, ◌∙◌, arith, append-nil, true≢false}
 use Rattle.model.specs.Standing.{Holder}
+use Rattle.std.proofs.lemmas.Result.{err_from_is_err_and}
 use Rattle.kv_types.specs.declared.refusal.Refusal.{Refusal}
+use Rattle.kv_types.specs.declared.refusal.Refusal.TheVariants.{Memory}
 use Rattle.model.specs.Calls.{is_nonempty}
 use Rattle.machine.specs.declared.event.Event.TheVariants.{Apply}
 use Rattle.machine.specs.Events.{World, Frame as Sent, without_first}
@@ -108,13 +110,16 @@ pub returns-clause-moments : goal.returns-clause-moments
 returns-clause-moments g c = moments g (goal.at.returns-clause-moments g c).After-on_frame
 
 pub returns-in_err-reserve-clause-cut : goal.returns-in_err-reserve-clause-cut
-returns-in_err-reserve-clause-cut g c = λ holder w sound epochs arrives stands.
-    let device = g.E.Durable.device c.args.standby.now.engine in (
+returns-in_err-reserve-clause-cut g c =
+    let exit = err_from_is_err_and c.from_residual.result c.from_residual.ensures.1 in
+    let memory : exit.0 ≡ Memory = cc in
+    let device = g.E.Durable.device c.args.standby.now.engine in
+    rw exit.1 (λ holder w sound epochs arrives stands. (
       ap is_nonempty (first-frame c.args.standby.now.epoch c.args.frames.now w c.args.self.now c.in-Some.place.now c.in-Some-get.frame.now c.in-Some.ensures.item.3.0 c.in-Some.ensures.lookup
           c.in-Some-get.ensures.lookup.1 arrives).all,
-      subst (λ (r : Refusal). EndsBy r Apply (λ _ last. last holder w.primary.calls w.standby.position (next_standby w) device device)) (sym c.from_residual.ensures.0)
+      subst (λ (r : Refusal). EndsBy r Apply (λ _ last. last holder w.primary.calls w.standby.position (next_standby w) device device)) (sym memory)
           (refl, rests-same holder w.primary.calls w.standby.position device device refl (Stands-engine _ _ _ _ _ _ stands.engine)),
-    )
+    ))
 
 pub returns-in-Err-2-clause-cut : goal.returns-in-Err-2-clause-cut
 returns-in-Err-2-clause-cut g c = λ holder w sound epochs arrives stands.
@@ -123,7 +128,7 @@ returns-in-Err-2-clause-cut g c = λ holder w sound epochs arrives stands.
     let frame = c.in-Some-get.frame.now in
     let one = first g front w arrives in (
       ap is_nonempty one.all,
-      subst (λ (frames : List Sent). EndsBy c.in-Err-2.refusal Apply (λ _ last. last holder w.primary.calls w.standby.position (next_from w.standby.position frames) (g.E.Durable.device c.args.standby.now.engine) (g.E.Durable.device c.on_frame.new.self.engine))) (sym one.all)
-          (frame-ends holder epoch w.primary.calls w.standby frame one.span (node g c.args.standby.now) (node g c.on_frame.new.self) one.epoch_is epochs one.is stands c.in-Err-2.refusal
-          (λ goes. true≢false (sym (c.goes_on.ensures.1 goes) ∙ c.if-goes_on.false)) (told g front (Err c.in-Err-2.refusal) c.in-Err-2.is)),
+      subst (λ (frames : List Sent). EndsBy c.in-Err.refusal Apply (λ _ last. last holder w.primary.calls w.standby.position (next_from w.standby.position frames) (g.E.Durable.device c.args.standby.now.engine) (g.E.Durable.device c.on_frame.new.self.engine))) (sym one.all)
+          (frame-ends holder epoch w.primary.calls w.standby frame one.span (node g c.args.standby.now) (node g c.on_frame.new.self) one.epoch_is epochs one.is stands c.in-Err.refusal
+          (λ goes. true≢false (sym (c.goes_on.ensures.1 goes) ∙ c.if-goes_on.false)) (told g front (Err c.in-Err.refusal) c.in-Err.is)),
     )

@@ -1,4 +1,5 @@
-use Rattle.std.proofs.Common.{Err, ap, sym, ◌∙◌, arith}
+use Rattle.std.proofs.Common.{◌≡◌, Err, ap, sym, ◌∙◌, arith}
+use Rattle.std.proofs.lemmas.Result.{err_from_is_err_and}
 use Rattle.world.proofs.CommittingLemmas.{commit-ends, commit-full, commit-goes, commit-moments, first-lawful, may-commit}
 use Rattle.world.proofs.EngineLemmas.{near-still}
 use Rattle.world.specs.Committings.{next_primary}
@@ -38,11 +39,15 @@ returns-clause-moments g c = λ holder w sound stands engine.
     (g.E.Durable.is_faulted c.args.engine.now) c.in-Some.ensures (first-lawful (g.E.Durable.contents c.args.engine.now) c.args.self.now.waiting.items c.in-Some.group c.take.new.self.items c.requires c.in-Some.ensures) c.commit.ensures.moments sound stands engine
 
 pub returns-in_err-commit-clause-cut : goal.returns-in_err-commit-clause-cut
-returns-in_err-commit-clause-cut g c = λ lines w sound stands engine link. (
-  may-commit w c.args.self.now c.in-Some.group c.take.new.self.items c.args.link.now.items c.in-Ready.is (omega (arith, c.args.link.now.within, c.len.ensures, c.if-len-eq-PIPE_ITEMS.false)) c.in-Some.ensures stands link,
-  commit-ends lines w c.args.self.now c.in-Some.group c.take.new.self.items (g.E.Durable.device c.args.engine.now) (g.E.Durable.device c.commit.new.self) (g.E.Durable.contents c.args.engine.now)
-      (g.E.Durable.is_faulted c.args.engine.now) c.in_err-commit.field-0 c.in-Some.ensures (first-lawful (g.E.Durable.contents c.args.engine.now) c.args.self.now.waiting.items c.in-Some.group c.take.new.self.items c.requires c.in-Some.ensures)
-      c.in_err-commit.ensures.causes (λ is. c.commit.ensures.fault (c.in_err-commit.was ∙ ap Err is))
-      (λ is. let told = c.commit.ensures.exhausted (c.in_err-commit.was ∙ ap Err is) in (told.0, ap g.E.Durable.device told.1))
-      c.commit.ensures.moments sound stands engine,
-)
+returns-in_err-commit-clause-cut g c =
+    let exit = err_from_is_err_and c.from_residual.result c.from_residual.ensures.1 in
+    let is : c.commit.result ≡ Err exit.0 = cc in
+    let E = g.E.Durable in
+    rw exit.1 (λ lines w sound stands engine link. (
+      may-commit w c.args.self.now c.in-Some.group c.take.new.self.items c.args.link.now.items c.in-Ready.is (omega (arith, c.args.link.now.within, c.len.ensures, c.if-len-eq-PIPE_ITEMS.false)) c.in-Some.ensures stands link,
+      commit-ends lines w c.args.self.now c.in-Some.group c.take.new.self.items (E.device c.args.engine.now) (E.device c.commit.new.self) (E.contents c.args.engine.now)
+          (E.is_faulted c.args.engine.now) c.commit.result exit.0 is c.in-Some.ensures
+          (first-lawful (E.contents c.args.engine.now) c.args.self.now.waiting.items c.in-Some.group c.take.new.self.items c.requires c.in-Some.ensures)
+          c.commit.ensures.causes c.commit.ensures.fault (λ cause. let told = c.commit.ensures.exhausted cause in (told.0, ap E.device told.1))
+          c.commit.ensures.moments sound stands engine,
+    ))

@@ -1,12 +1,10 @@
-use Rattle.std.proofs.Common.{◌≡◌, ℕ, not, List, refl, sym, ap, ◌∙◌}
+use Rattle.std.proofs.Common.{not, refl, sym, ap, ◌∙◌}
 use Rattle.resp_codec.specs.Parsing.{fed}
-use Rattle.machine.specs.Events.{Inbound as Machine}
-use Rattle.world.specs.Inbounds.{InboundStands}
 use Rattle.world.proofs.InboundLemmas.{fed-stands}
 use Rattle.world.proofs.inbound.Inbound.feed.Goals as goal
 
-pub returns : goal.returns
-returns c = λ machine stands.
+pub returns-clause-feeds : goal.returns-clause-feeds
+returns-clause-feeds c = λ machine stands.
     record {
       done = sym (ap not (sym stands.closed ∙ c.if-self.false));
       taken = λ did. fed-stands c.args.self.now _ machine c.args.piece.now c.feed.new.self stands c.if-self.false

@@ -1,4 +1,5 @@
 use Rattle.std.proofs.Common.{arith}
+use Rattle.world.proofs.SessionLemmas.{on_err_from}
 use Rattle.world.proofs.LinkLemmas.{sends-again, sends-none_full, sends-none, sends-first, may-send-again, may-send-first}
 use Rattle.world.proofs.link.Link.send.Goals as goal
 
@@ -19,13 +20,17 @@ returns-clause-goes c = λ w sound stands.
     c.in_ok-push-3.ensures.items c.in_ok-push-2.ensures.items (omega arith) (omega arith) (omega arith)
 
 pub returns-in_err-push-clause-enabled : goal.returns-in_err-push-clause-enabled
-returns-in_err-push-clause-enabled c = λ w stands. may-send-again w.primary.calls c.args.self.now w.primary.link w.wire.frames stands (omega arith)
+returns-in_err-push-clause-enabled c =
+    on_err_from c.from_residual.result (λ w stands. may-send-again w.primary.calls c.args.self.now w.primary.link w.wire.frames stands (omega arith))
 
 pub returns-in_err-push-2-clause-enabled : goal.returns-in_err-push-2-clause-enabled
-returns-in_err-push-2-clause-enabled c = λ w stands. may-send-first w.primary.calls c.args.self.now w.primary.link w.wire.frames stands c.in-Some.group c.take.new.self (omega arith) (omega arith) c.in-Some.ensures
+returns-in_err-push-2-clause-enabled c =
+    on_err_from c.from_residual-in_err-push-2.result (λ w stands. may-send-first w.primary.calls c.args.self.now w.primary.link w.wire.frames stands c.in-Some.group c.take.new.self (omega arith) (omega arith) c.in-Some.ensures)
 
 pub returns-in_err-frame_of-clause-enabled : goal.returns-in_err-frame_of-clause-enabled
-returns-in_err-frame_of-clause-enabled c = λ w stands. may-send-first w.primary.calls c.args.self.now w.primary.link w.wire.frames stands c.in-Some.group c.take.new.self (omega arith) (omega arith) c.in-Some.ensures
+returns-in_err-frame_of-clause-enabled c =
+    on_err_from c.from_residual-in_err-frame_of.result (λ w stands. may-send-first w.primary.calls c.args.self.now w.primary.link w.wire.frames stands c.in-Some.group c.take.new.self (omega arith) (omega arith) c.in-Some.ensures)
 
 pub returns-in_err-push-3-clause-enabled : goal.returns-in_err-push-3-clause-enabled
-returns-in_err-push-3-clause-enabled c = λ w stands. may-send-first w.primary.calls c.args.self.now w.primary.link w.wire.frames stands c.in-Some.group c.take.new.self (omega arith) (omega arith) c.in-Some.ensures
+returns-in_err-push-3-clause-enabled c =
+    on_err_from c.from_residual-in_err-push-3.result (λ w stands. may-send-first w.primary.calls c.args.self.now w.primary.link w.wire.frames stands c.in-Some.group c.take.new.self (omega arith) (omega arith) c.in-Some.ensures)

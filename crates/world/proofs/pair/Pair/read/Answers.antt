@@ -1,11 +1,7 @@
 use Rattle.std.proofs.Common.{refl}
 use Rattle.machine.specs.declared.event.Event.TheVariants as events
 use Rattle.machine.specs.Events.{World, changed_at, with_outbound, having_read}
-use Rattle.machine.specs.declared.event.Mark.{Mark}
-use Rattle.machine.specs.declared.event.Mark.TheVariants.{Local, Remote}
-use Rattle.std.proofs.Common.{◌≡◌, ℕ}
-use Rattle.machine.specs.Events.{Happens, on_outbound}
-use Rattle.world.proofs.PairLemmas.{read-does, with_connections}
+use Rattle.world.proofs.PairLemmas.{read-does}
 use Rattle.world.proofs.pair.Pair.read.Goals as goal
 
 pub returns : goal.returns
