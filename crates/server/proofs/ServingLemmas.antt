@@ -1,9 +1,15 @@
 -- Bytes that are read in pieces, and answered.
-use Rattle.std.proofs.Common.{◌≡◌, ℕ, List, [], ◌∷◌, ◌++◌, Option, Some, None, Result, Ok, Err, OnOk, is_ok, true, sym, ap, subst, ◌∙◌, append_assoc, append-nil}
+use Rattle.std.proofs.Common.{◌≡◌, ℕ, ◌-◌, List, [], ◌∷◌, ◌++◌, length, take, drop, Option, Some, None, Result, Ok, Err, OnErr, sym, ap, subst, ◌∙◌, append_assoc, append-nil, refl, take-append-drop}
 use Rattle.std.proofs.lemmas.List.Folds.{concat-append}
 use Rattle.std.specs.List.{concat}
 use Rattle.std.specs.Io.KnownBytes.{Appends, Consumes, IsAtEnd, Keeps}
-use Rattle.server.specs.Answers.{IsAnswer, IsServed}
+use Rattle.std.proofs.KnownBytes.{Appends-trans}
+use Rattle.std.proofs.lemmas.List.{take_rest}
+use Rattle.model.specs.Calls.{IsPrefix}
+use Rattle.model.proofs.PrefixLemmas.{IsPrefix-trans}
+use Rattle.server.specs.Answers.{AppendsFront, IsAnswer, IsEarly, IsServed, IsServedUpTo}
+use Rattle.server.specs.declared.serve.ServeError.{ServeError}
+use Rattle.server.specs.declared.serve.ServeError.TheVariants.{Read, Refused, Write}
 
 consumes-then : (a b c : Option (List ℕ)) (front back : List ℕ) → Consumes a b front → Consumes b c back → Consumes a c (front ++ back)
 consumes-then None b c front back p q = tt
@@ -36,7 +42,62 @@ appends-kept (Some xs) None c bytes p q = absurd p
 appends-kept (Some xs) (Some ys) None bytes p q = absurd q
 appends-kept (Some xs) (Some ys) (Some zs) bytes p q = q ∙ p
 
--- what a call did where it is known to have succeeded
-pub was-ok : {T E : Type 0} (r : Result T E) (P : Type 0) → OnOk r P → true ≡ is_ok r → P
-was-ok (Ok x) P h ok = h
-was-ok (Err e) P h ok = cc
+pub on-err : {T E : Type 0} (r : Result T E) {P : Type 0} → P → OnErr r P
+on-err (Ok x) p = tt
+on-err (Err e) p = p
+
+-- ---- where serving ended early
+
+keeps-same : (a : Option (List ℕ)) → Keeps a a
+keeps-same None = tt
+keeps-same (Some xs) = refl
+
+-- nothing was written
+pub early-ended : (error : ServeError) (input before : Option (List ℕ)) → IsEarly error → IsServedUpTo error input before before
+early-ended (Read error) input before early = keeps-same before
+early-ended (Refused refusal) input before early = keeps-same before
+early-ended (Write error) input before early = absurd early
+
+-- a beginning of an answer is an answer
+front-answers : (input answer front : List ℕ) → IsPrefix front answer → IsAnswer input answer → IsAnswer input front
+front-answers input answer front begins answers =
+    record { calls = answers.calls; legal = answers.legal; serves = answers.serves; begins = IsPrefix-trans begins answers.begins }
+
+pub served-front : (input rest before after : Option (List ℕ)) (bytes answer : List ℕ) → Consumes input rest bytes → IsAtEnd rest → IsAnswer bytes answer
+    → AppendsFront before after answer → IsServed input before after
+served-front input rest before after bytes answer p end answers written =
+    served-whole input rest before after bytes written.0 p end (front-answers bytes answer written.0 written.1 answers) written.2
+
+-- ---- bytes that are written in pieces
+
+-- all but the rest of the bytes were written
+pub record HasWritten (bytes rest : List ℕ) (before after : Option (List ℕ)) : Type 0 where
+  pub done : List ℕ
+  pub split : bytes ≡ done ++ rest
+  pub written : Appends before after done
+
+appends-none : (a : Option (List ℕ)) → Appends a a []
+appends-none None = tt
+appends-none (Some xs) = sym (append-nil xs)
+
+pub written-none : (bytes : List ℕ) (a : Option (List ℕ)) → HasWritten bytes bytes a a
+written-none bytes a = record { done = []; split = refl; written = appends-none a }
+
+pub written-kept : {bytes rest : List ℕ} {a b c : Option (List ℕ)} → HasWritten bytes rest a b → Keeps b c → HasWritten bytes rest a c
+written-kept {a = a} {b = b} {c = c} has kept = record { done = has.done; split = has.split; written = appends-kept a b c has.done has.written kept }
+
+pub written-more : {bytes rest : List ℕ} {a b c : Option (List ℕ)} (n : ℕ) → HasWritten bytes rest a b → Appends b c (take n rest)
+    → HasWritten bytes (take (length rest - n) (drop n rest)) a c
+written-more {bytes} {rest} n has more = record {
+  done = has.done ++ take n rest;
+  split = has.split ∙ ap (λ l. has.done ++ l) (sym (take-append-drop n rest)) ∙ sym (append_assoc has.done (take n rest) (drop n rest)) ∙ ap (λ l. (has.done ++ take n rest) ++ l) (sym (take_rest rest n));
+  written = Appends-trans _ _ _ _ _ has.written more;
+}
+
+-- some of the bytes from the first on were written, or all
+pub written-front : {bytes rest : List ℕ} {before after : Option (List ℕ)} → HasWritten bytes rest before after → AppendsFront before after bytes
+written-front {rest = rest} has = (has.done, record { rest = rest; joined = sym has.split }, has.written)
+
+pub written-whole : {bytes rest : List ℕ} {before after : Option (List ℕ)} → HasWritten bytes rest before after → rest ≡ [] → Appends before after bytes
+written-whole {before = before} {after = after} has none =
+    subst (Appends before after) (sym (has.split ∙ ap (λ l. has.done ++ l) none ∙ append-nil has.done)) has.written

@@ -1,11 +1,13 @@
 -- What one connection is answered.
 use Rattle.std.specs.Prelude.{ℕ, List, Option, IfSome}
-use Rattle.std.specs.Io.KnownBytes.{Appends}
+use Rattle.std.specs.Io.KnownBytes.{Appends, Keeps}
 use Rattle.kv_types.specs.declared.limits.TheConstants.{SERVED_LIMITS}
 use Rattle.kv_types.specs.Reading.{items_at}
 use Rattle.model.specs.declared.call.Call.{Call}
 use Rattle.model.specs.Calls.{IsLegal, IsPrefix, Serves, replies_to}
 use Rattle.server.specs.Agendas.{alone}
+use Rattle.server.specs.declared.serve.ServeError.{ServeError}
+use Rattle.server.specs.declared.serve.ServeError.TheVariants.{Read, Refused, Write}
 
 -- The answer begins the replies of one sequential Redis to the requests that the input asks for, in order, and to no others.
 pub record IsAnswer (input answer : List ℕ) : Type 0 where
@@ -20,3 +22,19 @@ pub record IsAnswer (input answer : List ℕ) : Type 0 where
 -- Where a reader says the bytes that it has, an answer to them was written after those of the writer, if it says its own.
 abbrev pub IsServed : (input before after : Option (List ℕ)) → Type 0
 IsServed input before after = IfSome input (λ bytes. (answer : List ℕ) × IsAnswer bytes answer × Appends before after answer)
+
+-- these bytes were written, or some of them from the first on
+abbrev pub AppendsFront : (before after : Option (List ℕ)) → List ℕ → Type 0
+AppendsFront before after bytes = (front : List ℕ) × IsPrefix front bytes × Appends before after front
+
+-- serving ended before anything was written
+abbrev pub IsEarly : ServeError → Type 0
+IsEarly (Read error) = Unit {0}
+IsEarly (Refused refusal) = Unit {0}
+IsEarly (Write error) = ⊥
+
+-- Where serving ended early, nothing was written if it had not come to writing; and else a beginning of an answer, which is an answer too.
+abbrev pub IsServedUpTo : ServeError → (input before after : Option (List ℕ)) → Type 0
+IsServedUpTo (Read error) input before after = Keeps before after
+IsServedUpTo (Refused refusal) input before after = Keeps before after
+IsServedUpTo (Write error) input before after = IsServed input before after

@@ -1,8 +1,8 @@
 //! One connection over a reader and a writer.
-ghost use Rattle.std.specs.Prelude.{IfOk, OnOk};
+ghost use Rattle.std.specs.Prelude.{IfErr, IfOk, OnErr, OnOk};
 ghost use Rattle.std.specs.List.{concat};
 ghost use Rattle.std.specs.Io.KnownBytes.{Appends, Consumes, IsAtEnd};
-ghost use Rattle.server.specs.Answers.{IsServed};
+ghost use Rattle.server.specs.Answers.{AppendsFront, IsEarly, IsServed, IsServedUpTo};
 
 use crate::answer::answer;
 use bytes::Bytes;
@@ -42,18 +42,35 @@ impl fmt::Display for ServeError {
 impl Error for ServeError {}
 
 impl From<Refusal> for ServeError {
+    ghost use Rattle.std.specs.Prelude.{◌≡◌};
+    ghost use Rattle.server.specs.declared.serve.ServeError.TheVariants.{Refused};
+
+    ghost from_gives = { λ refusal error. error ≡ Refused refusal };
+
     fn from(refusal: Refusal) -> ServeError {
         ServeError::Refused(refusal)
     }
 }
 
 impl From<AllocError> for ServeError {
+    ghost use Rattle.std.specs.Prelude.{◌≡◌};
+    ghost use Rattle.kv_types.specs.declared.refusal.Refusal.TheVariants.{Memory};
+    ghost use Rattle.server.specs.declared.serve.ServeError.TheVariants.{Refused};
+
+    ghost from_gives = { λ _ error. error ≡ Refused Memory };
+
     fn from(e: AllocError) -> ServeError {
         ServeError::Refused(Refusal::from(e))
     }
 }
 
 impl<T: Drop> From<AllocFailed<T>> for ServeError {
+    ghost use Rattle.std.specs.Prelude.{◌≡◌};
+    ghost use Rattle.kv_types.specs.declared.refusal.Refusal.TheVariants.{Memory};
+    ghost use Rattle.server.specs.declared.serve.ServeError.TheVariants.{Refused};
+
+    ghost from_gives = { λ _ error. error ≡ Refused Memory };
+
     fn from(e: AllocFailed<T>) -> ServeError {
         ServeError::Refused(Refusal::from(e))
     }
@@ -61,7 +78,8 @@ impl<T: Drop> From<AllocFailed<T>> for ServeError {
 
 /// Reads one connection's bytes to their end, serves them by a pair of new nodes, and writes what is released.
 ///
-/// `Read` where a read failed, `Refused` where the server refused a call: nothing was written. `Write` where a write failed.
+/// `Read` where a read failed, `Refused` where the server refused a call: nothing was written. `Write` where a write failed: what was written begins
+/// the replies.
 pub fn serve<R: Read, W: Write>(
     alloc: Global,
     reader: &mut R,
@@ -69,17 +87,21 @@ pub fn serve<R: Read, W: Write>(
 ) -> Result<(), ServeError>
     ensures whole { OnOk result (IsAtEnd (R.remaining reader.new)) }
     ensures served { OnOk result (IsServed (R.remaining reader.old) (W.contents writer.old) (W.contents writer.new)) }
+    ensures ended { IfErr result (λ error. IsServedUpTo error (R.remaining reader.old) (W.contents writer.old) (W.contents writer.new)) }
 {
     let pieces = read_pieces(alloc, reader)?;
     let replies = answer(alloc, pieces)?;
-    write_replies(writer, &replies).map_err(ServeError::Write)?;
-    Ok(())
+    match write_replies(writer, &replies) {
+        Ok(()) => Ok(()),
+        Err(error) => Err(ServeError::Write(error)),
+    }
 }
 
 /// The bytes of a reader up to its end, in the pieces in which it gives them.
 fn read_pieces<R: Read>(alloc: Global, reader: &mut R) -> Result<Vec<Bytes>, ServeError>
     ensures whole { OnOk result (IsAtEnd (R.remaining reader.new)) }
     ensures pieces { IfOk result (λ pieces. Consumes (R.remaining reader.old) (R.remaining reader.new) (concat pieces.items)) }
+    ensures early { IfErr result IsEarly }
 {
     let mut pieces = Vec::new(alloc);
     let mut buffer = [0; PIECE_BYTES];
@@ -94,10 +116,32 @@ fn read_pieces<R: Read>(alloc: Global, reader: &mut R) -> Result<Vec<Bytes>, Ser
     Err(ServeError::Read(io::Error::from(ErrorKind::FileTooLarge)))
 }
 
+/// Writes the replies, and has them out. After an `Err` some of them from the first on were written, or all.
 fn write_replies<W: Write>(writer: &mut W, replies: &[u8]) -> io::Result<()>
-    ensures { OnOk result (Appends (W.contents writer.old) (W.contents writer.new) replies.now) }
+    ensures whole { OnOk result (Appends (W.contents writer.old) (W.contents writer.new) replies.now) }
+    ensures front { OnErr result (AppendsFront (W.contents writer.old) (W.contents writer.new) replies.now) }
 {
-    writer.write_all(replies)?;
+    write_bytes(writer, replies)?;
     writer.flush()?;
     Ok(())
+}
+
+/// Writes the bytes. After an `Err` some of them from the first on were written.
+fn write_bytes<W: Write>(writer: &mut W, bytes: &[u8]) -> io::Result<()>
+    ensures whole { OnOk result (Appends (W.contents writer.old) (W.contents writer.new) bytes.now) }
+    ensures front { OnErr result (AppendsFront (W.contents writer.old) (W.contents writer.new) bytes.now) }
+{
+    let mut rest = bytes;
+    for _write in 0..u64::MAX {
+        if rest.is_empty() {
+            return Ok(());
+        }
+        match writer.write(rest) {
+            Ok(0) => return Err(io::Error::from(ErrorKind::WriteZero)),
+            Ok(count) => rest = &rest[count..],
+            Err(error) if error.kind() == ErrorKind::Interrupted => {}
+            Err(error) => return Err(error),
+        }
+    }
+    Err(io::Error::from(ErrorKind::FileTooLarge))
 }

@@ -1,10 +1,15 @@
 use Rattle.std.proofs.Common.{subst}
 use Rattle.std.specs.Io.KnownBytes.{Appends}
-use Rattle.server.proofs.ServingLemmas.{served-whole, was-ok}
+use Rattle.server.proofs.ServingLemmas.{served-front, served-whole}
+use Rattle.server.specs.Answers.{AppendsFront}
 use Rattle.server.proofs.serve.serve.Goals as goal
 
-pub returns-clause-served : goal.returns-clause-served
-returns-clause-served g c =
-    let written = was-ok c.write_replies.result _ c.write_replies.ensures c.in_ok-map_err.ensures.variant in
+pub returns-in-Ok-clause-served : goal.returns-in-Ok-clause-served
+returns-in-Ok-clause-served g c =
     served-whole _ _ _ _ _ _ c.in_ok-pieces.ensures.pieces c.in_ok-pieces.ensures.whole c.in_ok-replies.ensures
-    (subst (Appends (g.W.Write.contents c.args.writer.now) (g.W.Write.contents c.write_replies.new.writer)) c.deref.ensures.value written)
+    (subst (Appends (g.W.Write.contents c.args.writer.now) (g.W.Write.contents c.write_replies.new.writer)) c.deref.ensures.value c.in-Ok.ensures.whole)
+
+pub returns-clause-ended : goal.returns-clause-ended
+returns-clause-ended g c =
+    served-front _ _ _ _ _ _ c.in_ok-pieces.ensures.pieces c.in_ok-pieces.ensures.whole c.in_ok-replies.ensures
+    (subst (AppendsFront (g.W.Write.contents c.args.writer.now) (g.W.Write.contents c.write_replies.new.writer)) c.deref.ensures.value c.in-Err.ensures.front)

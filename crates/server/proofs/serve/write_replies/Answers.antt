@@ -1,5 +1,11 @@
-use Rattle.server.proofs.ServingLemmas.{appends-kept}
+use Rattle.server.proofs.ServingLemmas.{appends-kept, on-err}
+use Rattle.model.proofs.PrefixLemmas.{IsPrefix-itself}
 use Rattle.server.proofs.serve.write_replies.Goals as goal
 
-pub returns : goal.returns
-returns g c = appends-kept _ _ _ _ c.in_ok-write_all.ensures.bytes c.in_ok-flush.ensures.bytes
+pub returns-clause-whole : goal.returns-clause-whole
+returns-clause-whole g c = appends-kept _ _ _ _ c.in_ok-write_bytes.ensures.whole c.in_ok-flush.ensures.bytes
+
+pub returns-in_err-flush-clause-front : goal.returns-in_err-flush-clause-front
+returns-in_err-flush-clause-front g c =
+    on-err c.from_residual-in_err-flush.result
+    (c.args.replies.now, IsPrefix-itself c.args.replies.now, appends-kept _ _ _ _ c.in_ok-write_bytes.ensures.whole c.in_err-flush.ensures.bytes)
