@@ -12,7 +12,10 @@ use Rattle.kv_types.specs.declared.change.Change.{Change}
 use Rattle.model.specs.declared.group.Group.{Group}
 use Rattle.model.specs.declared.group.Part.{Part}
 use Rattle.model.specs.declared.call.Call.{Call}
-use Rattle.model.specs.Calls.{is_nonempty}
+use Rattle.kv_types.specs.Keyspaces.{play_all}
+use Rattle.model.specs.Calls.{cut_at, is_nonempty, keyspace_after}
+use Rattle.model.proofs.CallsLemmas.{keyspace_after-cut_at-append}
+use Rattle.model.proofs.PositionsLemmas.{keyspace_after-cut_at-since}
 use Rattle.model.specs.Groups.{changes_of_part, changes_of_group, last_position}
 use Rattle.machine.specs.declared.event.TheConstants.{KEPT_GROUPS}
 use Rattle.machine.specs.Sound.{IsChain}
@@ -28,13 +31,16 @@ use Rattle.world.proofs.GroupSpanLemmas.{IsWithin-grows, changes_of_span-grow, A
 -- ---- the list of calls grows
 
 IsFrameOf-grows : (epoch : ℕ) (calls more : List Call) (frame : Frame) (span : Span) → IsFrameOf epoch calls frame span → IsFrameOf epoch (calls ++ more) frame span
-IsFrameOf-grows epoch calls more frame span is = record {
-  span_within = IsWithin-grows calls more span is.span_within;
-  epoch_is = is.epoch_is;
-  before = is.before;
-  after = is.after;
-  changes = is.changes ∙ sym (changes_of_span-grow calls more span is.span_within);
-}
+IsFrameOf-grows epoch calls more frame span is =
+    let within = is.span_within in
+    record {
+      span_within = IsWithin-grows calls more span within;
+      epoch_is = is.epoch_is;
+      before = is.before;
+      after = is.after;
+      plays = ap (λ s. play_all s frame.changes.items) (keyspace_after-cut_at-append calls more span.before (omega (arith, within.rising, within.within))) ∙ is.plays
+          ∙ sym (keyspace_after-cut_at-append calls more span.after within.within);
+    }
 
 pub AreFramesOf-grows : (epoch : ℕ) (calls more : List Call) (frames : List Frame) (spans : List Span) → AreFramesOf epoch calls frames spans → AreFramesOf epoch (calls ++ more) frames spans
 AreFramesOf-grows epoch calls more [] [] are = tt
@@ -252,13 +258,18 @@ pub record IsFrameOfGroup (epoch : ℕ) (group : Group) (frame : Frame) : Type 0
   pub changes : frame.changes.items ≡ changes_of_group group
 
 frame_of_group : (epoch : ℕ) (calls : List Call) (group : Group) (frame : Frame) (span : Span) → IsFrameOfGroup epoch group frame → IsGroupOf calls group span → IsFrameOf epoch calls frame span
-frame_of_group epoch calls group frame span of is = record {
-  span_within = is.span_within;
-  epoch_is = of.epoch_is;
-  before = of.before ∙ is.before;
-  after = of.after ∙ is.after;
-  changes = of.changes ∙ is.changes;
-}
+frame_of_group epoch calls group frame span of is =
+    let count = span.after - span.before in
+    let end : span.before + count ≡ span.after = omega (arith, is.span_within.rising) in
+    record {
+      span_within = is.span_within;
+      epoch_is = of.epoch_is;
+      before = of.before ∙ is.before;
+      after = of.after ∙ is.after;
+      plays = ap (play_all (keyspace_after (cut_at calls span.before))) (of.changes ∙ is.changes)
+          ∙ sym (keyspace_after-cut_at-since calls span.before count (omega (arith, end, is.span_within.within)))
+          ∙ ap (λ n. keyspace_after (cut_at calls n)) end;
+    }
 
 abbrev can_send : Machine → Bool
 can_send machine = is_nonempty machine.again || (is_nonempty machine.waiting && nat_lt (length machine.kept) KEPT_GROUPS)

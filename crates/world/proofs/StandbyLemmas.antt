@@ -115,12 +115,7 @@ module _ (holder : Holder) (epoch : ℕ) (calls : List Call) (machine : Machine)
 
   -- the changes of the frame lead to the keyspace at its end
   keyspace_next : span.before ≡ machine.position → play_all (records old.table) frame.changes.items ≡ keyspace_after (cut_at calls span.after)
-  keyspace_next e =
-      let joined : span.before + (span.after - span.before) ≡ span.after = omega (arith, is.span_within.rising) in
-      ap (λ s. play_all s frame.changes.items) (stands.table ∙ ap (λ n. keyspace_after (cut_at calls n)) (sym e))
-      ∙ ap (play_all (keyspace_after (cut_at calls span.before))) is.changes
-      ∙ sym (keyspace_after-cut_at-since calls span.before (span.after - span.before) (omega (arith, joined, is.span_within.within)))
-      ∙ ap (λ n. keyspace_after (cut_at calls n)) joined
+  keyspace_next e = ap (λ s. play_all s frame.changes.items) (stands.table ∙ ap (λ n. keyspace_after (cut_at calls n)) (sym e)) ∙ is.plays
 
   -- the whole frame was taken
   taken_stands : span.before ≡ machine.position → HasTaken frame old.contents new.contents old.table new.table → Follows new.contents new.table new.room → new.is_faulted ≡ false

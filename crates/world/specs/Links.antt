@@ -1,20 +1,20 @@
 -- What the link and its frames stand for in the machine.
-use Rattle.std.specs.Prelude.{◌≡◌, ℕ, ◌-◌, ◌<◌, ◌≤◌, List, [], ◌∷◌, drop, length, slice_get, Some}
+use Rattle.std.specs.Prelude.{◌≡◌, ℕ, ◌<◌, ◌≤◌, List, [], ◌∷◌, drop, length, slice_get, Some}
 use Rattle.model.specs.declared.call.Call.{Call}
-use Rattle.model.specs.Positions.{changes_since}
-use Rattle.model.specs.Calls.{IsPrefix}
+use Rattle.kv_types.specs.Keyspaces.{play_all}
+use Rattle.model.specs.Calls.{IsPrefix, cut_at, keyspace_after}
 use Rattle.machine.specs.Events.{Link as Machine, Span, Frame as Sent}
 use Rattle.standby.specs.declared.frame.Frame.{Frame}
 use Rattle.world.specs.GroupSpans.{IsWithin, AreGroupsOf}
 use Rattle.world.specs.declared.link.Link.{Link}
 
--- the frame has the changes of the list between the positions of the span
+-- the frame's changes lead from the keyspace before the span to the one behind it
 pub record IsFrameOf (epoch : ℕ) (calls : List Call) (frame : Frame) (span : Span) : Type 0 where
   pub span_within : IsWithin calls span
   pub epoch_is : frame.epoch ≡ epoch
   pub before : frame.before ≡ span.before
   pub after : frame.after ≡ span.after
-  pub changes : frame.changes.items ≡ changes_since calls span.before (span.after - span.before)
+  pub plays : play_all (keyspace_after (cut_at calls span.before)) frame.changes.items ≡ keyspace_after (cut_at calls span.after)
 
 abbrev pub AreFramesOf : ℕ → List Call → List Frame → List Span → Type 0
 AreFramesOf epoch calls [] [] = Unit {0}

@@ -1,5 +1,26 @@
-use Rattle.std.proofs.Common.{[], ◌∷◌, ◌++◌, List, length, ap, subst, ◌∙◌}
+use Rattle.std.proofs.Common.{◌≡◌, ◌≢◌, ◌<◌, ◌≤◌, [], ◌∷◌, ◌++◌, List, length, Vec, Global, refl, sym, ap, ap₂, subst, ◌∙◌, arith}
 use Rattle.model.specs.declared.group.Group.{Group}
+use Rattle.model.specs.declared.group.Part.{Part}
+use Rattle.model.specs.declared.group.TheConstants.{MAX_PARTS}
 use Rattle.redis_core.specs.Sequencing.{Sequencing, HandsOut}
 use Rattle.redis_core.proofs.StandingLemmas.{StandsFor-group}
 use Rattle.redis_core.proofs.sequencer.Sequencer.close_group.Goals as goal
+
+some : (parts : List Part) → parts ≢ [] → 0 < length parts
+some [] none = absurd (none refl)
+some (part ∷ parts) none = omega arith
+
+pub returns-clause-ok : goal.returns-clause-ok
+returns-clause-ok g c =
+    let old = c.args.self.now in
+    let group : Group = record { before = c.replace-before.result; parts = c.replace-parts.result } in
+    let waits : c.self.inside.waiting.items ≡ old.waiting = ap (λ (s : Sequencing). s.waiting) c.self.view_is in
+    let emptied : c.replace-parts.new.dest.items ≡ [] = ap (λ (parts : Vec Part Global). parts.items) c.replace-parts.ensures.after ∙ c.in_ok-empty.ensures.items in
+    let hands : HandsOut old group _ = record {
+      some = some old.waiting c.requires;
+      few = subst (λ (parts : List Part). length parts ≤ MAX_PARTS) waits c.self.invariant.few;
+      all = ap (λ (parts : Vec Part Global). parts.items) c.replace-parts.ensures.value ∙ waits;
+      before = c.replace-before.ensures.value ∙ ap (λ (s : Sequencing). s.before) c.self.view_is;
+      after = rw (c.replace-before.ensures.after, emptied) (ap (λ (s : Sequencing). record s { before = s.position; waiting = [] }) c.self.view_is);
+    } in
+    (group, c.in-Ok.ensures.last ∙ ap (λ items. items ++ group ∷ []) c.room.ensures.unchanged, hands, StandsFor-group old group _ hands)
