@@ -1,5 +1,5 @@
 -- What one change does to a table and to the entries of its records, and all changes one after another.
-use Rattle.std.proofs.Common.{◌≡◌, ◌↔◌, ℕ, ◌⊎◌, ⊎_elim, inl, inr, Bool, true, false, cond, not, ◌||◌, List, [], ◌∷◌, ◌++◌, Option, Some, None, Contains, IsTrue, T, nat_eq, refl, sym, ap, subst, ◌∙◌, eqb-true, eq-eqb, arith}
+use Rattle.std.proofs.Common.{◌≡◌, ℕ, ◌⊎◌, ⊎_elim, inl, inr, Bool, true, false, cond, not, ◌||◌, List, [], ◌∷◌, ◌++◌, Option, Some, None, Contains, IsTrue, T, nat_eq, refl, sym, ap, subst, ◌∙◌, eqb-true, eq-eqb, arith}
 use Rattle.std.proofs.lemmas.List.Elements.{Contains-append_left, Contains-append_right, Contains-append_cases}
 use Rattle.std.specs.List.{IsDistinct}
 use Rattle.std.specs.FinMap.Entries.{where_key, find-where_key, same_entries, is_sorted, is_sorted-where_key, is_sorted-put}

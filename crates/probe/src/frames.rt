@@ -17,9 +17,6 @@ use standby::{Ack, Frame, Standby};
 use std::alloc::Global;
 use wbl_engine::{Durable, WblEngine};
 
-/// The epoch of a new image.
-const FIRST_EPOCH: u64 = 1;
-
 pub fn answer(alloc: Global, words: &[&str]) -> Result<String, Cause> {
     match words {
         ["take", epoch, before, after, words @ ..] => {
@@ -101,7 +98,6 @@ fn take<E: Durable, K: Keyspace + Drop>(
         engine,
         keyspace,
         heap: heap_of(MIN_LINES),
-        epoch: FIRST_EPOCH,
     };
     let answer = standby.on_frame(alloc, frame);
     (answer, standby.into_device())

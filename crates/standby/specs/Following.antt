@@ -3,6 +3,7 @@ use Rattle.std.specs.Prelude.{◌≡◌, ℕ, ◌+◌, ◌<◌, ◌≤◌, ◌�
 use Rattle.kv_types.specs.Keyspaces.{play_all}
 use Rattle.extent_heap.specs.Room.{Room}
 use Rattle.model.specs.declared.image.TheConstants.{COUNTER_LIMIT, STAMP_WINDOW}
+use Rattle.model.specs.declared.record.Record.{Record}
 use Rattle.model.specs.Images.{Image, IsMapOf, entries_of_lines}
 use Rattle.model.specs.Groups.{Contents, IsConsistent}
 use Rattle.mv_keyspace.specs.Tables.{Table, IsTable, records}
@@ -33,12 +34,13 @@ pub record HasTaken (frame : Frame) (before after : Contents) (old new : Table) 
   pub role : after.current.role ≡ before.current.role
   pub epoch : after.current.epoch ≡ before.current.epoch
 
--- the limit of the stamps, the position or the number of the record would reach the limit of counters
-abbrev pub WouldExhaust : Contents → Frame → Type 0
-WouldExhaust contents frame =
-    (COUNTER_LIMIT ≤ contents.current.cp + 1 + 1 + STAMP_WINDOW)
-    ⊎ (COUNTER_LIMIT ≤ frame.after)
-    ⊎ (COUNTER_LIMIT ≤ contents.current.number + 1)
+-- After this record, a commit of one part up to this position: the limit of the stamps, the position or the number of the record would reach
+-- the limit of counters.
+abbrev pub WouldExhaust : Record → ℕ → Type 0
+WouldExhaust current position =
+    (COUNTER_LIMIT ≤ current.cp + 1 + 1 + STAMP_WINDOW)
+    ⊎ (COUNTER_LIMIT ≤ position)
+    ⊎ (COUNTER_LIMIT ≤ current.number + 1)
 
 -- the contents of a node that has taken the frame whole
 pub record IsWhole (frame : Frame) (before : Contents) (table : Table) (after : Contents) : Type 0 where

@@ -8,7 +8,7 @@ ghost use Rattle.wbl_engine.specs.Contents.{Keeps, IsDurable, Same, Exhausts};
 
 use crate::committed::Committed;
 use kv_types::Refusal;
-use model::Group;
+use model::{Group, Record};
 use pmem::Pmem;
 
 /// An engine: what it holds moves by whole groups, and each crash leaves what was before a call or what is after it.
@@ -42,6 +42,10 @@ pub trait Durable {
         // whole or not at all, at any moment of the call
         ensures moments { is_faulted self.old ≡ false → LeavesOnly (device self.old) (device self.new)
             (λ image. Keeps (contents self.old) image ⊎ Keeps (after_group (contents self.old) group.now) image) };
+
+    /// The current record.
+    fn record(&self) -> &Record
+        ensures { result.now ≡ (contents self.now).current };
 
     /// The position up to which everything is durable.
     fn position(&self) -> u64

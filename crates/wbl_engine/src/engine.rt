@@ -98,6 +98,10 @@ impl<P: Pmem> Durable for WblEngine<P> {
         }
     }
 
+    fn record(&self) -> &Record {
+        &self.current
+    }
+
     fn position(&self) -> u64 {
         self.current.position
     }

@@ -1,5 +1,5 @@
 -- What the standby does with a frame of the list is what the machine's does with its span.
-use Rattle.std.proofs.Common.{◌≡◌, ◌≢◌, ℕ, ◌+◌, ◌-◌, ◌<◌, ◌≤◌, ◌⊎◌, ⊎_elim, inl, inr, false, List, [], ◌∷◌, ◌++◌, Result, Ok, Err, IfOk, IfErr, OnOk, IsErrOf, refl, sym, ap, ap₂, subst, ◌∙◌, arith, cond, eq-eqb}
+use Rattle.std.proofs.Common.{◌≡◌, ◌≢◌, ℕ, ◌+◌, ◌-◌, ◌<◌, ◌≤◌, ◌⊎◌, ⊎_elim, inl, inr, false, List, [], ◌∷◌, ◌++◌, Result, Ok, Err, IfOk, IfErr, OnOk, OnErr, IsErrOf, refl, sym, ap, ap₂, subst, ◌∙◌, arith, cond, eq-eqb}
 use Rattle.std.proofs.lemmas.Bool.{cases_lt, cases_eq}
 use Rattle.kv_types.specs.declared.refusal.Refusal.{Refusal}
 use Rattle.kv_types.specs.declared.refusal.Refusal.TheVariants.{WrongEpoch, PositionGap, Full, Memory, Fault, Exhausted}
@@ -44,14 +44,24 @@ pub record Answers (frame : Frame) (old : Node) (result : Result Ack Refusal) (n
   pub taken : frame.epoch ≡ old.epoch → IsNext old.contents.current.position frame → OnOk result (HasTaken frame old.contents new.contents old.table new.table)
   pub causes : frame.epoch ≡ old.epoch → IsNext old.contents.current.position frame
       → IfErr result (λ refusal. (refusal ≡ Full) ⊎ (refusal ≡ Memory) ⊎ (refusal ≡ Fault) ⊎ (refusal ≡ Exhausted))
-  pub refused : (result ≡ Err Full) ⊎ (result ≡ Err Memory) → (new.contents ≡ old.contents) × (new.table ≡ old.table) × (new.device ≡ old.device)
+  pub refused : ¬ IsErrOf result Fault → OnErr result ((new.contents ≡ old.contents) × (new.table ≡ old.table) × (new.device ≡ old.device))
   pub fault : result ≡ Err Fault → old.device.failures < new.device.failures
-  pub exhausted : result ≡ Err Exhausted → WouldExhaust old.contents frame × (new.device ≡ old.device)
-  pub still : ¬ IsErrOf result Fault → ¬ IsErrOf result Exhausted → Follows new.contents new.table new.room
-  pub sound : ¬ IsErrOf result Fault → ¬ IsErrOf result Exhausted → (new.is_faulted ≡ false) × (new.device.failures ≡ old.device.failures)
-  pub durable : ¬ IsErrOf result Fault → ¬ IsErrOf result Exhausted → IsDurable new.device new.contents
+  pub exhausted : result ≡ Err Exhausted → WouldExhaust old.contents.current frame.after
+  pub still : ¬ IsErrOf result Fault → Follows new.contents new.table new.room
+  pub sound : ¬ IsErrOf result Fault → (new.is_faulted ≡ false) × (new.device.failures ≡ old.device.failures)
+  pub durable : ¬ IsErrOf result Fault → IsDurable new.device new.contents
   pub epoch_stays : new.epoch ≡ old.epoch
   pub moments : frame.epoch ≡ old.epoch → IsNext old.contents.current.position frame → LeavesOnly old.device new.device (IsBeforeOrWhole frame old.contents old.table)
+
+pub OnErr-weaken : {P Q : Type 0} (result : Result Ack Refusal) → (P → Q) → OnErr result P → OnErr result Q
+OnErr-weaken (Ok ack) into h = tt
+OnErr-weaken (Err refusal) into h = into h
+
+not_memory : {refusal : Refusal} → refusal ≡ Memory → IsErrOf {T = Ack} (Err refusal) Fault → ⊥
+not_memory memory is = cc
+
+not_exhausted : {refusal : Refusal} → refusal ≡ Exhausted → IsErrOf {T = Ack} (Err refusal) Fault → ⊥
+not_exhausted exhausted is = cc
 
 -- The machine's standby after it took the frame, with what it acknowledged, the node that stands for it, and what its device went through.
 pub record Took (holder : Holder) (epoch : ℕ) (calls : List Call) (sent : Sent) (old : Machine) (acks : List Acknowledgement) (before new : Node) : Type 0 where
@@ -224,8 +234,8 @@ module _ (holder : Holder) (epoch : ℕ) (calls : List Call) (machine : Machine)
             standby = moved_to span.after machine;
             takes = inr (inr (inl (own, lt, e, refl, ap (λ (a : Acknowledgement). a ∷ []) (moved_as ack (ap (λ (a : Ack). a.epoch) (answers.ack epoch_same next)) (ap (λ (a : Ack). a.position) (answers.ack epoch_same next) ∙ is.after)))));
             waiting = refl;
-            stands = taken_stands e (answers.taken epoch_same next) (answers.still no_fault no_fault) (answers.sound no_fault no_fault).0 (answers.durable no_fault no_fault) answers.epoch_stays;
-            moves = taken_moves e (answers.moments epoch_same next) (answers.sound no_fault no_fault).1;
+            stands = taken_stands e (answers.taken epoch_same next) (answers.still no_fault) (answers.sound no_fault).0 (answers.durable no_fault) answers.epoch_stays;
+            moves = taken_moves e (answers.moments epoch_same next) (answers.sound no_fault).1;
           }
 
       above : machine.position < span.after → Took holder epoch calls sent machine (told_by ack ∷ []) old new
@@ -243,10 +253,9 @@ module _ (holder : Holder) (epoch : ℕ) (calls : List Call) (machine : Machine)
       joins lt e =
           let full : refusal ≡ Full = is_full refusal goes_on (answers.causes epoch_same (is_next lt e)) in
           let no_fault : ¬ IsErrOf {T = Ack} (Err refusal) Fault = λ is. cc in
-          let not_exhausted : ¬ IsErrOf {T = Ack} (Err refusal) Exhausted = λ is. cc in
-          let refused = answers.refused (inl (ap Err full)) in
+          let refused = answers.refused no_fault in
           let now : StandbyStands holder epoch calls machine.position new =
-          refused_stands refused (answers.still no_fault not_exhausted) (answers.sound no_fault not_exhausted).0 (answers.durable no_fault not_exhausted) answers.epoch_stays in
+          refused_stands refused (answers.still no_fault) (answers.sound no_fault).0 (answers.durable no_fault) answers.epoch_stays in
           record {
             standby = machine;
             takes = inr (inr (inr (inl (own, lt, e, refl, refl))));
@@ -297,11 +306,11 @@ module _ (holder : Holder) (epoch : ℕ) (calls : List Call) (machine : Machine)
       above lt = ⊎_elim (joins lt) (λ (ne : span.before ≢ machine.position). still (answers.gap epoch_same (is_above lt) (is_apart ne)).1) (cases_eq span.before machine.position)
 
   -- a frame that would take a counter to the limit: it takes one stamp
-  frame-limit : machine.position < span.after → span.before ≡ machine.position → WouldExhaust old.contents frame → (image : Image) → IsImage old.device.words image → IsAtLimit (next - machine.position) image
+  frame-limit : machine.position < span.after → span.before ≡ machine.position → WouldExhaust old.contents.current frame.after → (image : Image) → IsImage old.device.words image → IsAtLimit (next - machine.position) image
   frame-limit lt e would image at_image =
       record { current = old.contents.current; has_record = (stands.engine.durable image at_image).has_record; reached = reached (next - machine.position) (omega (arith, lt, next-joined e), omega (arith, lt, next-joined e, is.after, at)) would }
     where
-      reached : (more : ℕ) → (0 < more) × (frame.after ≡ old.contents.current.position + more) → WouldExhaust old.contents frame
+      reached : (more : ℕ) → (0 < more) × (frame.after ≡ old.contents.current.position + more) → WouldExhaust old.contents.current frame.after
           → (COUNTER_LIMIT ≤ old.contents.current.cp + more + 1 + STAMP_WINDOW) ⊎ (COUNTER_LIMIT ≤ old.contents.current.position + more) ⊎ (COUNTER_LIMIT ≤ old.contents.current.number + 1)
       reached more some (inl stamps) = inl (omega (arith, stamps, some.0))
       reached more some (inr (inl position)) = inr (inl (omega (arith, position, some.1)))
@@ -323,14 +332,15 @@ module _ (holder : Holder) (epoch : ℕ) (calls : List Call) (machine : Machine)
 
       by : machine.position < span.after → span.before ≡ machine.position → (refusal ≡ Full) ⊎ (refusal ≡ Memory) ⊎ (refusal ≡ Fault) ⊎ (refusal ≡ Exhausted) → Ends refusal
       by lt e (inl full) = absurd (stops (inl full))
-      by lt e (inr (inl memory)) = subst Ends (sym memory) (refl, rests_now (answers.refused (inr (ap Err memory))).2)
+      by lt e (inr (inl memory)) = subst Ends (sym memory) (refl, rests_now (answers.refused (λ is. not_memory memory is)).2)
       by lt e (inr (inr (inl fault))) = subst Ends (sym fault) (record { leaves = frame-moments (Err refusal) answers; failures = answers.fault (ap Err fault) })
       by lt e (inr (inr (inr exhausted))) =
           let told = answers.exhausted (ap Err exhausted) in
+          let same = (answers.refused (λ is. not_exhausted exhausted is)).2 in
           subst Ends (sym exhausted)
           (record {
-            rests = rests_now told.1;
-            limit = subst (λ (d : State). (image : Image) → IsImage d.words image → IsAtLimit (next - machine.position) image) (sym told.1) (frame-limit lt e told.0);
+            rests = rests_now same;
+            limit = subst (λ (d : State). (image : Image) → IsImage d.words image → IsAtLimit (next - machine.position) image) (sym same) (frame-limit lt e told);
           })
 
       joins : machine.position < span.after → span.before ≡ machine.position → Ends refusal

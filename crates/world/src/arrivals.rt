@@ -81,24 +81,24 @@ impl Arrivals {
         requires sound { E.is_faulted standby.old.engine ≡ false }
         requires durable { IsDurable (E.device standby.old.engine) (E.contents standby.old.engine) }
         ensures applies { IfOk result (λ did. (holder : Holder) (w : World) → Sound w
-            → standby.old.epoch ≡ w.standby.epoch
-            → ArrivalsStand standby.old.epoch w.primary.calls frames.now self.old w.standby.waiting w.wire.acknowledgements
-            → StandbyStands holder standby.old.epoch w.primary.calls w.standby.position (record {
+            → (E.contents standby.old.engine).current.epoch ≡ w.standby.epoch
+            → ArrivalsStand (E.contents standby.old.engine).current.epoch w.primary.calls frames.now self.old w.standby.waiting w.wire.acknowledgements
+            → StandbyStands holder (E.contents standby.old.engine).current.epoch w.primary.calls w.standby.position (record {
               device = E.device standby.old.engine;
               contents = E.contents standby.old.engine;
               is_faulted = E.is_faulted standby.old.engine;
               table = K.table standby.old.keyspace;
               room = standby.old.heap;
-              epoch = standby.old.epoch;
+              epoch = (E.contents standby.old.engine).current.epoch;
             })
-            → AppliesFirst holder standby.old.epoch frames.now w did self.new
+            → AppliesFirst holder (E.contents standby.old.engine).current.epoch frames.now w did self.new
             (record {
               device = E.device standby.old.engine;
               contents = E.contents standby.old.engine;
               is_faulted = E.is_faulted standby.old.engine;
               table = K.table standby.old.keyspace;
               room = standby.old.heap;
-              epoch = standby.old.epoch;
+              epoch = (E.contents standby.old.engine).current.epoch;
             })
             (record {
               device = E.device standby.new.engine;
@@ -106,32 +106,32 @@ impl Arrivals {
               is_faulted = E.is_faulted standby.new.engine;
               table = K.table standby.new.keyspace;
               room = standby.new.heap;
-              epoch = standby.new.epoch;
+              epoch = (E.contents standby.new.engine).current.epoch;
             })) }
         ensures cut { IfErr result (λ refusal. (holder : Holder) (w : World) → Sound w
-            → standby.old.epoch ≡ w.standby.epoch
-            → ArrivalsStand standby.old.epoch w.primary.calls frames.now self.old w.standby.waiting w.wire.acknowledgements
-            → StandbyStands holder standby.old.epoch w.primary.calls w.standby.position (record {
+            → (E.contents standby.old.engine).current.epoch ≡ w.standby.epoch
+            → ArrivalsStand (E.contents standby.old.engine).current.epoch w.primary.calls frames.now self.old w.standby.waiting w.wire.acknowledgements
+            → StandbyStands holder (E.contents standby.old.engine).current.epoch w.primary.calls w.standby.position (record {
               device = E.device standby.old.engine;
               contents = E.contents standby.old.engine;
               is_faulted = E.is_faulted standby.old.engine;
               table = K.table standby.old.keyspace;
               room = standby.old.heap;
-              epoch = standby.old.epoch;
+              epoch = (E.contents standby.old.engine).current.epoch;
             })
             → (may_happen w Apply ≡ true)
             × EndsBy refusal Apply (λ _ last. last holder w.primary.calls w.standby.position (next_standby w) (E.device standby.old.engine) (E.device standby.new.engine))) }
         // at any moment of the call
         ensures moments { (holder : Holder) (w : World) → Sound w
-            → standby.old.epoch ≡ w.standby.epoch
-            → ArrivalsStand standby.old.epoch w.primary.calls frames.now self.old w.standby.waiting w.wire.acknowledgements
-            → StandbyStands holder standby.old.epoch w.primary.calls w.standby.position (record {
+            → (E.contents standby.old.engine).current.epoch ≡ w.standby.epoch
+            → ArrivalsStand (E.contents standby.old.engine).current.epoch w.primary.calls frames.now self.old w.standby.waiting w.wire.acknowledgements
+            → StandbyStands holder (E.contents standby.old.engine).current.epoch w.primary.calls w.standby.position (record {
               device = E.device standby.old.engine;
               contents = E.contents standby.old.engine;
               is_faulted = E.is_faulted standby.old.engine;
               table = K.table standby.old.keyspace;
               room = standby.old.heap;
-              epoch = standby.old.epoch;
+              epoch = (E.contents standby.old.engine).current.epoch;
             })
             → NearOnly holder w.primary.calls w.standby.position (next_standby w) (E.device standby.old.engine) (E.device standby.new.engine) }
     {

@@ -122,7 +122,6 @@ pub(crate) fn form<P: Pmem, K: Keyspace + Drop>(
                 engine: follower,
                 keyspace: following,
                 heap,
-                epoch: FIRST_EPOCH,
             },
         }),
         Err((refusal, standby)) => Err((refusal, engine.into_device(), standby)),

@@ -62,7 +62,7 @@ impl<E: Durable, K: Keyspace> Stepper for Pair<E, K> {
         is_faulted = E.is_faulted p.standby.engine;
         table = K.table p.standby.keyspace;
         room = p.standby.heap;
-        epoch = p.standby.epoch;
+        epoch = (E.contents p.standby.engine).current.epoch;
       };
     } };
 

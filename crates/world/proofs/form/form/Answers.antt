@@ -23,7 +23,7 @@ returns-in-Ok-format-2-clause-stands g c =
     (engine-new _ _ _ _ _ serving.new serving.durable serving.sound.0)
     (made.underlies _ (new-own _ _ _ _ (sym c.lines-2.ensures.count) serving.new))
     made.link made.no_frame made.arrivals
-    (standby-new _ _ _ _ following.new following.durable following.sound.0 all c.requires.following (sym made.epoch) made.epoch)
+    (standby-new _ _ _ _ following.new following.durable following.sound.0 all c.requires.following (following.new.epoch ∙ sym made.epoch) made.epoch)
 
 pub returns-in-Err-clause-cause : goal.returns-in-Err-clause-cause
 returns-in-Err-clause-cause g c =

@@ -59,7 +59,7 @@ returns-clause-taken g c =
     (the_group g front) (one g front) (g.E.Durable.contents c.commit.new.self) (g.K.Keyspace.table c.make_part.new.keyspace) c.in_ok-commit.ensures.moved c.in_ok-part.ensures.ok.table_is
 
 pub returns-clause-still : goal.returns-clause-still
-returns-clause-still g c = λ _ _.
+returns-clause-still g c = λ _.
     let front = (goal.at.returns-clause-still g c).After-push_reserved in
     let contents = g.E.Durable.contents c.args.self.now.engine in
     let after = g.E.Durable.contents c.commit.new.self in

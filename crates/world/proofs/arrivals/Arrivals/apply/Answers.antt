@@ -13,7 +13,7 @@ use Rattle.world.specs.declared.arrivals.Arrivals.{Arrivals}
 use Rattle.world.specs.Causes.{EndsBy}
 use Rattle.world.specs.Committings.{NearOnly, next_from, next_standby}
 use Rattle.world.specs.Standbys.{Node, ArrivalsStand, StandbyStands}
-use Rattle.world.proofs.StandbyLemmas.{Answers, takes_ok, takes_refused, frame-ends, frame-moments, StandbyStands-still}
+use Rattle.world.proofs.StandbyLemmas.{Answers, OnErr-weaken, takes_ok, takes_refused, frame-ends, frame-moments, StandbyStands-still}
 use Rattle.world.proofs.EngineLemmas.{Stands-engine, rests-same}
 use Rattle.world.proofs.ArrivalLemmas.{FirstFrame, first-frame, place_within, applies}
 use Rattle.world.proofs.arrivals.Arrivals.apply.Given.{Over}
@@ -27,7 +27,7 @@ node g standby = record {
   is_faulted = g.E.Durable.is_faulted standby.engine;
   table = g.K.Keyspace.table standby.keyspace;
   room = standby.heap;
-  epoch = standby.epoch;
+  epoch = (g.E.Durable.contents standby.engine).current.epoch;
 }
 
 answers : (g : Over) (c : After-on_frame g) → Answers c.in-Some-get.frame.now (node g c.args.standby.now) c.on_frame.result (node g c.on_frame.new.self)
@@ -37,9 +37,12 @@ answers g c = record {
   ack = c.on_frame.ensures.ack;
   taken = c.on_frame.ensures.taken;
   causes = c.on_frame.ensures.causes;
-  refused = λ cause. let same = c.on_frame.ensures.refused cause in (ap g.E.Durable.contents same.0, same.1, ap g.E.Durable.device same.0);
+  refused = λ no_fault. OnErr-weaken c.on_frame.result
+      (λ (same : (c.on_frame.new.self.engine ≡ c.args.standby.now.engine) × (g.K.Keyspace.table c.on_frame.new.self.keyspace ≡ g.K.Keyspace.table c.args.standby.now.keyspace)
+      × (c.on_frame.new.self.heap ≡ c.args.standby.now.heap)). (ap g.E.Durable.contents same.0, same.1, ap g.E.Durable.device same.0))
+      (c.on_frame.ensures.refused no_fault);
   fault = λ cause. (c.on_frame.ensures.fault cause).1;
-  exhausted = λ cause. let told = c.on_frame.ensures.exhausted cause in (told.0, ap g.E.Durable.device told.1);
+  exhausted = c.on_frame.ensures.exhausted;
   still = c.on_frame.ensures.still;
   sound = c.on_frame.ensures.sound;
   durable = c.on_frame.ensures.durable;
@@ -50,17 +53,17 @@ answers g c = record {
 told : (g : Over) (c : After-on_frame g) (result : Result Ack Refusal) → c.on_frame.result ≡ result → Answers c.in-Some-get.frame.now (node g c.args.standby.now) result (node g c.on_frame.new.self)
 told g c result is = subst (λ (r : Result Ack Refusal). Answers c.in-Some-get.frame.now (node g c.args.standby.now) r (node g c.on_frame.new.self)) is (answers g c)
 
-first : (g : Over) (c : After-on_frame g) (w : World) → ArrivalsStand c.args.standby.now.epoch w.primary.calls c.args.frames.now c.args.self.now w.standby.waiting w.wire.acknowledgements
-    → FirstFrame c.args.standby.now.epoch w.primary.calls c.args.frames.now c.in-Some-get.frame.now (drop 1 c.args.self.now.delivered.items) w.standby.waiting
-first g c w stands = first-frame c.args.standby.now.epoch c.args.frames.now w c.args.self.now c.in-Some.place.now c.in-Some-get.frame.now c.in-Some.ensures.item.3.0 c.in-Some.ensures.lookup
+first : (g : Over) (c : After-on_frame g) (w : World) → ArrivalsStand (g.E.Durable.contents c.args.standby.now.engine).current.epoch w.primary.calls c.args.frames.now c.args.self.now w.standby.waiting w.wire.acknowledgements
+    → FirstFrame (g.E.Durable.contents c.args.standby.now.engine).current.epoch w.primary.calls c.args.frames.now c.in-Some-get.frame.now (drop 1 c.args.self.now.delivered.items) w.standby.waiting
+first g c w stands = first-frame (g.E.Durable.contents c.args.standby.now.engine).current.epoch c.args.frames.now w c.args.self.now c.in-Some.place.now c.in-Some-get.frame.now c.in-Some.ensures.item.3.0 c.in-Some.ensures.lookup
     c.in-Some-get.ensures.lookup.1 stands
 
 -- at any moment of the call
-moments : (g : Over) (c : After-on_frame g) (holder : Holder) (w : World) → Sound w → c.args.standby.now.epoch ≡ w.standby.epoch → ArrivalsStand c.args.standby.now.epoch w.primary.calls c.args.frames.now c.args.self.now w.standby.waiting w.wire.acknowledgements
-    → StandbyStands holder c.args.standby.now.epoch w.primary.calls w.standby.position (node g c.args.standby.now)
+moments : (g : Over) (c : After-on_frame g) (holder : Holder) (w : World) → Sound w → (g.E.Durable.contents c.args.standby.now.engine).current.epoch ≡ w.standby.epoch → ArrivalsStand (g.E.Durable.contents c.args.standby.now.engine).current.epoch w.primary.calls c.args.frames.now c.args.self.now w.standby.waiting w.wire.acknowledgements
+    → StandbyStands holder (g.E.Durable.contents c.args.standby.now.engine).current.epoch w.primary.calls w.standby.position (node g c.args.standby.now)
     → NearOnly holder w.primary.calls w.standby.position (next_standby w) (g.E.Durable.device c.args.standby.now.engine) (g.E.Durable.device c.on_frame.new.self.engine)
 moments g c holder w sound epochs arrives stands =
-    let epoch = c.args.standby.now.epoch in
+    let epoch = (g.E.Durable.contents c.args.standby.now.engine).current.epoch in
     let frame = c.in-Some-get.frame.now in
     let one = first g c w arrives in
     subst (λ (frames : List Sent). NearOnly holder w.primary.calls w.standby.position (next_from w.standby.position frames) (g.E.Durable.device c.args.standby.now.engine) (g.E.Durable.device c.on_frame.new.self.engine)) (sym one.all)
@@ -68,14 +71,14 @@ moments g c holder w sound epochs arrives stands =
 
 pub returns-in_default-get-clause-applies : goal.returns-in_default-get-clause-applies
 returns-in_default-get-clause-applies g c = λ holder w sound epochs arrives stands.
-    let within = place_within c.args.standby.now.epoch c.args.frames.now w c.args.self.now c.in-Some.place.now c.in-Some.ensures.item.3.0 c.in-Some.ensures.lookup arrives in
+    let within = place_within (g.E.Durable.contents c.args.standby.now.engine).current.epoch c.args.frames.now w c.args.self.now c.in-Some.place.now c.in-Some.ensures.item.3.0 c.in-Some.ensures.lookup arrives in
     let past = c.in_default-get.ensures.lookup.3 in
     record { done = absurd (omega (arith, within, past)); goes = λ did. cc; stays = λ did. (arrives, refl {a = node g c.args.standby.now}) }
 
 pub returns-clause-applies : goal.returns-clause-applies
 returns-clause-applies g c =
     let front = (goal.at.returns-clause-applies g c).After-on_frame in
-    let epoch = c.args.standby.now.epoch in
+    let epoch = (g.E.Durable.contents c.args.standby.now.engine).current.epoch in
     let frame = c.in-Some-get.frame.now in
     let new : Arrivals = record { delivered = c.pop_front.new.self; acknowledgements = c.match-on_frame.self.acknowledgements } in
     elim c.match-on_frame.branch [
@@ -95,13 +98,13 @@ returns-clause-applies g c =
     ]
 
 pub returns-in_default-clause-moments : goal.returns-in_default-clause-moments
-returns-in_default-clause-moments g c = λ holder w sound epochs arrives stands. StandbyStands-still holder c.args.standby.now.epoch w.primary.calls w.standby.position (next_standby w) (node g c.args.standby.now) stands
+returns-in_default-clause-moments g c = λ holder w sound epochs arrives stands. StandbyStands-still holder (g.E.Durable.contents c.args.standby.now.engine).current.epoch w.primary.calls w.standby.position (next_standby w) (node g c.args.standby.now) stands
 
 pub returns-in_default-get-clause-moments : goal.returns-in_default-get-clause-moments
-returns-in_default-get-clause-moments g c = λ holder w sound epochs arrives stands. StandbyStands-still holder c.args.standby.now.epoch w.primary.calls w.standby.position (next_standby w) (node g c.args.standby.now) stands
+returns-in_default-get-clause-moments g c = λ holder w sound epochs arrives stands. StandbyStands-still holder (g.E.Durable.contents c.args.standby.now.engine).current.epoch w.primary.calls w.standby.position (next_standby w) (node g c.args.standby.now) stands
 
 pub returns-in_err-reserve-clause-moments : goal.returns-in_err-reserve-clause-moments
-returns-in_err-reserve-clause-moments g c = λ holder w sound epochs arrives stands. StandbyStands-still holder c.args.standby.now.epoch w.primary.calls w.standby.position (next_standby w) (node g c.args.standby.now) stands
+returns-in_err-reserve-clause-moments g c = λ holder w sound epochs arrives stands. StandbyStands-still holder (g.E.Durable.contents c.args.standby.now.engine).current.epoch w.primary.calls w.standby.position (next_standby w) (node g c.args.standby.now) stands
 
 pub returns-in-Err-2-clause-moments : goal.returns-in-Err-2-clause-moments
 returns-in-Err-2-clause-moments g c = moments g (goal.at.returns-in-Err-2-clause-moments g c).After-on_frame
@@ -115,7 +118,7 @@ returns-in_err-reserve-clause-cut g c =
     let memory : exit.0 ≡ Memory = cc in
     let device = g.E.Durable.device c.args.standby.now.engine in
     rw exit.1 (λ holder w sound epochs arrives stands. (
-      ap is_nonempty (first-frame c.args.standby.now.epoch c.args.frames.now w c.args.self.now c.in-Some.place.now c.in-Some-get.frame.now c.in-Some.ensures.item.3.0 c.in-Some.ensures.lookup
+      ap is_nonempty (first-frame (g.E.Durable.contents c.args.standby.now.engine).current.epoch c.args.frames.now w c.args.self.now c.in-Some.place.now c.in-Some-get.frame.now c.in-Some.ensures.item.3.0 c.in-Some.ensures.lookup
           c.in-Some-get.ensures.lookup.1 arrives).all,
       subst (λ (r : Refusal). EndsBy r Apply (λ _ last. last holder w.primary.calls w.standby.position (next_standby w) device device)) (sym memory)
           (refl, rests-same holder w.primary.calls w.standby.position device device refl (Stands-engine _ _ _ _ _ _ stands.engine)),
@@ -124,7 +127,7 @@ returns-in_err-reserve-clause-cut g c =
 pub returns-in-Err-2-clause-cut : goal.returns-in-Err-2-clause-cut
 returns-in-Err-2-clause-cut g c = λ holder w sound epochs arrives stands.
     let front = (goal.at.returns-in-Err-2-clause-cut g c).After-on_frame in
-    let epoch = c.args.standby.now.epoch in
+    let epoch = (g.E.Durable.contents c.args.standby.now.engine).current.epoch in
     let frame = c.in-Some-get.frame.now in
     let one = first g front w arrives in (
       ap is_nonempty one.all,

@@ -9,6 +9,6 @@ returns g c = apply-does _ c.apply.new.self
       is_faulted = g.E.Durable.is_faulted c.apply.new.standby.engine;
       table = g.K.Keyspace.table c.apply.new.standby.keyspace;
       room = c.apply.new.standby.heap;
-      epoch = c.apply.new.standby.epoch;
+      epoch = (g.E.Durable.contents c.apply.new.standby.engine).current.epoch;
     })
     c.as_slice.result.now c.apply.result c.as_slice.ensures.value c.apply.ensures.applies c.apply.ensures.moments c.apply.ensures.cut
