@@ -1,5 +1,5 @@
 -- A record read word by word.
-use Rattle.std.proofs.Common.{◌≡◌, ◌≢◌, ℕ, zero, suc, ◌+◌, ◌-◌, ◌*◌, ◌%◌, ◌<◌, ◌≤◌, List, [], ◌∷◌, ◌++◌, length, take, replicate, refl, sym, ap, subst, ◌∙◌, arith, add-zero}
+use Rattle.std.proofs.Common.{◌≡◌, ◌≢◌, ℕ, zero, suc, ◌+◌, ◌-◌, ◌*◌, ◌<◌, ◌≤◌, List, [], ◌∷◌, ◌++◌, length, take, replicate, refl, sym, ap, subst, ◌∙◌, arith, add-zero}
 use Rattle.std.specs.List.{flat_map}
 use Rattle.std.proofs.Math.Seq.{take-append-add}
 use Rattle.std.proofs.lemmas.List.{take-replicate, length-replicate, replicate_more}
@@ -7,7 +7,9 @@ use Rattle.model.specs.declared.record.Gap.{Gap}
 use Rattle.model.specs.declared.record.Record.{Record}
 use Rattle.model.specs.declared.record.Role.{Role}
 use Rattle.model.specs.declared.record.TheConstants.{MAX_GAPS}
-use Rattle.model.specs.Images.{Image, HasWords, record_word, role_number, gap_words, gaps_words, record_words}
+use Rattle.model.specs.declared.layout.TheConstants.{LAYOUT}
+use Rattle.model.specs.Layouts.{first_word}
+use Rattle.model.specs.Images.{Image, HasWords, root_word, slot_line, record_word, gap_room, role_number, gap_words, gaps_words, record_words}
 use Rattle.model.proofs.RecordLemmas.{length-gaps_words}
 use Rattle.model.specs.ReadImages.{gaps_from, AreZero, IsFilled, IsRecordOf}
 
@@ -80,21 +82,21 @@ length-pairs [] = refl
 length-pairs (gap ∷ gaps) = let rest = length-pairs gaps in omega arith
 
 -- the words of the gaps are their pairs, and zeros
-gaps_words-pairs : (gaps : List Gap) → length gaps ≤ MAX_GAPS → gaps_words gaps ≡ flat_map gap_words gaps ++ replicate (16 - 2 * length gaps) 0
+gaps_words-pairs : (gaps : List Gap) → length gaps ≤ MAX_GAPS → gaps_words gaps ≡ flat_map gap_words gaps ++ replicate (gap_room - 2 * length gaps) 0
 gaps_words-pairs gaps few =
     let pairs = flat_map gap_words gaps in
-    let room : 16 ≡ length pairs + (16 - 2 * length gaps) = omega (arith, length-pairs gaps) in
-    ap (λ n. take n (pairs ++ replicate 16 0)) room ∙ take-append-add pairs (replicate 16 0) (16 - 2 * length gaps) ∙ ap (λ zeros. pairs ++ zeros) (take-replicate (16 - 2 * length gaps) 16 0 (omega arith))
+    let room : 16 ≡ length pairs + (gap_room - 2 * length gaps) = omega (arith, length-pairs gaps) in
+    ap (λ n. take n (pairs ++ replicate 16 0)) room ∙ take-append-add pairs (replicate 16 0) (gap_room - 2 * length gaps) ∙ ap (λ zeros. pairs ++ zeros) (take-replicate (gap_room - 2 * length gaps) 16 0 (omega arith))
 
 -- ---- a record
 
 -- the first word of the slot that the root names
 abbrev pub slot_word : ℕ → ℕ
-slot_word root = 8 * (1 + 3 * (root % 2))
+slot_word root = first_word (slot_line root)
 
 -- the record stands in its slot, word by word
 pub record StandsInSlot (image : Image) (first : ℕ) (r : Record) : Type 0 where
-  pub root : image 4 ≡ r.number
+  pub root : image root_word ≡ r.number
   pub slot : first ≡ slot_word r.number
   pub number : image first ≡ r.number
   pub position : image (first + 1) ≡ r.position
@@ -104,9 +106,9 @@ pub record StandsInSlot (image : Image) (first : ℕ) (r : Record) : Type 0 wher
   pub count : image (first + 5) ≡ length r.gaps.items
   pub few : length r.gaps.items ≤ MAX_GAPS
   pub gaps : r.gaps.items ≡ gaps_from image (first + 6) (length r.gaps.items)
-  pub unused : AreZero image (first + 6 + 2 * length r.gaps.items) (16 - 2 * length r.gaps.items)
-  pub role : image (first + 22) ≡ role_number r.role
-  pub last : image (first + 23) ≡ 0
+  pub unused : AreZero image (first + 6 + 2 * length r.gaps.items) (gap_room - 2 * length r.gaps.items)
+  pub role : image (first + LAYOUT.role_word) ≡ role_number r.role
+  pub last : image (first + (LAYOUT.role_word + 1)) ≡ 0
 
 word_is : (image : Image) (a b : ℕ) (x : ℕ) → a ≡ b → image b ≡ x → image a ≡ x
 word_is image a b x same e = ap image same ∙ e
@@ -120,8 +122,8 @@ IsRecordOf-slot image first r stands =
     let zeros : HasWords image (first + 6 + length pairs) (replicate unused 0) = HasWords-at image (first + 6 + 2 * length r.gaps.items) (first + 6 + length pairs) (replicate unused 0) (ap (λ n. first + 6 + n) (sym (length-pairs r.gaps.items))) stands.unused in
     let middle : HasWords image (first + 6) (gaps_words r.gaps.items) = subst (HasWords image (first + 6)) (sym (gaps_words-pairs r.gaps.items stands.few)) (HasWords-append image (first + 6) pairs (replicate unused 0) in_gaps zeros) in
     let after : HasWords image (first + 6 + length (gaps_words r.gaps.items)) ending = (
-      word_is image (first + 6 + length (gaps_words r.gaps.items)) (first + 22) (role_number r.role) (omega (arith, length-gaps_words r.gaps.items)) stands.role,
-      (word_is image (first + 6 + length (gaps_words r.gaps.items) + 1) (first + 23) 0 (omega (arith, length-gaps_words r.gaps.items)) stands.last, tt),
+      word_is image (first + 6 + length (gaps_words r.gaps.items)) (first + LAYOUT.role_word) (role_number r.role) (omega (arith, length-gaps_words r.gaps.items)) stands.role,
+      (word_is image (first + 6 + length (gaps_words r.gaps.items) + 1) (first + (LAYOUT.role_word + 1)) 0 (omega (arith, length-gaps_words r.gaps.items)) stands.last, tt),
     ) in
     let tail : HasWords image (first + 1 + 1 + 1 + 1 + 1 + 1) (gaps_words r.gaps.items ++ ending) =
     HasWords-at image (first + 6) (first + 1 + 1 + 1 + 1 + 1 + 1) (gaps_words r.gaps.items ++ ending) (omega arith) (HasWords-append image (first + 6) (gaps_words r.gaps.items) ending middle after) in
@@ -167,43 +169,43 @@ slot-IsRecordOf image r is =
       few = is.few;
       gaps = sym (gaps_from-HasWords image (first + 6) r.gaps.items (HasWords-front image (first + 6) pairs (replicate unused 0) middle));
       unused = HasWords-at image (first + 6 + length pairs) (first + 6 + 2 * length r.gaps.items) (replicate unused 0) (ap (λ n. first + 6 + n) (length-pairs r.gaps.items)) (HasWords-rest image (first + 6) pairs (replicate unused 0) middle);
-      role = word_is image (first + 22) (first + 6 + length (gaps_words r.gaps.items)) (role_number r.role) (omega (arith, length-gaps_words r.gaps.items)) after.0;
-      last = word_is image (first + 23) (first + 6 + length (gaps_words r.gaps.items) + 1) 0 (omega (arith, length-gaps_words r.gaps.items)) after.1.0;
+      role = word_is image (first + LAYOUT.role_word) (first + 6 + length (gaps_words r.gaps.items)) (role_number r.role) (omega (arith, length-gaps_words r.gaps.items)) after.0;
+      last = word_is image (first + (LAYOUT.role_word + 1)) (first + 6 + length (gaps_words r.gaps.items) + 1) 0 (omega (arith, length-gaps_words r.gaps.items)) after.1.0;
     }
 
 -- ---- no record
 
 -- what is known of a record's slot where the root is this number
-at_root : (image : Image) (number : ℕ) (r : Record) → image 4 ≡ number → IsRecordOf image r → StandsInSlot image (slot_word number) r
-at_root image number r root is =
+at_root : (image : Image) (number first : ℕ) (r : Record) → image root_word ≡ number → first ≡ slot_word number → IsRecordOf image r → StandsInSlot image first r
+at_root image number first r root slot is =
     let stands = slot-IsRecordOf image r is in
-    subst (λ n. StandsInSlot image (slot_word n) r) (sym stands.root ∙ root) stands
+    subst (λ n. StandsInSlot image n r) (sym slot) (subst (λ n. StandsInSlot image (slot_word n) r) (sym stands.root ∙ root) stands)
 
-pub no_record-role : (image : Image) (number code : ℕ) → image 4 ≡ number → image (slot_word number + 22) ≡ code → ((role : Role) → role_number role ≢ code) → (r : Record) → IsRecordOf image r → ⊥
-no_record-role image number code root at none r is = let stands = at_root image number r root is in none r.role (sym stands.role ∙ at)
+pub no_record-role : (image : Image) (number first code : ℕ) → image root_word ≡ number → first ≡ slot_word number → image (first + LAYOUT.role_word) ≡ code → ((role : Role) → role_number role ≢ code) → (r : Record) → IsRecordOf image r → ⊥
+no_record-role image number first code root slot at none r is = let stands = at_root image number first r root slot is in none r.role (sym stands.role ∙ at)
 
-pub no_record-count : (image : Image) (number count : ℕ) → image 4 ≡ number → image (slot_word number + 5) ≡ count → MAX_GAPS < count → (r : Record) → IsRecordOf image r → ⊥
-no_record-count image number count root at many r is = let stands = at_root image number r root is in let same = sym stands.count ∙ at in let few = stands.few in omega arith
+pub no_record-count : (image : Image) (number first count : ℕ) → image root_word ≡ number → first ≡ slot_word number → image (first + 5) ≡ count → MAX_GAPS < count → (r : Record) → IsRecordOf image r → ⊥
+no_record-count image number first count root slot at many r is = let stands = at_root image number first r root slot is in let same = sym stands.count ∙ at in let few = stands.few in omega arith
 
-pub no_record-filled : (image : Image) (number count : ℕ) → image 4 ≡ number → image (slot_word number + 5) ≡ count → (IsFilled image (slot_word number) number count → ⊥) → (r : Record) → IsRecordOf image r → ⊥
-no_record-filled image number count root at none r is =
-    let stands = at_root image number r root is in
+pub no_record-filled : (image : Image) (number first count : ℕ) → image root_word ≡ number → first ≡ slot_word number → image (first + 5) ≡ count → (IsFilled image first number count → ⊥) → (r : Record) → IsRecordOf image r → ⊥
+no_record-filled image number first count root slot at none r is =
+    let stands = at_root image number first r root slot is in
     let count_is = sym stands.count ∙ at in
     none (record {
       number_is = stands.number ∙ sym stands.root ∙ root;
       last = stands.last;
-      unused = subst (λ n. AreZero image (slot_word number + 6 + 2 * n) (16 - 2 * n)) count_is stands.unused;
+      unused = subst (λ n. AreZero image (first + 6 + 2 * n) (gap_room - 2 * n)) count_is stands.unused;
     })
 
 -- a record that was read
-pub IsRecordOf-read : (image : Image) (number count : ℕ) (r : Record) → image 4 ≡ number → r.number ≡ number → image (slot_word number + 1) ≡ r.position → image (slot_word number + 2) ≡ r.cp
-    → image (slot_word number + 3) ≡ r.cd → image (slot_word number + 4) ≡ r.epoch → image (slot_word number + 5) ≡ count → count ≤ MAX_GAPS → r.gaps.items ≡ gaps_from image (slot_word number + 6) count
-    → image (slot_word number + 22) ≡ role_number r.role → IsFilled image (slot_word number) number count → IsRecordOf image r
-IsRecordOf-read image number count r root number_is position cp cd epoch at few gaps role filled =
-    let len : length r.gaps.items ≡ count = ap length gaps ∙ length-gaps_from image (slot_word number + 6) count in
-    IsRecordOf-slot image (slot_word number) r (record {
+pub IsRecordOf-read : (image : Image) (number first count : ℕ) (r : Record) → image root_word ≡ number → first ≡ slot_word number → r.number ≡ number → image (first + 1) ≡ r.position → image (first + 2) ≡ r.cp
+    → image (first + 3) ≡ r.cd → image (first + 4) ≡ r.epoch → image (first + 5) ≡ count → count ≤ MAX_GAPS → r.gaps.items ≡ gaps_from image (first + 6) count
+    → image (first + LAYOUT.role_word) ≡ role_number r.role → IsFilled image first number count → IsRecordOf image r
+IsRecordOf-read image number first count r root slot number_is position cp cd epoch at few gaps role filled =
+    let len : length r.gaps.items ≡ count = ap length gaps ∙ length-gaps_from image (first + 6) count in
+    IsRecordOf-slot image first r (record {
       root = root ∙ sym number_is;
-      slot = ap slot_word (sym number_is);
+      slot = slot ∙ ap slot_word (sym number_is);
       number = filled.number_is ∙ sym number_is;
       position = position;
       cp = cp;
@@ -211,8 +213,8 @@ IsRecordOf-read image number count r root number_is position cp cd epoch at few 
       epoch = epoch;
       count = at ∙ sym len;
       few = omega arith;
-      gaps = gaps ∙ ap (gaps_from image (slot_word number + 6)) (sym len);
-      unused = subst (λ n. AreZero image (slot_word number + 6 + 2 * n) (16 - 2 * n)) (sym len) filled.unused;
+      gaps = gaps ∙ ap (gaps_from image (first + 6)) (sym len);
+      unused = subst (λ n. AreZero image (first + 6 + 2 * n) (gap_room - 2 * n)) (sym len) filled.unused;
       role = role;
       last = filled.last;
     })

@@ -1,12 +1,13 @@
--- The image of version 1: what its words mean (this project's profile of write-behind logging: Arulraj, Perron, Pavlo, PVLDB 10(4), 2016).
--- An image gives each word by its number; a line is 8 words.
-use Rattle.std.specs.Prelude.{◌≡◌, ℕ, zero, suc, ◌+◌, ◌*◌, ◌/◌, ◌%◌, ◌<◌, Bool, false, not, ◌&&◌, ◌==◌, nat_lt, nat_le, if◌then◌else◌, List, [], ◌∷◌, ◌++◌, length, take, drop, replicate, Option, Some, None, codes}
+-- What the words of an image mean (this project's profile of write-behind logging: Arulraj, Perron, Pavlo, PVLDB 10(4), 2016).
+-- An image gives each word by its number. Where its parts lie is said by its layout.
+use Rattle.std.specs.Prelude.{◌≡◌, ℕ, zero, suc, ◌+◌, ◌-◌, ◌/◌, ◌%◌, ◌<◌, Bool, false, not, ◌&&◌, ◌==◌, nat_lt, nat_le, if◌then◌else◌, List, [], ◌∷◌, ◌++◌, length, take, drop, replicate, Option, Some, None, codes}
 use Rattle.std.specs.List.{list_any, flat_map}
 use Rattle.std.specs.Int.{w64, to_le_bytes, from_le_bytes}
 use Rattle.kv_types.specs.declared.record_id.RecordId.{RecordId}
 use Rattle.kv_types.specs.declared.record_id.RecordId.TheVariants.{Str, Field}
 use Rattle.kv_types.specs.Keyspaces.{Keyspace, value_at, with_record}
-use Rattle.model.specs.declared.image.TheConstants.{VERSION}
+use Rattle.model.specs.declared.layout.TheConstants.{FIELD_LENGTH_UNIT, LAYOUT, LINE_BYTES, WORD_BYTES}
+use Rattle.model.specs.Layouts as layouts
 use Rattle.model.specs.declared.record.Gap.{Gap}
 use Rattle.model.specs.declared.record.Record.{Record}
 use Rattle.model.specs.declared.record.Role.{Role}
@@ -31,24 +32,28 @@ words_from image first (suc count) = image first ∷ words_from image (first + 1
 abbrev pub magic_number : ℕ
 magic_number = from_le_bytes w64 (codes "WBLIMG01")
 
--- an eighth of the lines are directory entries
+-- how many entries the directory of an image of so many lines has
 abbrev pub entries_of_lines : ℕ → ℕ
-entries_of_lines lines = lines / 8
+entries_of_lines lines = layouts.entries_of_lines LAYOUT lines
 
+-- the word that names the current record
 abbrev pub root_word : ℕ
-root_word = 4
+root_word = LAYOUT.root_word
 
 pub record HasSuperblock (lines : ℕ) (image : Image) : Type 0 where
   pub magic : image 0 ≡ magic_number
-  pub version : image 1 ≡ VERSION
+  pub version : image 1 ≡ LAYOUT.version
   pub line_count : image 2 ≡ lines
   pub entry_count : image 3 ≡ entries_of_lines lines
 
--- ---- records, lines 1 to 3 and 4 to 6
+-- ---- records, in two slots that take turns
 
--- word k of the slot of record n
+-- the first line of the slot of record n, and its word k
+abbrev pub slot_line : ℕ → ℕ
+slot_line n = layouts.slot_line LAYOUT n
+
 abbrev pub record_word : ℕ → ℕ → ℕ
-record_word n k = 8 * (1 + 3 * (n % 2)) + k
+record_word n k = layouts.line_word (slot_line n) k
 
 abbrev pub role_number : Role → ℕ
 role_number Primary = 1
@@ -57,11 +62,15 @@ role_number Standby = 2
 abbrev pub gap_words : Gap → List ℕ
 gap_words gap = gap.first ∷ gap.last ∷ []
 
--- the pairs of the gaps, and zeros up to eight pairs
-abbrev pub gaps_words : List Gap → List ℕ
-gaps_words gaps = take 16 (flat_map gap_words gaps ++ replicate 16 0)
+-- how many words a record has for its gaps
+abbrev pub gap_room : ℕ
+gap_room = layouts.gap_room LAYOUT
 
--- the 24 words of a record
+-- the pairs of the gaps, and zeros up to the most pairs
+abbrev pub gaps_words : List Gap → List ℕ
+gaps_words gaps = take gap_room (flat_map gap_words gaps ++ replicate gap_room 0)
+
+-- the words of a record
 abbrev pub record_words : Record → List ℕ
 record_words r =
     r.number ∷ r.position ∷ r.cp ∷ r.cd ∷ r.epoch ∷ length r.gaps.items ∷ gaps_words r.gaps.items ++ role_number r.role ∷ 0 ∷ []
@@ -78,23 +87,26 @@ is_in_gap stamp gap = nat_le gap.first stamp && nat_le stamp gap.last
 abbrev pub counts : Record → ℕ → Bool
 counts r stamp = nat_lt 0 stamp && nat_le stamp r.cp && not (list_any (is_in_gap stamp) r.gaps.items)
 
--- ---- the directory, one entry a line from line 8 on, and the extents behind it
+-- ---- the directory, one entry a line, and the extents behind it
 
--- word k of entry i
+-- the line of entry i, and its word k
+abbrev pub entry_line : ℕ → ℕ
+entry_line i = layouts.entry_line LAYOUT i
+
 abbrev pub entry_word : ℕ → ℕ → ℕ
-entry_word i k = 8 * (8 + i) + k
+entry_word i k = layouts.line_word (entry_line i) k
 
 -- the first line of the extents
 abbrev pub first_extent_line : ℕ → ℕ
-first_extent_line lines = 8 + entries_of_lines lines
+first_extent_line lines = layouts.first_extent_line LAYOUT lines
 
 -- how many lines so many bytes take: at least one
 abbrev pub lines_of_bytes : ℕ → ℕ
-lines_of_bytes bytes = if bytes == 0 then 1 else (bytes + 63) / 64
+lines_of_bytes bytes = if bytes == 0 then 1 else (bytes + (LINE_BYTES - 1)) / LINE_BYTES
 
 -- so many bytes from a line on, the lowest byte of a word first
 abbrev pub bytes_at : Image → ℕ → ℕ → List ℕ
-bytes_at image line count = take count (flat_map (to_le_bytes w64) (words_from image (8 * line) ((count + 7) / 8)))
+bytes_at image line count = take count (flat_map (to_le_bytes w64) (words_from image (layouts.first_word line) ((count + (WORD_BYTES - 1)) / WORD_BYTES)))
 
 -- the name of a record whose bytes begin with its key and field
 abbrev pub id_of : ℕ → ℕ → ℕ → List ℕ → RecordId
@@ -112,19 +124,24 @@ pub record Version : Type 0 where
   -- a later change ended it
   pub is_ended : Bool
 
+-- how many bytes the key of entry i has, and how many its field
+abbrev pub key_bytes : Image → ℕ → ℕ
+key_bytes image i = image (entry_word i 6) % FIELD_LENGTH_UNIT
+
+abbrev pub field_bytes : Image → ℕ → ℕ
+field_bytes image i = image (entry_word i 6) / FIELD_LENGTH_UNIT
+
 -- how many bytes entry i has: key, field and value
 abbrev pub entry_bytes : Image → ℕ → ℕ
-entry_bytes image i = image (entry_word i 6) % 65536 + image (entry_word i 6) / 65536 + image (entry_word i 7)
+entry_bytes image i = key_bytes image i + field_bytes image i + image (entry_word i 7)
 
 -- the version in entry i, whose begin counts
 abbrev pub version_in : Record → Image → ℕ → Version
 version_in r image i =
     let bytes = bytes_at image (image (entry_word i 3)) (entry_bytes image i) in
-    let key_bytes = image (entry_word i 6) % 65536 in
-    let field_bytes = image (entry_word i 6) / 65536 in
     record {
-      id = id_of (image (entry_word i 5)) key_bytes field_bytes bytes;
-      value = drop (key_bytes + field_bytes) bytes;
+      id = id_of (image (entry_word i 5)) (key_bytes image i) (field_bytes image i) bytes;
+      value = drop (key_bytes image i + field_bytes image i) bytes;
       position = image (entry_word i 2);
       first_line = image (entry_word i 3);
       lines = image (entry_word i 4);

@@ -4,6 +4,7 @@ pub mod Calls
 pub mod Positions
 pub mod RightCalls
 pub mod Kept
+pub mod Layouts
 pub mod Images
 pub mod Standing
 pub mod ReadImages

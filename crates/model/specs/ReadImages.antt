@@ -1,5 +1,5 @@
 -- What the plain reader of an image asks of its words.
-use Rattle.std.specs.Prelude.{◌≡◌, ℕ, zero, suc, ◌+◌, ◌-◌, ◌*◌, ◌/◌, ◌%◌, ◌<◌, ◌≤◌, Bool, false, ◌&&◌, ◌||◌, ◌⊎◌, Option, Some, None, IsSome, List, [], ◌∷◌, length, drop, replicate, IsTrue, nat_eq, is_none, slice_index}
+use Rattle.std.specs.Prelude.{◌≡◌, ℕ, zero, suc, ◌+◌, ◌-◌, ◌*◌, ◌/◌, ◌<◌, ◌≤◌, Bool, false, ◌&&◌, ◌||◌, ◌⊎◌, Option, Some, None, IsSome, List, [], ◌∷◌, length, drop, replicate, IsTrue, nat_eq, is_none, slice_index}
 use Rattle.std.specs.Ordering.{eq_by_cmp}
 use Rattle.std.specs.Cmp.Lexicographic.{pointwise}
 use Rattle.kv_types.specs.declared.limits.TheConstants.{MAX_KEY_BYTES, MAX_VALUE_BYTES}
@@ -8,7 +8,8 @@ use Rattle.kv_types.specs.Keyspaces.{Keyspace, IsKeyspace, value_at, key_of, fie
 use Rattle.model.specs.declared.record.Gap.{Gap}
 use Rattle.model.specs.declared.record.Record.{Record}
 use Rattle.model.specs.declared.record.TheConstants.{MAX_GAPS}
-use Rattle.model.specs.Images.{Image, Version, HasSuperblock, HasWords, HasRecord, IsMapOf, version_at, with_version, counts, entry_word, entry_bytes, bytes_at, id_of, entries_of_lines, lines_of_bytes}
+use Rattle.model.specs.declared.layout.TheConstants.{GAPS_WORD, LAYOUT, LINE_WORDS}
+use Rattle.model.specs.Images.{Image, Version, HasSuperblock, HasWords, HasRecord, IsMapOf, version_at, with_version, counts, gap_room, entry_word, key_bytes, field_bytes, entry_bytes, bytes_at, id_of, entries_of_lines, lines_of_bytes}
 
 -- the image that the words are, with zeros behind them
 abbrev pub image_of : List ℕ → Image
@@ -16,7 +17,7 @@ image_of words = λ w. slice_index words w
 
 -- how many whole lines the words have
 abbrev pub line_count : List ℕ → ℕ
-line_count words = length words / 8
+line_count words = length words / LINE_WORDS
 
 -- so many pairs, one after another from this word on
 abbrev pub gaps_from : Image → ℕ → ℕ → List Gap
@@ -30,8 +31,8 @@ AreZero image first count = HasWords image first (replicate count 0)
 -- a slot with this first word has this record number, and zeros where so many gaps leave room and in its last word
 pub record IsFilled (image : Image) (first number gaps : ℕ) : Type 0 where
   pub number_is : image first ≡ number
-  pub last : image (first + 23) ≡ 0
-  pub unused : AreZero image (first + 6 + 2 * gaps) (16 - 2 * gaps)
+  pub last : image (first + (LAYOUT.role_word + 1)) ≡ 0
+  pub unused : AreZero image (first + GAPS_WORD + 2 * gaps) (gap_room - 2 * gaps)
 
 -- the record has no more gaps than there is room for
 pub record IsRecordOf (image : Image) (r : Record) : Type 0 where
@@ -40,8 +41,8 @@ pub record IsRecordOf (image : Image) (r : Record) : Type 0 where
 
 -- the lengths of entry i are within the limits, and its extent is within the image
 pub record IsInFormat (lines : ℕ) (image : Image) (i : ℕ) : Type 0 where
-  pub key : image (entry_word i 6) % 65536 ≤ MAX_KEY_BYTES
-  pub field : image (entry_word i 6) / 65536 ≤ MAX_KEY_BYTES
+  pub key : key_bytes image i ≤ MAX_KEY_BYTES
+  pub field : field_bytes image i ≤ MAX_KEY_BYTES
   pub value : image (entry_word i 7) ≤ MAX_VALUE_BYTES
   pub extent : image (entry_word i 3) + lines_of_bytes (entry_bytes image i) ≤ lines
 
@@ -49,9 +50,7 @@ pub record IsInFormat (lines : ℕ) (image : Image) (i : ℕ) : Type 0 where
 abbrev pub record_in : Image → ℕ → RecordId × List ℕ
 record_in image i =
     let bytes = bytes_at image (image (entry_word i 3)) (entry_bytes image i) in
-    let key_bytes = image (entry_word i 6) % 65536 in
-    let field_bytes = image (entry_word i 6) / 65536 in
-    (id_of (image (entry_word i 5)) key_bytes field_bytes bytes, drop (key_bytes + field_bytes) bytes)
+    (id_of (image (entry_word i 5)) (key_bytes image i) (field_bytes image i) bytes, drop (key_bytes image i + field_bytes image i) bytes)
 
 -- no keyspace has both records apart: they are one, or a string and a field of one key
 abbrev pub is_clash : RecordId → RecordId → Bool

@@ -1,10 +1,7 @@
-//! The numbers of the image, version 1.
+//! The numbers of an image.
 
 /// Word 0 of an image: the bytes `WBLIMG01`, the first one lowest.
 pub const MAGIC: u64 = 0x3130_474d_494c_4257;
-
-/// Word 1 of an image.
-pub const VERSION: u64 = 1;
 
 /// An image has at least so many lines of 64 bytes.
 pub const MIN_LINES: u64 = 4_096;

@@ -6,6 +6,7 @@ ghost use Rattle.model.specs.ReadImages.{image_of, line_count, is_clash as the_c
 
 use crate::image_entries::read_entry;
 use crate::image_words::{entry_word, has_superblock, read_record, word_at};
+use crate::layout::{LAYOUT, LINE_WORDS};
 use crate::record::Record;
 use kv_types::{Change, PlainKeyspace, RecordId};
 use std::alloc::{AllocError, Global};
@@ -45,7 +46,7 @@ fn read_map(
         (λ s. IsMapOf (version_at current.now (image_of words.now)) (entries_of_lines (line_count words.now)) s)) }
 {
     let mut keyspace = PlainKeyspace::new(alloc);
-    for i in 0..words.len() as u64 / 8 / 8 {
+    for i in 0..LAYOUT.entries_of_lines(words.len() as u64 / LINE_WORDS) {
         if !add_entry(alloc, words, current, i, &mut keyspace)? {
             return Ok(None);
         }

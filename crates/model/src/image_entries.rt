@@ -1,10 +1,12 @@
 //! The entries of an image: which record each holds.
-ghost use Rattle.std.specs.Prelude.{◌≡◌, ℕ, ◌+◌, ◌*◌, ◌/◌, ◌%◌, ◌<◌, ◌≤◌, length, vec_len, MatchOption, IfOk};
+ghost use Rattle.std.specs.Prelude.{◌≡◌, ℕ, ◌+◌, ◌-◌, ◌/◌, ◌<◌, ◌≤◌, length, vec_len, MatchOption, IfOk};
 ghost use Rattle.model.specs.Images as images;
+ghost use Rattle.model.specs.Layouts.{first_word};
 ghost use Rattle.model.specs.ReadImages.{image_of, line_count, IsInFormat, record_in};
 ghost use Rattle.model.specs.Shapes.{IsShape};
 
 use crate::image_words::{entry_word, word_at};
+use crate::layout::{FIELD_LENGTH_UNIT, LINE_BYTES, LINE_WORDS, WORD_BYTES};
 use bytes::Bytes;
 use kv_types::{Key, MAX_KEY_BYTES, MAX_VALUE_BYTES, RecordId, Value};
 use std::alloc::{AllocError, Global};
@@ -23,7 +25,11 @@ fn lines_of_bytes(bytes: u64) -> u64
     requires { bytes < 1_000_000 }
     ensures { result ≡ images.lines_of_bytes bytes }
 {
-    if bytes == 0 { 1 } else { (bytes + 63) / 64 }
+    if bytes == 0 {
+        1
+    } else {
+        (bytes + (LINE_BYTES - 1)) / LINE_BYTES
+    }
 }
 
 /// The shape of the record in entry `i`, or `None` where its lengths pass the limits, or its extent the image.
@@ -33,8 +39,8 @@ fn shape_of(words: &[u64], i: u64) -> Option<Shape>
 {
     let names = word_at(words, entry_word(i, 6));
     let shape = Shape {
-        key: names % 65_536,
-        field: names / 65_536,
+        key: names % FIELD_LENGTH_UNIT,
+        field: names / FIELD_LENGTH_UNIT,
         value: word_at(words, entry_word(i, 7)),
         line: word_at(words, entry_word(i, 3)),
     };
@@ -44,7 +50,7 @@ fn shape_of(words: &[u64], i: u64) -> Option<Shape>
     {
         return None;
     }
-    let lines = words.len() as u64 / 8;
+    let lines = words.len() as u64 / LINE_WORDS;
     if shape.line > lines
         || lines_of_bytes(shape.key + shape.field + shape.value) > lines - shape.line
     {
@@ -55,13 +61,13 @@ fn shape_of(words: &[u64], i: u64) -> Option<Shape>
 
 /// So many bytes from a line on, the lowest byte of a word first.
 fn bytes_at(alloc: Global, words: &[u64], line: u64, count: u64) -> Result<Vec<u8>, AllocError>
-    requires { 8 * line + (count + 7) / 8 ≤ length words.now }
+    requires { first_word line + (count + (WORD_BYTES - 1)) / WORD_BYTES ≤ length words.now }
     ensures bytes { IfOk result (λ v. v.items ≡ images.bytes_at (image_of words.now) line count) }
     ensures len { IfOk result (λ v. vec_len v ≡ count) }
 {
     let mut bytes = Vec::new(alloc);
-    for k in 0..(count + 7) / 8 {
-        bytes.extend_from_slice(&word_at(words, 8 * line + k).to_le_bytes())?;
+    for k in 0..(count + (WORD_BYTES - 1)) / WORD_BYTES {
+        bytes.extend_from_slice(&word_at(words, LINE_WORDS * line + k).to_le_bytes())?;
     }
     bytes.truncate(count as usize);
     Ok(bytes)

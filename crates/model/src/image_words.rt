@@ -5,7 +5,8 @@ ghost use Rattle.model.specs.declared.record.Role.{Role as NodeRole};
 ghost use Rattle.model.specs.Images.{HasSuperblock, role_number, entry_word as the_entry_word};
 ghost use Rattle.model.specs.ReadImages.{image_of, line_count, gaps_from, AreZero, IsFilled, IsRecordOf};
 
-use crate::image::{MAGIC, VERSION};
+use crate::image::MAGIC;
+use crate::layout::{GAPS_WORD, LAYOUT, LINE_WORDS};
 use crate::record::{Gap, MAX_GAPS, Record, Role};
 use arrayvec::ArrayVec;
 
@@ -22,29 +23,29 @@ pub fn entry_word(i: u64, k: u64) -> u64
     requires word { k < 8 }
     ensures { result ≡ the_entry_word i k }
 {
-    8 * (8 + i) + k
+    LINE_WORDS * LAYOUT.entry_line(i) + k
 }
 
 /// Whether the words begin with the superblock of an image of just their number of whole lines.
 pub fn has_superblock(words: &[u64]) -> bool
     ensures { IsTrue result ↔ HasSuperblock (line_count words.now) (image_of words.now) }
 {
-    let lines = words.len() as u64 / 8;
+    let lines = words.len() as u64 / LINE_WORDS;
     word_at(words, 0) == MAGIC
-        && word_at(words, 1) == VERSION
+        && word_at(words, 1) == LAYOUT.version
         && word_at(words, 2) == lines
-        && word_at(words, 3) == lines / 8
+        && word_at(words, 3) == LAYOUT.entries_of_lines(lines)
 }
 
 /// The current record, or `None` where the slot that the root names holds none.
 pub fn read_record(words: &[u64]) -> Option<Record>
     ensures { MatchOption result ((r : CommitRecord) → ¬ IsRecordOf (image_of words.now) r) (λ r. IsRecordOf (image_of words.now) r) }
 {
-    let number = word_at(words, 4);
-    let first = 8 * (1 + 3 * (number % 2));
+    let number = word_at(words, LAYOUT.root_word);
+    let first = LINE_WORDS * LAYOUT.slot_line(number);
     let gap_count = word_at(words, first + 5);
-    let gaps = read_gaps(words, first + 6, gap_count)?;
-    let role = read_role(word_at(words, first + 22))?;
+    let gaps = read_gaps(words, first + GAPS_WORD, gap_count)?;
+    let role = read_role(word_at(words, first + LAYOUT.role_word))?;
     if !is_filled(words, first, number, gap_count) {
         return None;
     }
@@ -60,7 +61,7 @@ pub fn read_record(words: &[u64]) -> Option<Record>
 }
 
 /// The gaps of so many pairs of words, or `None` where there are more than a record holds.
-fn read_gaps(words: &[u64], first: u64, count: u64) -> Option<ArrayVec<Gap, 8>>
+fn read_gaps(words: &[u64], first: u64, count: u64) -> Option<ArrayVec<Gap, MAX_GAPS>>
     requires { first < 1000 }
     ensures { MatchOption result (MAX_GAPS < count) (λ gaps. (count ≤ MAX_GAPS) × (gaps.items ≡ gaps_from (image_of words.now) first count)) }
 {
@@ -83,9 +84,10 @@ fn is_filled(words: &[u64], first: u64, number: u64, gaps: u64) -> bool
     requires few { gaps ≤ MAX_GAPS }
     ensures { IsTrue result ↔ IsFilled (image_of words.now) first number gaps }
 {
+    let room = 2 * (MAX_GAPS as u64 - gaps);
     word_at(words, first) == number
-        && word_at(words, first + 23) == 0
-        && are_zero(words, first + 6 + 2 * gaps, 16 - 2 * gaps)
+        && word_at(words, first + LAYOUT.role_word + 1) == 0
+        && are_zero(words, first + GAPS_WORD + 2 * gaps, room)
 }
 
 /// Whether so many words are zero.

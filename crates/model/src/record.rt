@@ -36,7 +36,7 @@ pub struct Record {
     pub epoch: u64,
     pub role: Role,
     /// At most eight, by rising stamps.
-    pub gaps: ArrayVec<Gap, 8>,
+    pub gaps: ArrayVec<Gap, MAX_GAPS>,
 }
 
 impl Record {

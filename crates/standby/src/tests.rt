@@ -9,7 +9,7 @@ use crate::Frame;
 use crate::part::make_part;
 use extent_heap::ExtentHeap;
 use kv_types::{Change, Key, RecordId, Refusal, Value, write_int};
-use model::{Group, ImageContents, Role, read_image};
+use model::{Group, ImageContents, LAYOUT, Role, read_image};
 use mv_keyspace::{Keyspace, ListKeyspace};
 use pmem::{Pmem, SimPmem};
 use std::alloc::{AllocError, Global};
@@ -84,8 +84,11 @@ fn heap_of(lines: u64) -> ExtentHeap
     ensures lines { (line : ℕ) → IsTrue (is_free_line result line) ↔ ((first_extent_line lines ≤ line) × (line < lines)) }
     ensures entries { (i : ℕ) → IsTrue (is_free_entry result i) ↔ (i < entries_of_lines lines) }
 {
-    let entries = lines / 8;
-    ExtentHeap::new(8 + entries, lines, entries)
+    ExtentHeap::new(
+        LAYOUT.first_extent_line(lines),
+        lines,
+        LAYOUT.entries_of_lines(lines),
+    )
 }
 
 /// What a device holds, as its words are loaded.

@@ -8,8 +8,10 @@ use Rattle.pmem.proofs.Chaining.{Stays-then}
 use Rattle.pmem.proofs.Leaving.{LeavesOnly-then, LeavesOnly-weaken}
 use Rattle.pmem.proofs.Staging.{IsStored-pairs_from, pairs_from-outside, written-pairs_from, written-outside, IsLine-lines_from, stored_or_outside, same_or_other}
 use Rattle.model.specs.declared.record.Record.{Record}
-use Rattle.model.specs.Images.{Image, HasRecord, root_word, record_word, record_words}
-use Rattle.wbl_engine.specs.Records.{IsRecordWord, slot_line, body_pairs, body_lines, root_pairs, IsRecorded, IsRecordFault, IsSucceeded, IsEitherRecord}
+use Rattle.model.specs.declared.layout.TheConstants.{LAYOUT}
+use Rattle.model.specs.Layouts.{first_word}
+use Rattle.model.specs.Images.{Image, HasRecord, root_word, record_word, record_words, slot_line}
+use Rattle.wbl_engine.specs.Records.{IsRecordWord, body_pairs, body_lines, root_pairs, IsRecorded, IsRecordFault, IsSucceeded, IsEitherRecord}
 use Rattle.wbl_engine.proofs.Mixing.{IsMixed, mixed}
 use Rattle.wbl_engine.proofs.RecordWords.{length-record_words, HasWords-at, HasRecord-same}
 
@@ -207,11 +209,14 @@ root_moments {a} {b} {c} current next succeeded body moments =
     (LeavesOnly-weaken (IsEitherRecord a.words current next) (λ image partly. root_leaves current next image succeeded body partly) moments)
 
 -- the words that were stored are those of the record
-pub staged_body : {a b : State} (next : Record) (words : List ℕ) → words ≡ record_words next
-    → Staged a b (pairs_from (8 * slot_line next.number) words) (body_lines next) → Staged a b (body_pairs next) (body_lines next)
-staged_body {a} {b} next words e =
-    subst (λ (values : List ℕ). Staged a b (pairs_from (8 * slot_line next.number) values) (body_lines next)) e
+pub staged_body : {a b : State} (next : Record) (line : ℕ) (words : List ℕ) → line ≡ slot_line next.number → words ≡ record_words next
+    → Staged a b (pairs_from (first_word line) words) (lines_from line LAYOUT.slot_lines) → Staged a b (body_pairs next) (body_lines next)
+staged_body {a} {b} next line words at e staged =
+    subst (λ (values : List ℕ). Staged a b (pairs_from (first_word (slot_line next.number)) values) (body_lines next)) e
+    (subst (λ (n : ℕ). Staged a b (pairs_from (first_word n) words) (lines_from n LAYOUT.slot_lines)) at staged)
 
-pub failed_body : {a b : State} (next : Record) (words : List ℕ) → words ≡ record_words next
-    → StageFailed a b (pairs_from (8 * slot_line next.number) words) → StageFailed a b (body_pairs next)
-failed_body {a} {b} next words e = subst (λ (values : List ℕ). StageFailed a b (pairs_from (8 * slot_line next.number) values)) e
+pub failed_body : {a b : State} (next : Record) (line : ℕ) (words : List ℕ) → line ≡ slot_line next.number → words ≡ record_words next
+    → StageFailed a b (pairs_from (first_word line) words) → StageFailed a b (body_pairs next)
+failed_body {a} {b} next line words at e failed =
+    subst (λ (values : List ℕ). StageFailed a b (pairs_from (first_word (slot_line next.number)) values)) e
+    (subst (λ (n : ℕ). StageFailed a b (pairs_from (first_word n) words)) at failed)

@@ -5,7 +5,9 @@ use Rattle.std.proofs.Props.{props}
 use Rattle.pmem.specs.Device.{State, Only}
 use Rattle.pmem.specs.Crash.{IsImage, image_of}
 use Rattle.model.specs.declared.image.TheConstants.{MIN_LINES, MAX_LINES, COUNTER_LIMIT, STAMP_WINDOW}
+use Rattle.model.specs.declared.layout.TheConstants.{LAYOUT, LINE_BYTES}
 use Rattle.model.specs.declared.record.Record.{Record}
+use Rattle.model.specs.Layouts.{first_word}
 use Rattle.model.specs.Images.{Image, HasSuperblock, HasWords, HasRecord, root_word, entries_of_lines, first_extent_line, entry_word, entry_bytes, version_at, counts, is_in_gap}
 use Rattle.model.specs.Groups.{Contents}
 
@@ -34,7 +36,7 @@ pub record IsSound (r : Record) : Type 0 where
 pub record IsInPlace (lines : ℕ) (image : Image) (i : ℕ) : Type 0 where
   pub above : first_extent_line lines ≤ image (entry_word i 3)
   pub within : image (entry_word i 3) + image (entry_word i 4) ≤ lines
-  pub enough : entry_bytes image i ≤ 64 * image (entry_word i 4)
+  pub enough : entry_bytes image i ≤ LINE_BYTES * image (entry_word i 4)
 
 -- the directory has no stamp that was not given out, and each version that was begun has its lines
 pub record IsWhole (r : Record) (lines : ℕ) (image : Image) : Type 0 where
@@ -45,14 +47,14 @@ pub record IsWhole (r : Record) (lines : ℕ) (image : Image) : Type 0 where
 
 -- the word is of the extent that entry i names
 pub record IsInExtent (image : Image) (i word : ℕ) : Type 0 where
-  pub low : 8 * image (entry_word i 3) ≤ word
-  pub high : word < 8 * (image (entry_word i 3) + image (entry_word i 4))
+  pub low : first_word (image (entry_word i 3)) ≤ word
+  pub high : word < first_word (image (entry_word i 3) + image (entry_word i 4))
 
 -- The map depends on this word: it is of the superblock's front, of the directory, or of the extent of an entry whose begin counts.
 abbrev pub Matters : Record → ℕ → Image → ℕ → Type 0
 Matters r lines image word =
     (word < root_word)
-    ⊎ ((8 * 8 ≤ word) × (word < 8 * first_extent_line lines))
+    ⊎ ((first_word LAYOUT.directory_line ≤ word) × (word < first_word (first_extent_line lines)))
     ⊎ ((i : ℕ) × (i < entries_of_lines lines) × IsTrue (counts r (image (entry_word i 0))) × IsInExtent image i word)
 
 -- Each crash leaves the record, and each word on which the map depends as loads give it.

@@ -6,7 +6,9 @@ use Rattle.kv_types.specs.declared.record_id.RecordId.TheVariants.{Str, Field}
 use Rattle.kv_types.specs.Keyspaces.{key_of}
 use Rattle.pmem.specs.Runs.{pairs_from, lines_from}
 use Rattle.model.specs.declared.group.Put.{Put}
-use Rattle.model.specs.Images.{entry_word}
+use Rattle.model.specs.declared.layout.TheConstants.{FIELD_LENGTH_UNIT, WORD_BYTES}
+use Rattle.model.specs.Layouts.{first_word}
+use Rattle.model.specs.Images.{entry_line, entry_word}
 
 -- eight bytes as a word, the lowest first, with zeros past their end
 abbrev pub word_of_bytes : List ℕ → ℕ → ℕ
@@ -17,7 +19,7 @@ word_of_bytes bytes at =
 -- so many words of the bytes, from this byte on
 abbrev pub packed : List ℕ → ℕ → ℕ → List ℕ
 packed bytes at zero = []
-packed bytes at (suc count) = word_of_bytes bytes at ∷ packed bytes (at + 8) count
+packed bytes at (suc count) = word_of_bytes bytes at ∷ packed bytes (at + WORD_BYTES) count
 
 -- the bytes of a record's name: key and field
 abbrev pub name_bytes : RecordId → List ℕ
@@ -32,10 +34,10 @@ abbrev pub kind_number : RecordId → ℕ
 kind_number (Str key) = 1
 kind_number (Field key field) = 2
 
--- the length of the key, and that of the field times 65,536
+-- the length of the key, and that of the field so many times
 abbrev pub lengths_word : RecordId → ℕ
 lengths_word (Str key) = length key
-lengths_word (Field key field) = length key + 65536 * length field
+lengths_word (Field key field) = length key + FIELD_LENGTH_UNIT * length field
 
 -- the eight words of an entry
 abbrev pub entry_words : ℕ → ℕ → Put → List ℕ
@@ -44,18 +46,18 @@ entry_words stamp position put =
 
 -- the words of an extent
 abbrev pub extent_words : Put → List ℕ
-extent_words put = packed (version_bytes put) 0 (8 * put.extent.lines)
+extent_words put = packed (version_bytes put) 0 (first_word put.extent.lines)
 
 -- what a put stores, begun with this stamp at this position
 abbrev pub put_pairs : ℕ → ℕ → Put → List (ℕ × ℕ)
 put_pairs stamp position put =
-    pairs_from (8 * put.extent.first_line) (extent_words put) ++ pairs_from (entry_word put.entry.0 0) (entry_words stamp position put)
+    pairs_from (first_word put.extent.first_line) (extent_words put) ++ pairs_from (entry_word put.entry.0 0) (entry_words stamp position put)
 
 -- the lines that it stores to
 abbrev pub put_lines : Put → List ℕ
-put_lines put = lines_from put.extent.first_line put.extent.lines ++ (8 + put.entry.0) ∷ []
+put_lines put = lines_from put.extent.first_line put.extent.lines ++ entry_line put.entry.0 ∷ []
 
 -- the put can be read back: its bytes are bytes, and its key fits the lower half of the word of lengths
 pub record IsStorable (put : Put) : Type 0 where
   pub bytes : (i : ℕ) → slice_index (version_bytes put) i < 256
-  pub key : length (key_of put.id) < 65536
+  pub key : length (key_of put.id) < FIELD_LENGTH_UNIT

@@ -1,12 +1,14 @@
 -- A new image, and what a crash leaves while it is made.
-use Rattle.std.specs.Prelude.{◌≡◌, ◌≢◌, ◌⊎◌, ℕ, ◌+◌, ◌*◌, List, [], ◌∷◌, ◌++◌, replicate, nat_lt, None}
+use Rattle.std.specs.Prelude.{◌≡◌, ◌≢◌, ◌⊎◌, ℕ, ◌+◌, ◌-◌, List, [], ◌∷◌, ◌++◌, replicate, nat_lt, None}
 use Rattle.pmem.specs.Device.{Word}
 use Rattle.pmem.specs.Crash.{IsImage}
 use Rattle.pmem.specs.Runs.{pairs_from}
-use Rattle.model.specs.declared.image.TheConstants.{VERSION, STAMP_WINDOW}
+use Rattle.model.specs.declared.image.TheConstants.{STAMP_WINDOW}
+use Rattle.model.specs.declared.layout.TheConstants.{LAYOUT}
 use Rattle.model.specs.declared.record.Record.{Record}
 use Rattle.model.specs.declared.record.TheConstants.{FIRST_EPOCH}
 use Rattle.model.specs.declared.record.Role.{Role}
+use Rattle.model.specs.Layouts.{first_word}
 use Rattle.model.specs.Images.{Image, magic_number, entries_of_lines, record_words}
 use Rattle.model.specs.Groups.{Contents}
 use Rattle.wbl_engine.specs.Contents.{Keeps}
@@ -36,16 +38,33 @@ new_contents lines role =
 
 -- the superblock behind the magic
 abbrev pub superblock_words : ℕ → List ℕ
-superblock_words lines = VERSION ∷ lines ∷ entries_of_lines lines ∷ 1 ∷ 0 ∷ 0 ∷ 0 ∷ []
+superblock_words lines = LAYOUT.version ∷ lines ∷ entries_of_lines lines ∷ 1 ∷ 0 ∷ 0 ∷ 0 ∷ []
+
+-- how many words a record slot has, where the two slots begin, and where what is behind them
+abbrev pub slot_words : ℕ
+slot_words = first_word LAYOUT.slot_lines
+
+abbrev pub slot_0 : ℕ
+slot_0 = first_word LAYOUT.record_line
+
+abbrev pub slot_1 : ℕ
+slot_1 = slot_0 + slot_words
+
+abbrev pub behind_slots : ℕ
+behind_slots = slot_1 + slot_words
 
 -- these four runs of words, up to the extents
 abbrev pub run_pairs : List ℕ → List ℕ → List ℕ → List ℕ → List (ℕ × ℕ)
-run_pairs super slot first rest = pairs_from 1 super ++ pairs_from 8 slot ++ pairs_from 32 first ++ pairs_from 56 rest
+run_pairs super slot first rest = pairs_from 1 super ++ pairs_from slot_0 slot ++ pairs_from slot_1 first ++ pairs_from behind_slots rest
+
+-- how many words are behind the slots, up to the extents: before the directory, and its own
+abbrev pub rest_words : ℕ → ℕ
+rest_words lines = first_word LAYOUT.directory_line - behind_slots + first_word (entries_of_lines lines)
 
 -- all words of a new image but the magic, up to the extents
 unfoldable pub new_pairs : ℕ → Role → List (ℕ × ℕ)
 new_pairs lines role =
-    run_pairs (superblock_words lines) (replicate 24 0) (record_words (first_record role)) (replicate (8 + 8 * entries_of_lines lines) 0)
+    run_pairs (superblock_words lines) (replicate slot_words 0) (record_words (first_record role)) (replicate (rest_words lines) 0)
 
 -- What a crash leaves of a device of these words that is being formatted: an image from before, the new one whole, or one without the magic.
 abbrev pub IsFormatting : (ℕ → Word) → ℕ → Role → Image → Type 0

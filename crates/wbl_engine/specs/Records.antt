@@ -1,25 +1,23 @@
 -- What writing the next record does to a device.
-use Rattle.std.specs.Prelude.{◌≡◌, ◌⊎◌, ℕ, ◌+◌, ◌*◌, ◌%◌, ◌<◌, ◌≤◌, List, [], ◌∷◌}
+use Rattle.std.specs.Prelude.{◌≡◌, ◌⊎◌, ℕ, ◌+◌, ◌<◌, ◌≤◌, List, [], ◌∷◌}
 use Rattle.pmem.specs.Device.{Word, State, MayBe}
 use Rattle.pmem.specs.Crash.{IsImage, image_of}
 use Rattle.pmem.specs.Runs.{Stays, pairs_from, lines_from}
 use Rattle.model.specs.declared.record.Record.{Record}
-use Rattle.model.specs.Images.{Image, HasRecord, root_word, record_word, record_words}
+use Rattle.model.specs.declared.layout.TheConstants.{LAYOUT}
+use Rattle.model.specs.Layouts.{first_word}
+use Rattle.model.specs.Images.{Image, HasRecord, root_word, slot_line, record_word, record_words}
 
 -- the word is the root, or of the slot of record n
 abbrev pub IsRecordWord : ℕ → ℕ → Type 0
-IsRecordWord n word = (word ≡ root_word) ⊎ ((record_word n 0 ≤ word) × (word < record_word n 24))
-
--- the first line of the slot of record n
-abbrev pub slot_line : ℕ → ℕ
-slot_line n = 1 + 3 * (n % 2)
+IsRecordWord n word = (word ≡ root_word) ⊎ ((record_word n 0 ≤ word) × (word < record_word n (first_word LAYOUT.slot_lines)))
 
 -- the body of a record, in its slot
 abbrev pub body_pairs : Record → List (ℕ × ℕ)
-body_pairs r = pairs_from (8 * slot_line r.number) (record_words r)
+body_pairs r = pairs_from (first_word (slot_line r.number)) (record_words r)
 
 abbrev pub body_lines : Record → List ℕ
-body_lines r = lines_from (slot_line r.number) 3
+body_lines r = lines_from (slot_line r.number) LAYOUT.slot_lines
 
 -- the number of a record, in the root
 abbrev pub root_pairs : Record → List (ℕ × ℕ)

@@ -7,7 +7,7 @@ use Rattle.model.specs.declared.group.Group.{Group}
 use Rattle.model.specs.declared.group.Part.{Part}
 use Rattle.model.specs.declared.group.PlacedChange.{PlacedChange}
 use Rattle.model.specs.declared.group.Put.{Put}
-use Rattle.model.specs.Images.{entry_word}
+use Rattle.model.specs.Images.{entry_line, entry_word}
 use Rattle.model.specs.Groups.{put_of, puts_of_part}
 use Rattle.wbl_engine.specs.Entries.{put_pairs, put_lines}
 
@@ -42,7 +42,7 @@ puts_lines = flat_map put_lines
 
 -- the lines of these entries
 abbrev pub end_lines : List EntryNo → List ℕ
-end_lines ended = map (λ entry. 8 + entry.0) ended
+end_lines ended = map (λ entry. entry_line entry.0) ended
 
 abbrev pub part_lines : Part → List ℕ
 part_lines part = puts_lines (puts_of_part part) ++ end_lines part.ended.items
@@ -52,7 +52,7 @@ parts_lines = flat_map part_lines
 
 -- the device has the lines of these entries
 abbrev pub AreWithin : ℕ → List EntryNo → Type 0
-AreWithin lines = AllByRecursion (λ entry. 8 + entry.0 < lines)
+AreWithin lines = AllByRecursion (λ entry. entry_line entry.0 < lines)
 
 -- and those of what parts ended
 abbrev pub AreEndsWithin : ℕ → List Part → Type 0

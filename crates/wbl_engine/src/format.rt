@@ -8,8 +8,23 @@ ghost use Rattle.wbl_engine.specs.Formatting.{first_record, new_pairs, IsFormatt
 
 use crate::record::words_of;
 use arrayvec::ArrayVec;
-use model::{FIRST_EPOCH, MAGIC, Record, Role, STAMP_WINDOW, VERSION};
+use model::{FIRST_EPOCH, LAYOUT, LINE_WORDS, MAGIC, Record, Role, STAMP_WINDOW};
 use pmem::{Fault, Pmem, flush_lines, persist, store_words};
+
+/// How many words a record slot has.
+const SLOT_WORDS: u64 = LINE_WORDS * LAYOUT.slot_lines;
+
+/// The first word of slot 0.
+const SLOT_0: u64 = LINE_WORDS * LAYOUT.record_line;
+
+/// The first word of slot 1.
+const SLOT_1: u64 = SLOT_0 + SLOT_WORDS;
+
+/// The first word behind both slots.
+const BEHIND_SLOTS: u64 = SLOT_1 + SLOT_WORDS;
+
+/// How many words are between the slots and the directory.
+const BEFORE_DIRECTORY: u64 = LINE_WORDS * LAYOUT.directory_line - BEHIND_SLOTS;
 
 /// Formats a device: the magic goes first, then everything else is written, then the magic comes.
 ///
@@ -40,12 +55,16 @@ fn write_new<P: Pmem>(device: &mut P, first: &Record) -> Result<(), Fault>
     ensures err { OnErr result (StageFailed (P.state device.old) (P.state device.new) (new_pairs (P.state device.old).lines first.now.role)) }
 {
     let lines = device.lines();
-    let entries = lines / 8;
-    store_words(device, 1, &[VERSION, lines, entries, 1, 0, 0, 0]);
-    clear_words(device, 8, 24);
-    store_words(device, 32, &words_of(first));
-    clear_words(device, 56, 8 + 8 * entries);
-    flush_lines(device, 0, 8 + entries);
+    let entries = LAYOUT.entries_of_lines(lines);
+    store_words(device, 1, &[LAYOUT.version, lines, entries, 1, 0, 0, 0]);
+    clear_words(device, SLOT_0, SLOT_WORDS);
+    store_words(device, SLOT_1, &words_of(first));
+    clear_words(
+        device,
+        BEHIND_SLOTS,
+        BEFORE_DIRECTORY + LINE_WORDS * entries,
+    );
+    flush_lines(device, 0, LAYOUT.first_extent_line(lines));
     device.fence()
 }
 

@@ -2,12 +2,13 @@
 ghost use Rattle.std.specs.Prelude.{◌≡◌, ℕ, ◌+◌, ◌*◌, ◌^◌, ◌<◌, ◌≤◌, ◌++◌, length, slice_index};
 ghost use Rattle.pmem.specs.Runs.{Runs, stores, flushes, pairs_from};
 ghost use Rattle.kv_types.specs.Keyspaces.{key_of};
+ghost use Rattle.model.specs.Layouts.{first_word};
 ghost use Rattle.model.specs.Images.{entry_word, lines_of_bytes};
 ghost use Rattle.model.specs.Groups.{IsPlaced, HasItsLines, bytes_of_id};
 ghost use Rattle.wbl_engine.specs.Entries.{word_of_bytes, packed, name_bytes, kind_number, lengths_word, put_pairs, put_lines, IsStorable};
 
 use kv_types::{EntryNo, Extent, RecordId, Value};
-use model::Put;
+use model::{FIELD_LENGTH_UNIT, LAYOUT, LINE_BYTES, LINE_WORDS, Put, WORD_BYTES};
 use pmem::{Pmem, flush_lines, store_words};
 
 /// How many lines a record takes, with this name and this value: at least one.
@@ -18,7 +19,7 @@ pub fn lines_for(id: &RecordId, value: &Value) -> u64
     if bytes == 0 {
         1
     } else {
-        (bytes as u64 + 63) / 64
+        (bytes as u64 + (LINE_BYTES - 1)) / LINE_BYTES
     }
 }
 
@@ -50,15 +51,15 @@ pub fn flush_entry<P: Pmem>(device: &mut P, put: &Put)
     ensures { Runs (P.state device.old) (P.state device.new) (flushes (put_lines put.now) (P.state device.old).words) }
 {
     flush_lines(device, put.extent.first_line, put.extent.lines);
-    device.flush(8 + put.entry.0);
+    device.flush(LAYOUT.entry_line(put.entry.0));
 }
 
 /// Word `k` of an entry.
 pub fn entry_word(entry: EntryNo, k: u64) -> u64
-    requires { 8 * (8 + entry.0) + k < 2 ^ 64 }
+    requires { entry_word entry.0 k < 2 ^ 64 }
     ensures { result ≡ entry_word entry.0 k }
 {
-    8 * (8 + entry.0) + k
+    LINE_WORDS * LAYOUT.entry_line(entry.0) + k
 }
 
 /// The key of a record, and its field: empty for a string.
@@ -100,23 +101,23 @@ fn lengths_of(id: &RecordId) -> u64
 {
     match id {
         RecordId::Str(key) => key.len() as u64,
-        RecordId::Field(key, field) => key.len() as u64 + 65_536 * field.len() as u64,
+        RecordId::Field(key, field) => key.len() as u64 + FIELD_LENGTH_UNIT * field.len() as u64,
     }
 }
 
 /// Stores the bytes of key, field and value over all words of an extent, with zeros behind them.
 fn write_extent<P: Pmem>(device: &mut P, extent: &Extent, key: &[u8], field: &[u8], value: &[u8])
     requires in_range { extent.now.first_line + extent.now.lines ≤ (P.state device.old).lines }
-    requires few { 64 * extent.now.lines < 2 ^ 32 }
+    requires few { LINE_BYTES * extent.now.lines < 2 ^ 32 }
     requires short { length key.now + length field.now + length value.now < 2 ^ 32 }
     ensures bytes { (i : ℕ) → slice_index (key.now ++ field.now ++ value.now) i < 256 }
     ensures stored { Runs (P.state device.old) (P.state device.new)
-        (stores (pairs_from (8 * extent.now.first_line) (packed (key.now ++ field.now ++ value.now) 0 (8 * extent.now.lines))) (P.state device.old).words) }
+        (stores (pairs_from (first_word extent.now.first_line) (packed (key.now ++ field.now ++ value.now) 0 (first_word extent.now.lines))) (P.state device.old).words) }
 {
-    for i in 0..8 * extent.lines {
+    for i in 0..LINE_WORDS * extent.lines {
         device.store(
-            8 * extent.first_line + i,
-            word_at(key, field, value, 8 * i as usize),
+            LINE_WORDS * extent.first_line + i,
+            word_at(key, field, value, (WORD_BYTES * i) as usize),
         );
     }
 }

@@ -3,43 +3,38 @@ ghost use Rattle.std.specs.Prelude.{◌≡◌, ◌+◌, ◌*◌, ◌≤◌, leng
 ghost use Rattle.pmem.specs.Device.{State};
 ghost use Rattle.pmem.specs.Runs.{LeavesOnly, Staged, StageFailed, pairs_from, lines_from};
 ghost use Rattle.model.specs.declared.record.Record.{Record};
+ghost use Rattle.model.specs.Layouts.{first_word};
 ghost use Rattle.model.specs.Images.{record_words, role_number};
 ghost use Rattle.wbl_engine.specs.Records.{IsRecorded, IsRecordFault, IsSucceeded, IsEitherRecord};
 
 use arrayvec::ArrayVec;
-use model::{Gap, Record, Role};
+use model::{Gap, LAYOUT, LINE_WORDS, MAX_GAPS, Record, Role};
 use pmem::{Fault, Pmem, flush_lines, persist, store_words};
-
-/// The word that names the current record.
-const ROOT_WORD: u64 = 4;
-
-/// How many lines a record has.
-const SLOT_LINES: u64 = 3;
 
 /// Writes the next record: its body into the slot that the current one does not have, then its number as the root, each flushed and fenced.
 /// At any moment a crash leaves the current record or the next one. It takes no memory.
 ///
 /// After an `Err` a fence has failed, and a crash may leave either record.
 pub fn write_next<P: Pmem>(device: &mut P, next: &Record) -> Result<(), Fault>
-    requires { 7 ≤ (P.state device.old).lines }
+    requires { LAYOUT.record_line + 2 * LAYOUT.slot_lines ≤ (P.state device.old).lines }
     ensures ok { OnOk result (IsRecorded (P.state device.old) (P.state device.new) next.now) }
     ensures err { OnErr result (IsRecordFault (P.state device.old) (P.state device.new) next.now) }
     ensures moments { (current : Record) → IsSucceeded (P.state device.old).words current next.now
         → LeavesOnly (P.state device.old) (P.state device.new) (IsEitherRecord (P.state device.old).words current next.now) }
 {
-    let first_line = 1 + SLOT_LINES * (next.number % 2);
-    persist_words(device, first_line, SLOT_LINES, &words_of(next))?;
-    persist(device, &[(ROOT_WORD, next.number)], &[0])
+    let first_line = LAYOUT.slot_line(next.number);
+    persist_words(device, first_line, LAYOUT.slot_lines, &words_of(next))?;
+    persist(device, &[(LAYOUT.root_word, next.number)], &[0])
 }
 
 /// Stores these words from a line on, flushes so many lines, and fences.
 fn persist_words<P: Pmem>(device: &mut P, line: u64, lines: u64, words: &[u64]) -> Result<(), Fault>
     requires in_range { line + lines ≤ (P.state device.old).lines }
-    requires enough { length words.now ≤ 8 * lines }
-    ensures ok { OnOk result (Staged (P.state device.old) (P.state device.new) (pairs_from (8 * line) words.now) (lines_from line lines)) }
-    ensures err { OnErr result (StageFailed (P.state device.old) (P.state device.new) (pairs_from (8 * line) words.now)) }
+    requires enough { length words.now ≤ first_word lines }
+    ensures ok { OnOk result (Staged (P.state device.old) (P.state device.new) (pairs_from (first_word line) words.now) (lines_from line lines)) }
+    ensures err { OnErr result (StageFailed (P.state device.old) (P.state device.new) (pairs_from (first_word line) words.now)) }
 {
-    store_words(device, 8 * line, words);
+    store_words(device, LINE_WORDS * line, words);
     flush_lines(device, line, lines);
     device.fence()
 }
@@ -88,7 +83,7 @@ pub fn words_of(r: &Record) -> [u64; 24]
 }
 
 /// The gap at this place, and zeros where there is none.
-fn gap_at(gaps: &ArrayVec<Gap, 8>, k: usize) -> Gap
+fn gap_at(gaps: &ArrayVec<Gap, MAX_GAPS>, k: usize) -> Gap
     ensures { result ≡ slice_index_or gaps.now.items k (record { first = 0; last = 0 }) }
 {
     match gaps.get(k) {

@@ -8,7 +8,7 @@ ghost use Rattle.wbl_engine.specs.Stages.{puts_of_changes, puts_of_parts, puts_p
 
 use crate::layout::{entry_word, flush_entry, write_entry};
 use kv_types::EntryNo;
-use model::{Part, PlacedChange};
+use model::{LAYOUT, Part, PlacedChange};
 use pmem::{Fault, Pmem};
 
 /// Stores the puts and the ends of all parts, flushes their lines, and fences. The first part takes this stamp, each other the next one.
@@ -135,6 +135,6 @@ fn flush_ends<P: Pmem>(device: &mut P, ended: &[EntryNo])
     ensures { Runs (P.state device.old) (P.state device.new) (flushes (end_lines ended.now) (P.state device.old).words) }
 {
     for entry in ended {
-        device.flush(8 + entry.0);
+        device.flush(LAYOUT.entry_line(entry.0));
     }
 }

@@ -5,7 +5,7 @@ ghost use Rattle.model.specs.Groups.{next_record, last_position};
 ghost use Rattle.wbl_engine.specs.AtRest.{IsSound};
 
 use arrayvec::ArrayVec;
-use model::{COUNTER_LIMIT, Gap, Group, Part, Record, STAMP_WINDOW};
+use model::{COUNTER_LIMIT, Gap, Group, MAX_GAPS, Part, Record, STAMP_WINDOW};
 
 /// The record after a group, or `None` where one of its counters would reach 2^62.
 pub fn next_record(current: &Record, group: &Group) -> Option<Record>
@@ -46,7 +46,7 @@ fn last_position(before: u64, parts: &[Part]) -> u64
 }
 
 /// The same gaps.
-fn copy_gaps(gaps: &ArrayVec<Gap, 8>) -> ArrayVec<Gap, 8>
+fn copy_gaps(gaps: &ArrayVec<Gap, MAX_GAPS>) -> ArrayVec<Gap, MAX_GAPS>
     ensures { result ≡ gaps.now }
 {
     let mut copy = ArrayVec::new();

@@ -22,7 +22,7 @@ use crate::pair::{Pair, Stepper};
 use crate::sessions::Sessions;
 use extent_heap::ExtentHeap;
 use kv_types::Refusal;
-use model::FIRST_EPOCH;
+use model::{FIRST_EPOCH, LAYOUT};
 use mv_keyspace::Keyspace;
 use pmem::Pmem;
 use redis_core::Sequencer;
@@ -74,8 +74,11 @@ fn heap_of(lines: u64) -> ExtentHeap
     ensures lines { (line : ℕ) → IsTrue (is_free_line result line) ↔ ((first_extent_line lines ≤ line) × (line < lines)) }
     ensures entries { (i : ℕ) → IsTrue (is_free_entry result i) ↔ (i < entries_of_lines lines) }
 {
-    let entries = lines / 8;
-    ExtentHeap::new(8 + entries, lines, entries)
+    ExtentHeap::new(
+        LAYOUT.first_extent_line(lines),
+        lines,
+        LAYOUT.entries_of_lines(lines),
+    )
 }
 
 /// Formats the first device as primary and the second as standby. The keyspaces are empty, and there is room for so many calls.

@@ -11,24 +11,24 @@ pub returns-clause-ok : goal.returns-clause-ok
 returns-clause-ok g c =
     let d = g.P.Pmem.state c.args.device.now in
     let first = c.args.first.now in
-    let stored = new_run d.lines c.lines-lines.result first c.words_of.result c.lines-lines.ensures.count c.requires.first c.words_of.ensures
+    let stored = new_run d.lines c.lines-lines.result c.entries_of_lines-entries.result first c.words_of.result c.lines-lines.ensures.count c.entries_of_lines-entries.ensures c.requires.first c.words_of.ensures
     c.store_words.ensures c.clear_words.ensures c.store_words-2.ensures c.clear_words-2.ensures in
     let lines = lines_from 0 (first_extent_line d.lines) in
     on_ok_weaker c.fence.result
     (λ step.
     stage_ok (new_pairs d.lines first.role) lines
-    (Runs-flushes lines stored (new_flushes d.lines c.lines-lines.result c.lines-lines.ensures.count c.flush_lines.ensures)) step)
+    (Runs-flushes lines stored (new_flushes d.lines c.lines-lines.result c.first_extent_line.result c.lines-lines.ensures.count c.first_extent_line.ensures c.flush_lines.ensures)) step)
     c.fence.ensures.ok
 
 pub returns-clause-err : goal.returns-clause-err
 returns-clause-err g c =
     let d = g.P.Pmem.state c.args.device.now in
     let first = c.args.first.now in
-    let stored = new_run d.lines c.lines-lines.result first c.words_of.result c.lines-lines.ensures.count c.requires.first c.words_of.ensures
+    let stored = new_run d.lines c.lines-lines.result c.entries_of_lines-entries.result first c.words_of.result c.lines-lines.ensures.count c.entries_of_lines-entries.ensures c.requires.first c.words_of.ensures
     c.store_words.ensures c.clear_words.ensures c.store_words-2.ensures c.clear_words-2.ensures in
     let lines = lines_from 0 (first_extent_line d.lines) in
     on_err_weaker c.fence.result
     (λ step.
     stage_err (new_pairs d.lines first.role) lines
-    (Runs-flushes lines stored (new_flushes d.lines c.lines-lines.result c.lines-lines.ensures.count c.flush_lines.ensures)) step)
+    (Runs-flushes lines stored (new_flushes d.lines c.lines-lines.result c.first_extent_line.result c.lines-lines.ensures.count c.first_extent_line.ensures c.flush_lines.ensures)) step)
     c.fence.ensures.err

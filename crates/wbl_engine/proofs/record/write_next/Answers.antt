@@ -8,26 +8,26 @@ use Rattle.wbl_engine.proofs.record.write_next.Goals as goal
 pub returns-in_err-persist_words-clause-err : goal.returns-in_err-persist_words-clause-err
 returns-in_err-persist_words-clause-err g c =
     on_err_from c.from_residual.result
-    (body_fault c.args.next.now (failed_body c.args.next.now c.words_of.result c.words_of.ensures c.in_err-persist_words.ensures.err))
+    (body_fault c.args.next.now (failed_body c.args.next.now c.slot_line-first_line.result c.words_of.result c.slot_line-first_line.ensures c.words_of.ensures c.in_err-persist_words.ensures.err))
 
 pub returns-in_err-persist_words-clause-moments : goal.returns-in_err-persist_words-clause-moments
 returns-in_err-persist_words-clause-moments g c current succeeded =
     body_moments current c.args.next.now succeeded
-    (failed_body c.args.next.now c.words_of.result c.words_of.ensures c.in_err-persist_words.ensures.err).moments
+    (failed_body c.args.next.now c.slot_line-first_line.result c.words_of.result c.slot_line-first_line.ensures c.words_of.ensures c.in_err-persist_words.ensures.err).moments
 
 pub returns-clause-ok : goal.returns-clause-ok
 returns-clause-ok g c =
-    let body = staged_body c.args.next.now c.words_of.result c.words_of.ensures c.in_ok-persist_words.ensures.ok in
+    let body = staged_body c.args.next.now c.slot_line-first_line.result c.words_of.result c.slot_line-first_line.ensures c.words_of.ensures c.in_ok-persist_words.ensures.ok in
     on_ok_weaker c.persist.result (λ root. recorded c.args.next.now body root) c.persist.ensures.ok
 
 pub returns-clause-err : goal.returns-clause-err
 returns-clause-err g c =
-    let body = staged_body c.args.next.now c.words_of.result c.words_of.ensures c.in_ok-persist_words.ensures.ok in
+    let body = staged_body c.args.next.now c.slot_line-first_line.result c.words_of.result c.slot_line-first_line.ensures c.words_of.ensures c.in_ok-persist_words.ensures.ok in
     on_err_weaker c.persist.result (λ root. root_fault c.args.next.now body root) c.persist.ensures.err
 
 pub returns-clause-moments : goal.returns-clause-moments
 returns-clause-moments g c current succeeded =
-    let body = staged_body c.args.next.now c.words_of.result c.words_of.ensures c.in_ok-persist_words.ensures.ok in
+    let body = staged_body c.args.next.now c.slot_line-first_line.result c.words_of.result c.slot_line-first_line.ensures c.words_of.ensures c.in_ok-persist_words.ensures.ok in
     let root : LeavesOnly (g.P.Pmem.state c.persist_words.new.device) (g.P.Pmem.state c.persist.new.device)
     (IsPartlyStored (root_pairs c.args.next.now) (g.P.Pmem.state c.persist_words.new.device).words) =
     on_both c.persist.result (on_ok_weaker c.persist.result (λ staged. staged.moments) c.persist.ensures.ok)

@@ -1,5 +1,6 @@
-use Rattle.std.proofs.Common.{ℕ, ◌+◌, ◌<◌, arith}
+use Rattle.std.proofs.Common.{ℕ, ◌+◌, ◌<◌, [], ◌∷◌, arith, subst}
 use Rattle.kv_types.specs.declared.place.EntryNo.{EntryNo}
+use Rattle.pmem.specs.Runs.{Runs, flushes}
 use Rattle.pmem.proofs.Chaining.{Runs-none, Runs-step_flush}
 use Rattle.wbl_engine.proofs.StagingLemmas.{all_at, ends_flushed, no_entry}
 use Rattle.wbl_engine.proofs.staging.flush_ends.Goals as goal
@@ -11,6 +12,7 @@ pub flush-requires : goal.flush-requires
 flush-requires g c =
     omega (
       arith,
+      c.entry_line.ensures,
       c.loop-entry.invariant.stays.lines,
       all_at (λ (entry : EntryNo). 8 + entry.0 < (g.P.Pmem.state c.args.device.now).lines) c.args.ended.now c.loop-entry.entry-index
           no_entry c.loop-entry-test.true c.requires,
@@ -18,5 +20,6 @@ flush-requires g c =
 
 pub loop-entry-preserved : goal.loop-entry-preserved
 loop-entry-preserved g c =
+    let old = g.P.Pmem.state c.loop-entry.device in
     ends_flushed c.args.ended.now c.loop-entry.entry-index no_entry c.loop-entry-test.true c.loop-entry.invariant
-    (Runs-step_flush _ c.flush.ensures)
+    (subst (λ (line : ℕ). Runs old (g.P.Pmem.state c.flush.new.self) (flushes (line ∷ []) old.words)) c.entry_line.ensures (Runs-step_flush _ c.flush.ensures))
