@@ -1,14 +1,16 @@
 //! What may happen to a pair of nodes and their connections.
 use bytes::Bytes;
+use model::MAX_PARTS;
+use pipes::MAX_SEATS;
 
 /// The most connections at a time.
-pub const SEATS: u64 = 1_024;
+pub const SEATS: u64 = MAX_SEATS as u64;
 
 /// The most items that wait in a pipe.
-pub const PIPE_ITEMS: u64 = 256;
+pub const PIPE_ITEMS: u64 = pipes::PIPE_ITEMS as u64;
 
-/// The most changing commands that wait to be closed into a group.
-pub const OPEN_CHANGES: u64 = 64;
+/// The most changing commands that wait to be closed into a group: as many as one group holds.
+pub const OPEN_CHANGES: u64 = MAX_PARTS as u64;
 
 /// The most groups that the link keeps until they are acknowledged.
 pub const KEPT_GROUPS: u64 = 256;

@@ -8,7 +8,7 @@ use Rattle.kv_types.specs.declared.reply.Reply.{Reply}
 use Rattle.kv_types.specs.Keyspaces.{Keyspace, value_at, play_all}
 use Rattle.kv_types.specs.Changes.{changes_size}
 use Rattle.model.specs.declared.call.Call.{Call}
-use Rattle.model.specs.declared.call.TheConstants.{MAX_CHANGE_BYTES}
+use Rattle.model.specs.declared.call.TheConstants.{MAX_CHANGE_TEXT_BYTES}
 use Rattle.model.specs.declared.outcome.Outcome.{Outcome as Computed}
 use Rattle.model.specs.Commands.{Command, Get, Set, Misuse, Outcome, does, bulk_or_null, refusing, outcome_of_reading, outcome_of, read_command}
 use Rattle.model.specs.States.{State}
@@ -17,13 +17,13 @@ use Rattle.model.specs.RightCalls.{within_limit, right_outcome, right_call, Give
 use Rattle.model.specs.Kept.{IsKept}
 use Rattle.model.proofs.CallsLemmas.{IsLegal-push, keyspace_after-push, position_of-push}
 
-right_or_too_large : (outcome : Outcome) (b : Bool) → nat_le (changes_size outcome.changes) MAX_CHANGE_BYTES ≡ b → MayStand outcome (cond b outcome (refusing (codes "ERR change is too large"))).reply
-right_or_too_large outcome true e = inr (inr (inl (leb-true (changes_size outcome.changes) MAX_CHANGE_BYTES e, refl)))
-right_or_too_large outcome false e = inr (inl (leb-false (changes_size outcome.changes) MAX_CHANGE_BYTES e, refl))
+right_or_too_large : (outcome : Outcome) (b : Bool) → nat_le (changes_size outcome.changes) MAX_CHANGE_TEXT_BYTES ≡ b → MayStand outcome (cond b outcome (refusing (codes "ERR change is too large"))).reply
+right_or_too_large outcome true e = inr (inr (inl (leb-true (changes_size outcome.changes) MAX_CHANGE_TEXT_BYTES e, refl)))
+right_or_too_large outcome false e = inr (inl (leb-false (changes_size outcome.changes) MAX_CHANGE_TEXT_BYTES e, refl))
 
 -- the right reply may stand
 pub MayReply-right : (s : State) (connection : ℕ) (item : Item) → MayReply s (right_call s connection item)
-MayReply-right s connection item = let outcome = outcome_at s connection item in right_or_too_large outcome (nat_le (changes_size outcome.changes) MAX_CHANGE_BYTES) refl
+MayReply-right s connection item = let outcome = outcome_at s connection item in right_or_too_large outcome (nat_le (changes_size outcome.changes) MAX_CHANGE_TEXT_BYTES) refl
 
 -- ---- an error changes nothing
 
@@ -50,7 +50,7 @@ pub changes_of-right_call : (s : State) (connection : ℕ) (item : Item) → cha
 changes_of-right_call s connection item =
     let outcome = outcome_at s connection item in
     let too_large = refusing (codes "ERR change is too large") in
-    elim (nat_le (changes_size outcome.changes) MAX_CHANGE_BYTES) as (λ b. unless_error (cond b outcome too_large).reply outcome.changes ≡ (cond b outcome too_large).changes) [
+    elim (nat_le (changes_size outcome.changes) MAX_CHANGE_TEXT_BYTES) as (λ b. unless_error (cond b outcome too_large).reply outcome.changes ≡ (cond b outcome too_large).changes) [
       | true ↦ outcome_of-error s.keyspace item
       | false ↦ refl
     ]

@@ -9,7 +9,7 @@ use Rattle.kv_types.specs.Keyspaces.{Keyspace, play_all}
 use Rattle.kv_types.specs.Changes.{changes_size}
 use Rattle.kv_types.specs.Replies.{text_of}
 use Rattle.model.specs.declared.call.Call.{Call}
-use Rattle.model.specs.declared.call.TheConstants.{MAX_CHANGE_BYTES}
+use Rattle.model.specs.declared.call.TheConstants.{MAX_CHANGE_TEXT_BYTES}
 use Rattle.model.specs.Commands.{Outcome, outcome_of, closes}
 use Rattle.model.specs.States.{Session, idle_session, State, start_state}
 
@@ -39,9 +39,9 @@ too_large_reply = Error (codes "ERR change is too large")
 abbrev pub MayStand : Outcome → Reply → Type 0
 MayStand outcome reply =
     (reply ≡ memory_reply)
-    ⊎ ((MAX_CHANGE_BYTES < changes_size outcome.changes) × (reply ≡ too_large_reply))
-    ⊎ ((changes_size outcome.changes ≤ MAX_CHANGE_BYTES) × (reply ≡ outcome.reply))
-    ⊎ ((changes_size outcome.changes ≤ MAX_CHANGE_BYTES) × IsTrue (writes outcome.changes) × (reply ≡ full_reply))
+    ⊎ ((MAX_CHANGE_TEXT_BYTES < changes_size outcome.changes) × (reply ≡ too_large_reply))
+    ⊎ ((changes_size outcome.changes ≤ MAX_CHANGE_TEXT_BYTES) × (reply ≡ outcome.reply))
+    ⊎ ((changes_size outcome.changes ≤ MAX_CHANGE_TEXT_BYTES) × IsTrue (writes outcome.changes) × (reply ≡ full_reply))
 
 -- a command that answers an error changes nothing
 abbrev pub unless_error : Reply → List Change → List Change

@@ -3,7 +3,7 @@ use Rattle.std.specs.Prelude.{◌≡◌, ℕ, nat_le, if◌then◌else◌, codes
 use Rattle.kv_types.specs.declared.item.Item.{Item}
 use Rattle.kv_types.specs.Changes.{changes_size}
 use Rattle.model.specs.declared.call.Call.{Call}
-use Rattle.model.specs.declared.call.TheConstants.{MAX_CHANGE_BYTES}
+use Rattle.model.specs.declared.call.TheConstants.{MAX_CHANGE_TEXT_BYTES}
 use Rattle.model.specs.declared.outcome.Outcome.{Outcome as Computed}
 use Rattle.model.specs.Commands.{Outcome, refusing}
 use Rattle.model.specs.States.{State}
@@ -11,7 +11,7 @@ use Rattle.model.specs.Calls.{outcome_at}
 
 -- the outcome, or, where its changes are too large for one call, an error that changes nothing
 abbrev pub within_limit : Outcome → Outcome
-within_limit outcome = if nat_le (changes_size outcome.changes) MAX_CHANGE_BYTES then outcome else refusing (codes "ERR change is too large")
+within_limit outcome = if nat_le (changes_size outcome.changes) MAX_CHANGE_TEXT_BYTES then outcome else refusing (codes "ERR change is too large")
 
 -- the right outcome of an item of this connection at this state
 abbrev pub right_outcome : State → ℕ → Item → Outcome

@@ -2,7 +2,7 @@
 use kv_types::{Item, Reply};
 
 /// The longest change text of one call, in bytes.
-pub const MAX_CHANGE_BYTES: usize = 16_777_216;
+pub const MAX_CHANGE_TEXT_BYTES: usize = 16_777_216;
 
 /// One call: what a connection asked, and what it was answered.
 #[derive(Debug, Drop)]

@@ -13,7 +13,7 @@ mod outcome;
 mod record;
 mod redis;
 
-pub use call::{Call, MAX_CHANGE_BYTES};
+pub use call::{Call, MAX_CHANGE_TEXT_BYTES};
 pub use group::{Group, MAX_PARTS, Part, PlacedChange, Put};
 pub use image::{COUNTER_LIMIT, MAGIC, MAX_LINES, MIN_LINES, STAMP_WINDOW};
 pub use image_contents::{ImageContents, read_image};

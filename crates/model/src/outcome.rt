@@ -6,7 +6,7 @@ ghost use Rattle.kv_types.specs.Words.{AreWords};
 ghost use Rattle.model.specs.Commands as meaning;
 ghost use Rattle.model.specs.RightCalls.{Gives, within_limit};
 
-use crate::call::MAX_CHANGE_BYTES;
+use crate::call::MAX_CHANGE_TEXT_BYTES;
 use bytes::Bytes;
 use kv_types::{
     Change, Item, Key, MAX_VALUE_BYTES, PlainKeyspace, RecordId, Reply, Value, changes_fit,
@@ -29,7 +29,7 @@ pub fn right_outcome(
     ensures { IfOk result (λ o. Gives o (within_limit (meaning.outcome_of keyspace.now item.now))) }
 {
     let outcome = outcome_at(alloc, keyspace, item)?;
-    if changes_fit(&outcome.changes, MAX_CHANGE_BYTES) {
+    if changes_fit(&outcome.changes, MAX_CHANGE_TEXT_BYTES) {
         Ok(outcome)
     } else {
         Ok(refusing(alloc, b"ERR change is too large"))

@@ -14,7 +14,7 @@ use Rattle.kv_types.specs.Faults.{fault_message}
 use Rattle.kv_types.specs.Keyspaces.{Keyspace, play_all, value_at}
 use Rattle.kv_types.specs.declared.record_id.RecordId.TheVariants.{Str}
 use Rattle.model.specs.declared.group.PlacedChange.TheVariants as placed
-use Rattle.model.specs.declared.call.TheConstants.{MAX_CHANGE_BYTES}
+use Rattle.model.specs.declared.call.TheConstants.{MAX_CHANGE_TEXT_BYTES}
 use Rattle.model.specs.Calls.{MayStand, is_put, writes, unless_error, changes_of, is_nonempty, memory_reply, full_reply, too_large_reply}
 use Rattle.model.specs.Commands.{Command, Get, Set, Misuse, UnknownName, WrongNumberOfWords, LongKey, misuse_message, outcome_of, outcome_of_reading, read_command, bulk_or_null, does, closes}
 use Rattle.mv_keyspace.specs.Tables.{records}
@@ -143,22 +143,22 @@ position_moved (change ∷ changes) old new moves = moves.1.position ∙ moves.1
 -- ---- an item is served
 
 pub serves_outcome : (old : Sequencing) (item : Item) (reply : Reply) (changes : List Change) (new : Sequencing) → reply ≡ (outcome_at old item).reply → changes ≡ (outcome_at old item).changes
-    → changes_size changes ≤ MAX_CHANGE_BYTES → Moves changes old new → new.before ≡ old.before → new.closed ≡ old.closed → Serves old item reply new
+    → changes_size changes ≤ MAX_CHANGE_TEXT_BYTES → Moves changes old new → new.before ≡ old.before → new.closed ≡ old.closed → Serves old item reply new
 serves_outcome old item reply changes new reply_is changes_are fits moves before closed =
     let s = records old.table in
     let made : changes_of (state_of old) (call_of 0 item reply) ≡ changes =
     ap (λ r. unless_error r (outcome_at old item).changes) reply_is ∙ unless_error-outcome s item ∙ sym changes_are in
     record {
-      legal = inr (inr (inl (subst (λ cs. changes_size cs ≤ MAX_CHANGE_BYTES) changes_are fits, reply_is)));
+      legal = inr (inr (inl (subst (λ cs. changes_size cs ≤ MAX_CHANGE_TEXT_BYTES) changes_are fits, reply_is)));
       not_full = λ e. outcome_not_full s item (sym reply_is ∙ e);
       moves = subst (λ cs. Moves cs old new) (sym made) moves;
       before = before;
       closed = closed;
     }
 
-pub serves_too_large : (old : Sequencing) (item : Item) (changes : List Change) (reply : Reply) → changes ≡ (outcome_at old item).changes → MAX_CHANGE_BYTES < changes_size changes → reply ≡ too_large_reply → Serves old item reply old
+pub serves_too_large : (old : Sequencing) (item : Item) (changes : List Change) (reply : Reply) → changes ≡ (outcome_at old item).changes → MAX_CHANGE_TEXT_BYTES < changes_size changes → reply ≡ too_large_reply → Serves old item reply old
 serves_too_large old item changes reply changes_are large is = record {
-  legal = inr (inl (subst (λ cs. MAX_CHANGE_BYTES < changes_size cs) changes_are large, is));
+  legal = inr (inl (subst (λ cs. MAX_CHANGE_TEXT_BYTES < changes_size cs) changes_are large, is));
   not_full = λ e. let byte : SameByte 104 116 = ap error_byte (sym is ∙ e) in omega arith;
   moves = subst (λ r. Moves (changes_of (state_of old) (call_of 0 item r)) old old) (sym is) (record { table = refl; room = refl; position = refl; waiting = refl });
   before = refl;

@@ -5,7 +5,7 @@ use Rattle.kv_types.specs.declared.refusal.Refusal.{Refusal}
 use Rattle.kv_types.specs.declared.refusal.Refusal.TheVariants as refusal
 use Rattle.kv_types.specs.declared.reply.Reply.{Reply}
 use Rattle.kv_types.specs.Changes.{changes_size}
-use Rattle.model.specs.declared.call.TheConstants.{MAX_CHANGE_BYTES}
+use Rattle.model.specs.declared.call.TheConstants.{MAX_CHANGE_TEXT_BYTES}
 use Rattle.model.specs.Calls.{MayStand, changes_of, full_reply, memory_reply}
 use Rattle.model.specs.Commands.{Outcome, outcome_of}
 use Rattle.mv_keyspace.specs.Tables.{records}
@@ -27,7 +27,7 @@ pub record Serves (old : Sequencing) (item : Item) (reply : Reply) (new : Sequen
 
 -- the changes of the item are not too large, but there was no room for them
 pub record IsTooFull (s : Sequencing) (item : Item) : Type 0 where
-  pub fits : changes_size (outcome_at s item).changes ≤ MAX_CHANGE_BYTES
+  pub fits : changes_size (outcome_at s item).changes ≤ MAX_CHANGE_TEXT_BYTES
   pub full : ¬ HasRoomFor s.room (outcome_at s item).changes
 
 -- the reply where an item was refused

@@ -17,7 +17,7 @@ use crate::turn::Turn;
 use bytes::Bytes;
 use extent_heap::ExtentHeap;
 use kv_types::{Change, Held, Item, Refusal, Reply, changes_fit};
-use model::{COUNTER_LIMIT, Group, MAX_CHANGE_BYTES, MAX_PARTS, Part};
+use model::{COUNTER_LIMIT, Group, MAX_CHANGE_TEXT_BYTES, MAX_PARTS, Part};
 use mv_keyspace::Keyspace;
 use pipes::{Inlet, MAX_SEATS, Outlet, Seat};
 use placing::perform;
@@ -203,7 +203,7 @@ impl<K: Keyspace> Sequencer<K> {
         ensures full_only { IsErrOf result Refusal.Full → IsTooFull self.old item.now }
     {
         let Outcome { reply, changes } = outcome_of(alloc, &self.keyspace, item)?;
-        if !changes_fit(&changes, MAX_CHANGE_BYTES) {
+        if !changes_fit(&changes, MAX_CHANGE_TEXT_BYTES) {
             return Ok(error(b"ERR change is too large"));
         }
         self.make(alloc, changes)?;

@@ -2,7 +2,7 @@ use Rattle.std.proofs.Common.{◌≡◌, ◌≤◌, Err, refl, subst, ap, ◌∙
 use Rattle.std.proofs.lemmas.Result.{err_from_is_err_and}
 use Rattle.kv_types.specs.declared.refusal.Refusal.TheVariants.{Full}
 use Rattle.kv_types.specs.Changes.{changes_size}
-use Rattle.model.specs.declared.call.TheConstants.{MAX_CHANGE_BYTES}
+use Rattle.model.specs.declared.call.TheConstants.{MAX_CHANGE_TEXT_BYTES}
 use Rattle.model.specs.Commands.{outcome_of}
 use Rattle.mv_keyspace.specs.Tables.{records}
 use Rattle.placing.specs.Places.{HasRoomFor}
@@ -17,13 +17,13 @@ returns-in_err-make-clause-full_only g c = λ full.
     let outcome = subst (λ (s : Sequencing). IsOutcome c.in_ok-reply.field-0 (outcome_of (records s.table) c.args.item.now)) c.self.view_is c.in_ok-reply.ensures in
     let same : c.in_err-make.field-0.0 ≡ Full = cc in
     record {
-      fits = subst (λ changes. changes_size changes ≤ MAX_CHANGE_BYTES) (c.deref.ensures.value ∙ outcome.changes) (c.if-not-changes_fit.ensures.0 refl);
+      fits = subst (λ changes. changes_size changes ≤ MAX_CHANGE_TEXT_BYTES) (c.deref.ensures.value ∙ outcome.changes) (c.if-not-changes_fit.ensures.0 refl);
       full = subst (λ changes. ¬ HasRoomFor c.args.self.now.room changes) outcome.changes (c.in_err-make.ensures.full_only (ap Err same));
     }
 
 pub returns-clause-ok : goal.returns-clause-ok
 returns-clause-ok g c =
     let outcome = subst (λ (s : Sequencing). IsOutcome c.in_ok-reply.field-0 (outcome_of (records s.table) c.args.item.now)) c.self.view_is c.in_ok-reply.ensures in
-    let fits = subst (λ changes. changes_size changes ≤ MAX_CHANGE_BYTES) c.deref.ensures.value (c.if-not-changes_fit.ensures.0 refl) in
+    let fits = subst (λ changes. changes_size changes ≤ MAX_CHANGE_TEXT_BYTES) c.deref.ensures.value (c.if-not-changes_fit.ensures.0 refl) in
     serves_outcome c.args.self.now c.args.item.now c.in_ok-reply.field-0.reply c.in_ok-reply.field-0.changes.items c.make.new.self outcome.reply outcome.changes fits
     c.in_ok-make.ensures.ok c.in_ok-make.ensures.before c.in_ok-make.ensures.closed
