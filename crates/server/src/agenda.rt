@@ -5,16 +5,17 @@ ghost use Rattle.server.specs.Agendas.{FeedsNothing, IsAgenda};
 
 use bytes::Bytes;
 use machine::{Event, Mark};
+use model::{LAYOUT, MIN_LINES};
 use std::alloc::{AllocError, Global};
 
 /// The only connection.
 pub const CONNECTION: u64 = 0;
 
-/// The lines of each image.
-pub const IMAGE_LINES: u64 = 4_096;
+/// The lines of each image: as few as may be.
+pub const IMAGE_LINES: u64 = MIN_LINES;
 
-/// The most commands that change something: each makes a version, for which an eighth of the lines have room.
-const MOST_CHANGES: usize = IMAGE_LINES as usize / 8;
+/// The most commands that change something: each makes a version, which takes an entry of the directory.
+const MOST_CHANGES: usize = (IMAGE_LINES / LAYOUT.entry_share) as usize;
 
 /// The length of the shortest request in bytes, which is one empty word: `*1\r\n$0\r\n\r\n`.
 const SHORTEST_REQUEST: usize = 10;
