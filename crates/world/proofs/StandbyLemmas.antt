@@ -40,7 +40,7 @@ pub record Answers (frame : Frame) (old : Node) (result : Result Ack Refusal) (n
   pub again : frame.epoch ≡ old.epoch → frame.after ≤ old.contents.current.position
       → (result ≡ Ok (record { epoch = old.epoch; position = old.contents.current.position })) × (new ≡ old)
   pub gap : frame.epoch ≡ old.epoch → old.contents.current.position < frame.after → frame.before ≢ old.contents.current.position → (result ≡ Err PositionGap) × (new ≡ old)
-  pub ack : frame.epoch ≡ old.epoch → IsNext old.contents.current.position frame → IfOk result (λ ack. ack ≡ record { epoch = old.epoch; position = frame.after })
+  pub ack : frame.epoch ≡ old.epoch → IsNext old.contents.current.position frame → IfOk result (λ ack. ack ≡ record { epoch = frame.epoch; position = frame.after })
   pub taken : frame.epoch ≡ old.epoch → IsNext old.contents.current.position frame → OnOk result (HasTaken frame old.contents new.contents old.table new.table)
   pub causes : frame.epoch ≡ old.epoch → IsNext old.contents.current.position frame
       → IfErr result (λ refusal. (refusal ≡ Full) ⊎ (refusal ≡ Memory) ⊎ (refusal ≡ Fault) ⊎ (refusal ≡ Exhausted))
@@ -232,7 +232,7 @@ module _ (holder : Holder) (epoch : ℕ) (calls : List Call) (machine : Machine)
           let next = is_next lt e in
           record {
             standby = moved_to span.after machine;
-            takes = inr (inr (inl (own, lt, e, refl, ap (λ (a : Acknowledgement). a ∷ []) (moved_as ack (ap (λ (a : Ack). a.epoch) (answers.ack epoch_same next)) (ap (λ (a : Ack). a.position) (answers.ack epoch_same next) ∙ is.after)))));
+            takes = inr (inr (inl (own, lt, e, refl, ap (λ (a : Acknowledgement). a ∷ []) (moved_as ack (ap (λ (a : Ack). a.epoch) (answers.ack epoch_same next) ∙ epoch_same) (ap (λ (a : Ack). a.position) (answers.ack epoch_same next) ∙ is.after)))));
             waiting = refl;
             stands = taken_stands e (answers.taken epoch_same next) (answers.still no_fault) (answers.sound no_fault).0 (answers.durable no_fault) answers.epoch_stays;
             moves = taken_moves e (answers.moments epoch_same next) (answers.sound no_fault).1;
