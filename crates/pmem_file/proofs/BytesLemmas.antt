@@ -1,0 +1,62 @@
+-- Words to bytes and back.
+use Rattle.std.proofs.Common.{◌≡◌, ℕ, ◌+◌, ◌^◌, ◌<◌, ◌≤◌, suc, List, [], ◌∷◌, length, drop, get_or, refl, ap, ◌∙◌, arith}
+use Rattle.std.proofs.lemmas.List.{get_or-drop, length-drop, drop-drop}
+use Rattle.std.proofs.lemmas.Nat.{from_le_bytes-to_le_bytes_8}
+use Rattle.std.specs.Int.{w64, from_le_bytes}
+use Rattle.pmem_file.specs.Bytes.{bytes_of, words_in}
+
+-- fewer than eight bytes are no word
+pub words_in-short : (bytes : List ℕ) → length bytes < 8 → words_in bytes ≡ []
+words_in-short [] short = refl
+words_in-short (a ∷ []) short = refl
+words_in-short (a ∷ b ∷ []) short = refl
+words_in-short (a ∷ b ∷ c ∷ []) short = refl
+words_in-short (a ∷ b ∷ c ∷ d ∷ []) short = refl
+words_in-short (a ∷ b ∷ c ∷ d ∷ e ∷ []) short = refl
+words_in-short (a ∷ b ∷ c ∷ d ∷ e ∷ f ∷ []) short = refl
+words_in-short (a ∷ b ∷ c ∷ d ∷ e ∷ f ∷ g ∷ []) short = refl
+words_in-short (a ∷ b ∷ c ∷ d ∷ e ∷ f ∷ g ∷ h ∷ bytes) short = absurd (omega arith)
+
+-- the eight bytes at this place
+abbrev pub eight_at : List ℕ → ℕ → List ℕ
+eight_at bytes at =
+    get_or bytes at 0 ∷ get_or bytes (at + 1) 0 ∷ get_or bytes (at + 2) 0 ∷ get_or bytes (at + 3) 0
+    ∷ get_or bytes (at + 4) 0 ∷ get_or bytes (at + 5) 0 ∷ get_or bytes (at + 6) 0 ∷ get_or bytes (at + 7) 0 ∷ []
+
+-- the first word, and those after it
+words_in-first : (bytes : List ℕ) → 8 ≤ length bytes → words_in bytes ≡ from_le_bytes w64 (eight_at bytes 0) ∷ words_in (drop 8 bytes)
+words_in-first (a ∷ b ∷ c ∷ d ∷ e ∷ f ∷ g ∷ h ∷ bytes) room = refl
+words_in-first [] room = absurd (omega arith)
+words_in-first (a ∷ []) room = absurd (omega arith)
+words_in-first (a ∷ b ∷ []) room = absurd (omega arith)
+words_in-first (a ∷ b ∷ c ∷ []) room = absurd (omega arith)
+words_in-first (a ∷ b ∷ c ∷ d ∷ []) room = absurd (omega arith)
+words_in-first (a ∷ b ∷ c ∷ d ∷ e ∷ []) room = absurd (omega arith)
+words_in-first (a ∷ b ∷ c ∷ d ∷ e ∷ f ∷ []) room = absurd (omega arith)
+words_in-first (a ∷ b ∷ c ∷ d ∷ e ∷ f ∷ g ∷ []) room = absurd (omega arith)
+
+-- the bytes at a place of what is left are those further on
+plus-zero : (n : ℕ) → n + 0 ≡ n
+plus-zero n = omega arith
+
+get_or-drop' : (bytes : List ℕ) (at k : ℕ) → get_or (drop at bytes) k 0 ≡ get_or bytes (at + k) 0
+get_or-drop' bytes at k = get_or-drop at bytes k 0
+
+eight_at-drop : (bytes : List ℕ) (at : ℕ) → eight_at (drop at bytes) 0 ≡ eight_at bytes at
+eight_at-drop bytes at =
+    rw (get_or-drop' bytes at 0, get_or-drop' bytes at 1, get_or-drop' bytes at 2, get_or-drop' bytes at 3, get_or-drop' bytes at 4, get_or-drop' bytes at 5, get_or-drop' bytes at 6, get_or-drop' bytes at 7, plus-zero at) refl
+
+-- the word at a place, and those after it
+pub words_in-next : (bytes : List ℕ) (at : ℕ) → at + 8 ≤ length bytes
+    → words_in (drop at bytes) ≡ from_le_bytes w64 (eight_at bytes at) ∷ words_in (drop (at + 8) bytes)
+words_in-next bytes at room =
+    words_in-first (drop at bytes) (omega (arith, length-drop at bytes))
+    ∙ ap (λ (rest : List ℕ). from_le_bytes w64 (eight_at (drop at bytes) 0) ∷ words_in rest) (drop-drop 8 at bytes)
+    ∙ ap (λ (xs : List ℕ). from_le_bytes w64 xs ∷ words_in (drop (at + 8) bytes)) (eight_at-drop bytes at)
+
+-- the words of the bytes of words are these words
+pub words_in-bytes_of : (words : List ℕ) → ((k : ℕ) → get_or words k 0 < 2 ^ 64) → words_in (bytes_of words) ≡ words
+words_in-bytes_of [] fits = refl
+words_in-bytes_of (word ∷ words) fits =
+    ap (λ (x : ℕ). x ∷ words_in (bytes_of words)) (from_le_bytes-to_le_bytes_8 word (fits 0))
+    ∙ ap (λ (xs : List ℕ). word ∷ xs) (words_in-bytes_of words (λ k. fits (suc k)))

@@ -1,0 +1,136 @@
+-- A device over a file knows its candidates through each call.
+use Rattle.std.proofs.Common.{◌≡◌, ℕ, ◌/◌, ◌<◌, Bool, true, false, not, cond, ◌||◌, ◌==◌, List, [], ◌∷◌, ◌++◌, filter, length, get_or, set, refl, inl, inr, sym, subst, ap, ◌∙◌, get_or-set_same, get_or-set_other}
+use Rattle.std.proofs.lemmas.Bool.{eqb-true, eqb-false}
+use Rattle.pmem.specs.Device.{Older, Word, store_word, flush_word, fence_word, store_at, flush_at, fenced, settled}
+use Rattle.pmem.specs.Cells.{may_be}
+use Rattle.pmem.proofs.Words.{MayBe-store_word, flush_word-MayBe}
+use Rattle.pmem.proofs.Chains.{may_be-MayBe, MayBe-may_be}
+use Rattle.pmem.proofs.Staging.{same_or_other, store_at-same, store_at-other, flush_at-same, flush_at-other, newest-flush_at}
+use Rattle.pmem_file.specs.declared.notes.Notes.{Notes}
+use Rattle.pmem_file.specs.Calls.{Call, may_hold, Brings}
+use Rattle.pmem_file.specs.Lines.{has_line, Fixes}
+use Rattle.pmem_file.specs.Noted.{is_noted}
+use Rattle.pmem_file.specs.Holding.{has_passed, Holds}
+use Rattle.pmem_file.proofs.CallsLemmas.{or_cases, or_left}
+
+-- a file that was just read holds its words
+pub Holds-read : (copy : List ℕ) (notes : Notes) → Holds copy notes copy [] (λ (word : ℕ). settled (get_or copy word 0))
+Holds-read copy notes =
+    record {
+      newest = λ word. refl;
+      noted = λ word un. refl;
+      within = λ word x may. or_left (x == get_or copy word 0) false may;
+    }
+
+has_passed-push : (older : List Older) (x : ℕ) → has_passed (older ++ record { value = x; passed = false } ∷ []) ≡ has_passed older
+has_passed-push [] x = refl
+has_passed-push (o ∷ older) x = ap (λ (b : Bool). o.passed || b) (has_passed-push older x)
+
+-- a store
+pub Holds-stored : (copy : List ℕ) (notes : Notes) (read : List ℕ) (calls : List Call) (words : ℕ → Word) (at x : ℕ) → at < length copy
+    → Holds copy notes read calls words → Holds (set copy at x) notes read calls (store_at at x words)
+Holds-stored copy notes read calls words at x below holds =
+    record {
+      newest = λ word.
+          elim (same_or_other word at) [
+            | inl e ↦
+                subst (λ (w : ℕ). get_or (set copy at x) w 0 ≡ x) (sym e) (get_or-set_same copy at x 0 below)
+                ∙ sym (ap (λ (w : Word). w.newest) (store_at-same at x words word e))
+            | inr n ↦
+                get_or-set_other copy at word x 0 n ∙ holds.newest word ∙ sym (ap (λ (w : Word). w.newest) (store_at-other at x words word n))
+          ];
+      noted = λ word un.
+          elim (same_or_other word at) [
+            | inl e ↦
+                ap (λ (w : Word). has_passed w.older) (store_at-same at x words word e)
+                ∙ has_passed-push (words word).older (words word).newest ∙ holds.noted word un
+            | inr n ↦ ap (λ (w : Word). has_passed w.older) (store_at-other at x words word n) ∙ holds.noted word un
+          ];
+      within = λ word y may.
+          elim (same_or_other word at) [
+            | inl e ↦
+                subst (λ (w : Word). may_be w y ≡ true) (sym (store_at-same at x words word e))
+                (MayBe-may_be (store_word x (words word)) y (MayBe-store_word x (words word) y (may_be-MayBe (words word) y (holds.within word y may))))
+            | inr n ↦ subst (λ (w : Word). may_be w y ≡ true) (sym (store_at-other at x words word n)) (holds.within word y may)
+          ];
+    }
+
+neither : (a b : Bool) → (a || b) ≡ false → (a ≡ false) × (b ≡ false)
+neither false b e = (refl, e)
+neither true b e = absurd (let h : true ≡ false = e in cc)
+
+-- a flush, which notes its line
+pub Holds-flushed : (copy : List ℕ) (notes notes' : Notes) (read : List ℕ) (calls : List Call) (words : ℕ → Word) (line : ℕ)
+    → ((other : ℕ) → is_noted notes' other ≡ ((other == line) || is_noted notes other))
+    → Holds copy notes read calls words → Holds copy notes' read calls (flush_at line words)
+Holds-flushed copy notes notes' read calls words line noted holds =
+    record {
+      newest = λ word. holds.newest word ∙ sym (newest-flush_at line words word);
+      noted = λ word un.
+          let both = neither (word / 8 == line) (is_noted notes (word / 8)) (sym (noted (word / 8)) ∙ un) in
+          ap (λ (w : Word). has_passed w.older) (flush_at-other line words word (eqb-false (word / 8) line both.0)) ∙ holds.noted word both.1;
+      within = λ word y may.
+          elim (same_or_other (word / 8) line) [
+            | inl e ↦
+                subst (λ (w : Word). may_be w y ≡ true) (sym (flush_at-same line words word e))
+                (MayBe-may_be (flush_word (words word)) y (flush_word-MayBe (words word) y (may_be-MayBe (words word) y (holds.within word y may))))
+            | inr n ↦ subst (λ (w : Word). may_be w y ≡ true) (sym (flush_at-other line words word n)) (holds.within word y may)
+          ];
+    }
+
+-- a fence that failed
+pub Holds-failed : (copy : List ℕ) (notes notes' : Notes) (read : List ℕ) (calls calls' : List Call) (words : ℕ → Word)
+    → ((line : ℕ) → is_noted notes' line ≡ is_noted notes line) → Brings copy calls calls'
+    → Holds copy notes read calls words → Holds copy notes' read calls' words
+Holds-failed copy notes notes' read calls calls' words same brings holds =
+    record {
+      newest = holds.newest;
+      noted = λ word un. holds.noted word (sym (same (word / 8)) ∙ un);
+      within = λ word y may.
+          elim (or_cases (may_hold read calls word y) (y == get_or copy word 0) (brings read word y may)) [
+            | inl before ↦ holds.within word y before
+            | inr new ↦
+                MayBe-may_be (words word) y (inl (eqb-true y (get_or copy word 0) new ∙ holds.newest word))
+          ];
+    }
+
+fence_keeps : (older : List Older) → has_passed older ≡ false → filter (λ o. not o.passed) older ≡ older
+fence_keeps [] none = refl
+fence_keeps (o ∷ older) none =
+    let both = neither o.passed (has_passed older) none in
+    ap (λ (b : Bool). cond (not b) (o ∷ filter (λ o. not o.passed) older) (filter (λ o. not o.passed) older)) both.0
+    ∙ ap (λ (os : List Older). o ∷ os) (fence_keeps older both.1)
+
+passed_cond : (b : Bool) (o : Older) (older : List Older) → o.passed ≡ b → has_passed older ≡ false → has_passed (cond (not b) (o ∷ older) older) ≡ false
+passed_cond true o older is none = none
+passed_cond false o older is none = ap (λ (b : Bool). b || has_passed older) is ∙ none
+
+-- after a fence no candidate is passed
+fence_leaves : (older : List Older) → has_passed (filter (λ o. not o.passed) older) ≡ false
+fence_leaves [] = refl
+fence_leaves (o ∷ older) = passed_cond o.passed o (filter (λ o. not o.passed) older) refl (fence_leaves older)
+
+-- a fence that succeeded, after which no line is noted
+pub Holds-fenced : (copy : List ℕ) (notes notes' : Notes) (lines : List ℕ) (read : List ℕ) (calls calls' : List Call) (words : ℕ → Word)
+    → ((line : ℕ) → has_line lines line ≡ is_noted notes line) → Brings copy calls calls' → Fixes copy lines calls'
+    → Holds copy notes read calls words → Holds copy notes' read calls' (fenced words)
+Holds-fenced copy notes notes' lines read calls calls' words listed brings fixes holds =
+    record {
+      newest = holds.newest;
+      noted = λ word un. fence_leaves (words word).older;
+      within = λ word y may.
+          let go : (b : Bool) → is_noted notes (word / 8) ≡ b → may_be (fence_word (words word)) y ≡ true =
+          elim [
+            | true ↦ λ is.
+                MayBe-may_be (fence_word (words word)) y (inl (fixes read word y may (listed (word / 8) ∙ is) ∙ holds.newest word))
+            | false ↦ λ is.
+                let same : fence_word (words word) ≡ words word =
+                ap (λ (os : List Older). record { newest = (words word).newest; older = os }) (fence_keeps (words word).older (holds.noted word is)) in
+                subst (λ (w : Word). may_be w y ≡ true) (sym same)
+                (elim (or_cases (may_hold read calls word y) (y == get_or copy word 0) (brings read word y may)) [
+                  | inl before ↦ holds.within word y before
+                  | inr new ↦ MayBe-may_be (words word) y (inl (eqb-true y (get_or copy word 0) new ∙ holds.newest word))
+                ])
+          ] in
+          go (is_noted notes (word / 8)) refl;
+    }

@@ -1,0 +1,4 @@
+pub mod BytesLemmas
+pub mod CallsLemmas
+pub mod HoldingLemmas
+pub mod LinesLemmas

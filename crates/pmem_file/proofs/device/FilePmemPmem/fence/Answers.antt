@@ -1,0 +1,23 @@
+use Rattle.std.proofs.Common.{ℕ, List, sym, subst, ◌∙◌}
+use Rattle.pmem.specs.Device.{Word, fenced}
+use Rattle.pmem.specs.History.{words_of}
+use Rattle.pmem_file.specs.Calls.{Brings, read_of, calls_of}
+use Rattle.pmem_file.specs.Lines.{Fixes}
+use Rattle.pmem_file.specs.Holding.{Holds}
+use Rattle.pmem_file.proofs.HoldingLemmas.{Holds-fenced}
+use Rattle.pmem_file.proofs.device.FilePmemPmem.fence.Goals as goal
+
+pub invariant_of-self-clause-holds : goal.invariant_of-self-clause-holds
+invariant_of-self-clause-holds c =
+    let device = c.args.self.now in
+    let copy = device.words.items in
+    let notes = c.clear.new.self in
+    let before = device.file.calls in
+    let after = c.persist.new.self.calls in
+    let lines = c.lines.result.now in
+    let brings = subst (λ (ws : List ℕ). Brings ws (calls_of before) (calls_of after)) c.deref.ensures.value c.persist.ensures.within in
+    let fixes = subst (λ (ws : List ℕ). Fixes ws lines (calls_of after)) c.deref.ensures.value (c.persist.ensures.durable c.if-persist.true) in
+    subst (λ (w : ℕ → Word). Holds copy notes (read_of after) (calls_of after) w) (sym c.fenced.ensures.words)
+    (subst (λ (read : List ℕ). Holds copy notes read (calls_of after) (fenced (words_of device.history))) (sym c.persist.ensures.read)
+    (Holds-fenced copy device.notes notes lines (read_of before) (calls_of before) (calls_of after) (words_of device.history)
+    (λ line. c.lines.ensures.listed line ∙ c.sort.ensures.noted line) brings fixes device.holds))

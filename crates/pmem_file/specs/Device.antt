@@ -1,0 +1,49 @@
+-- A device over a file: what it has gone through, and what it asked of its file.
+use Rattle.std.specs.Prelude.{◌≡◌, ℕ, ◌*◌, ◌^◌, ◌<◌, true, false, List, [], ◌∷◌, None, vec_len, slice_index}
+use Rattle.std.specs.List.Sorted.{IsNonDecreasing}
+use Rattle.pmem_file.specs.declared.device.FilePmem.{FilePmem}
+use Rattle.pmem.specs.Device.{State, settled}
+use Rattle.pmem.specs.Device.Fences.{Unsure}
+use Rattle.pmem.specs.History.{words_of, past_of, failures_of}
+use Rattle.pmem_file.specs.Calls.{Call, Measured, Synced, read_of, calls_of}
+use Rattle.pmem_file.specs.Lines.{has_line, runs_of, with_writes}
+use Rattle.pmem_file.specs.Noted.{is_noted}
+
+-- Each fence may fail. The device takes no memory once it is open, so it is never starved of any
+abbrev pub state_of : FilePmem → State
+state_of device =
+    record {
+      words = words_of device.history;
+      past = past_of device.history;
+      lines = vec_len device.notes.marks;
+      failures = failures_of device.history;
+      starved = false;
+      fences = Unsure;
+      kept = None;
+    }
+
+-- its words can be counted
+pub countable : (device : FilePmem) → 8 * (state_of device).lines < 2 ^ 64
+countable device = device.countable
+
+-- the words that the file held when it was opened
+abbrev pub read_by : FilePmem → List ℕ
+read_by device = read_of device.file.calls
+
+-- what was asked of the file since, the newest call first
+abbrev pub asked_by : FilePmem → List Call
+asked_by device = calls_of device.file.calls
+
+-- a device that was just opened: nothing was asked of it or of its file, and a crash leaves what was read
+pub record IsFresh (device : FilePmem) : Type 0 where
+  pub words : (state_of device).words ≡ (λ word. settled (slice_index (read_by device) word))
+  pub past : (state_of device).past ≡ []
+  pub failures : (state_of device).failures ≡ 0
+  pub asked : asked_by device ≡ []
+
+-- a fence that succeeded looked at the file's length, wrote the noted lines in rising order, neighbours by one write, and then synced
+pub record Persists (old new : FilePmem) : Type 0 where
+  pub lines : List ℕ
+  pub sorted : IsNonDecreasing lines
+  pub noted : (line : ℕ) → has_line lines line ≡ is_noted old.notes line
+  pub calls : asked_by new ≡ Synced true ∷ with_writes old.words.items (runs_of lines) (Measured true ∷ asked_by old)

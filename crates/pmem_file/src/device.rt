@@ -1,0 +1,142 @@
+// A device over a file.
+ghost use Rattle.std.specs.Prelude.{◌≡◌, ◌*◌, ◌^◌, ◌<◌, ◌≤◌, ◌-◌, min, vec_len, vec_capacity};
+ghost use Rattle.pmem.specs.History.{words_of, failures_of};
+ghost use Rattle.pmem_file.specs.Calls.{read_of, calls_of};
+ghost use Rattle.pmem_file.specs.declared.run.TheConstants.{LINES_A_WRITE};
+ghost use Rattle.pmem_file.specs.Holding.{Holds};
+ghost use Rattle.pmem_file.specs.Known.{Holds-prop};
+
+use crate::logged_file::LoggedFile;
+use crate::notes::Notes;
+use pmem::{Fault, History, Pmem};
+use std::fs::File;
+
+/// A device whose words are in a file. Once it is open it takes no memory.
+///
+/// A store changes a copy of the words; a flush notes its line; a fence brings the noted lines to the file and syncs it. Where any of
+/// that fails, each fence fails from then on, since a system may forget what it failed to write.
+#[derive(Drop)]
+pub struct FilePmem {
+    /// The newest value of each word.
+    words: Vec<u64>,
+    /// The lines flushed since the last fence that succeeded.
+    notes: Notes,
+    /// Room for the bytes of one write.
+    buffer: Vec<u8>,
+    file: LoggedFile,
+    failures: u64,
+    history: History,
+    ghost sized: { vec_len words ≡ 8 * vec_len notes.marks },
+    ghost countable: { 8 * vec_len notes.marks < 2 ^ 64 },
+    ghost addressed: { 8 * vec_len words < 2 ^ 64 },
+    ghost room: { 64 * LINES_A_WRITE ≤ vec_capacity buffer },
+    ghost holds: { Holds words.items notes (read_of file.calls) (calls_of file.calls) (words_of history) } by { Holds-prop words.items notes (read_of file.calls) (calls_of file.calls) (words_of history) },
+    ghost counted: { failures ≡ min (failures_of history) (2 ^ 64 - 1) },
+}
+
+impl FilePmem {
+    ghost use Rattle.std.specs.Prelude.{ℕ, ◌≡◌};
+    ghost use Rattle.pmem.specs.Device.{moment};
+    ghost use Rattle.pmem.specs.Crash.{MayLeave};
+    ghost use Rattle.pmem_file.specs.Calls.{IsFileImage};
+    ghost use Rattle.pmem_file.specs.Device.{state_of, read_by, asked_by, IsFresh};
+
+    /// A device over an open file that holds these words. The room is for the lines of so many words and for the bytes of one write.
+    pub(crate) fn new(words: Vec<u64>, notes: Notes, buffer: Vec<u8>, file: File) -> FilePmem
+        requires sized { vec_len words ≡ 8 * vec_len notes.marks }
+        requires countable { 8 * vec_len words < 2 ^ 64 }
+        requires room { 64 * LINES_A_WRITE ≤ vec_capacity buffer }
+        ensures fresh { IsFresh result }
+        ensures lines { (state_of result).lines ≡ vec_len notes.marks }
+    {
+        let file = LoggedFile::new(file, &words);
+        let history = History::opened(&words);
+        FilePmem {
+            words,
+            notes,
+            buffer,
+            file,
+            failures: 0,
+            history,
+        }
+    }
+
+    /// A law, at every moment between two calls: an image that a crash may leave in the file, by the list of what was asked of it, is one
+    /// that a crash may leave of the device.
+    pub fn leaves_an_image(&self)
+        ensures { (image : ℕ → ℕ) → IsFileImage (read_by self.now) (asked_by self.now) image
+            → MayLeave (state_of self.now) (moment (state_of self.now)) image }
+    {}
+}
+
+impl Pmem for FilePmem {
+    ghost use Rattle.std.specs.Prelude.{◌≡◌, ◌*◌, ◌<◌, ◌+◌, true, suc, OnOk, OnErr, IsErr, IsTrue};
+    ghost use Rattle.pmem.specs.Device.{Steps, store_at, flush_at, fenced, fences_after, must_fail, may_fail};
+    ghost use Rattle.pmem_file.specs.Calls.{has_failed};
+    ghost use Rattle.pmem_file.specs.Device.{state_of, asked_by, Persists, countable};
+
+    ghost state = { state_of };
+
+    fn load(&self, word: u64) -> u64 {
+        self.words[word as usize]
+    }
+
+    fn store(&mut self, word: u64, value: u64)
+        requires { word < 8 * (state_of self.old).lines }
+        ensures steps { Steps (state_of self.old) (state_of self.new)
+            (store_at word value (state_of self.old).words) (state_of self.old).failures (state_of self.old).fences }
+        // the file is not touched
+        ensures file { asked_by self.new ≡ asked_by self.old }
+    {
+        self.words[word as usize] = value;
+        self.history.stored(word, value);
+    }
+
+    fn flush(&mut self, line: u64)
+        requires { line < (state_of self.old).lines }
+        ensures steps { Steps (state_of self.old) (state_of self.new)
+            (flush_at line (state_of self.old).words) (state_of self.old).failures (state_of self.old).fences }
+        ensures file { asked_by self.new ≡ asked_by self.old }
+    {
+        self.notes.add(line);
+        self.history.flushed(line);
+    }
+
+    fn fence(&mut self) -> Result<(), Fault>
+        ensures ok { OnOk result (Steps (state_of self.old) (state_of self.new)
+            (fenced (state_of self.old).words) (state_of self.old).failures (fences_after (state_of self.old).fences)) }
+        ensures err { OnErr result (Steps (state_of self.old) (state_of self.new)
+            (state_of self.old).words (suc (state_of self.old).failures) (fences_after (state_of self.old).fences)) }
+        ensures asked { IsTrue (must_fail (state_of self.old)) → IsErr result }
+        ensures unasked { IsErr result → IsTrue (may_fail (state_of self.old)) }
+        ensures written { OnOk result (Persists self.old self.new) }
+        // it fails just where a call of this fence or of an earlier one failed
+        ensures cause { OnErr result (has_failed (asked_by self.new) ≡ true) }
+        ensures lasting { has_failed (asked_by self.old) ≡ true → asked_by self.new ≡ asked_by self.old }
+        ensures fails { has_failed (asked_by self.old) ≡ true → IsErr result }
+    {
+        self.notes.sort();
+        if self
+            .file
+            .persist(&mut self.buffer, &self.words, self.notes.lines())
+        {
+            self.notes.clear();
+            self.history.fenced();
+            Ok(())
+        } else {
+            self.history.failed();
+            self.failures = self.failures.saturating_add(1);
+            Err(Fault)
+        }
+    }
+
+    fn lines(&self) -> u64 {
+        self.words.len() as u64 / 8
+    }
+
+    fn failures(&self) -> u64 {
+        self.failures
+    }
+
+    ghost countable = { countable };
+}

@@ -1,0 +1,12 @@
+//! Persistent memory over a file.
+#![tactic(auto)]
+
+mod bytes;
+mod device;
+mod file_calls;
+mod logged_file;
+mod notes;
+mod open;
+mod run;
+
+pub use device::FilePmem;

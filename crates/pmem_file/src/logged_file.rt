@@ -1,0 +1,138 @@
+// A file with the list of what was asked of it.
+ghost use Rattle.std.specs.Prelude.{◌≡◌, ℕ, ◌+◌, ◌*◌, ◌^◌, ◌<◌, ◌≤◌, [], ◌∷◌, true, false, not, length, vec_capacity};
+ghost use Rattle.pmem_file.specs.Calls.{read_of, calls_of, has_failed, Brings, Wrote, Measured, Synced};
+ghost use Rattle.pmem_file.specs.Lines.{has_line, runs_of, run_bytes, with_writes, Fixes};
+
+use crate::bytes::encode;
+use crate::file_calls::FileCalls;
+use crate::run::{LINES_A_WRITE, Run};
+use std::fs::File;
+use std::os::unix::fs::FileExt;
+
+/// An open file. Each call of the system stands in a method of its own, which notes it with what came of it.
+#[derive(Drop)]
+pub struct LoggedFile {
+    file: File,
+    /// Some call has failed.
+    failed: bool,
+    calls: FileCalls,
+    ghost told: { failed ≡ has_failed (calls_of calls) },
+}
+
+impl LoggedFile {
+    /// A file that held these words when it was read.
+    pub fn new(file: File, words: &Vec<u64>) -> LoggedFile
+        ensures read { read_of result.calls ≡ words.now.items }
+        ensures calls { calls_of result.calls ≡ [] }
+    {
+        LoggedFile {
+            file,
+            failed: false,
+            calls: FileCalls::read(words),
+        }
+    }
+
+    /// Whether the file has so many bytes.
+    pub fn measure(&mut self, bytes: u64) -> bool
+        ensures read { read_of self.new.calls ≡ read_of self.old.calls }
+        ensures calls { calls_of self.new.calls ≡ Measured result ∷ calls_of self.old.calls }
+    {
+        let done = self.file.metadata().is_ok_and(|found| found.len() == bytes);
+        self.failed |= !done;
+        self.calls.measured(done);
+        done
+    }
+
+    /// Writes bytes from the byte `offset` on.
+    fn write(&mut self, offset: u64, bytes: &Vec<u8>) -> bool
+        ensures read { read_of self.new.calls ≡ read_of self.old.calls }
+        ensures calls { calls_of self.new.calls ≡ Wrote offset bytes.now.items result ∷ calls_of self.old.calls }
+    {
+        let done = self.file.write_all_at(bytes, offset).is_ok();
+        self.failed |= !done;
+        self.calls.wrote(offset, bytes, done);
+        done
+    }
+
+    /// Makes durable what was written.
+    pub fn sync(&mut self) -> bool
+        ensures read { read_of self.new.calls ≡ read_of self.old.calls }
+        ensures calls { calls_of self.new.calls ≡ Synced result ∷ calls_of self.old.calls }
+    {
+        let done = self.file.sync_data().is_ok();
+        self.failed |= !done;
+        self.calls.synced(done);
+        done
+    }
+
+    /// Writes a run of lines of these words. The buffer holds its bytes meanwhile.
+    pub fn write_run(&mut self, buffer: &mut Vec<u8>, words: &[u64], run: Run) -> bool
+        requires in_range { 8 * (run.first + run.count) ≤ length words.now }
+        requires short { run.count ≤ LINES_A_WRITE }
+        requires room { 64 * LINES_A_WRITE ≤ vec_capacity buffer.old }
+        requires countable { 8 * length words.now < 2 ^ 64 }
+        ensures read { read_of self.new.calls ≡ read_of self.old.calls }
+        ensures calls { calls_of self.new.calls
+            ≡ Wrote (64 * run.first) (run_bytes words.now (run.first, run.count)) result ∷ calls_of self.old.calls }
+        ensures capacity { vec_capacity buffer.old ≤ vec_capacity buffer.new }
+    {
+        let start = 8 * run.first as usize;
+        let end = start + 8 * run.count as usize;
+        encode(&words[start..end], buffer);
+        self.write(64 * run.first, buffer)
+    }
+
+    /// Writes these lines of these words, neighbours by one write, and ends where a write fails.
+    pub fn write_lines(&mut self, buffer: &mut Vec<u8>, words: &[u64], lines: &[u64]) -> bool
+        requires in_range { (line : ℕ) → has_line lines.now line ≡ true → 8 * line + 8 ≤ length words.now }
+        requires room { 64 * LINES_A_WRITE ≤ vec_capacity buffer.old }
+        requires countable { 8 * length words.now < 2 ^ 64 }
+        requires unfailed { has_failed (calls_of self.old.calls) ≡ false }
+        ensures read { read_of self.new.calls ≡ read_of self.old.calls }
+        ensures done { result ≡ true → calls_of self.new.calls ≡ with_writes words.now (runs_of lines.now) (calls_of self.old.calls) }
+        ensures failed { has_failed (calls_of self.new.calls) ≡ not result }
+        ensures within { Brings words.now (calls_of self.old.calls) (calls_of self.new.calls) }
+        ensures capacity { vec_capacity buffer.old ≤ vec_capacity buffer.new }
+    {
+        let Some((first, later)) = lines.split_first() else {
+            return true;
+        };
+        let mut run = Run::of(*first);
+        for line in later {
+            if run.is_next(*line) {
+                run.count += 1;
+            } else if self.write_run(buffer, words, run) {
+                run = Run::of(*line);
+            } else {
+                return false;
+            }
+        }
+        self.write_run(buffer, words, run)
+    }
+
+    /// Brings these lines of these words to the disk, and says whether it did. Nothing more is asked once a call has failed.
+    pub fn persist(&mut self, buffer: &mut Vec<u8>, words: &[u64], lines: &[u64]) -> bool
+        requires in_range { (line : ℕ) → has_line lines.now line ≡ true → 8 * line + 8 ≤ length words.now }
+        requires room { 64 * LINES_A_WRITE ≤ vec_capacity buffer.old }
+        requires countable { 8 * length words.now < 2 ^ 64 }
+        ensures read { read_of self.new.calls ≡ read_of self.old.calls }
+        ensures done { result ≡ true → calls_of self.new.calls
+            ≡ Synced true ∷ with_writes words.now (runs_of lines.now) (Measured true ∷ calls_of self.old.calls) }
+        ensures failed { has_failed (calls_of self.new.calls) ≡ not result }
+        ensures lasting { has_failed (calls_of self.old.calls) ≡ true → self.new ≡ self.old }
+        ensures within { Brings words.now (calls_of self.old.calls) (calls_of self.new.calls) }
+        ensures durable { result ≡ true → Fixes words.now lines.now (calls_of self.new.calls) }
+        ensures capacity { vec_capacity buffer.old ≤ vec_capacity buffer.new }
+    {
+        if self.failed {
+            return false;
+        }
+        if !self.measure(8 * words.len() as u64) {
+            return false;
+        }
+        if !self.write_lines(buffer, words, lines) {
+            return false;
+        }
+        self.sync()
+    }
+}
