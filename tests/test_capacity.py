@@ -73,10 +73,11 @@ class Capacity(Runs):
     def test_pieces_above_65536_bytes(self):
         for length in [65_534, 65_535, 65_536, 65_537, 70_000, 131_072, 200_000]:
             with self.case("requests of no words", length=length):
-                # four bytes each, and the first word makes up the length
-                data = spell("GET", "z" * (length % 4)) + SET_A + GET_A
-                data = b"*0\r\n" * ((length - len(data)) // 4) + data
-                self.assertLess(length - len(data), 4)
+                # four bytes each, and the key of the first GET makes up the length
+                ends = [spell("GET", "z" * key) + SET_A + GET_A for key in range(4)]
+                end = next(it for it in ends if (length - len(it)) % 4 == 0)
+                data = b"*0\r\n" * ((length - len(end)) // 4) + end
+                self.assertEqual(len(data), length)
                 self.assert_bytes(self.serve_piece(data, 3), b"$-1\r\n" + OK + ONE)
 
     def test_a_piece_of_many_requests(self):
