@@ -1,0 +1,43 @@
+"""Names that pages may give though no source has them, and public names that stand for one meaning in several places."""
+
+# Calls and definitions that pages say come later. Once one is there, the pages say so and it goes from here.
+LATER = [
+    "Committer::turn", "IsFenced", "IsFrame", "IsModifiedBetween", "IsOpen", "IsRightDelta", "IsSpoiled", "Promotes",
+    "Reopens", "ReplyParser", "Sessions::call", "claim", "clear_gap", "delta", "inspect", "pin", "promote", "queue_of",
+    "raise_round", "rejoin", "run_hash", "run_string", "stream_codec", "watched_by", "write_frame",
+]
+
+# What belongs to Redis, to the toolchain or to the system, and what a page spells for a word of the reader.
+OUTSIDE = {
+    "HELLO", "Clone", "Copy", "bytes::BufMut", "io::Write", "slab", "indexmap", "clap", "crossbeam_utils", "KEY", "WBLIMG01",
+}
+
+# Public names that several items, calls or variants bear, and why that is one meaning. `TO BE RENAMED` marks those that
+# still stand for two things.
+REPEATED = {
+    "Clear": "everything is removed: a change, and the same change with its places",
+    "Drop": "a record is removed: a change, and the same change with its places",
+    "DropKey": "a key is removed: a change, and the same change with its places",
+    "Put": "a record is written: a change, the same with its place, and that write by itself",
+    "Ended": "TO BE RENAMED: a turn at a seat whose connection is over, and where a run ended early",
+    "Fault": "TO BE RENAMED: a fence that failed, as an error and as a refusal; and an item of malformed bytes",
+    "Field": "a field of a hash: its name, and the record that it names",
+    "MAX_CHANGE_BYTES": "TO BE RENAMED: the bytes of one change, and those of all changes of one call",
+    "PIPE_ITEMS": "how many items a pipe holds: of the code, and of the machine, which does not stand on it",
+    "Request": "the words of a request, and the item that holds one",
+    "Standby": "the node that follows, and the role that its image has",
+    "Turn": "one turn of the sequencer: the event, and what it answers",
+    "as_slice": "its content as a slice",
+    "enter": "a connection takes a seat",
+    "finish": "an end of a ring is given up and keeps what it was",
+    "get": "the string at a key",
+    "into_device": "the device, given back",
+    "is_empty": "whether it holds nothing",
+    "keyspace": "the keyspace after the calls so far",
+    "leave": "a seat is given back",
+    "len": "how many it holds",
+    "new": "makes one at its beginning",
+    "number": "the number that it is known by",
+    "position": "a position of the list of calls up to which it stands",
+    "take": "takes out what comes first",
+}

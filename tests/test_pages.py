@@ -1,0 +1,266 @@
+"""The pages: what README.md, the pages of docs/ and each crate's README name exists, their limits are the constants, and
+the commands that they show print what they show."""
+
+import os
+import pathlib
+import re
+import subprocess
+import tempfile
+
+import common
+import names
+import pages
+import sources
+import worked_cases as worked
+from limits import LIMITS
+
+PROGRAMS = ["server", "simulator", "probe"]
+
+MOST_LINES = 250
+MOST_LINES_OF = {"README.md": 110}
+MOST_LINES_OF_A_DECISION = 3
+
+README, DECISIONS, CRATES = (common.ROOT / name for name in ("README.md", "docs/DECISIONS.md", "docs/crates.md"))
+SIMULATOR, SESSIONS, PROBE, CASES = (
+    common.ROOT / "docs" / f"{name}.md" for name in ("simulator", "sessions", "probe", "worked-cases")
+)
+STARTERS = {"wbl-server": "server", "wbl-sim": "simulator", "wbl-probe": "probe"}
+
+# What the table of crates leaves out, as it says.
+UNNAMED_USES = {"kv_types"}
+
+NAME = re.compile(r"([A-Za-z_][\w'-]*)((?:::[A-Za-z_]\w*)*)(?:\([^()]*\)|::<\w+>)?")
+TEST = re.compile(r"(test_\w+)\.([A-Z]\w+)(?:\.(test_\w+))?")
+
+
+def numbers(text):
+    """The number that a page writes as 4096, 65,536 or 2^31."""
+    base, _, power = text.replace(",", "").partition("^")
+    return int(base) ** int(power or 1)
+
+
+def scope_of(page):
+    """The crates whose words a page may name: all, or the crate of a README and those that it stands on."""
+    own = page.parent.name if page.parent.parent == sources.CRATES else None
+    return sources.below(own) if own else list(sources.crates())
+
+
+def folders_of(page):
+    """Where a path that the page names may begin: at its own crate, or at any where it is of none."""
+    is_of_crate = page.parent.parent == sources.CRATES
+    parts = (".", "specs", "proofs", "src") if is_of_crate else (".",)
+    crates = [page.parent] if is_of_crate else [sources.CRATES / crate for crate in sources.crates()]
+    others = [page.parent, common.ROOT, sources.CRATES, common.ROOT / "tests"]
+    return [*(crate / part for crate in crates for part in parts), *others]
+
+
+def lines_of(block):
+    return "".join(f"{line}\n" for line in block).encode()
+
+
+class Names(common.Cases):
+    """Each thing that a page names is there."""
+
+    def test_paths(self):
+        for page in pages.PAGES:
+            for path in sorted(set(pages.paths(page))):
+                with self.case("path", page=pages.name_of(page), path=path):
+                    self.assertTrue(any(any(folder.glob(path)) for folder in folders_of(page)))
+
+    def test_links(self):
+        for page in pages.PAGES:
+            for target, section in pages.links(page):
+                with self.case("link", page=pages.name_of(page), target=target, section=section):
+                    linked = page.parent / target
+                    self.assertTrue(linked.is_file())
+                    self.assertTrue(not section or section in pages.sections(linked), section)
+
+    def test_words(self):
+        tests = {f"test_{row}" for row in [*worked.FIRST_PATH, *worked.FAULTS]}
+        for page in pages.PAGES:
+            known = tests.union(sources.script_names(), sources.crates(), *map(sources.words, scope_of(page)))
+            for code in sorted(set(pages.codes(page))):
+                found = NAME.fullmatch(code)
+                if not found or code in names.LATER or code in names.OUTSIDE:
+                    continue
+                with self.case("name", page=pages.name_of(page), name=code):
+                    self.assert_named(found[1], found[2], known)
+
+    def assert_named(self, word, rest, known):
+        if rest and word in sources.crates():
+            word, known = rest.rpartition("::")[2], sources.words(word)
+        elif rest:
+            word, known = word + rest, set().union(*map(sources.calls, sources.crates()))
+        self.assertTrue(word in known, "no source names it")
+
+    def test_where_names_stand(self):
+        for page in pages.PAGES:
+            for cited, place in pages.citations(page):
+                text = sources.text_at(place, folders_of(page))
+                for name in [] if text is None else cited:
+                    if name in names.LATER or name in sources.crates() or not NAME.fullmatch(name):
+                        continue
+                    with self.case("cited", page=pages.name_of(page), name=name, place=place):
+                        self.assertRegex(text, rf"(?<![\w-]){re.escape(name)}(?![\w-])")
+
+    def test_tests(self):
+        for page in pages.PAGES:
+            for module, tests, test in set(TEST.findall(pages.text_of(page))):
+                with self.case("test", page=pages.name_of(page), module=module, tests=tests, test=test):
+                    found = getattr(__import__(module), tests)
+                    self.assertTrue(not test or callable(getattr(found, test)))
+
+    def test_rows_of_worked_cases(self):
+        for heading, table in [("The first path", worked.FIRST_PATH), ("Protocol", worked.FAULTS)]:
+            with self.case("table", heading=heading):
+                # (the table of three columns: the other names its tests)
+                found = [row[0].replace(" ", "_") for row in pages.rows(CASES, heading) if len(row) == 3]
+                self.assertEqual(sorted(found), sorted(table))
+
+    def test_names_that_come_later_are_not_there_yet(self):
+        for name in names.LATER:
+            with self.case("later", name=name):
+                self.assertTrue(any(name in pages.codes(page) for page in pages.PAGES), "no page names it")
+                there = [crate for crate in sources.crates() if name in sources.words(crate) | sources.calls(crate)]
+                self.assertEqual(there, [], "it is there now: say so on the pages that name it")
+
+
+class Crates(common.Cases):
+    """The tables of docs/crates.md."""
+
+    def test_what_each_crate_stands_on(self):
+        listed = {row[0]: row for row in pages.rows(CRATES, "Crates") if not row[0].startswith("**")}
+        self.assertLessEqual(set(sources.crates()), set(listed))
+        for crate, (_, uses, _, exists) in listed.items():
+            with self.case("crate", crate=crate):
+                self.assertEqual(crate in sources.crates(), exists != "planned")
+                if crate in sources.crates():
+                    # (in brackets stand those that it only cites, and later ones)
+                    found = set(re.sub(r"\([^)]*\)", "", uses).replace(",", " ").split())
+                    cited = set(pages.CODE.findall(uses))
+                    self.assertLessEqual(found, set(sources.crates()[crate]))
+                    self.assertLessEqual(set(sources.crates()[crate]) - UNNAMED_USES, found | cited)
+
+    def test_what_carries_each_crate(self):
+        for crate, _, carried in pages.rows(CRATES, "What each crate proves"):
+            known = {name for it in crate.split(", ") for name in sources.shown(it)}
+            for name in pages.CODE.findall(carried):
+                with self.case("carried", crate=crate, name=name):
+                    self.assertTrue(name in known, "the crate has no such contract")
+
+    def test_no_name_is_used_for_two_things(self):
+        repeated = {name: places for name, places in sources.places_of_names().items() if len(places) > 1}
+        for name in sorted(repeated.keys() | names.REPEATED.keys()):
+            with self.case("public name", name=name, places=sorted(repeated.get(name, []))):
+                self.assertIn(name, names.REPEATED, "a name for two things, or one that tests/names.py should give a reason")
+                self.assertIn(name, repeated, "it is repeated no longer: take it out of tests/names.py")
+
+
+class Limits(common.Cases):
+    """Each limit that a page states is its constant."""
+
+    def test_limits(self):
+        for page, sentence, *wanted in LIMITS:
+            with self.case("limit", page=page, sentence=sentence):
+                found = re.search(sentence, re.sub(r"\s+", " ", pages.text_of(common.ROOT / page)))
+                self.assertTrue(found, "the page does not say this")
+                stated = [numbers(number) for number in found.groups()]
+                self.assertEqual(stated, [sources.value(*constant) for constant in wanted])
+
+
+class Lengths(common.Cases):
+    """No page is long."""
+
+    def test_pages(self):
+        for page in pages.PAGES:
+            name = pages.name_of(page)
+            with self.case("page", page=name):
+                self.assertLessEqual(len(pages.text_of(page).splitlines()), MOST_LINES_OF.get(name, MOST_LINES))
+
+    def test_decisions(self):
+        for decision in re.findall(r"(?m)^- .*(?:\n  .*)*", pages.text_of(DECISIONS)):
+            with self.case("decision", decision=decision.split("**")[1]):
+                self.assertLessEqual(len(decision.splitlines()), MOST_LINES_OF_A_DECISION)
+
+
+class Commands(common.Cases):
+    """Commands that a page shows, run from the root over the programs that were built."""
+
+    @classmethod
+    def setUpClass(cls):
+        folder = tempfile.TemporaryDirectory()
+        cls.addClassCleanup(folder.cleanup)
+        cls.root = pathlib.Path(folder.name)
+        (cls.root / "bin").mkdir()
+        (cls.root / "crates").symlink_to(sources.CRATES)
+        for starter, crate in STARTERS.items():
+            (cls.root / "bin" / starter).symlink_to(os.path.abspath(common.program(crate)))
+
+    def run_command(self, command, stdin=b""):
+        ran = subprocess.run(["sh", "-c", command], cwd=self.root, input=stdin, capture_output=True, timeout=common.SECONDS)
+        self.assertEqual(ran.stderr, b"")
+        return ran.stdout.replace(b"\r\n", b"\n").decode("ascii")
+
+    def test_readme(self):
+        shown = pages.typed(README)
+        self.assertGreater(len(shown), 1)
+        for command in shown:
+            with self.case("command", line=command.line):
+                self.assertEqual(self.run_command(command.command), command.output)
+
+    def test_other_pages(self):
+        for page in pages.PAGES:
+            for line, lines in pages.blocks(page):
+                if re.search(r"(^|\| )bin/wbl-\w+", lines[0]) and page != README and "[" not in lines[0]:
+                    with self.case("command", page=pages.name_of(page), line=line):
+                        self.assertNotEqual(self.run_command(lines[0]), "")
+
+    def test_sessions(self):
+        for (first, events), command, (_, output) in self.sessions():
+            with self.case("session", line=first):
+                self.assertEqual(self.run_command(command, lines_of(events)), lines_of(output).decode())
+
+    def test_what_is_said_of_the_sessions(self):
+        # the second with another crash, and the third with the lines that let the standby catch up
+        (_, _, _), ((_, failing), fails, (_, left)), ((_, lagging), lags, _) = self.sessions()
+        other, added = [lines for _, lines in pages.blocks(SESSIONS) if lines[0].startswith(("primary:", "open-link"))]
+        found = self.run_command(fails, lines_of(failing).replace(b"crash primary 0", b"crash primary 1"))
+        self.assertEqual(found.splitlines(), [*left[:2], other[0], left[3], other[1], *left[4:]])
+        place = next(place for place, line in enumerate(lagging) if line.startswith("# what"))
+        found = self.run_command(lags, lines_of([*lagging[:place], *added, *lagging[place:]]))
+        self.assertIn('connection 0: released "+OK\\r\\n+OK\\r\\n"\n', found)
+
+    def sessions(self):
+        """The events of each session, its command, and its output. The blocks above and below a command are the two."""
+        text, blocks, found = pages.text_of(SESSIONS), pages.blocks(SESSIONS), []
+        for shown in re.finditer(r"(?m)^`(bin/wbl-sim [^`]*)` prints$", text):
+            line = text.count("\n", 0, shown.start()) + 1
+            above, below = [it for it in blocks if it[0] < line], [it for it in blocks if it[0] > line]
+            found.append((above[-1], shown[1], below[0]))
+        self.assertEqual(len(found), 3)
+        return found
+
+    def test_the_answers_of_the_probe(self):
+        shown = re.search(r"\n\n    (.*bin/wbl-probe)\n\nprints ([^.]*)\.", pages.text_of(PROBE))
+        self.assertEqual(self.run_command(shown[1]).split("\n"), [*pages.CODE.findall(shown[2]), ""])
+
+    def test_usage(self):
+        usage = next(lines[0] for _, lines in pages.blocks(SIMULATOR) if lines[0].startswith("bin/wbl-sim ["))
+        said = common.run_program("simulator", ["--usage"]).errors.decode()
+        self.assertEqual(said, f"usage: {usage.removeprefix('bin/')}\n")
+
+    def test_commands_that_are_named(self):
+        for page in pages.PAGES:
+            for code in sorted(set(pages.codes(page))):
+                found = re.match(r"((?:bin|tests)/[\w-]+)( .*)?$", code)
+                if found and "*" not in code:
+                    with self.case("command", page=pages.name_of(page), command=code):
+                        self.assertTrue(os.access(common.ROOT / found[1], os.X_OK) or (common.ROOT / found[1]).is_dir())
+                        crate = STARTERS.get(found[1].removeprefix("bin/"))
+                        text = sources.code(crate) if crate else (common.ROOT / found[1]).read_text() if found[2] else ""
+                        for option in re.findall(r"--[\w-]+", found[2] or ""):
+                            self.assertIn(option, text)
+
+    def test_the_toolchain(self):
+        named = re.search(r"`rt version`: `([^`]*)`", re.sub(r"\s+", " ", pages.text_of(README)))[1]
+        self.assertEqual(subprocess.run(["rt", "version"], capture_output=True, text=True, check=True).stdout.strip(), named)
