@@ -20,7 +20,7 @@ REPEATED = {
     "DropKey": "a key is removed: a change, and the same change with its places",
     "Put": "a record is written: a change, the same with its place, and that write by itself",
     "Ended": "TO BE RENAMED: a turn at a seat whose connection is over, and where a run ended early",
-    "Fault": "TO BE RENAMED: a fence that failed, as an error and as a refusal; and an item of malformed bytes",
+    "Fault": "what is not as it should be: a fence that failed, as an error and as a refusal, and bytes that ask for nothing",
     "Field": "a field of a hash: its name, and the record that it names",
     "MAX_CHANGE_BYTES": "TO BE RENAMED: the bytes of one change, and those of all changes of one call",
     "PIPE_ITEMS": "how many items a pipe holds: of the code, and of the machine, which does not stand on it",

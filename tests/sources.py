@@ -11,7 +11,6 @@ import common
 
 CRATES = common.ROOT / "crates"
 
-ITEM = re.compile(r"pub (?:const |unsafe )*(?:fn|struct|enum|trait|const|static|type) (\w+)")
 EXPORT = re.compile(r"^pub use (\w+)(?:::\w+)*::(?:\{([^}]*)\}|(\w+));", re.M)
 BLOCK = re.compile(r"^(?:pub )?(impl|trait|enum)\b([^{}]*)\{\n(.*?)^\}", re.M | re.S)
 CONSTANT = re.compile(r"\bconst (\w+): [^=;]+= ([^;]+);")

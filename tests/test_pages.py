@@ -58,6 +58,12 @@ def lines_of(block):
     return "".join(f"{line}\n" for line in block).encode()
 
 
+def text_behind(command):
+    """What reads the options of a command: the code of the program that it starts, or its own text."""
+    crate = STARTERS.get(command.name)
+    return sources.code(crate) if crate else command.read_text(encoding="utf-8")
+
+
 class Names(common.Cases):
     """Each thing that a page names is there."""
 
@@ -147,6 +153,14 @@ class Crates(common.Cases):
             for name in pages.CODE.findall(carried):
                 with self.case("carried", crate=crate, name=name):
                     self.assertTrue(name in known, "the crate has no such contract")
+
+    def test_public_names_are_found(self):
+        # else the next test would look at nothing
+        for crate in sources.crates():
+            with self.case("crate", crate=crate):
+                is_library = (sources.CRATES / crate / "src" / "lib.rt").exists()
+                self.assertEqual(bool(sources.public_names(crate)), is_library)
+        self.assertLessEqual({"Pmem", "Pmem::fence", "SimPmem::new", "persist"}, sources.public_names("pmem"))
 
     def test_no_name_is_used_for_two_things(self):
         repeated = {name: places for name, places in sources.places_of_names().items() if len(places) > 1}
@@ -252,14 +266,13 @@ class Commands(common.Cases):
     def test_commands_that_are_named(self):
         for page in pages.PAGES:
             for code in sorted(set(pages.codes(page))):
-                found = re.match(r"((?:bin|tests)/[\w-]+)( .*)?$", code)
-                if found and "*" not in code:
+                found = re.fullmatch(r"((?:bin|tests)/[\w-]+)((?: .*)?)", code)
+                if found:
                     with self.case("command", page=pages.name_of(page), command=code):
-                        self.assertTrue(os.access(common.ROOT / found[1], os.X_OK) or (common.ROOT / found[1]).is_dir())
-                        crate = STARTERS.get(found[1].removeprefix("bin/"))
-                        text = sources.code(crate) if crate else (common.ROOT / found[1]).read_text() if found[2] else ""
-                        for option in re.findall(r"--[\w-]+", found[2] or ""):
-                            self.assertIn(option, text)
+                        command = common.ROOT / found[1]
+                        self.assertTrue(os.access(command, os.X_OK))
+                        for option in re.findall(r"--[\w-]+", found[2]):
+                            self.assertIn(option, text_behind(command))
 
     def test_the_toolchain(self):
         named = re.search(r"`rt version`: `([^`]*)`", re.sub(r"\s+", " ", pages.text_of(README)))[1]
