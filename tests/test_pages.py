@@ -54,6 +54,11 @@ def folders_of(page):
     return [*(crate / part for crate in crates for part in parts), *others]
 
 
+def bytes_of(cell):
+    """The bytes that stand in backticks in a cell, one after another, where `\\r` and `\\n` stand for a line end."""
+    return "".join(pages.CODE.findall(cell)).replace("\\r", "\r").replace("\\n", "\n").encode("ascii")
+
+
 def lines_of(block):
     return "".join(f"{line}\n" for line in block).encode()
 
@@ -118,10 +123,17 @@ class Names(common.Cases):
 
     def test_rows_of_worked_cases(self):
         for heading, table in [("The first path", worked.FIRST_PATH), ("Protocol", worked.FAULTS)]:
-            with self.case("table", heading=heading):
-                # (the table of three columns: the other names its tests)
-                found = [row[0].replace(" ", "_") for row in pages.rows(CASES, heading) if len(row) == 3]
-                self.assertEqual(sorted(found), sorted(table))
+            # (the table of three columns: the other names its tests)
+            rows = [row for row in pages.rows(CASES, heading) if len(row) == 3]
+            self.assertEqual(sorted(row[0].replace(" ", "_") for row in rows), sorted(table))
+            said = ""
+            for name, given, output in rows:
+                said = said if output == "the same" else output
+                with self.case("row", name=name):
+                    data, wanted = table[name.replace(" ", "_")]
+                    self.assertEqual(bytes_of(said), wanted)
+                    if re.fullmatch(r"`\*[^`]*`", given):
+                        self.assertEqual(bytes_of(given), data)
 
     def test_names_that_come_later_are_not_there_yet(self):
         for name in names.LATER:
