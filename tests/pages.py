@@ -11,6 +11,9 @@ PAGES = [
     *sorted((common.ROOT / "crates").glob("*/README.md")),
 ]
 
+# By the name of a command in bin/ the crate whose program it starts.
+STARTERS = {"wbl-server": "server", "wbl-sim": "simulator", "wbl-probe": "probe"}
+
 CODE = re.compile(r"`([^`\n]+)`")
 INDENTED = re.compile(r"(?m)^    .*\n?")
 LINK = re.compile(r"\]\(([^)\s]+)\)(?:, \"([^\"]+)\")?")

@@ -1,11 +1,9 @@
-"""The pages: what README.md, the pages of docs/ and each crate's README name exists, their limits are the constants, and
-the commands that they show print what they show."""
+"""The pages: what README.md, the pages of docs/ and each crate's README name is there, and their limits are the
+constants. What their commands print is for test_page_commands."""
 
 import os
-import pathlib
 import re
 import subprocess
-import tempfile
 
 import common
 import names
@@ -14,17 +12,12 @@ import sources
 import worked_cases as worked
 from limits import LIMITS
 
-PROGRAMS = ["server", "simulator", "probe"]
-
 MOST_LINES = 250
 MOST_LINES_OF = {"README.md": 110}
 MOST_LINES_OF_A_DECISION = 3
 
 README, DECISIONS, CRATES = (common.ROOT / name for name in ("README.md", "docs/DECISIONS.md", "docs/crates.md"))
-SIMULATOR, SESSIONS, PROBE, CASES = (
-    common.ROOT / "docs" / f"{name}.md" for name in ("simulator", "sessions", "probe", "worked-cases")
-)
-STARTERS = {"wbl-server": "server", "wbl-sim": "simulator", "wbl-probe": "probe"}
+CASES = common.ROOT / "docs" / "worked-cases.md"
 
 # What the table of crates leaves out, as it says.
 UNNAMED_USES = {"kv_types"}
@@ -59,13 +52,9 @@ def bytes_of(cell):
     return "".join(pages.CODE.findall(cell)).replace("\\r", "\r").replace("\\n", "\n").encode("ascii")
 
 
-def lines_of(block):
-    return "".join(f"{line}\n" for line in block).encode()
-
-
 def text_behind(command):
     """What reads the options of a command: the code of the program that it starts, or its own text."""
-    crate = STARTERS.get(command.name)
+    crate = pages.STARTERS.get(command.name)
     return sources.code(crate) if crate else command.read_text(encoding="utf-8")
 
 
@@ -134,6 +123,22 @@ class Names(common.Cases):
                     self.assertEqual(bytes_of(said), wanted)
                     if re.fullmatch(r"`\*[^`]*`", given):
                         self.assertEqual(bytes_of(given), data)
+
+    def test_commands_that_are_named(self):
+        for page in pages.PAGES:
+            for code in sorted(set(pages.codes(page))):
+                found = re.fullmatch(r"((?:bin|tests)/[\w-]+)((?: .*)?)", code)
+                if found:
+                    with self.case("command", page=pages.name_of(page), command=code):
+                        command = common.ROOT / found[1]
+                        self.assertTrue(os.access(command, os.X_OK))
+                        for option in re.findall(r"--[\w-]+", found[2]):
+                            self.assertIn(option, text_behind(command))
+
+    def test_the_toolchain(self):
+        named = re.search(r"`rt version`: `([^`]*)`", re.sub(r"\s+", " ", pages.text_of(README)))[1]
+        ran = subprocess.run(["rt", "version"], capture_output=True, text=True, check=True)
+        self.assertEqual(ran.stdout.strip(), named)
 
     def test_names_that_come_later_are_not_there_yet(self):
         for name in names.LATER:
@@ -207,85 +212,3 @@ class Lengths(common.Cases):
         for decision in re.findall(r"(?m)^- .*(?:\n  .*)*", pages.text_of(DECISIONS)):
             with self.case("decision", decision=decision.split("**")[1]):
                 self.assertLessEqual(len(decision.splitlines()), MOST_LINES_OF_A_DECISION)
-
-
-class Commands(common.Cases):
-    """Commands that a page shows, run from the root over the programs that were built."""
-
-    @classmethod
-    def setUpClass(cls):
-        folder = tempfile.TemporaryDirectory()
-        cls.addClassCleanup(folder.cleanup)
-        cls.root = pathlib.Path(folder.name)
-        (cls.root / "bin").mkdir()
-        (cls.root / "crates").symlink_to(sources.CRATES)
-        for starter, crate in STARTERS.items():
-            (cls.root / "bin" / starter).symlink_to(os.path.abspath(common.program(crate)))
-
-    def run_command(self, command, stdin=b""):
-        ran = subprocess.run(["sh", "-c", command], cwd=self.root, input=stdin, capture_output=True, timeout=common.SECONDS)
-        self.assertEqual(ran.stderr, b"")
-        return ran.stdout.replace(b"\r\n", b"\n").decode("ascii")
-
-    def test_readme(self):
-        shown = pages.typed(README)
-        self.assertGreater(len(shown), 1)
-        for command in shown:
-            with self.case("command", line=command.line):
-                self.assertEqual(self.run_command(command.command), command.output)
-
-    def test_other_pages(self):
-        for page in pages.PAGES:
-            for line, lines in pages.blocks(page):
-                if re.search(r"(^|\| )bin/wbl-\w+", lines[0]) and page != README and "[" not in lines[0]:
-                    with self.case("command", page=pages.name_of(page), line=line):
-                        self.assertNotEqual(self.run_command(lines[0]), "")
-
-    def test_sessions(self):
-        for (first, events), command, (_, output) in self.sessions():
-            with self.case("session", line=first):
-                self.assertEqual(self.run_command(command, lines_of(events)), lines_of(output).decode())
-
-    def test_what_is_said_of_the_sessions(self):
-        # the second with another crash, and the third with the lines that let the standby catch up
-        (_, _, _), ((_, failing), fails, (_, left)), ((_, lagging), lags, _) = self.sessions()
-        other, added = [lines for _, lines in pages.blocks(SESSIONS) if lines[0].startswith(("primary:", "open-link"))]
-        found = self.run_command(fails, lines_of(failing).replace(b"crash primary 0", b"crash primary 1"))
-        self.assertEqual(found.splitlines(), [*left[:2], other[0], left[3], other[1], *left[4:]])
-        place = next(place for place, line in enumerate(lagging) if line.startswith("# what"))
-        found = self.run_command(lags, lines_of([*lagging[:place], *added, *lagging[place:]]))
-        self.assertIn('connection 0: released "+OK\\r\\n+OK\\r\\n"\n', found)
-
-    def sessions(self):
-        """The events of each session, its command, and its output. The blocks above and below a command are the two."""
-        text, blocks, found = pages.text_of(SESSIONS), pages.blocks(SESSIONS), []
-        for shown in re.finditer(r"(?m)^`(bin/wbl-sim [^`]*)` prints$", text):
-            line = text.count("\n", 0, shown.start()) + 1
-            above, below = [it for it in blocks if it[0] < line], [it for it in blocks if it[0] > line]
-            found.append((above[-1], shown[1], below[0]))
-        self.assertEqual(len(found), 3)
-        return found
-
-    def test_the_answers_of_the_probe(self):
-        shown = re.search(r"\n\n    (.*bin/wbl-probe)\n\nprints ([^.]*)\.", pages.text_of(PROBE))
-        self.assertEqual(self.run_command(shown[1]).split("\n"), [*pages.CODE.findall(shown[2]), ""])
-
-    def test_usage(self):
-        usage = next(lines[0] for _, lines in pages.blocks(SIMULATOR) if lines[0].startswith("bin/wbl-sim ["))
-        said = common.run_program("simulator", ["--usage"]).errors.decode()
-        self.assertEqual(said, f"usage: {usage.removeprefix('bin/')}\n")
-
-    def test_commands_that_are_named(self):
-        for page in pages.PAGES:
-            for code in sorted(set(pages.codes(page))):
-                found = re.fullmatch(r"((?:bin|tests)/[\w-]+)((?: .*)?)", code)
-                if found:
-                    with self.case("command", page=pages.name_of(page), command=code):
-                        command = common.ROOT / found[1]
-                        self.assertTrue(os.access(command, os.X_OK))
-                        for option in re.findall(r"--[\w-]+", found[2]):
-                            self.assertIn(option, text_behind(command))
-
-    def test_the_toolchain(self):
-        named = re.search(r"`rt version`: `([^`]*)`", re.sub(r"\s+", " ", pages.text_of(README)))[1]
-        self.assertEqual(subprocess.run(["rt", "version"], capture_output=True, text=True, check=True).stdout.strip(), named)
