@@ -88,7 +88,7 @@ class Names(common.Cases):
 
     def assert_named(self, word, rest, known):
         if rest and word in sources.crates():
-            word, known = rest.rpartition("::")[2], sources.words(word)
+            word, known = rest.rpartition("::")[2], sources.shown(word)
         elif rest:
             word, known = word + rest, set().union(*map(sources.calls, sources.crates()))
         self.assertTrue(word in known, "no source names it")
