@@ -97,9 +97,9 @@ new-own lines lines' role contents same new =
 
 pub pair-starts : (first second : Holder) (pair : Pair) → SessionsStand pair.sessions [] [] → SequencerStands [] 0 pair.sequencer
     → CommittingStands [] pair.committing start.primary.committer → pair.committing.waiting.items ≡ [] → EngineStands first [] 0 pair.device pair.contents pair.is_faulted
-    → StandsFor pair.sequencer pair.contents → pair.link.epoch ≡ FIRST_EPOCH → LinkStands [] pair.link start.primary.link [] → pair.link.frames.items ≡ []
+    → StandsFor pair.sequencer pair.contents → LinkStands [] pair.link start.primary.link [] → pair.link.epoch ≡ FIRST_EPOCH → pair.link.frames.items ≡ []
     → ((epoch : ℕ) → ArrivalsStand epoch [] [] pair.arrivals [] []) → StandbyStands second pair.link.epoch [] 0 pair.standby → PairStands first second pair start
-pair-starts first second pair sessions sequencer committing none engine ahead epoch link no_frame arrivals standby =
+pair-starts first second pair sessions sequencer committing none engine ahead link epoch no_frame arrivals standby =
     record {
       sound = sound-start;
       parts = record {

@@ -37,7 +37,7 @@ use Rattle.world.specs.declared.committing.Committing.{Committing}
 use Rattle.world.specs.declared.link.Link.{Link}
 use Rattle.world.specs.declared.sessions.Sessions.{Sessions}
 use Rattle.world.proofs.SessionLemmas.{length-connections, released-told}
-use Rattle.world.proofs.EngineLemmas.{Stands-engine, near-moves, moves-same, rests-same, EngineStands-grows}
+use Rattle.world.proofs.EngineLemmas.{Stands-engine, moves-same, rests-same, EngineStands-grows}
 use Rattle.world.proofs.CommittingLemmas.{CommittingStands-grows}
 use Rattle.world.proofs.LinkLemmas.{LinkStands-grows}
 use Rattle.world.proofs.StandbyLemmas.{StandbyStands-grows}

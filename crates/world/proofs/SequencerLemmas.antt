@@ -7,20 +7,20 @@ use Rattle.std.specs.List.{flat_map, list_any}
 use Rattle.kv_types.specs.declared.change.Change.{Change}
 use Rattle.kv_types.specs.declared.item.Item.{Item}
 use Rattle.kv_types.specs.declared.reply.Reply.{Reply}
-use Rattle.kv_types.specs.Keyspaces.{Keyspace}
+use Rattle.kv_types.specs.Keyspaces.{play_all}
 use Rattle.kv_types.specs.declared.refusal.Refusal.{Refusal}
 use Rattle.kv_types.specs.declared.refusal.Refusal.TheVariants.{Memory, PipeFull}
 use Rattle.model.specs.declared.call.Call.{Call}
 use Rattle.model.specs.declared.group.Group.{Group}
 use Rattle.model.specs.declared.group.Part.{Part}
-use Rattle.model.specs.Calls.{after_call, changes_of, is_changing, is_nonempty, items_of, keyspace_after, position_of, up_to_closing}
+use Rattle.model.specs.Calls.{AreAlike, changes_of, is_changing, is_nonempty, items_of, position_of, state_after, up_to_closing}
 use Rattle.model.specs.Commands.{closes}
 use Rattle.model.specs.Groups.{Contents, IsGroup, after_group, changes_of_part, last_position}
 use Rattle.model.specs.Positions.{changes_at, changes_since}
-use Rattle.model.proofs.CallsLemmas.{keyspace_after-push, position_of-push}
+use Rattle.model.proofs.CallsLemmas.{changes_of-alike, keyspace_after-push, position_of-push, sessions_idle}
 use Rattle.model.proofs.PositionsLemmas.{changes_at-append, changes_at-push}
 use Rattle.model.proofs.ServesLemmas.{items_of-push_own, items_of-push_other}
-use Rattle.redis_core.specs.Sequencing.{HandsOut, Sequencing, StandsFor}
+use Rattle.redis_core.specs.Sequencing.{HandsOut, Sequencing, StandsFor, state_of}
 use Rattle.redis_core.specs.Turns.{Answers, Moves, call_of}
 use Rattle.machine.specs.declared.event.Event.TheVariants.{CloseGroup}
 use Rattle.machine.specs.declared.event.TheConstants.{PIPE_ITEMS}
@@ -57,7 +57,7 @@ pub record Wait (calls : List Call) (closed : ℕ) (parts : List Part) : Type 0 
   pub count : closed + length parts ≡ position_of calls
 
 -- by the changes of the call
-waits-by : (calls : List Call) (call : Call) (closed : ℕ) (old new : Sequencing) (changes : List Change) → changes_of (keyspace_after calls) call ≡ changes → old.position ≡ position_of calls
+waits-by : (calls : List Call) (call : Call) (closed : ℕ) (old new : Sequencing) (changes : List Change) → changes_of (state_after calls) call ≡ changes → old.position ≡ position_of calls
     → Moves changes old new → Wait calls closed old.waiting → Wait (calls ++ call ∷ []) closed new.waiting
 waits-by calls call closed old new [] changed position moves wait =
     let same : position_of (calls ++ call ∷ []) ≡ position_of calls = position_of-push calls call ∙ ap (λ xs. position_of calls + cond (is_nonempty xs) 1 0) changed ∙ add-zero (position_of calls) in
@@ -68,7 +68,7 @@ waits-by calls call closed old new [] changed position moves wait =
 waits-by calls call closed old new (change ∷ changes) changed position moves wait =
     let part = moves.0 in
     let calls' = calls ++ call ∷ [] in
-    let changing : is_changing (keyspace_after calls) call ≡ true = ap is_nonempty changed in
+    let changing : is_changing (state_after calls) call ≡ true = ap is_nonempty changed in
     let next : position_of calls' ≡ position_of calls + 1 = position_of-push calls call ∙ ap (λ b. position_of calls + cond b 1 0) changing in
     let grown = AreOpen-grows calls (call ∷ []) closed old.waiting (omega (arith, wait.count)) wait.are in
     subst (λ (parts : List Part). Wait calls' closed parts) (sym moves.1.waiting) (record {
@@ -128,15 +128,20 @@ seats-stand closed calls call stands d h =
 
 -- ---- a turn
 
+-- what the sequencer answers is a call that was made at the state after the list
+pub alike-state : (calls : List Call) (closed : ℕ) (s : Sequencing) (call : Call) → SequencerStands calls closed s → AreAlike (state_of s) call (state_after calls) call
+alike-state calls closed s call stands = record { keyspace = stands.table; session = sym (sessions_idle calls call.connection); item = refl; reply = refl }
+
 pub sequencer-answered : (calls : List Call) (closed : ℕ) (old new : Sequencing) (c : ℕ) (item : Item) (reply : Reply) → SequencerStands calls closed old → Answers old c item reply new
     → SequencerStands (calls ++ call_of c item reply ∷ []) closed new
 sequencer-answered calls closed old new c item reply stands answers =
     let call = call_of c item reply in
-    let waits = waits-by calls call closed old new (changes_of (keyspace_after calls) call) refl stands.position
-    (subst (λ (s : Keyspace). Moves (changes_of s call) old new) stands.table answers.moves) (record { are = stands.waiting; count = stands.count }) in
+    let changes : changes_of (state_of old) call ≡ changes_of (state_after calls) call = changes_of-alike (state_of old) (state_after calls) call call (alike-state calls closed old call stands) in
+    let waits = waits-by calls call closed old new (changes_of (state_after calls) call) refl stands.position
+    (subst (λ (made : List Change). Moves made old new) changes answers.moves) (record { are = stands.waiting; count = stands.count }) in
     record {
-      table = answers.keyspace ∙ ap (λ (s : Keyspace). after_call s call) stands.table ∙ sym (keyspace_after-push calls call);
-      position = answers.position ∙ ap₂ (λ p (s : Keyspace). p + cond (is_changing s call) 1 0) stands.position stands.table ∙ sym (position_of-push calls call);
+      table = answers.keyspace ∙ ap₂ play_all stands.table changes ∙ sym (keyspace_after-push calls call);
+      position = answers.position ∙ ap₂ (λ p (made : List Change). p + cond (is_nonempty made) 1 0) stands.position changes ∙ sym (position_of-push calls call);
       before = answers.before ∙ stands.before;
       waiting = waits.are;
       count = waits.count;

@@ -175,7 +175,7 @@ pub enabled-at : (test : Bool → Bool) (w : World) (sessions : Sessions) (c : �
     → SessionsStand sessions w.primary.connections w.primary.calls → (ConnectionStands w.primary.calls c old (get_connection w.primary.connections c) → test true ≡ true) → test (is_open w c) ≡ true
 enabled-at test w sessions c old within is stand rest =
     let all : ConnectionsStand w.primary.calls 0 sessions.connections.items w.primary.connections = stand.connections_stand in
-    let is_there : is_open w c ≡ true = lt-ltb c (length w.primary.connections) (omega (arith, within, length-connections w.primary.calls 0 sessions.connections.items w.primary.connections all)) in
+    let is_there : is_open w c ≡ true = (ConnectionStands-at w.primary.calls 0 c c sessions.connections.items w.primary.connections old (omega arith) within all).is_open in
     ap test is_there
     ∙ rest (subst (λ code. ConnectionStands w.primary.calls c code (get_connection w.primary.connections c)) (sym is) (ConnectionStands-at w.primary.calls 0 c c sessions.connections.items w.primary.connections old (omega arith) within all))
 
@@ -258,11 +258,11 @@ ConnectionsStand-push calls n seat (first ∷ codes) (other ∷ machines) code m
 
 -- where a seat was free, a connection may enter
 pub may-enter : (w : World) (old : Sessions) (after : Book) (seat : ℕ) → SessionsStand old w.primary.connections w.primary.calls → Moves old.lobby seat free taken after
-    → ((lower : ℕ) → lower < seat → slice_get old.lobby.statuses lower ≡ Some taken) → nat_lt (length w.primary.connections) SEATS ≡ true
+    → ((lower : ℕ) → lower < seat → slice_get old.lobby.statuses lower ≡ Some taken) → nat_lt (count_open w.primary.connections) SEATS ≡ true
 may-enter w old after seat stand moves lowest =
     let within : seat < MAX_SEATS = omega (arith, slice_get_within old.lobby.statuses seat free moves.was, old.lobby.complete) in
     let own : seat ≡ length w.primary.connections = lowest-seat old.lobby.statuses (length w.primary.connections) seat stand.seats moves.was within lowest in
-    lt-ltb (length w.primary.connections) SEATS (omega arith)
+    lt-ltb (count_open w.primary.connections) SEATS (omega (arith, open-connections w.primary.calls 0 old.connections.items w.primary.connections stand.connections_stand))
 
 -- it took the lowest free seat
 pub seated-goes : (w : World) (old new : Sessions) (seat : ℕ) (inbound : Inbound) (outbound : Outbound) {Stayed : Type 0} → SessionsStand old w.primary.connections w.primary.calls

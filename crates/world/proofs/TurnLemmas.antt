@@ -5,19 +5,19 @@ use Rattle.std.specs.List.{list_any}
 use Rattle.kv_types.specs.declared.item.Item.{Item}
 use Rattle.kv_types.specs.declared.reply.Held.{Held}
 use Rattle.kv_types.specs.declared.limits.TheConstants.{SERVED_LIMITS}
-use Rattle.kv_types.specs.Keyspaces.{Keyspace}
 use Rattle.kv_types.specs.Reading.{items_at}
 use Rattle.model.specs.declared.call.Call.{Call}
 use Rattle.model.specs.declared.group.TheConstants.{MAX_PARTS}
-use Rattle.model.specs.Calls.{MayReply, is_nonempty, items_of, position_of}
-use Rattle.model.specs.Commands.{outcome_of, closes}
+use Rattle.model.specs.Calls.{is_nonempty, items_of, position_of, state_after}
+use Rattle.model.specs.Commands.{closes}
+use Rattle.model.proofs.CallsLemmas.{MayReply-alike}
 use Rattle.machine.specs.declared.event.Event.TheVariants.{Turn}
 use Rattle.machine.specs.declared.event.TheConstants.{PIPE_ITEMS, OPEN_CHANGES}
 use Rattle.machine.specs.Events.{Inbound as MachineInbound, Outbound as MachineOutbound, Connection as MachineConnection, World, asked, called, changed_at, connection_of, get_connection, has_room, may_happen, is_open, open_changes, taken_first, with_inbound, with_made, with_outbound}
 use Rattle.machine.specs.Sound.{Sound}
 use Rattle.machine.proofs.ConnectionLemmas.{open-lt, length-changed_at}
 use Rattle.machine.proofs.SoundEvents.{four}
-use Rattle.redis_core.specs.Sequencing.{Sequencing, is_closed}
+use Rattle.redis_core.specs.Sequencing.{Sequencing, is_closed, state_of}
 use Rattle.redis_core.specs.Turns.{Answers, call_of}
 use Rattle.world.specs.declared.connection.Connection.{Connection}
 use Rattle.world.specs.declared.inbound.Inbound.{Inbound}
@@ -29,7 +29,7 @@ use Rattle.world.specs.Outbounds.{IsMade, AreMade, GateStands, OutboundStands}
 use Rattle.world.specs.Running.{Runs}
 use Rattle.world.specs.Sessions.{ConnectionStands, ConnectionsStand, SeatsStand, SessionsStand, SequencerStands, TakesTurn}
 use Rattle.world.proofs.SessionLemmas.{AreMade-grows, ConnectionsStand-grows, length-connections}
-use Rattle.world.proofs.SequencerLemmas.{open-before, sequencer-answered}
+use Rattle.world.proofs.SequencerLemmas.{alike-state, open-before, sequencer-answered}
 
 -- ---- the list of calls grows
 
@@ -257,6 +257,7 @@ no-turn-unserved w c old new code code' s s' lt is never sound stands sequencer 
     let machine = connection_of w c in
     let at : ConnectionStands w.primary.calls (0 + c) code' machine = record {
       seat = omega (arith, rest.seat, here.seat);
+      is_open = here.is_open;
       inbound = inbound-same code.inbound code'.inbound machine.inbound here.inbound rest.parser rest.is_closed_same asked_same waiting_same;
       outbound = record {
         made = subst (λ (mades : List Made). AreMade w.primary.calls mades machine.outbound.made) (sym made_same) here.outbound.made;
@@ -294,6 +295,7 @@ turn-taken w c old new code code' s s' held lt is room sound stands sequencer re
     let reply : Held = record { reply = held.reply; position = position_of calls' } in
     let at : ConnectionStands calls' (0 + c) code' (with_outbound (with_made reply) (with_inbound taken_first machine)) = record {
       seat = omega (arith, rest.seat, here.seat);
+      is_open = here.is_open;
       inbound = inbound-taken code.inbound code'.inbound machine.inbound runs.item code'.inbound.waiting.items (drop 1 code.inbound.asked.items) here.inbound runs.first asks
           rest.parser rest.is_closed_same asked_now refl;
       outbound = outbound-made w.primary.calls call held.position code.outbound code'.outbound machine.outbound here.outbound (runs.position ∙ after.position)
@@ -311,7 +313,7 @@ turn-taken w c old new code code' s s' held lt is room sound stands sequencer re
           call = call;
           connection = refl;
           first = ap (take 1) waits;
-          reply = subst (λ (k : Keyspace). MayReply (outcome_of k runs.item) held.reply) sequencer.table runs.answers.legal;
+          reply = MayReply-alike (state_of s) (state_after w.primary.calls) call call (alike-state w.primary.calls w.primary.committer.closed s call sequencer) answers.legal;
           now = refl;
         },
         record {
