@@ -22,7 +22,7 @@ returns-in-Ok-format-2-clause-stands g c =
     pair-starts _ _ _ made.sessions made.sequencer made.committing made.none
     (engine-new _ _ _ _ _ serving.new serving.durable serving.sound.0)
     (made.underlies _ (new-own _ _ _ _ (sym c.lines-2.ensures.count) serving.new))
-    made.link made.no_frame made.arrivals
+    made.link made.epoch made.no_frame made.arrivals
     (standby-new _ _ _ _ following.new following.durable following.sound.0 all c.requires.following (following.new.epoch ∙ sym made.epoch) made.epoch)
 
 pub returns-in-Err-clause-cause : goal.returns-in-Err-clause-cause
