@@ -26,9 +26,14 @@ def asked(words, reply, position):
     return [ask(*words), ("sequencer reply", f"{hexed(reply)} {position}")]
 
 
-def place(entry, first_line, lines):
-    """The oldest part goes out as a group of its own, from its position to the next one."""
-    return [("sequencer close", "done"), ("sequencer group", f"{entry} {first_line} {lines} {entry} {entry + 1}")]
+def part(position, entry, first_line, lines, *ended):
+    """A command with one put, and the entries that it ended."""
+    return " ".join([f"{position} put {entry} {first_line} {lines}", *(f"end {entry}" for entry in ended)])
+
+
+def closed(before, *parts):
+    """All that waits goes out as one group of these parts."""
+    return [("sequencer close", "done"), ("sequencer group", "; ".join([str(before), *parts]))]
 
 
 class Turns(Probing):
@@ -80,11 +85,30 @@ class Places(Probing):
             ask(b"SET", b"a", b"1"),
             ask(b"SET", b"b", 127 * b"v"),
             ask(b"SET", b"a", b"2"),
-            *place(0, 520, 1),
-            *place(1, 521, 2),
-            *place(2, 523, 1),
+            *closed(0, part(1, 0, 520, 1), part(2, 1, 521, 2), part(3, 2, 523, 1, 0)),
             ("sequencer close", "none"),
+            ("sequencer group", "none"),
             ("sequencer counts", "0 3 0 false"),
+        ])
+
+    def test_a_group_goes_on_from_the_one_before_it(self):
+        # Reads and refused commands make no part.
+        self.show_session([
+            NEW,
+            ask(b"SET", b"a", b"1"),
+            *closed(0, part(1, 0, 520, 1)),
+            ask(b"GET", b"a"),
+            ask(b"SET", b"a", b"2"),
+            ask(b"SET", b"a"),
+            ask(b"SET", b"a", b"3"),
+            ask(b"PING"),
+            ask(b"SET", b"b", b"4"),
+            ("sequencer close", "done"),
+            ask(b"SET", b"b", b"5"),
+            ("sequencer close", "done"),
+            ("sequencer counts", "0 8 2 false"),
+            ("sequencer group", "; ".join(["1", part(2, 1, 521, 1, 0), part(3, 2, 522, 1, 1), part(4, 3, 523, 1)])),
+            ("sequencer group", "; ".join(["4", part(5, 4, 524, 1, 3)])),
         ])
 
     def test_a_refused_put_leaves_all_as_it_was(self):
@@ -100,9 +124,7 @@ class Places(Probing):
             *asked((b"GET", b"b"), bulk(b"1"), 3),
             *asked((b"SET", b"b", b"4"), FULL, 3),
             *asked((b"GET", b"b"), bulk(b"1"), 3),
-            *place(0, 520, 2),
-            *place(1, 522, 1),
-            *place(2, 523, 1),
+            *closed(0, part(1, 0, 520, 2), part(2, 1, 522, 1), part(3, 2, 523, 1)),
         ])
 
 
@@ -119,18 +141,25 @@ class Waiting(Probing):
         ])
 
     def test_as_many_changing_commands_wait_as_a_group_holds(self):
+        parts = [part(1, 0, 520, 1), *(part(number + 1, number, 520 + number, 1, number - 1) for number in range(1, 64))]
         self.show_session([
             NEW,
             *(64 * [ask(b"SET", b"a", b"1")]),
             ask(b"GET", b"a", turn="GroupFull"),
             ("sequencer counts", "1 64 0 true"),
-            *place(0, 520, 1),
+            *closed(0, *parts),
             ("sequencer turn 0", "Served"),
+            ("sequencer counts", "0 65 0 false"),
         ])
 
     def test_a_group_waits_where_its_pipe_is_full(self):
         table = [NEW]
         for position in range(1, 257):
             table += [*asked((b"SET", b"a", b"1"), OK, position), ("sequencer close", "done")]
-        table += [ask(b"SET", b"a", b"2"), ("sequencer close", "refusal 9: pipe full"), ("sequencer counts", "0 1 256 true")]
+        table += [ask(b"SET", b"a", b"2"), ask(b"SET", b"b", b"3")]
+        table += [("sequencer close", "refusal 9: pipe full"), ("sequencer counts", "0 2 256 true")]
+        table += [("sequencer group", f"0; {part(1, 0, 520, 1)}"), ("sequencer close", "done")]
+        table += [("sequencer counts", "0 2 256 false")]
+        table += [("sequencer group", f"{before}; {part(before + 1, before, 520 + before, 1, before - 1)}") for before in range(1, 256)]
+        table += [("sequencer group", f"256; {part(257, 256, 776, 1, 255)}; {part(258, 257, 777, 1)}")]
         self.show_session(table)

@@ -1,14 +1,14 @@
 //! A sequencer with a pipe on each side, over an empty keyspace.
-use crate::answers::{done, none, refused, reply_text};
+use crate::answers::{add_number, add_word, done, none, refused, reply_text};
 use crate::cause::Cause;
 use crate::words::{item, number};
 use extent_heap::ExtentHeap;
-use kv_types::{Held, Item, Refusal};
+use kv_types::{EntryNo, Held, Item, Refusal};
 use model::{Group, PlacedChange};
 use mv_keyspace::ListKeyspace;
 use pipes::{Inlet, LocalPipe, Outlet, Seat};
 use redis_core::{Sequencer, Turn};
-use std::alloc::Global;
+use std::alloc::{AllocError, Global};
 
 /// The first line of the extents: that of an image of 4,096 lines.
 const FIRST_LINE: u64 = 520;
@@ -92,7 +92,7 @@ impl Node {
         }
     }
 
-    /// Hands out the oldest part that waits.
+    /// Hands out all parts that wait, as one group.
     fn close(&mut self, alloc: Global) -> Result<String, Cause> {
         if !self.sequencer.has_open() {
             return none(alloc);
@@ -103,18 +103,11 @@ impl Node {
         }
     }
 
-    /// The first put of the oldest group that was handed out: its entry, its extent, and the positions before the group and after its first part.
+    /// The oldest group that was handed out.
     fn group(&mut self, alloc: Global) -> Result<String, Cause> {
-        let Some(group) = self.groups.take() else {
-            return none(alloc);
-        };
-        let part = group.parts.first().ok_or(Cause::OutOfRange)?;
-        match part.changes.first() {
-            Some(PlacedChange::Put(put)) => Ok(format!(in alloc;
-                "{} {} {} {} {}",
-                put.entry.0, put.extent.first_line, put.extent.lines, group.before, part.position
-            )?),
-            _ => none(alloc),
+        match self.groups.take() {
+            Some(group) => Ok(group_text(alloc, &group)?),
+            None => none(alloc),
         }
     }
 
@@ -128,4 +121,38 @@ impl Node {
             self.sequencer.has_open()
         )?)
     }
+}
+
+/// The position before a group, and each of its parts after a semicolon.
+fn group_text(alloc: Global, group: &Group) -> Result<String, AllocError> {
+    let mut text = group.before.to_string(alloc)?;
+    for part in group.parts.as_slice() {
+        text.push_str(";")?;
+        add_number(alloc, &mut text, part.position)?;
+        add_puts(alloc, &mut text, part.changes.as_slice())?;
+        add_ends(alloc, &mut text, part.ended.as_slice())?;
+    }
+    Ok(text)
+}
+
+/// Adds `put` for each put among the changes, with its entry and its extent.
+fn add_puts(alloc: Global, text: &mut String, changes: &[PlacedChange]) -> Result<(), AllocError> {
+    for change in changes {
+        if let PlacedChange::Put(put) = change {
+            add_word(text, "put")?;
+            add_number(alloc, text, put.entry.0)?;
+            add_number(alloc, text, put.extent.first_line)?;
+            add_number(alloc, text, put.extent.lines)?;
+        }
+    }
+    Ok(())
+}
+
+/// Adds `end` for each of these entries.
+fn add_ends(alloc: Global, text: &mut String, entries: &[EntryNo]) -> Result<(), AllocError> {
+    for entry in entries {
+        add_word(text, "end")?;
+        add_number(alloc, text, entry.0)?;
+    }
+    Ok(())
 }
