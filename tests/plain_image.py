@@ -1,5 +1,5 @@
 """Images as words, from docs/image.md: a reader that checks each rule of a whole image, and a writer of formatting and
-of commits."""
+of commits of groups."""
 
 import dataclasses
 import typing
@@ -167,38 +167,53 @@ def extents_begin(lines):
 
 
 class Writer:
-    """A new image, to which one SET after another is committed."""
+    """A new image, to which groups of SETs are committed one after another."""
 
     def __init__(self, lines, role):
         self.lines = lines
         self.role = role
         self.words = {}
+        self.record = Record(1, 0, 0, STAMPS_BETWEEN_RECORDS, 1, (), role)
         self._live = {}
-        self._position = 0
+        self._next_entry = 0
         self._next_line = extents_begin(lines)
-        self._put(0, [MAGIC, VERSION, lines, lines // 8, 1])
+        self._put(0, [MAGIC, VERSION, lines, lines // 8])
         self._put_record()
 
-    def set(self, key, value):
-        """The group of one SET: its version, the end of the one before it, the next record and the root."""
-        entry, self._position = self._position, self._position + 1
+    def commit(self, changes):
+        """One group: its SETs, each a key and a value, then the next record and the root. On a primary each SET has its
+        own stamp and position; on a standby all have one stamp and the position after the group."""
+        position, cp = self.record.position, self.record.cp
+        stamps = len(changes) if self.role == PRIMARY else 1
+        for number, (key, value) in enumerate(changes, 1):
+            if self.role == PRIMARY:
+                self._set(key, value, cp + number, position + number)
+            else:
+                self._set(key, value, cp + 1, position + len(changes))
+        number, position, cp = self.record.number + 1, position + len(changes), cp + stamps
+        self.record = Record(number, position, cp, cp + STAMPS_BETWEEN_RECORDS, 1, (), self.role)
+        self._put_record()
+
+    def _set(self, key, value, stamp, position):
+        """The version of one SET in the next entry and extent, and the end of the version before it."""
         data = key + value
         lines = lines_of(len(data))
-        fields = [self._position, 0, self._position, self._next_line, lines, STRING, len(key), len(value)]
-        self._put((DIRECTORY_LINE + entry) * WORDS_OF_LINE, fields)
+        entry = Entry(stamp, 0, position, self._next_line, lines, STRING, len(key), len(value))
+        self._put((DIRECTORY_LINE + self._next_entry) * WORDS_OF_LINE, entry)
         padded = data.ljust(lines * 64, b"\0")
         extent = [int.from_bytes(padded[at:at + 8], "little") for at in range(0, len(padded), 8)]
         self._put(self._next_line * WORDS_OF_LINE, extent)
-        self._next_line += lines
         if key in self._live:
-            self._put((DIRECTORY_LINE + self._live[key]) * WORDS_OF_LINE + 1, [self._position])
-        self._live[key] = entry
-        self._put_record()
+            self._put((DIRECTORY_LINE + self._live[key]) * WORDS_OF_LINE + 1, [stamp])
+        self._live[key] = self._next_entry
+        self._next_entry += 1
+        self._next_line += lines
 
     def _put_record(self):
-        number, position = self._position + 1, self._position
-        record = [number, position, position, position + STAMPS_BETWEEN_RECORDS, 1, 0] + 16 * [0] + [self.role, 0]
-        self._put(RECORD_LINES[number % 2] * WORDS_OF_LINE, record)
+        """The record in its slot, and its number as the root."""
+        number, position, cp, cd, epoch, _, role = self.record
+        words = [number, position, cp, cd, epoch, 0] + 16 * [0] + [role, 0]
+        self._put(RECORD_LINES[number % 2] * WORDS_OF_LINE, words)
         self._put(4, [number])
 
     def _put(self, at, words):

@@ -42,11 +42,13 @@ class Connection:
 
 
 class Node:
-    """An image that takes one commit for each change. `fail` is the number of the fence that fails, 0 for none."""
+    """An image that takes one commit for each group, a pair of the positions before and after it. Each change is one
+    version, whose entry is never freed. `fail` is the number of the fence that fails, 0 for none."""
 
     def __init__(self, lines, fail):
         self.room = lines // 8
         self.position = 0
+        self.groups = []
         self.fences = 0
         self.fail = fail
         self.fence(FORMAT_FENCES)
@@ -56,9 +58,10 @@ class Node:
         if self.fences - count < self.fail <= self.fences:
             raise Fault
 
-    def commit(self, position):
+    def commit(self, group):
         self.fence(COMMIT_FENCES)
-        self.position = position
+        self.groups.append(group)
+        self.position = group[1]
 
 
 class Machine:
@@ -73,7 +76,7 @@ class Machine:
         self.redis = plain_redis.Redis(lines[0] // 8)
         self.closed = 0
         self.closed_groups = []
-        self.stage = ("ready", 0)
+        self.stage = ("ready", None)
         self.local = 0
         self.sending = []
         self.kept = []
@@ -146,12 +149,12 @@ class Machine:
         self.calls.append((int(c), item, reply, self.redis.position))
         return True
 
-    # ---- the committer: a group is the change that leads to its position
+    # ---- the committer: a group is all changes between two positions
 
     def close_group(self):
         if self.closed < self.redis.position and len(self.closed_groups) < PIPE_ITEMS:
-            self.closed += 1
-            self.closed_groups.append(self.closed)
+            self.closed_groups.append((self.closed, self.redis.position))
+            self.closed = self.redis.position
             return True
 
     def commit(self):
@@ -169,10 +172,10 @@ class Machine:
     def hand(self):
         if self.stage[0] == "shown":
             self.sending.append(self.stage[1])
-            self.stage = ("ready", 0)
+            self.stage = ("ready", None)
             return True
 
-    # ---- the link and the standby
+    # ---- the link and the standby: a frame is its group
 
     def open_link(self):
         self.again = list(self.kept)
@@ -197,19 +200,19 @@ class Machine:
     def apply(self):
         if not self.arrived:
             return False
-        frame = self.arrived.pop(0)
-        is_next, has_room = frame == self.standby.position + 1, frame <= self.standby.room
+        before, after = self.arrived.pop(0)
+        is_next, has_room = before == self.standby.position, after <= self.standby.room
         if is_next and has_room:
-            self.standby.commit(frame)
-        if frame <= self.standby.position:
+            self.standby.commit((before, after))
+        if after <= self.standby.position:
             self.acknowledgements.append(self.standby.position)
         return True
 
     def ack_delivered(self, number):
         if int(number) < len(self.acknowledgements):
             position = self.acknowledgements[int(number)]
-            self.kept = [group for group in self.kept if group > position]
-            self.again = [group for group in self.again if group > position]
+            self.kept = [(before, after) for before, after in self.kept if after > position]
+            self.again = [(before, after) for before, after in self.again if after > position]
             self.known = max(self.known, position)
             return True
 

@@ -47,8 +47,15 @@ class Agenda:
         self.add(f"offer {c}", f"turn {c}", f"hold {c}")
 
     def commit(self):
-        """The next change is committed on the primary, shown and handed on."""
+        """All changes that wait are one group, and the next group is committed on the primary, shown and handed on."""
         self.add("close-group", "commit", "raise-local", "hand")
+
+    def group(self, c, *requests):
+        """A connection's requests are served, and what they changed is committed as one group."""
+        for request in requests:
+            self.feed(c, request)
+            self.serve(c)
+        self.commit()
 
     def take(self, *frames):
         """The frames of these numbers come to the standby, each of which is taken or refused."""
@@ -204,9 +211,9 @@ def in_order(rows):
 
 
 def told_between(machine):
-    """The frames and acknowledgements of a run of the plain machine: a frame for each group that was sent, of one change
-    each, all of epoch 1 (docs/replication.md)."""
-    frames = [Frame(1, group - 1, group, 1) for group in sorted(set(machine.frames))]
+    """The frames and acknowledgements of a run of the plain machine: a frame for each group that was sent, with the one
+    change of each of its commands, all of epoch 1 (docs/replication.md)."""
+    frames = [Frame(1, before, after, after - before) for before, after in sorted(set(machine.frames))]
     return frames, [(1, position) for position in machine.acknowledgements]
 
 
@@ -258,21 +265,20 @@ class Runs(common.Cases):
         self.assertEqual(trace.ended, whole.get(machine.ended, at))
 
     def assert_image(self, trace, machine, node, lines):
-        """The image is, word for word, that of the changes up to the node's position, and it reads so."""
-        stands = getattr(machine, node).position
-        changes = [item for _, item, reply, position in machine.calls if is_change(item, reply) and position <= stands]
+        """The image is, word for word, that of the groups that the node committed, and it reads so."""
+        changes = [item[1:] for _, item, reply, _ in machine.calls if is_change(item, reply)]
         writer = plain_image.Writer(lines, ROLES[node])
-        for _, key, value in changes:
-            writer.set(key, value)
+        for before, after in getattr(machine, node).groups:
+            writer.commit(changes[before:after])
         image = plain_image.read_image(plain_image.Words(lines, trace.words[node]))
         wrong = sorted(set(trace.words[node].items()) ^ set(writer.words.items()))
         self.assertEqual(wrong[:5], [], f"words of the {node} that are not as they should be, or should be and are not")
-        self.assertEqual(image.map, {(key,): value for _, key, value in changes})
+        self.assertEqual(image.record, writer.record)
+        self.assertEqual(image.map, {(key,): value for key, value in changes[:image.record.position]})
         self.assertEqual(trace.records[node], sorted(image.map.items()))
         record = image.record
         told = NodeLine(record.position, record.number, record.cp, record.cd, record.epoch, node, len(record.gaps))
         self.assertEqual(trace.nodes[node], told)
-        self.assertEqual((record.position, record.number, record.epoch), (stands, stands + 1, 1))
 
 
 def is_change(item, reply):

@@ -4,6 +4,7 @@ commits of either node with all kinds of picks, and devices that are too small."
 import draws
 import plain_image
 from simulation import Agenda, NODES, ROLES, Runs, simulate
+from spelling import spell
 from worked_cases import OK, SET_A
 
 PROGRAMS = ["simulator"]
@@ -39,6 +40,49 @@ WORKED_IMAGE = {
     # line 520
     4160: 12641,
 }
+
+# The same after the one group `SET a 1`, `SET b 2`, `SET a 3`. On the primary each SET has its own stamp and position,
+# on the standby all have the first stamp and the last position.
+WORKED_GROUP = {
+    0: 3544411304008368727,
+    1: 1,
+    2: 4096,
+    3: 512,
+    4: 2,
+    # record 2 but for cp and cd, and record 1
+    8: 2,
+    9: 3,
+    12: 1,
+    32: 1,
+    35: 4097,
+    36: 1,
+    # entries 0, 1 and 2 but for begin, end and position, lines 8, 9 and 10
+    67: 520,
+    68: 1,
+    69: 1,
+    70: 1,
+    71: 1,
+    75: 521,
+    76: 1,
+    77: 1,
+    78: 1,
+    79: 1,
+    83: 522,
+    84: 1,
+    85: 1,
+    86: 1,
+    87: 1,
+    # lines 520, 521 and 522: the bytes 61 31, 62 32 and 61 33
+    4160: 12641,
+    4168: 12898,
+    4176: 13153,
+}
+WORKED_GROUP_OF = {
+    # cp and cd; of each entry begin, end where it has ended, and position
+    "primary": {10: 3, 11: 4100, 64: 1, 65: 3, 66: 1, 72: 2, 74: 2, 80: 3, 82: 3},
+    "standby": {10: 1, 11: 4098, 64: 1, 65: 1, 66: 3, 72: 1, 74: 3, 80: 1, 82: 3},
+}
+
 NEW_IMAGE = {0: 3544411304008368727, 1: 1, 2: 4096, 3: 512, 4: 1, 32: 1, 35: 4097, 36: 1}
 
 # Where record 2 and record 1 have their role.
@@ -46,6 +90,10 @@ ROLE_OF_RECORD_2, ROLE_OF_RECORD_1 = 30, 54
 
 # At a crash all words get their oldest candidate, all their newest, or the two in turn.
 PICKS = {"oldest": "0", "newest": "1", "oldest first": "0 1", "newest first": "1 0"}
+
+
+# What one group changes: a twice, and b.
+GROUP = [SET_A, spell("SET", "b", "2"), spell("SET", "a", "3")]
 
 
 def sets(count):
@@ -80,6 +128,21 @@ class Images(Runs):
                 self.assertEqual(trace.records[node], [((b"a",), b"1")])
                 self.assertEqual(tuple(trace.nodes[node]), (1, 2, 1, 4098, 1, node, 0))
         self.assertEqual(trace.released, [OK])
+
+    def test_worked_image_of_a_group(self):
+        agenda = Agenda(1)
+        agenda.group(0, *GROUP)
+        agenda.replicate(0)
+        agenda.read_marks(0)
+        agenda.add("release 0", "write 0 15")
+        trace = self.play(agenda)
+        for node, cp in [("primary", 3), ("standby", 1)]:
+            with self.case(node):
+                roles = {ROLE_OF_RECORD_1: ROLES[node], ROLE_OF_RECORD_2: ROLES[node]}
+                self.assertEqual(trace.words[node], {**WORKED_GROUP, **WORKED_GROUP_OF[node], **roles})
+                self.assertEqual(trace.records[node], [((b"a",), b"3"), ((b"b",), b"2")])
+                self.assertEqual(tuple(trace.nodes[node]), (3, 2, cp, cp + 4097, 1, node, 0))
+        self.assertEqual(trace.released, [3 * OK])
 
     def test_magic_is_its_bytes_in_a_file(self):
         for node in NODES:
@@ -175,6 +238,59 @@ class Crashes(Runs):
                     position = trace.nodes[node].position
                     self.assertIn(position, (before, before + 1) if fence % 3 == 0 else (before,))
                     self.assert_holds(trace, node, position)
+
+    def crashed_in_a_group(self, node, fence, picks):
+        """A SET of c is served to its end; in the commit of the group after it this fence fails, and the node
+        crashes."""
+        agenda = Agenda(1)
+        agenda.group(0, spell("SET", "c", "4"))
+        agenda.replicate(0)
+        agenda.group(0, *GROUP)
+        agenda.replicate(1)
+        agenda.read_marks(0)
+        agenda.add("release 0", "write 0 5")
+        failing = FORMAT_FENCES + 3 + fence
+        return self.play(agenda, fail=(failing, 0) if node == "primary" else (0, failing), crash=f"{node} {picks}")
+
+    def assert_holds_group(self, trace, node, is_there):
+        """The image holds the SET of c, and all of the group or nothing of it."""
+        image = plain_image.read_image(plain_image.Words(4_096, trace.words[node]))
+        group = {(b"a",): b"3", (b"b",): b"2"} if is_there else {}
+        self.assertEqual(image.map, {**group, (b"c",): b"4"})
+        self.assertEqual(trace.records[node], sorted(image.map.items()))
+        stamps = 3 if node == "primary" else 1
+        record = (4, 3, 1 + stamps) if is_there else (1, 2, 1)
+        self.assertEqual((image.record.position, image.record.number, image.record.cp), record)
+        self.assertEqual(tuple(trace.nodes[node])[:3], record)
+
+    def check_group(self, node):
+        """By the picks of the root the group is there or not, and only at the last fence."""
+        for fence in (1, 2, 3):
+            for name, picks in PICKS.items():
+                with self.case(name, fence=fence):
+                    trace = self.crashed_in_a_group(node, fence, picks)
+                    self.assertRegex(trace.ended, "refusal 1: device fault")
+                    self.assertEqual(trace.released, [b""])
+                    self.assert_holds_group(trace, node, fence == 3 and picks.startswith("1"))
+                    if node == "standby":
+                        self.assert_holds_group(trace, "primary", True)
+
+    def test_a_group_of_the_primary_is_there_whole_or_not_at_all(self):
+        self.check_group("primary")
+
+    def test_a_group_of_the_standby_is_there_whole_or_not_at_all(self):
+        self.check_group("standby")
+
+    def test_picks_for_a_group_drawn_by_a_seed(self):
+        numbers = draws.numbers("picks for a group")
+        for node in NODES:
+            for fence in (1, 2, 3, 3, 3):
+                picks = " ".join(str(numbers.randrange(4)) for _ in range(numbers.randint(1, 40)))
+                with self.case(node, fence=fence, picks=picks):
+                    trace = self.crashed_in_a_group(node, fence, picks)
+                    position = trace.nodes[node].position
+                    self.assertIn(position, (1, 4) if fence == 3 else (1,))
+                    self.assert_holds_group(trace, node, position == 4)
 
     def test_fences_of_formatting(self):
         for node in NODES:

@@ -6,8 +6,7 @@ import plain_image
 import plain_machine
 import plain_redis
 import spelling
-from common import Cases
-from simulation import Agenda, NODES, simulate, told_between
+from simulation import Agenda, NODES, Runs, simulate, told_between
 
 PROGRAMS = ["simulator"]
 IS_SLOW = True
@@ -80,7 +79,7 @@ class Order:
             self.agenda.write_out(c)
 
 
-class Orders(Cases):
+class Orders(Runs):
     """One test a seed. What is looked at is the promise; that each event did its step where it should is the plain
     machine's part."""
 
@@ -95,8 +94,9 @@ class Orders(Cases):
         stands = [self.check_image(trace, node) for node in NODES]
         with self.case("positions", stands=stands):
             self.assertTrue(stands[1] == stands[0] if is_finished else stands[1] <= stands[0])
-            # the draws lead somewhere
+            # the draws lead somewhere, and to groups of several changes
             self.assertGreater(stands[1], 50)
+            self.assertGreater(max(frame.changes for frame in trace.frames), 1)
         for c, script in enumerate(order.scripts):
             self.check_requests(trace, c, script, is_finished)
             self.check_released(trace, c, positions, stands[1], is_finished)
@@ -154,8 +154,8 @@ class Orders(Cases):
                 start += len(reply)
 
     def check_machine(self, trace, events):
-        """The events that did their step are those that the plain machine has, and so are the calls and the released
-        bytes."""
+        """The events that did their step are those that the plain machine has, and so are the calls, the released bytes
+        and the words of both images."""
         machine = plain_machine.Machine().play(events)
         with self.case("events"):
             wrong = [place for place, (did, should) in enumerate(zip(trace.done, machine.done)) if did != should]
@@ -164,7 +164,7 @@ class Orders(Cases):
             self.assertEqual(trace.released, [connection.released for connection in machine.connections])
             self.assertEqual((trace.frames, trace.acknowledgements), told_between(machine))
             for node in NODES:
-                self.assertEqual(trace.nodes[node].position, getattr(machine, node).position)
+                self.assert_image(trace, machine, node, LINES)
 
 
 def add_seeds(count):

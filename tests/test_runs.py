@@ -4,7 +4,7 @@ in any order.
 Each run is compared with the plain machine too, event by event and both images word by word (simulation.Runs)."""
 
 import worked_cases as worked
-from simulation import Agenda, NODES, Runs
+from simulation import Agenda, Frame, NODES, Runs
 from spelling import spell
 from worked_cases import GET_A, OK, ONE, PING, SET_A, STORE_IS_FULL
 
@@ -204,11 +204,120 @@ class Events(Runs):
             agenda.add("hold 0", "offer 0", "turn 0")
         for _ in range(330):
             agenda.add("close-group", "hold 0", "offer 0", "turn 0")
-        agenda.add(*(300 * ["commit", "raise-local", "hand"] + 300 * ["send"] + ["close-group", "commit"]))
+        agenda.add(*(300 * ["commit", "raise-local", "hand"] + ["close-group", "commit"] + 300 * ["send"] + ["commit"]))
         trace = self.play(agenda)
         self.assertEqual(trace.done[2:302], 256 * [True] + 44 * [False])
         self.assertEqual(trace.done[302:602], 256 * [True] + 44 * [False])
-        self.assertEqual(trace.nodes["primary"].position, 257)
+        # of the next 600 turns the 344 GETs that are left and 64 SETs are served
+        self.assertEqual(trace.done[1_204:3_002:3], 408 * [True] + 192 * [False])
+        # the first group has these 64, and each of the next 255 the SET that was served since; then 64 wait once more
+        self.assertEqual(trace.done[3_002:4_322:4], 256 * [True] + 74 * [False])
+        self.assertEqual(trace.done[3_005:4_322:4], 319 * [True] + 11 * [False])
+        # the link's pipe takes 256 groups, and as many are sent and kept before one is acknowledged
+        self.assertEqual(trace.done[4_322:5_222:3], 256 * [True] + 44 * [False])
+        self.assertEqual(trace.done[5_222:], [True, False] + 256 * [True] + 44 * [False] + [True])
+        self.assertEqual([(frame.before, frame.after) for frame in trace.frames[:3]], [(0, 64), (64, 65), (65, 66)])
+        self.assertEqual(tuple(trace.nodes["primary"])[:3], (383, 258, 383))
+
+
+class Groups(Runs):
+    """Groups of several changes: they are durable, shown, sent and taken whole."""
+
+    SETS = [SET_A, SET_B, spell("SET", "a", "3")]
+
+    def test_groups_of_any_length(self):
+        # one stamp a change on the primary, one for the group on the standby, one record on each
+        for count in (1, 2, 3, 63, 64):
+            with self.case("changes", count=count):
+                agenda = Agenda(1)
+                agenda.group(0, *(count * [SET_A]))
+                agenda.replicate(0)
+                agenda.group(0, SET_B)
+                agenda.replicate(1)
+                trace = self.play(agenda)
+                self.assertEqual(trace.frames, [Frame(1, 0, count, count), Frame(1, count, count + 1, 1)])
+                self.assertEqual(trace.acknowledgements, [(1, count), (1, count + 1)])
+                self.assertEqual(tuple(trace.nodes["primary"])[:4], (count + 1, 3, count + 1, count + 4_098))
+                self.assertEqual(tuple(trace.nodes["standby"])[:4], (count + 1, 3, 2, 4_099))
+
+    def test_a_group_closes_what_changed_and_nothing_else(self):
+        # reads and refusals between the changes are no part of it
+        agenda = Agenda(2)
+        agenda.feed(1, GET_A + SET_B)
+        agenda.group(0, GET_A, SET_A, PING, GET_A)
+        agenda.serve(1)
+        agenda.serve(1)
+        agenda.commit()
+        nothing_waits = len(agenda.events)
+        agenda.commit()
+        agenda.replicate(0)
+        agenda.replicate(1)
+        trace = self.play(agenda)
+        self.assertEqual(trace.frames, [Frame(1, 0, 1, 1), Frame(1, 1, 2, 1)])
+        self.assertEqual(trace.done[nothing_waits:nothing_waits + 4], 4 * [False])
+
+    def test_a_group_of_several_connections(self):
+        agenda = Agenda(3)
+        for c, request in enumerate(self.SETS):
+            agenda.feed(c, request)
+            agenda.serve(c)
+        agenda.commit()
+        agenda.replicate(0)
+        for c in range(3):
+            agenda.read_marks(c)
+            agenda.write_out(c, 8)
+        trace = self.play(agenda)
+        self.assertEqual(trace.frames, [Frame(1, 0, 3, 3)])
+        self.assertEqual(trace.released, 3 * [OK])
+
+    def test_marks_move_by_whole_groups(self):
+        # replies at the positions 1, 1, 2 and 3, all of one group: none goes out before the whole group is on both nodes
+        agenda = Agenda(1)
+        agenda.group(0, SET_A, GET_A, SET_B, spell("SET", "a", "3"))
+        start = len(agenda.events)
+        agenda.add("read 0 local", "release 0", "send", "deliver 0", "apply", "read 0 remote", "release 0")
+        agenda.acknowledge(0)
+        agenda.add("release 0", "read 0 remote", "release 0", "release 0", "write 0 22")
+        trace = self.play(agenda)
+        releases = [did for event, did in zip(agenda.events[start:], trace.done[start:]) if event == "release 0"]
+        self.assertEqual(releases, [False, False, False, True, False])
+        self.assertEqual(trace.released, [OK + ONE + 2 * OK])
+
+    def test_a_frame_of_three_changes_that_comes_again(self):
+        agenda = Agenda(1)
+        agenda.group(0, *self.SETS)
+        agenda.group(0, SET_A, SET_B)
+        agenda.add("send", "send", "open-link", "send", "send")
+        # the second comes first and is refused; frames 2 and 3 are the two groups once more
+        agenda.take(1, 0, 0, 2, 3, 0, 1, 2)
+        agenda.acknowledge(7)
+        agenda.read_marks(0)
+        agenda.write_out(0, 16)
+        trace = self.play(agenda)
+        self.assertEqual(trace.acknowledgements, [(1, position) for position in (0, 3, 3, 3, 5, 5, 5, 5)])
+        self.assertEqual(tuple(trace.nodes["standby"])[:3], (5, 3, 2))
+        self.assertEqual(trace.records["standby"], A_AND_B)
+        self.assertEqual(trace.released, [5 * OK])
+
+    def test_a_standby_has_room_for_a_whole_frame_or_for_none(self):
+        # an image of 4,096 lines takes 512 versions: so many are left when three come, and one after them
+        for left, stands in [(4, 512), (3, 512), (2, 510), (1, 511), (0, 512)]:
+            with self.case("left", left=left):
+                agenda = Agenda(1)
+                for number, size in enumerate(7 * [64] + [64 - left]):
+                    agenda.group(0, *(size * [SET_B]))
+                    agenda.replicate(number)
+                agenda.group(0, *self.SETS)
+                agenda.group(0, SET_B)
+                agenda.add("send", "send")
+                agenda.take(8, 8, 9, 8)
+                agenda.add(*(f"ack-delivered {number}" for number in range(14)), "raise-remote")
+                agenda.read_marks(0)
+                agenda.write_out(0, 4_096)
+                trace = self.play(agenda, lines=(8_192, 4_096))
+                self.assertEqual(trace.nodes["primary"].position, 516 - left)
+                self.assertEqual(trace.nodes["standby"].position, stands)
+                self.assert_bytes(trace.released[0], stands * OK)
 
 
 class Frames(Runs):
