@@ -4,7 +4,7 @@ crate and the constant that it has to be."""
 KEY, VALUE = ("kv_types", "MAX_KEY_BYTES"), ("kv_types", "MAX_VALUE_BYTES")
 SERVED_WORDS, SERVED_BYTES = ("kv_types", "SERVED_LIMITS.words"), ("kv_types", "SERVED_LIMITS.word_bytes")
 FULL_WORDS, FULL_BYTES = ("kv_types", "FULL_LIMITS.words"), ("kv_types", "FULL_LIMITS.word_bytes")
-CHANGE_TEXT = ("model", "MAX_CHANGE_BYTES")
+CHANGE_TEXT = ("model", "MAX_CHANGE_TEXT_BYTES")
 SEATS, PIPE = ("pipes", "MAX_SEATS"), ("pipes", "PIPE_ITEMS")
 OPEN, PARTS, KEPT = ("machine", "OPEN_CHANGES"), ("model", "MAX_PARTS"), ("machine", "KEPT_GROUPS")
 LEAST_LINES, MOST_LINES = ("model", "MIN_LINES"), ("model", "MAX_LINES")
@@ -43,7 +43,7 @@ LIMITS = [
     ("docs/promises.md", f"epochs and record numbers stay below {N}", COUNTER),
     ("docs/image.md", rf"`N` is the number of lines, {N} to {N} \(", LEAST_LINES, MOST_LINES),
     ("docs/image.md", rf"57 42 4c 49 4d 47 30 31\), as a number {N} ", ("model", "MAGIC")),
-    ("docs/image.md", rf"\| 1 \| version, {N} \|", ("model", "VERSION")),
+    ("docs/image.md", rf"\| 1 \| version, {N} \|", ("model", "LAYOUT.version")),
     ("docs/image.md", rf"number of gaps, 0 to {N} \|", GAPS),
     ("docs/image.md", f"At most {N} are given out between two records", STAMPS),
     ("docs/image.md", f"A group is 1 to {N} changing commands", PARTS),

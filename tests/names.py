@@ -22,7 +22,6 @@ REPEATED = {
     "Ended": "TO BE RENAMED: a turn at a seat whose connection is over, and where a run ended early",
     "Fault": "what is not as it should be: a fence that failed, as an error and as a refusal, and bytes that ask for nothing",
     "Field": "a field of a hash: its name, and the record that it names",
-    "MAX_CHANGE_BYTES": "TO BE RENAMED: the bytes of one change, and those of all changes of one call",
     "PIPE_ITEMS": "how many items a pipe holds: of the code, and of the machine, which does not stand on it",
     "Request": "the words of a request, and the item that holds one",
     "Standby": "the node that follows, and the role that its image has",

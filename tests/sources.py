@@ -144,21 +144,29 @@ def constants(crate):
     return dict(CONSTANT.findall(code(crate)))
 
 
+def home_of(name, crate, path):
+    """The crate whose constant a text of this crate names, behind this path."""
+    if path in crates():
+        return path
+    return crate if name in constants(crate) else next(it for it in crates() if name in constants(it))
+
+
 def value(crate, name):
     """The number that a constant is, or that a field of one is, as `NAME.field`. A constant of another crate that it
-    cites is looked for in all."""
+    cites without a path is looked for in all."""
     name, _, field = name.partition(".")
-    text = constants(crate)[name]
+    text = " ".join(re.sub(r"\bas \w+", "", constants(crate)[name]).split())
+    if field and re.fullmatch(r"\w+", text):  # (another name of one)
+        return value(home_of(text, crate, ""), f"{text}.{field}")
     text = dict(FIELD.findall(text))[field] if field else text
 
     def number_of(found):
-        word = found[1]
-        if word[0].isdigit():
-            return str(int(word.replace("_", ""), 0))
-        home = crate if word in constants(crate) else next(it for it in crates() if word in constants(it))
-        return str(value(home, word))
+        path, cited = found.groups()
+        if cited[0].isdigit():
+            return str(int(cited.replace("_", ""), 0))
+        return str(value(home_of(cited.partition(".")[0], crate, path), cited))
 
-    terms = re.sub(r"(?:\w+::)*\b(\w+)", number_of, " ".join(re.sub(r"\bas \w+", "", text).split()))
+    terms = re.sub(r"\b(?:(\w+)::)?(\w+(?:\.\w+)?)", number_of, text)
     if not re.fullmatch(r"[\d ()+*/<-]+", terms):
         raise ValueError(f"{crate}: {name} is no number: {text}")
     return eval(terms.replace("/", "//"), {})  # of digits and operators only
