@@ -7,6 +7,7 @@ use crate::bytes::encode;
 use crate::file_calls::FileCalls;
 use crate::run::{LINES_A_WRITE, Run};
 use std::fs::File;
+use std::io::{Seek, SeekFrom};
 use std::os::unix::fs::FileExt;
 
 /// An open file. Each call of the system stands in a method of its own, which notes it with what came of it.
@@ -37,7 +38,11 @@ impl LoggedFile {
         ensures read { read_of self.new.calls ≡ read_of self.old.calls }
         ensures calls { calls_of self.new.calls ≡ Measured result ∷ calls_of self.old.calls }
     {
-        let done = self.file.metadata().is_ok_and(|found| found.len() == bytes);
+        // (to ask for the file's times as well would make each write set them anew)
+        let done = self
+            .file
+            .seek(SeekFrom::End(0))
+            .is_ok_and(|length| length == bytes);
         self.failed |= !done;
         self.calls.measured(done);
         done
