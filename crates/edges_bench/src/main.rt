@@ -1,0 +1,29 @@
+//! What the edges cost: items through a pipe between two threads, and fences of a device over a file. Without an argument it passes some items
+//! and says whether they came in order; with `figures` it passes a million and prints how many a second; with `fences PATH ROUNDS` it
+//! prints how many fences a second a device over that file makes.
+#![tactic(auto)]
+
+mod fences;
+mod rate;
+mod ring;
+
+use crate::fences::time_fences;
+use crate::ring::time_ring;
+use std::{env, io};
+
+const SOME_ITEMS: u64 = 10_000;
+
+const MANY_ITEMS: u64 = 1_000_000;
+
+fn main(rt: HostRuntime) -> io::Result<()> {
+    let words: Vec<String> = env::args(&rt)?.skip(1).collect(rt.alloc())?;
+    match words.as_slice() {
+        [] => time_ring(&rt, rt.alloc(), SOME_ITEMS, false),
+        [word] if word.as_str() == "figures" => time_ring(&rt, rt.alloc(), MANY_ITEMS, true),
+        [word, path, rounds] if word.as_str() == "fences" => match rounds.parse::<u32>() {
+            Ok(rounds) => time_fences(&rt, path.as_str(), rounds),
+            Err(_) => Err(io::ErrorKind::InvalidInput.into()),
+        },
+        _ => Err(io::ErrorKind::InvalidInput.into()),
+    }
+}
