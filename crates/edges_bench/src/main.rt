@@ -1,25 +1,34 @@
-//! What the edges cost: items through a pipe between two threads, and fences of a device over a file. Without an argument it passes some items
-//! and says whether they came in order; with `figures` it passes a million and prints how many a second; with `fences PATH ROUNDS` it
-//! prints how many fences a second a device over that file makes.
+//! What the edges cost: items through a pipe between two threads, raises and readings of the marks from three, and fences of a device over a
+//! file. Without an argument it makes some of each in threads, and says whether the items came in order and no reading fell; with
+//! `figures` it makes a million and prints how many a second; with `fences PATH ROUNDS` it prints how many fences a second a device over
+//! that file makes.
 #![tactic(auto)]
 
 mod fences;
+mod marks_of_threads;
 mod rate;
 mod ring;
 
 use crate::fences::time_fences;
+use crate::marks_of_threads::time_marks;
 use crate::ring::time_ring;
 use std::{env, io};
 
-const SOME_ITEMS: u64 = 10_000;
+const SOME: u64 = 10_000;
 
-const MANY_ITEMS: u64 = 1_000_000;
+const MANY: u64 = 1_000_000;
 
 fn main(rt: HostRuntime) -> io::Result<()> {
     let words: Vec<String> = env::args(&rt)?.skip(1).collect(rt.alloc())?;
     match words.as_slice() {
-        [] => time_ring(&rt, rt.alloc(), SOME_ITEMS, false),
-        [word] if word.as_str() == "figures" => time_ring(&rt, rt.alloc(), MANY_ITEMS, true),
+        [] => {
+            time_ring(&rt, rt.alloc(), SOME, false)?;
+            time_marks(&rt, rt.alloc(), SOME, false)
+        }
+        [word] if word.as_str() == "figures" => {
+            time_ring(&rt, rt.alloc(), MANY, true)?;
+            time_marks(&rt, rt.alloc(), MANY, true)
+        }
         [word, path, rounds] if word.as_str() == "fences" => match rounds.parse::<u32>() {
             Ok(rounds) => time_fences(&rt, path.as_str(), rounds),
             Err(_) => Err(io::ErrorKind::InvalidInput.into()),

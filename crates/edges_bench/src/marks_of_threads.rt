@@ -1,0 +1,103 @@
+//! Raises and readings of the marks from three threads.
+ghost use Rattle.std.specs.Prelude.{◌≡◌, true};
+
+use crate::rate::a_second;
+use marks::{MarkSeat, Marks, Reader};
+use standby::Ack;
+use std::alloc::Global;
+use std::io;
+use std::rt::Clock;
+use std::sync::Wait;
+use std::thread::{Threads, join};
+use std::time::Instant;
+
+/// Raises the remote mark to each position up to `count`.
+fn raise_all(marks: &Marks, seat: MarkSeat, count: u64)
+    requires marks { seat.marks ≡ marks.now }
+    requires raises { seat.knows.raises_remote ≡ true }
+{
+    let mut seat = seat;
+    for position in 0..count {
+        let ack = Ack {
+            epoch: 1,
+            position: position + 1,
+        };
+        seat = marks.raise_remote(seat, ack);
+    }
+}
+
+/// Reads the remote mark until it has reached `count`. Answers how often it read, and whether no reading was below one before it.
+fn read_until(rt: &impl Wait, marks: &Marks, seat: MarkSeat, count: u64) -> (u64, bool)
+    requires { seat.marks ≡ marks.now }
+{
+    let mut seat = seat;
+    let mut last = 0;
+    let mut readings: u64 = 0;
+    let mut rises = true;
+    for _ in rt.forever() {
+        if last >= count {
+            break;
+        }
+        let (next, found) = marks.read_remote(seat);
+        seat = next;
+        rises &= last <= found;
+        last = found;
+        readings = readings.saturating_add(1);
+    }
+    (readings, rises)
+}
+
+/// Raises a mark in one thread while two others read it.
+pub fn time_marks<R: Threads + Wait + Sync + Print + Clock>(
+    rt: &R,
+    alloc: Global,
+    count: u64,
+    timed: bool,
+) -> io::Result<()> {
+    let Ok((marks, seat)) = Marks::new(alloc, 0) else {
+        return Err(io::ErrorKind::OutOfMemory.into());
+    };
+    let mut seat = seat;
+    let first = marks.split_seat::<Reader>(&mut seat);
+    let second = marks.split_seat::<Reader>(&mut seat);
+    let start = Instant::now(rt)?;
+    let ((), (one, other)) = join(
+        rt,
+        ||
+            requires { (seat.marks ≡ marks) × (seat.knows.raises_remote ≡ true) }
+        { raise_all(&marks, seat, count) },
+        || -> ((u64, bool), (u64, bool))
+            requires { (first.marks ≡ marks) × (second.marks ≡ marks) }
+        { read_twice(rt, &marks, first, second, count) },
+    );
+    let time = start.elapsed(rt)?;
+    let rises = one.1 && other.1;
+    println!(rt; "marks: {count} raises, no reading fell: {rises}")?;
+    if timed {
+        let raises = a_second(count, time);
+        let readings = a_second(one.0.saturating_add(other.0), time);
+        println!(rt; "marks: {raises} raises and {readings} readings a second")?;
+    }
+    Ok(())
+}
+
+/// Reads in two threads.
+fn read_twice<R: Threads + Wait + Sync>(
+    rt: &R,
+    marks: &Marks,
+    first: MarkSeat,
+    second: MarkSeat,
+    count: u64,
+) -> ((u64, bool), (u64, bool))
+    requires { (first.marks ≡ marks.now) × (second.marks ≡ marks.now) }
+{
+    join(
+        rt,
+        || -> (u64, bool)
+            requires { first.marks ≡ marks.now }
+        { read_until(rt, marks, first, count) },
+        || -> (u64, bool)
+            requires { second.marks ≡ marks.now }
+        { read_until(rt, marks, second, count) },
+    )
+}
