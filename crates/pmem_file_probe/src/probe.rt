@@ -43,6 +43,8 @@ impl Probe {
     ) -> Result<Option<String>, AllocError> {
         match opened {
             Ok(device) => {
+                // a law, which does nothing when it runs
+                device.leaves_an_image();
                 let lines = device.lines();
                 self.device = Some(device);
                 Ok(Some(format!(in alloc; "lines {lines}")?))
