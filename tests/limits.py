@@ -19,7 +19,7 @@ LIMITS = [
     ("README.md", rf"today {N} of at most {N} bytes \(`SERVED_LIMITS`\)", SERVED_WORDS, SERVED_BYTES),
     ("README.md", rf"later {N} of at most {N} bytes \(`FULL_LIMITS`\)", FULL_WORDS, FULL_BYTES),
     ("README.md", rf"\| key \| {N} bytes \|", KEY),
-    ("README.md", rf"wait to be closed into a group \| {N} \|", OPEN),
+    ("README.md", rf"changing commands in a group \| {N}; as many may wait", OPEN),
     ("README.md", rf"\| connections \| {N} \(", SEATS),
     ("README.md", rf"\| image \| {N} to {N} lines of 64 bytes", LEAST_LINES, MOST_LINES),
     ("README.md", f"so the server takes {N} SETs", IMAGE_CHANGES),
