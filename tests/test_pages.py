@@ -153,7 +153,7 @@ class Crates(common.Cases):
 
     def test_what_each_crate_stands_on(self):
         listed = {row[0]: row for row in pages.rows(CRATES, "Crates") if not row[0].startswith("**")}
-        self.assertLessEqual(set(sources.crates()), set(listed))
+        self.assertEqual([crate for crate in listed if crate in sources.crates()], list(sources.crates()))
         for crate, (_, uses, _, exists) in listed.items():
             with self.case("crate", crate=crate):
                 self.assertEqual(crate in sources.crates(), exists != "planned")
@@ -165,7 +165,10 @@ class Crates(common.Cases):
                     self.assertLessEqual(set(sources.crates()[crate]) - UNNAMED_USES, found | cited)
 
     def test_what_carries_each_crate(self):
-        for crate, _, carried in pages.rows(CRATES, "What each crate proves"):
+        rows = pages.rows(CRATES, "What each crate proves")
+        libraries = {crate for crate in sources.crates() if sources.public_names(crate)}
+        self.assertLessEqual(libraries, {crate for row in rows for crate in row[0].split(", ")})
+        for crate, _, carried in rows:
             known = {name for it in crate.split(", ") for name in sources.shown(it)}
             for name in pages.CODE.findall(carried):
                 with self.case("carried", crate=crate, name=name):
