@@ -2,9 +2,9 @@
 
 # Calls and definitions that pages say come later. Once one is there, the pages say so and it goes from here.
 LATER = [
-    "Committer::turn", "IsFenced", "IsFrame", "IsModifiedBetween", "IsOpen", "IsRightDelta", "IsSpoiled", "Promotes",
-    "Reopens", "ReplyParser", "Sessions::call", "claim", "clear_gap", "delta", "inspect", "pin", "promote", "queue_of",
-    "raise_round", "rejoin", "run_hash", "run_string", "stream_codec", "watched_by", "write_frame",
+    "Committer::turn", "IsFenced", "IsFrame", "IsRightDelta", "Promotes", "Reopens", "ReplyParser", "Sessions::call",
+    "claim", "clear_gap", "delta", "inspect", "pin", "promote", "raise_round", "rejoin", "run_hash", "run_string",
+    "stream_codec", "write_frame",
 ]
 
 # What belongs to Redis, to the toolchain or to the system, and what a page spells for a word of the reader.
