@@ -1,5 +1,5 @@
 -- The answer to one connection, out of what a run promises.
-use Rattle.std.proofs.Common.{◌≡◌, ℕ, zero, suc, ◌<◌, Bool, List, [], ◌∷◌, length, slice_index_or, Option, None, Result, Ok, Err, IfOk, sym, ap, subst, ◌∙◌, arith}
+use Rattle.std.proofs.Common.{◌≡◌, ℕ, zero, suc, Bool, List, [], ◌∷◌, slice_index_or, Option, None, Result, Ok, Err, IfOk, sym, ap, subst, ◌∙◌}
 use Rattle.pmem.specs.Device.{State}
 use Rattle.kv_types.specs.declared.limits.TheConstants.{SERVED_LIMITS}
 use Rattle.kv_types.specs.Reading.{items_at}
@@ -10,13 +10,13 @@ use Rattle.model.proofs.PrefixLemmas.{IsPrefix-itself}
 use Rattle.model.proofs.ServesLemmas.{Serves-asked}
 use Rattle.machine.specs.declared.event.Event.{Event}
 use Rattle.machine.specs.declared.event.Event.TheVariants.{Enter}
-use Rattle.machine.specs.Events.{World, Run, start}
+use Rattle.machine.specs.Events.{World, is_running, is_open, Run, start}
 use Rattle.machine.specs.Promises.{IsPromised, fed_to}
 use Rattle.world.specs.Headline.{KeepsItsWord}
 use Rattle.world.specs.declared.trace.Ended.{Ended}
 use Rattle.server.specs.Agendas.{given, alone, IsAgenda}
 use Rattle.server.specs.Answers.{IsAnswer}
-use Rattle.server.proofs.FeedingLemmas.{feeds-open, feeds-none}
+use Rattle.server.proofs.FeedingLemmas.{IsServed, feeds-open, feeds-none}
 
 -- more bytes ask for more items
 asked-grows : {fed input : List ℕ} → IsPrefix fed input → IsPrefix (items_at SERVED_LIMITS fed) (items_at SERVED_LIMITS input)
@@ -31,8 +31,9 @@ fed-agenda : (input : List ℕ) (rest : List Event) (done : List Bool) (worlds :
 fed-agenda input rest [] worlds feeds run c = absurd run
 fed-agenda input rest (did ∷ done) [] feeds run c = absurd run
 fed-agenda input rest (did ∷ done) (new ∷ worlds) feeds run zero =
-    let is_there : 0 < length new.connections = omega (arith, ap (λ (w : World). length w.primary.connections) (run.0.happens run.0.done)) in
-    subst (λ whole. IsPrefix (fed_to 0 rest done) whole) (feeds 0) (feeds-open new rest done worlds 0 run.1 is_there)
+    let entered = run.0.happens run.0.done in
+    let served : IsServed new 0 = (ap (λ (w : World). is_running w.primary.life) entered, ap (λ (w : World). is_open w 0) entered) in
+    subst (λ whole. IsPrefix (fed_to 0 rest done) whole) (feeds 0) (feeds-open new rest done worlds 0 run.1 served)
 fed-agenda input rest (did ∷ done) (new ∷ worlds) feeds run (suc c) =
     subst (λ fed. IsPrefix fed []) (sym (feeds-none (suc c) rest done (feeds (suc c)))) (IsPrefix-itself [])
 

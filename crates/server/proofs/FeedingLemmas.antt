@@ -1,12 +1,12 @@
 -- What is fed to an open connection is a beginning of what the events have for it: once it is closed, no feed does its step.
-use Rattle.std.proofs.Common.{◌≡◌, ℕ, ◌<◌, ◌≤◌, Bool, true, false, not, ◌&&◌, cond, nat_eq, List, [], ◌∷◌, ◌++◌, length, refl, sym, ap, subst, ◌∙◌, append-nil, arith, length-append, eqb-true, lt-ltb, ◌⊎◌, inl, inr}
+use Rattle.std.proofs.Common.{◌≡◌, ℕ, zero, suc, ◌<◌, Bool, true, false, not, ◌&&◌, cond, nat_eq, List, [], ◌∷◌, ◌++◌, length, refl, sym, ap, subst, ◌∙◌, append-nil, arith, eqb-true, ◌⊎◌, inl, inr}
 use Rattle.machine.specs.declared.event.Event.{Event}
 use Rattle.machine.specs.declared.event.Event.TheVariants.{Enter, Feed, Offer, Turn, CloseGroup, Commit, RaiseLocal, Hand, OpenLink, Send, Deliver, Apply, AckDelivered, RaiseRemote, Hold, Read, Release, Write}
-use Rattle.machine.specs.Events.{World, no_connection, connection_of, is_closed_by, is_open, is_enabled, Happens, Step, Run}
+use Rattle.machine.specs.Events.{Inbound, Outbound, Connection, World, new_connection, is_running, get_connection, connection_of, is_open, with_inbound, with_outbound, on_inbound, on_outbound, is_closed_by, is_enabled, with_call, fed_with, offered_next, taken_first, held_first, having_read, let_out, written, Happens, Step, Run}
 use Rattle.machine.specs.Promises.{fed_by, fed_to}
-use Rattle.machine.proofs.ConnectionLemmas.{length-changed_at}
+use Rattle.machine.proofs.ConnectionLemmas.{open-lt, same-changed}
 use Rattle.machine.proofs.FedLemmas.{fed-step}
-use Rattle.machine.proofs.SoundEvents.{both}
+use Rattle.machine.proofs.SoundEvents.{both, enabled-may}
 use Rattle.model.specs.Calls.{IsPrefix}
 use Rattle.model.proofs.PrefixLemmas.{IsPrefix-none, IsPrefix-same_front}
 use Rattle.server.specs.Agendas.{given}
@@ -16,32 +16,69 @@ use Rattle.server.specs.Agendas.{given}
 abbrev fed_in : World → ℕ → List ℕ
 fed_in w c = (connection_of w c).inbound.fed
 
-longer : (w new : World) → length new.connections ≡ length w.primary.connections → length w.primary.connections ≤ length new.connections
-longer w new e = omega arith
+-- the node that serves runs, and the connection is open
+abbrev pub IsServed : World → ℕ → Type 0
+IsServed w d = (is_running w.primary.life ≡ true) × (is_open w d ≡ true)
 
-grows-happens : (w : World) (event : Event) (new : World) → Happens w event new → length w.primary.connections ≤ length new.connections
-grows-happens w Enter new h = omega (arith, ap (λ x. length x.connections) h, length-append w.primary.connections (no_connection ∷ []))
-grows-happens w (Feed c piece) new h = longer w new (ap (λ x. length x.connections) h ∙ length-changed_at c _ w.primary.connections)
-grows-happens w (Offer c) new h = longer w new (ap (λ x. length x.connections) h ∙ length-changed_at c _ w.primary.connections)
-grows-happens w (Turn c) new h = longer w new (ap (λ x. length x.connections) h.now ∙ length-changed_at c _ _ ∙ length-changed_at c _ w.primary.connections)
-grows-happens w CloseGroup new h = longer w new (ap (λ x. length x.connections) h)
-grows-happens w Commit new h = longer w new (ap (λ x. length x.connections) h)
-grows-happens w RaiseLocal new h = longer w new (ap (λ x. length x.connections) h)
-grows-happens w Hand new h = longer w new (ap (λ x. length x.connections) h)
-grows-happens w OpenLink new h = longer w new (ap (λ x. length x.connections) h)
-grows-happens w Send new h = longer w new (ap (λ x. length x.connections) h)
-grows-happens w (Deliver frame) new h = longer w new (ap (λ x. length x.connections) h)
-grows-happens w Apply new h = longer w new (ap (λ x. length x.connections) h.now)
-grows-happens w (AckDelivered a) new h = longer w new (ap (λ x. length x.connections) h)
-grows-happens w RaiseRemote new h = longer w new (ap (λ x. length x.connections) h)
-grows-happens w (Hold c) new h = longer w new (ap (λ x. length x.connections) h ∙ length-changed_at c _ w.primary.connections)
-grows-happens w (Read c mark) new h = longer w new (ap (λ x. length x.connections) h ∙ length-changed_at c _ w.primary.connections)
-grows-happens w (Release c) new h = longer w new (ap (λ x. length x.connections) h ∙ length-changed_at c _ w.primary.connections)
-grows-happens w (Write c n) new h = longer w new (ap (λ x. length x.connections) h ∙ length-changed_at c _ w.primary.connections)
+open-inbound : (w : World) (c d : ℕ) (change : Inbound → Inbound) → is_open (on_inbound c change w) d ≡ is_open w d
+open-inbound w c d change = same-changed (λ connection. connection.is_open) c (with_inbound change) w.primary.connections (λ connection. refl) d
 
-open-step : (old : World) (event : Event) (did : Bool) (new : World) (d : ℕ) → Step old event did new → d < length old.connections → d < length new.connections
-open-step old event true new d step lt = omega (arith, grows-happens old event new (step.happens refl))
-open-step old event false new d step lt = subst (λ (w : World). d < length w.primary.connections) (sym (step.stands refl)) lt
+open-outbound : (w : World) (c d : ℕ) (change : Outbound → Outbound) → is_open (on_outbound c change w) d ≡ is_open w d
+open-outbound w c d change = same-changed (λ connection. connection.is_open) c (with_outbound change) w.primary.connections (λ connection. refl) d
+
+get-before : (connections : List Connection) (d : ℕ) → d < length connections → get_connection (connections ++ new_connection ∷ []) d ≡ get_connection connections d
+get-before [] d lt = absurd (omega arith)
+get-before (connection ∷ connections) zero lt = refl
+get-before (connection ∷ connections) (suc d) lt = get-before connections d (omega arith)
+
+open-happens : (w : World) (event : Event) (new : World) (d : ℕ) → Happens w event new → is_open w d ≡ true → is_open new d ≡ true
+open-happens w Enter new d h is_there =
+    ap (λ x. is_open x d) h ∙ ap (λ (connection : Connection). connection.is_open) (get-before w.primary.connections d (open-lt w.primary.connections d is_there)) ∙ is_there
+open-happens w (Feed c piece) new d h is_there = ap (λ x. is_open x d) h ∙ open-inbound w c d (fed_with piece) ∙ is_there
+open-happens w (Offer c) new d h is_there = ap (λ x. is_open x d) h ∙ open-inbound w c d offered_next ∙ is_there
+open-happens w (Turn c) new d h is_there =
+    ap (λ x. is_open x d) h.now ∙ open-outbound (on_inbound c taken_first (with_call h.call w)) c d _ ∙ open-inbound (with_call h.call w) c d taken_first ∙ is_there
+open-happens w CloseGroup new d h is_there = ap (λ x. is_open x d) h ∙ is_there
+open-happens w Commit new d h is_there = ap (λ x. is_open x d) h ∙ is_there
+open-happens w RaiseLocal new d h is_there = ap (λ x. is_open x d) h ∙ is_there
+open-happens w Hand new d h is_there = ap (λ x. is_open x d) h ∙ is_there
+open-happens w OpenLink new d h is_there = ap (λ x. is_open x d) h ∙ is_there
+open-happens w Send new d h is_there = ap (λ x. is_open x d) h ∙ is_there
+open-happens w (Deliver frame) new d h is_there = ap (λ x. is_open x d) h ∙ is_there
+open-happens w Apply new d h is_there = ap (λ x. is_open x d) h.now ∙ is_there
+open-happens w (AckDelivered a) new d h is_there = ap (λ x. is_open x d) h ∙ is_there
+open-happens w RaiseRemote new d h is_there = ap (λ x. is_open x d) h ∙ is_there
+open-happens w (Hold c) new d h is_there = ap (λ x. is_open x d) h ∙ open-outbound w c d held_first ∙ is_there
+open-happens w (Read c mark) new d h is_there = ap (λ x. is_open x d) h ∙ open-outbound w c d (having_read mark w) ∙ is_there
+open-happens w (Release c) new d h is_there = ap (λ x. is_open x d) h ∙ open-outbound w c d let_out ∙ is_there
+open-happens w (Write c n) new d h is_there = ap (λ x. is_open x d) h ∙ open-outbound w c d (written n) ∙ is_there
+
+abbrev runs_in : World → Bool
+runs_in w = is_running w.primary.life
+
+runs-happens : (w : World) (event : Event) (new : World) → Happens w event new → runs_in new ≡ runs_in w
+runs-happens w Enter new h = ap runs_in h
+runs-happens w (Feed c piece) new h = ap runs_in h
+runs-happens w (Offer c) new h = ap runs_in h
+runs-happens w (Turn c) new h = ap runs_in h.now
+runs-happens w CloseGroup new h = ap runs_in h
+runs-happens w Commit new h = ap runs_in h
+runs-happens w RaiseLocal new h = ap runs_in h
+runs-happens w Hand new h = ap runs_in h
+runs-happens w OpenLink new h = ap runs_in h
+runs-happens w Send new h = ap runs_in h
+runs-happens w (Deliver frame) new h = ap runs_in h
+runs-happens w Apply new h = ap runs_in h.now
+runs-happens w (AckDelivered a) new h = ap runs_in h
+runs-happens w RaiseRemote new h = ap runs_in h
+runs-happens w (Hold c) new h = ap runs_in h
+runs-happens w (Read c mark) new h = ap runs_in h
+runs-happens w (Release c) new h = ap runs_in h
+runs-happens w (Write c n) new h = ap runs_in h
+
+served-step : (old : World) (event : Event) (did : Bool) (new : World) (d : ℕ) → Step old event did new → IsServed old d → IsServed new d
+served-step old event true new d step served = (runs-happens old event new (step.happens refl) ∙ served.0, open-happens old event new d (step.happens refl) served.1)
+served-step old event false new d step served = (ap runs_in (step.stands refl) ∙ served.0, ap (λ x. is_open x d) (step.stands refl) ∙ served.1)
 
 -- ---- one event
 
@@ -49,10 +86,11 @@ not-both : (b : Bool) → not b ≡ true → b ≡ true → ⊥
 not-both true e f = cc
 not-both false e f = cc
 
-not-false : (a b : Bool) → a ≡ true → (a && not b) ≡ false → b ≡ true
-not-false true true e f = refl
-not-false true false e f = cc
-not-false false b e f = cc
+not-false : (r a b : Bool) → r ≡ true → a ≡ true → (r && (a && not b)) ≡ false → b ≡ true
+not-false true true true runs is_there f = refl
+not-false true true false runs is_there f = cc
+not-false true false b runs is_there f = cc
+not-false false a b runs is_there f = cc
 
 -- a step with no effect feeds nothing
 fed_by-not : (d : ℕ) (event : Event) → fed_by d event false ≡ []
@@ -62,7 +100,7 @@ fed_by-not d event = refl
 -- a closed connection is fed nothing
 closed-by : (w : World) (event : Event) (did : Bool) (d : ℕ) → did ≡ is_enabled w event → is_closed_by (fed_in w d) ≡ true → fed_by d event did ≡ []
 closed-by w (Feed c piece) true d e closed =
-    let enabled = both (is_open w c) (not (is_closed_by (fed_in w c))) (sym e) in
+    let enabled = both (is_open w c) (not (is_closed_by (fed_in w c))) (enabled-may w (Feed c piece) (sym e)) in
     elim (nat_eq c d) as (λ b. nat_eq c d ≡ b → cond b piece [] ≡ []) [
       | true ↦ λ same. absurd (not-both (is_closed_by (fed_in w c)) enabled.1 (ap (λ x. is_closed_by (fed_in w x)) (eqb-true c d same) ∙ closed))
       | false ↦ λ other. refl
@@ -72,17 +110,17 @@ closed-by w event true d e closed = refl
 closed-by w event false d e closed = fed_by-not d event
 
 -- an open connection is fed what the event has for it, or the event has nothing for it, or it is closed
-open-by : (w : World) (event : Event) (did : Bool) (d : ℕ) → did ≡ is_enabled w event → d < length w.primary.connections
+open-by : (w : World) (event : Event) (did : Bool) (d : ℕ) → did ≡ is_enabled w event → IsServed w d
     → (fed_by d event did ≡ fed_by d event true) ⊎ ((did ≡ false) × (is_closed_by (fed_in w d) ≡ true))
-open-by w event true d e lt = inl refl
-open-by w (Feed c piece) false d e lt =
+open-by w event true d e served = inl refl
+open-by w (Feed c piece) false d e served =
     elim (nat_eq c d) as (λ b. nat_eq c d ≡ b → ([] ≡ cond b piece []) ⊎ ((false ≡ false) × (is_closed_by (fed_in w d) ≡ true))) [
       | true ↦ λ same.
-          let is_there : is_open w c ≡ true = lt-ltb c (length w.primary.connections) (subst (λ x. x < length w.primary.connections) (sym (eqb-true c d same)) lt) in
-          inr (refl, ap (λ x. is_closed_by (fed_in w x)) (sym (eqb-true c d same)) ∙ not-false (is_open w c) (is_closed_by (fed_in w c)) is_there (sym e))
+          let is_there : is_open w c ≡ true = ap (λ x. is_open w x) (eqb-true c d same) ∙ served.1 in
+          inr (refl, ap (λ x. is_closed_by (fed_in w x)) (sym (eqb-true c d same)) ∙ not-false (runs_in w) (is_open w c) (is_closed_by (fed_in w c)) served.0 is_there (sym e))
       | false ↦ λ other. inl refl
     ] refl
-open-by w event false d e lt = inl refl
+open-by w event false d e served = inl refl
 
 -- ---- a run
 
@@ -95,17 +133,17 @@ closed-from w (event ∷ events) (did ∷ done) (new ∷ worlds) d run closed =
 closed-from w events done worlds d run closed = absurd run
 
 -- what is fed to an open connection begins what the events have for it
-pub feeds-open : (w : World) (events : List Event) (done : List Bool) (worlds : List World) (d : ℕ) → Run w events done worlds → d < length w.primary.connections → IsPrefix (fed_to d events done) (given d events)
-feeds-open w [] [] [] d run lt = IsPrefix-none []
-feeds-open w (event ∷ events) (did ∷ done) (new ∷ worlds) d run lt =
-    elim (open-by w event did d run.0.done lt) [
+pub feeds-open : (w : World) (events : List Event) (done : List Bool) (worlds : List World) (d : ℕ) → Run w events done worlds → IsServed w d → IsPrefix (fed_to d events done) (given d events)
+feeds-open w [] [] [] d run served = IsPrefix-none []
+feeds-open w (event ∷ events) (did ∷ done) (new ∷ worlds) d run served =
+    elim (open-by w event did d run.0.done served) [
       | inl all ↦
           subst (λ piece. IsPrefix (piece ++ fed_to d events done) (fed_by d event true ++ given d events)) (sym all)
-          (IsPrefix-same_front (fed_by d event true) (feeds-open new events done worlds d run.1 (open-step w event did new d run.0 lt)))
+          (IsPrefix-same_front (fed_by d event true) (feeds-open new events done worlds d run.1 (served-step w event did new d run.0 served)))
       | inr closed ↦
           subst (λ fed. IsPrefix fed (fed_by d event true ++ given d events)) (sym (closed-from w (event ∷ events) (did ∷ done) (new ∷ worlds) d run closed.1)) (IsPrefix-none _)
     ]
-feeds-open w events done worlds d run lt = absurd run
+feeds-open w events done worlds d run served = absurd run
 
 append-none : (xs ys : List ℕ) → xs ++ ys ≡ [] → (xs ≡ []) × (ys ≡ [])
 append-none [] ys e = (refl, e)
