@@ -29,7 +29,7 @@ WORD = re.compile(r"(primary|standby) word (\d+): (\d+)")
 ENDED = re.compile(r"ended: (.*)")
 
 
-class Agenda:
+class Schedule:
     """Events to play, one after another."""
 
     def __init__(self, connections=0):
@@ -76,7 +76,7 @@ class Agenda:
         self.add(f"read {c} local", f"read {c} remote")
 
     def write_out(self, c, most=2**17):
-        """What the marks cover is let out and written, if it is less than twice `most`: each power of two where so many
+        """What the marks cover is released and written, if it is less than twice `most`: each power of two where so many
         bytes are left."""
         self.add(f"release {c}")
         while most:
@@ -233,14 +233,14 @@ def simulate(events, *options):
 class Runs(common.Cases):
     """Tests of whole runs. What the plain machine tells of a run beforehand has to be so, word for word."""
 
-    def play(self, agenda, *options, lines=plain_machine.DEFAULT_LINES, fail=(0, 0), crash=None):
+    def play(self, schedule, *options, lines=plain_machine.DEFAULT_LINES, fail=(0, 0), crash=None):
         """The trace of a run, with both images, after it was compared with the plain machine."""
         head = [f"fail {node} {fence}" for node, fence in zip(NODES, fail) if fence]
         tail = [f"crash {crash}"] if crash else []
         sizes = ["--lines", "%d,%d" % lines] if lines != plain_machine.DEFAULT_LINES else []
-        trace = simulate(head + agenda.events + tail, "--map", "--images", *sizes, *options)
-        machine = plain_machine.Machine(lines, fail).play(agenda.events)
-        self.assert_played(trace, machine, len(agenda.events), len(head))
+        trace = simulate(head + schedule.events + tail, "--map", "--images", *sizes, *options)
+        machine = plain_machine.Machine(lines, fail).play(schedule.events)
+        self.assert_played(trace, machine, len(schedule.events), len(head))
         if machine.ended is None:
             for place, node in enumerate(NODES):
                 self.assert_image(trace, machine, node, lines[place])

@@ -2,7 +2,7 @@
 told, so that a server that tells it too early is seen only here."""
 
 import worked_cases as worked
-from simulation import Agenda, Runs
+from simulation import Schedule, Runs
 from spelling import spell
 from worked_cases import GET_A, OK, ONE, SET_A, SHORTEST, STORE_IS_FULL, UNKNOWN
 
@@ -12,22 +12,22 @@ IS_SLOW = True
 
 def changes(count, request_of):
     """So many changes of one connection, each served to its end before the next one."""
-    agenda = Agenda(1)
+    schedule = Schedule(1)
     for number in range(count):
-        agenda.feed(0, request_of(number))
-        agenda.serve(0)
-        agenda.commit()
-        agenda.replicate(number)
-        agenda.read_marks(0)
-        agenda.add("release 0", "write 0 5")
-    return agenda
+        schedule.feed(0, request_of(number))
+        schedule.serve(0)
+        schedule.commit()
+        schedule.replicate(number)
+        schedule.read_marks(0)
+        schedule.add("release 0", "write 0 5")
+    return schedule
 
 
 class Capacity(Runs):
     """Limits that README.md and docs/image.md name, reached and not passed too early."""
 
-    def play(self, agenda, *options, **others):
-        trace = super().play(agenda, *options, **others)
+    def play(self, schedule, *options, **others):
+        trace = super().play(schedule, *options, **others)
         self.assertNotIn(b"out of memory", b"".join(call.reply for call in trace.calls))
         self.assertRegex(trace.ended, r"\Aafter all \d+ events\Z")
         return trace
@@ -35,10 +35,10 @@ class Capacity(Runs):
     def check_room(self, lines, request_of):
         """An image of so many lines takes a change for each of its entries, and then is full."""
         room = lines // 8
-        agenda = changes(room, request_of)
-        agenda.feed(0, request_of(room) + spell("GET", "a") + request_of(room + 1))
-        agenda.drain(1, 3, 0)
-        trace = self.play(agenda, lines=(lines, lines))
+        schedule = changes(room, request_of)
+        schedule.feed(0, request_of(room) + spell("GET", "a") + request_of(room + 1))
+        schedule.drain(1, 3, 0)
+        trace = self.play(schedule, lines=(lines, lines))
         replies = [call.reply for call in trace.calls]
         self.assertEqual(replies[:room], room * [OK])
         self.assertEqual(replies[room:], [STORE_IS_FULL, ONE, STORE_IS_FULL])
@@ -63,12 +63,12 @@ class Capacity(Runs):
 
     def serve_piece(self, data, items):
         """Serves one piece to its end, and gives what was released."""
-        agenda = Agenda(1)
-        agenda.feed(0, data)
+        schedule = Schedule(1)
+        schedule.feed(0, data)
         for _ in range(items + 1):
-            agenda.serve(0)
-        agenda.drain(1, 0, 4)
-        return self.play(agenda).released[0]
+            schedule.serve(0)
+        schedule.drain(1, 0, 4)
+        return self.play(schedule).released[0]
 
     def test_pieces_above_65536_bytes(self):
         for length in [65_534, 65_535, 65_536, 65_537, 70_000, 131_072, 200_000]:

@@ -98,7 +98,7 @@ def least(enough, low, high):
 
 
 class Memory(Cases):
-    """Want of memory is told, and nothing that is wrong is written."""
+    """Being out of memory is told, and nothing that is wrong is written."""
 
     REQUESTS = 300 * SET_A + 3_000 * SHORTEST
     REPLIES = 300 * [OK] + 3_000 * [UNKNOWN]

@@ -3,7 +3,7 @@ commits of either node with all kinds of picks, and devices that are too small."
 
 import draws
 import plain_image
-from simulation import Agenda, NODES, ROLES, Runs, simulate
+from simulation import Schedule, NODES, ROLES, Runs, simulate
 from spelling import spell
 from worked_cases import OK, SET_A
 
@@ -98,22 +98,22 @@ GROUP = [SET_A, spell("SET", "b", "2"), spell("SET", "a", "3")]
 
 def sets(count):
     """A connection sets a to 1 so many times, each served to its end."""
-    agenda = Agenda(1)
+    schedule = Schedule(1)
     for number in range(count):
-        agenda.feed(0, SET_A)
-        agenda.serve(0)
-        agenda.commit()
-        agenda.replicate(number)
-        agenda.read_marks(0)
-        agenda.add("release 0", "write 0 5")
-    return agenda
+        schedule.feed(0, SET_A)
+        schedule.serve(0)
+        schedule.commit()
+        schedule.replicate(number)
+        schedule.read_marks(0)
+        schedule.add("release 0", "write 0 5")
+    return schedule
 
 
 class Images(Runs):
     """What formatting and commits write."""
 
     def test_new_image(self):
-        trace = self.play(Agenda())
+        trace = self.play(Schedule())
         for node in NODES:
             with self.case(node):
                 self.assertEqual(trace.words[node], {**NEW_IMAGE, ROLE_OF_RECORD_1: ROLES[node]})
@@ -130,12 +130,12 @@ class Images(Runs):
         self.assertEqual(trace.released, [OK])
 
     def test_worked_image_of_a_group(self):
-        agenda = Agenda(1)
-        agenda.group(0, *GROUP)
-        agenda.replicate(0)
-        agenda.read_marks(0)
-        agenda.add("release 0", "write 0 15")
-        trace = self.play(agenda)
+        schedule = Schedule(1)
+        schedule.group(0, *GROUP)
+        schedule.replicate(0)
+        schedule.read_marks(0)
+        schedule.add("release 0", "write 0 15")
+        trace = self.play(schedule)
         for node, cp in [("primary", 3), ("standby", 1)]:
             with self.case(node):
                 roles = {ROLE_OF_RECORD_1: ROLES[node], ROLE_OF_RECORD_2: ROLES[node]}
@@ -242,15 +242,15 @@ class Crashes(Runs):
     def crashed_in_a_group(self, node, fence, picks):
         """A SET of c is served to its end; in the commit of the group after it this fence fails, and the node
         crashes."""
-        agenda = Agenda(1)
-        agenda.group(0, spell("SET", "c", "4"))
-        agenda.replicate(0)
-        agenda.group(0, *GROUP)
-        agenda.replicate(1)
-        agenda.read_marks(0)
-        agenda.add("release 0", "write 0 5")
+        schedule = Schedule(1)
+        schedule.group(0, spell("SET", "c", "4"))
+        schedule.replicate(0)
+        schedule.group(0, *GROUP)
+        schedule.replicate(1)
+        schedule.read_marks(0)
+        schedule.add("release 0", "write 0 5")
         failing = FORMAT_FENCES + 3 + fence
-        return self.play(agenda, fail=(failing, 0) if node == "primary" else (0, failing), crash=f"{node} {picks}")
+        return self.play(schedule, fail=(failing, 0) if node == "primary" else (0, failing), crash=f"{node} {picks}")
 
     def assert_holds_group(self, trace, node, is_there):
         """The image holds the SET of c, and all of the group or nothing of it."""

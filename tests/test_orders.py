@@ -6,7 +6,7 @@ import plain_image
 import plain_machine
 import plain_redis
 import spelling
-from simulation import Agenda, NODES, Runs, simulate, told_between
+from simulation import Schedule, NODES, Runs, simulate, told_between
 
 PROGRAMS = ["simulator"]
 IS_SLOW = True
@@ -24,7 +24,7 @@ class Order:
     def __init__(self, seed):
         self.draws = draws.numbers(f"order {seed}")
         self.scripts = [draws.Script(self.draws, count) for count in REQUESTS_OF_EACH]
-        self.agenda = Agenda(CONNECTIONS)
+        self.schedule = Schedule(CONNECTIONS)
         # so many times a frame was to be sent, and an acknowledgement to be made
         self.frames = 0
         self.acknowledgements = 0
@@ -44,10 +44,10 @@ class Order:
         if name == "feed":
             self.feed(c, count)
         elif name == "write":
-            self.agenda.add(f"write {c} {count}")
+            self.schedule.add(f"write {c} {count}")
         else:
             name, *mark = name.split()
-            self.agenda.add(" ".join([name, str(c), *mark]))
+            self.schedule.add(" ".join([name, str(c), *mark]))
 
     def draw_of_nodes(self):
         names = ["close-group", "commit", "raise-local", "hand", "send"]
@@ -57,26 +57,26 @@ class Order:
         self.acknowledgements += name == "apply"
         # frames and acknowledgements may be old, or not there yet
         bounds = {"deliver": self.frames, "ack-delivered": self.acknowledgements}
-        self.agenda.add(f"{name} {self.draws.randint(0, bounds[name])}" if name in bounds else name)
+        self.schedule.add(f"{name} {self.draws.randint(0, bounds[name])}" if name in bounds else name)
 
     def feed(self, c, count=None):
-        self.agenda.feed(c, self.scripts[c].take(count) if c < CONNECTIONS else b"no such connection")
+        self.schedule.feed(c, self.scripts[c].take(count) if c < CONNECTIONS else b"no such connection")
 
     def deliver_all(self):
-        self.agenda.take(*range(self.frames))
+        self.schedule.take(*range(self.frames))
         self.acknowledgements += self.frames
 
     def finish(self):
         """What is left of the scripts is fed and served to its end."""
         for c in range(CONNECTIONS):
             self.feed(c)
-        self.agenda.drain(CONNECTIONS, max(REQUESTS_OF_EACH) + 1, 1_000)
+        self.schedule.drain(CONNECTIONS, max(REQUESTS_OF_EACH) + 1, 1_000)
         for number in range(self.acknowledgements + 1_000):
-            self.agenda.add(f"ack-delivered {number}")
-        self.agenda.add("raise-remote")
+            self.schedule.add(f"ack-delivered {number}")
+        self.schedule.add("raise-remote")
         for c in range(CONNECTIONS):
-            self.agenda.read_marks(c)
-            self.agenda.write_out(c)
+            self.schedule.read_marks(c)
+            self.schedule.write_out(c)
 
 
 class Orders(Runs):
@@ -88,8 +88,8 @@ class Orders(Runs):
         order.draw(EVENTS)
         if is_finished:
             order.finish()
-        trace = simulate(order.agenda.events, "--map", "--images", "--plain")
-        self.assertEqual(trace.ended, f"after all {len(order.agenda.events)} events")
+        trace = simulate(order.schedule.events, "--map", "--images", "--plain")
+        self.assertEqual(trace.ended, f"after all {len(order.schedule.events)} events")
         positions = self.check_calls(trace)
         stands = [self.check_image(trace, node) for node in NODES]
         with self.case("positions", stands=stands):
@@ -100,7 +100,7 @@ class Orders(Runs):
         for c, script in enumerate(order.scripts):
             self.check_requests(trace, c, script, is_finished)
             self.check_released(trace, c, positions, stands[1], is_finished)
-        self.check_machine(trace, order.agenda.events)
+        self.check_machine(trace, order.schedule.events)
 
     def check_calls(self, trace):
         """Each call is answered as one Redis answers it at its place. Gives the position after each."""

@@ -4,7 +4,7 @@ bytes. The requests and the faults are written here by hand, from docs/protocol.
 import plain_redis
 import spelling
 import worked_cases as worked
-from simulation import Agenda, Runs
+from simulation import Schedule, Runs
 from worked_cases import GET_A, PING, SET_A
 
 PROGRAMS = ["simulator"]
@@ -23,7 +23,7 @@ REQUESTS = {
     "no_words_before": (b"*0\r\n" + PING, [(b"PING",)]),
     "no_words_between": (b"*0\r\n" + PING + b"*0\r\n*0\r\n" + PING + b"*0\r\n", [(b"PING",), (b"PING",)]),
     "no_words_at_all": (b"*0\r\n", []),
-    "a_front_of_a_request": (SET_A[:-1], []),
+    "a_prefix_of_a_request": (SET_A[:-1], []),
 }
 
 # Texts that are at fault at their last byte, after so many whole requests.
@@ -55,15 +55,15 @@ class Parsed(Runs):
         asks for nothing more."""
         ways = [[text[:cut], text[cut:]] for cut in range(len(text) + 1)]
         ways.append([text[at:at + 1] for at in range(len(text))])
-        agenda = Agenda(len(ways))
+        schedule = Schedule(len(ways))
         for c, pieces in enumerate(ways):
             for piece in pieces:
-                agenda.feed(c, piece)
+                schedule.feed(c, piece)
             if behind:
-                agenda.feed(c, behind)
+                schedule.feed(c, behind)
         for c in range(len(ways)):
-            agenda.add(*((len(wanted) + 1) * [f"offer {c}", f"turn {c}"]))
-        trace = self.play(agenda)
+            schedule.add(*((len(wanted) + 1) * [f"offer {c}", f"turn {c}"]))
+        trace = self.play(schedule)
         for c in range(len(ways)):
             found = [call.reply if call.words is None else call.words for call in trace.calls if call.connection == c]
             self.assertEqual(found, wanted)
@@ -78,29 +78,29 @@ class Requests(Parsed):
         self.assertEqual(spelling.read(text).items, wanted)
 
     def test_words_as_the_simulator_spells_them(self):
-        agenda = Agenda(1)
-        agenda.add("feed 0 SET a 1", "feed 0  GET   a", "feed 0 PING")
-        agenda.add(*(3 * ["offer 0", "turn 0"]))
-        self.assertEqual([call.words for call in self.play(agenda).calls], [SET, GET, (b"PING",)])
+        schedule = Schedule(1)
+        schedule.add("feed 0 SET a 1", "feed 0  GET   a", "feed 0 PING")
+        schedule.add(*(3 * ["offer 0", "turn 0"]))
+        self.assertEqual([call.words for call in self.play(schedule).calls], [SET, GET, (b"PING",)])
 
     def test_items_come_of_pieces(self):
-        agenda = Agenda(1)
-        agenda.feed(0, PING[:10])
-        agenda.add("offer 0")
-        agenda.feed(0, PING[10:] + GET_A)
-        agenda.add("offer 0", "offer 0", "offer 0", "turn 0", "turn 0", "turn 0")
-        trace = self.play(agenda)
+        schedule = Schedule(1)
+        schedule.feed(0, PING[:10])
+        schedule.add("offer 0")
+        schedule.feed(0, PING[10:] + GET_A)
+        schedule.add("offer 0", "offer 0", "offer 0", "turn 0", "turn 0", "turn 0")
+        trace = self.play(schedule)
         self.assertEqual(trace.done, [True, True, False, True, True, True, False, True, True, False])
 
     def test_empty_pieces(self):
-        agenda = Agenda(1)
-        agenda.feed(0, b"")
-        agenda.add("offer 0")
+        schedule = Schedule(1)
+        schedule.feed(0, b"")
+        schedule.add("offer 0")
         for at in range(len(SET_A)):
-            agenda.feed(0, SET_A[at:at + 1])
-            agenda.feed(0, b"")
-        agenda.add("offer 0", "offer 0")
-        self.assertEqual(self.play(agenda).done[-2:], [True, False])
+            schedule.feed(0, SET_A[at:at + 1])
+            schedule.feed(0, b"")
+        schedule.add("offer 0", "offer 0")
+        self.assertEqual(self.play(schedule).done[-2:], [True, False])
 
 
 @worked.one_test_for_each(FAULTS, "check_row")
@@ -123,14 +123,14 @@ class Faults(Parsed):
             self.check_fault(text, b"-ERR Protocol error: expected '$', got '%s'\r\n" % shown)
 
     def test_nothing_is_fed_after_a_fault(self):
-        agenda = Agenda(1)
-        agenda.feed(0, SET_A)
-        agenda.feed(0, b"*01")
-        agenda.feed(0, PING)
-        agenda.feed(0, b"P")
-        agenda.feed(0, b"")
-        agenda.add(*(3 * ["offer 0", "turn 0"]))
-        trace = self.play(agenda)
+        schedule = Schedule(1)
+        schedule.feed(0, SET_A)
+        schedule.feed(0, b"*01")
+        schedule.feed(0, PING)
+        schedule.feed(0, b"P")
+        schedule.feed(0, b"")
+        schedule.add(*(3 * ["offer 0", "turn 0"]))
+        trace = self.play(schedule)
         self.assertEqual(trace.done[1:6], [True, True, False, False, False])
         self.assertEqual([call.words for call in trace.calls], [SET, None])
 
@@ -141,13 +141,13 @@ class FaultsAtTheirLastByte(Runs):
     byte, one with it, and one with a request after it."""
 
     def check_row(self, data, output):
-        agenda = Agenda(3)
-        agenda.feed(0, data[:-1])
-        agenda.feed(1, data)
-        agenda.feed(2, data)
-        agenda.feed(2, SET_A)
-        agenda.drain(3, 3, 1)
-        trace = self.play(agenda)
+        schedule = Schedule(3)
+        schedule.feed(0, data[:-1])
+        schedule.feed(1, data)
+        schedule.feed(2, data)
+        schedule.feed(2, SET_A)
+        schedule.drain(3, 3, 1)
+        trace = self.play(schedule)
         self.assertEqual(trace.released, [b"", output, output])
         self.assertEqual(trace.done[3:7], [True, True, True, False])
 
@@ -155,16 +155,16 @@ class FaultsAtTheirLastByte(Runs):
         # two connections are at fault, one after the other; a third goes on, and so does each until its own fault
         for first, second in [(0, 1), (1, 0), (0, 2), (2, 1)]:
             with self.case("order", first=first, second=second):
-                agenda = Agenda(3)
+                schedule = Schedule(3)
                 last = 3 - first - second
                 sent = [(first, b"P"), (second, SET_A), (last, SET_A), (second, b"*1\r\n:")]
                 for c, data in sent + [(last, GET_A), (first, SET_A)]:
-                    agenda.feed(c, data)
-                    agenda.serve(c)
-                agenda.add("enter")
-                agenda.feed(3, PING)
-                agenda.drain(4, 3, 3)
-                released = dict(enumerate(self.play(agenda).released))
+                    schedule.feed(c, data)
+                    schedule.serve(c)
+                schedule.add("enter")
+                schedule.feed(3, PING)
+                schedule.drain(4, 3, 3)
+                released = dict(enumerate(self.play(schedule).released))
                 self.assertEqual(released[first], worked.NO_STAR)
                 self.assertEqual(released[second], worked.OK + b"-ERR Protocol error: expected '$', got ':'\r\n")
                 self.assertEqual(released[last], worked.OK + worked.ONE)

@@ -4,7 +4,7 @@ in any order.
 Each run is compared with the plain machine too, event by event and both images word by word (simulation.Runs)."""
 
 import worked_cases as worked
-from simulation import Agenda, Frame, NODES, Runs
+from simulation import Schedule, Frame, NODES, Runs
 from spelling import spell
 from worked_cases import GET_A, OK, ONE, PING, SET_A, STORE_IS_FULL
 
@@ -25,56 +25,56 @@ class FirstPath(Runs):
     def check_row(self, data, output):
         for name, pieces in [("in one piece", [data]), ("byte by byte", in_bytes(data))]:
             with self.case(name):
-                agenda = Agenda(1)
+                schedule = Schedule(1)
                 for piece in pieces:
-                    agenda.feed(0, piece)
-                agenda.drain(1, 4, 4)
-                self.assertEqual(self.play(agenda).released, [output])
+                    schedule.feed(0, piece)
+                schedule.drain(1, 4, 4)
+                self.assertEqual(self.play(schedule).released, [output])
         with self.case("of two connections at once"):
-            agenda = Agenda(2)
+            schedule = Schedule(2)
             for byte in in_bytes(data):
-                agenda.feed(0, byte)
-                agenda.feed(1, byte)
-            agenda.drain(2, 4, 8)
-            self.assertEqual(self.play(agenda).released, [output, output])
+                schedule.feed(0, byte)
+                schedule.feed(1, byte)
+            schedule.drain(2, 4, 8)
+            self.assertEqual(self.play(schedule).released, [output, output])
 
     def test_every_cut_of_the_first_set(self):
         # each of the 26 cuts for a connection of its own
-        agenda = Agenda(26)
+        schedule = Schedule(26)
         for cut in range(1, len(SET_A)):
-            agenda.feed(cut - 1, SET_A[:cut])
-            agenda.feed(cut - 1, SET_A[cut:])
-        agenda.drain(26, 1, 26)
-        self.assertEqual(self.play(agenda).released, 26 * [OK])
+            schedule.feed(cut - 1, SET_A[:cut])
+            schedule.feed(cut - 1, SET_A[cut:])
+        schedule.drain(26, 1, 26)
+        self.assertEqual(self.play(schedule).released, 26 * [OK])
 
     def test_the_last_entry(self):
-        agenda = Agenda(1)
+        schedule = Schedule(1)
         for _ in range(513):
-            agenda.feed(0, SET_A)
-        agenda.feed(0, GET_A)
-        agenda.drain(1, 514, 513)
-        trace = self.play(agenda)
+            schedule.feed(0, SET_A)
+        schedule.feed(0, GET_A)
+        schedule.drain(1, 514, 513)
+        trace = self.play(schedule)
         self.assert_bytes(trace.released[0], 512 * OK + STORE_IS_FULL + ONE)
         self.assertEqual([node.position for node in trace.nodes.values()], [512, 512])
 
     def test_a_standby_that_fills_first(self):
-        agenda = Agenda(1)
+        schedule = Schedule(1)
         for _ in range(513):
-            agenda.feed(0, SET_A)
-        agenda.drain(1, 513, 514)
-        trace = self.play(agenda, lines=(8_192, 4_096))
+            schedule.feed(0, SET_A)
+        schedule.drain(1, 513, 514)
+        trace = self.play(schedule, lines=(8_192, 4_096))
         self.assertEqual(len(trace.calls), 513)
         self.assertEqual(trace.calls[-1].reply, OK)
         self.assert_bytes(trace.released[0], 512 * OK)
         self.assertEqual([node.position for node in trace.nodes.values()], [513, 512])
 
     def test_every_seat_once(self):
-        agenda = Agenda(1_025)
+        schedule = Schedule(1_025)
         for c in (0, 1_023, 1_024):
-            agenda.feed(c, PING)
-            agenda.serve(c)
-            agenda.write_out(c, 32)
-        trace = self.play(agenda)
+            schedule.feed(c, PING)
+            schedule.serve(c)
+            schedule.write_out(c, 32)
+        trace = self.play(schedule)
         self.assertEqual(trace.done[:1_025], 1_024 * [True] + [False])
         self.assertEqual(len(trace.released), 1_024)
         self.assertEqual([call.connection for call in trace.calls], [0, 1_023])
@@ -84,14 +84,14 @@ class Events(Runs):
     """By which events a reply goes out."""
 
     def first_set(self):
-        agenda = Agenda(1)
-        agenda.feed(0, SET_A)
-        agenda.serve(0)
-        agenda.commit()
-        agenda.replicate(0)
-        agenda.read_marks(0)
-        agenda.add("release 0", "write 0 5")
-        return agenda
+        schedule = Schedule(1)
+        schedule.feed(0, SET_A)
+        schedule.serve(0)
+        schedule.commit()
+        schedule.replicate(0)
+        schedule.read_marks(0)
+        schedule.add("release 0", "write 0 5")
+        return schedule
 
     def test_a_reply_goes_out_only_by_all_its_events(self):
         whole = self.first_set()
@@ -99,33 +99,33 @@ class Events(Runs):
         self.assertEqual(self.play(whole).released, [OK])
         for place in range(18):
             with self.case("left out", event=whole.events[place]):
-                agenda = self.first_set()
-                del agenda.events[place]
-                self.assertEqual(b"".join(self.play(agenda).released), b"")
+                schedule = self.first_set()
+                del schedule.events[place]
+                self.assertEqual(b"".join(self.play(schedule).released), b"")
 
     def test_what_one_connection_set_another_gets_once_the_standby_holds_it(self):
         for is_acknowledged, output in [(False, b""), (True, ONE)]:
             with self.case("acknowledged", is_acknowledged=is_acknowledged):
-                agenda = Agenda(2)
-                agenda.feed(0, SET_A)
-                agenda.serve(0)
-                agenda.commit()
-                agenda.feed(1, GET_A)
-                agenda.serve(1)
+                schedule = Schedule(2)
+                schedule.feed(0, SET_A)
+                schedule.serve(0)
+                schedule.commit()
+                schedule.feed(1, GET_A)
+                schedule.serve(1)
                 if is_acknowledged:
-                    agenda.replicate(0)
-                agenda.read_marks(1)
-                agenda.write_out(1)
-                trace = self.play(agenda)
+                    schedule.replicate(0)
+                schedule.read_marks(1)
+                schedule.write_out(1)
+                trace = self.play(schedule)
                 self.assertEqual(len(trace.calls), 2)
                 self.assertEqual(trace.released, [b"", output])
 
     def test_a_read_of_a_new_image_waits_for_nothing(self):
-        agenda = Agenda(1)
-        agenda.feed(0, GET_A)
-        agenda.serve(0)
-        agenda.add("release 0", "write 0 5")
-        self.assertEqual(self.play(agenda).released, [b"$-1\r\n"])
+        schedule = Schedule(1)
+        schedule.feed(0, GET_A)
+        schedule.serve(0)
+        schedule.add("release 0", "write 0 5")
+        self.assertEqual(self.play(schedule).released, [b"$-1\r\n"])
 
     def test_both_marks_cover_a_reply(self):
         # the local mark is read before it rises: (0, 1)
@@ -136,23 +136,23 @@ class Events(Runs):
             ("both", ["read 0 remote", "read 0 local"], True),
         ]:
             with self.case(name):
-                agenda = self.first_set()
-                del agenda.events[-4:]
-                agenda.add(*reads, "release 0", "write 0 5")
-                trace = self.play(agenda)
+                schedule = self.first_set()
+                del schedule.events[-4:]
+                schedule.add(*reads, "release 0", "write 0 5")
+                trace = self.play(schedule)
                 self.assertEqual(trace.done[-2:], 2 * [is_out])
                 self.assertEqual(trace.released, [OK if is_out else b""])
 
     def test_a_reply_is_held_released_and_written_in_parts(self):
-        agenda = Agenda(1)
-        agenda.feed(0, SET_A)
-        agenda.add("hold 0", "offer 0", "turn 0", "hold 0", "hold 0")
-        agenda.commit()
-        agenda.add("read 0 local", "release 0", "write 0 1")
-        agenda.replicate(0)
-        agenda.add("release 0", "read 0 remote", "release 0", "release 0")
-        agenda.add("write 0 6", "write 0 3", "write 0 0", "write 0 2", "write 0 1")
-        trace = self.play(agenda)
+        schedule = Schedule(1)
+        schedule.feed(0, SET_A)
+        schedule.add("hold 0", "offer 0", "turn 0", "hold 0", "hold 0")
+        schedule.commit()
+        schedule.add("read 0 local", "release 0", "write 0 1")
+        schedule.replicate(0)
+        schedule.add("release 0", "read 0 remote", "release 0", "release 0")
+        schedule.add("write 0 6", "write 0 3", "write 0 0", "write 0 2", "write 0 1")
+        trace = self.play(schedule)
         self.assertEqual(trace.done[2:7], [False, True, True, True, False])
         self.assertEqual(trace.done[11:14], [True, False, False])
         self.assertEqual(trace.done[-9:], [False, True, True, False, False, True, True, True, False])
@@ -161,51 +161,51 @@ class Events(Runs):
     def test_reply_in_parts(self):
         for writes, output in [([4], b"$1\r\n"), ([4, 1], b"$1\r\nx"), ([4, 1, 2], b"$1\r\nx\r\n")]:
             with self.case("written", writes=writes):
-                agenda = Agenda(1)
-                agenda.feed(0, spell("SET", "k", "x") + spell("GET", "k"))
-                agenda.drain(1, 1, 1)
-                agenda.serve(0)
-                agenda.add("release 0", *(f"write 0 {count}" for count in writes))
-                self.assertEqual(self.play(agenda).released, [OK + output])
+                schedule = Schedule(1)
+                schedule.feed(0, spell("SET", "k", "x") + spell("GET", "k"))
+                schedule.drain(1, 1, 1)
+                schedule.serve(0)
+                schedule.add("release 0", *(f"write 0 {count}" for count in writes))
+                self.assertEqual(self.play(schedule).released, [OK + output])
 
     def test_replies_keep_their_order(self):
-        agenda = Agenda(1)
+        schedule = Schedule(1)
         for request in (SET_A, spell("GET", "z"), SET_B, spell("GET", "b")):
-            agenda.feed(0, request)
-            agenda.serve(0)
-            agenda.commit()
-        agenda.replicate(0)
-        agenda.read_marks(0)
+            schedule.feed(0, request)
+            schedule.serve(0)
+            schedule.commit()
+        schedule.replicate(0)
+        schedule.read_marks(0)
         # both marks have seen the first change, and the local one the second
-        agenda.add("release 0", "release 0", "write 0 11", "write 0 4")
-        agenda.replicate(1)
-        agenda.add("read 0 remote", "release 0", "write 0 19", "write 0 18")
-        trace = self.play(agenda)
+        schedule.add("release 0", "release 0", "write 0 11", "write 0 4")
+        schedule.replicate(1)
+        schedule.add("read 0 remote", "release 0", "write 0 19", "write 0 18")
+        trace = self.play(schedule)
         self.assertEqual(trace.done[-13:-9], [True, False, False, True])
         self.assertEqual(trace.done[-4:], [True, True, False, True])
         self.assertEqual(trace.released, [OK + b"$-1\r\n" + OK + b"$1\r\n2\r\n"])
 
     def test_events_of_a_connection_that_never_entered(self):
-        agenda = Agenda(1)
+        schedule = Schedule(1)
         for c in (1, 1_024, 2**64 - 1):
-            agenda.add(f"feed {c} GET a", f"feed-bytes {c}", f"offer {c}", f"turn {c}", f"hold {c}", f"release {c}")
-            agenda.add(f"read {c} local", f"read {c} remote", f"write {c} 0")
+            schedule.add(f"feed {c} GET a", f"feed-bytes {c}", f"offer {c}", f"turn {c}", f"hold {c}", f"release {c}")
+            schedule.add(f"read {c} local", f"read {c} remote", f"write {c} 0")
         most = 2**64 - 1
-        agenda.add(f"deliver {most}", f"ack-delivered {most}", f"write 0 {most}", "deliver 0", "ack-delivered 0")
-        agenda.add("write 0 0")
-        self.assertEqual(self.play(agenda).done[1:], 32 * [False] + [True])
+        schedule.add(f"deliver {most}", f"ack-delivered {most}", f"write 0 {most}", "deliver 0", "ack-delivered 0")
+        schedule.add("write 0 0")
+        self.assertEqual(self.play(schedule).done[1:], 32 * [False] + [True])
 
     def test_bounds_of_what_waits(self):
         # 256 items and 256 replies of a connection, 64 changing commands, 256 groups
-        agenda = Agenda(1)
-        agenda.feed(0, 600 * GET_A + 400 * SET_A)
-        agenda.add(*(300 * ["offer 0"] + 300 * ["turn 0"] + 300 * ["offer 0"] + 300 * ["turn 0"]))
+        schedule = Schedule(1)
+        schedule.feed(0, 600 * GET_A + 400 * SET_A)
+        schedule.add(*(300 * ["offer 0"] + 300 * ["turn 0"] + 300 * ["offer 0"] + 300 * ["turn 0"]))
         for _ in range(600):
-            agenda.add("hold 0", "offer 0", "turn 0")
+            schedule.add("hold 0", "offer 0", "turn 0")
         for _ in range(330):
-            agenda.add("close-group", "hold 0", "offer 0", "turn 0")
-        agenda.add(*(300 * ["commit", "raise-local", "hand"] + ["close-group", "commit"] + 300 * ["send"] + ["commit"]))
-        trace = self.play(agenda)
+            schedule.add("close-group", "hold 0", "offer 0", "turn 0")
+        schedule.add(*(300 * ["commit", "raise-local", "hand"] + ["close-group", "commit"] + 300 * ["send"] + ["commit"]))
+        trace = self.play(schedule)
         self.assertEqual(trace.done[2:302], 256 * [True] + 44 * [False])
         self.assertEqual(trace.done[302:602], 256 * [True] + 44 * [False])
         # of the next 600 turns the 344 GETs that are left and 64 SETs are served
@@ -229,12 +229,12 @@ class Groups(Runs):
         # one stamp a change on the primary, one for the group on the standby, one record on each
         for count in (1, 2, 3, 63, 64):
             with self.case("changes", count=count):
-                agenda = Agenda(1)
-                agenda.group(0, *(count * [SET_A]))
-                agenda.replicate(0)
-                agenda.group(0, SET_B)
-                agenda.replicate(1)
-                trace = self.play(agenda)
+                schedule = Schedule(1)
+                schedule.group(0, *(count * [SET_A]))
+                schedule.replicate(0)
+                schedule.group(0, SET_B)
+                schedule.replicate(1)
+                trace = self.play(schedule)
                 self.assertEqual(trace.frames, [Frame(1, 0, count, count), Frame(1, count, count + 1, 1)])
                 self.assertEqual(trace.acknowledgements, [(1, count), (1, count + 1)])
                 self.assertEqual(tuple(trace.nodes["primary"])[:4], (count + 1, 3, count + 1, count + 4_098))
@@ -242,58 +242,58 @@ class Groups(Runs):
 
     def test_a_group_closes_what_changed_and_nothing_else(self):
         # reads and refusals between the changes are no part of it
-        agenda = Agenda(2)
-        agenda.feed(1, GET_A + SET_B)
-        agenda.group(0, GET_A, SET_A, PING, GET_A)
-        agenda.serve(1)
-        agenda.serve(1)
-        agenda.commit()
-        nothing_waits = len(agenda.events)
-        agenda.commit()
-        agenda.replicate(0)
-        agenda.replicate(1)
-        trace = self.play(agenda)
+        schedule = Schedule(2)
+        schedule.feed(1, GET_A + SET_B)
+        schedule.group(0, GET_A, SET_A, PING, GET_A)
+        schedule.serve(1)
+        schedule.serve(1)
+        schedule.commit()
+        nothing_waits = len(schedule.events)
+        schedule.commit()
+        schedule.replicate(0)
+        schedule.replicate(1)
+        trace = self.play(schedule)
         self.assertEqual(trace.frames, [Frame(1, 0, 1, 1), Frame(1, 1, 2, 1)])
         self.assertEqual(trace.done[nothing_waits:nothing_waits + 4], 4 * [False])
 
     def test_a_group_of_several_connections(self):
-        agenda = Agenda(3)
+        schedule = Schedule(3)
         for c, request in enumerate(self.SETS):
-            agenda.feed(c, request)
-            agenda.serve(c)
-        agenda.commit()
-        agenda.replicate(0)
+            schedule.feed(c, request)
+            schedule.serve(c)
+        schedule.commit()
+        schedule.replicate(0)
         for c in range(3):
-            agenda.read_marks(c)
-            agenda.write_out(c, 8)
-        trace = self.play(agenda)
+            schedule.read_marks(c)
+            schedule.write_out(c, 8)
+        trace = self.play(schedule)
         self.assertEqual(trace.frames, [Frame(1, 0, 3, 3)])
         self.assertEqual(trace.released, 3 * [OK])
 
     def test_marks_move_by_whole_groups(self):
         # replies at the positions 1, 1, 2 and 3, all of one group: none goes out before the whole group is on both nodes
-        agenda = Agenda(1)
-        agenda.group(0, SET_A, GET_A, SET_B, spell("SET", "a", "3"))
-        start = len(agenda.events)
-        agenda.add("read 0 local", "release 0", "send", "deliver 0", "apply", "read 0 remote", "release 0")
-        agenda.acknowledge(0)
-        agenda.add("release 0", "read 0 remote", "release 0", "release 0", "write 0 22")
-        trace = self.play(agenda)
-        releases = [did for event, did in zip(agenda.events[start:], trace.done[start:]) if event == "release 0"]
+        schedule = Schedule(1)
+        schedule.group(0, SET_A, GET_A, SET_B, spell("SET", "a", "3"))
+        start = len(schedule.events)
+        schedule.add("read 0 local", "release 0", "send", "deliver 0", "apply", "read 0 remote", "release 0")
+        schedule.acknowledge(0)
+        schedule.add("release 0", "read 0 remote", "release 0", "release 0", "write 0 22")
+        trace = self.play(schedule)
+        releases = [did for event, did in zip(schedule.events[start:], trace.done[start:]) if event == "release 0"]
         self.assertEqual(releases, [False, False, False, True, False])
         self.assertEqual(trace.released, [OK + ONE + 2 * OK])
 
     def test_a_frame_of_three_changes_that_comes_again(self):
-        agenda = Agenda(1)
-        agenda.group(0, *self.SETS)
-        agenda.group(0, SET_A, SET_B)
-        agenda.add("send", "send", "open-link", "send", "send")
+        schedule = Schedule(1)
+        schedule.group(0, *self.SETS)
+        schedule.group(0, SET_A, SET_B)
+        schedule.add("send", "send", "open-link", "send", "send")
         # the second comes first and is refused; frames 2 and 3 are the two groups once more
-        agenda.take(1, 0, 0, 2, 3, 0, 1, 2)
-        agenda.acknowledge(7)
-        agenda.read_marks(0)
-        agenda.write_out(0, 16)
-        trace = self.play(agenda)
+        schedule.take(1, 0, 0, 2, 3, 0, 1, 2)
+        schedule.acknowledge(7)
+        schedule.read_marks(0)
+        schedule.write_out(0, 16)
+        trace = self.play(schedule)
         self.assertEqual(trace.acknowledgements, [(1, position) for position in (0, 3, 3, 3, 5, 5, 5, 5)])
         self.assertEqual(tuple(trace.nodes["standby"])[:3], (5, 3, 2))
         self.assertEqual(trace.records["standby"], A_AND_B)
@@ -303,18 +303,18 @@ class Groups(Runs):
         # an image of 4,096 lines takes 512 versions: so many are left when three come, and one after them
         for left, stands in [(4, 512), (3, 512), (2, 510), (1, 511), (0, 512)]:
             with self.case("left", left=left):
-                agenda = Agenda(1)
+                schedule = Schedule(1)
                 for number, size in enumerate(7 * [64] + [64 - left]):
-                    agenda.group(0, *(size * [SET_B]))
-                    agenda.replicate(number)
-                agenda.group(0, *self.SETS)
-                agenda.group(0, SET_B)
-                agenda.add("send", "send")
-                agenda.take(8, 8, 9, 8)
-                agenda.add(*(f"ack-delivered {number}" for number in range(14)), "raise-remote")
-                agenda.read_marks(0)
-                agenda.write_out(0, 4_096)
-                trace = self.play(agenda, lines=(8_192, 4_096))
+                    schedule.group(0, *(size * [SET_B]))
+                    schedule.replicate(number)
+                schedule.group(0, *self.SETS)
+                schedule.group(0, SET_B)
+                schedule.add("send", "send")
+                schedule.take(8, 8, 9, 8)
+                schedule.add(*(f"ack-delivered {number}" for number in range(14)), "raise-remote")
+                schedule.read_marks(0)
+                schedule.write_out(0, 4_096)
+                trace = self.play(schedule, lines=(8_192, 4_096))
                 self.assertEqual(trace.nodes["primary"].position, 516 - left)
                 self.assertEqual(trace.nodes["standby"].position, stands)
                 self.assert_bytes(trace.released[0], stands * OK)
@@ -325,83 +325,83 @@ class Frames(Runs):
 
     def sent(self, count):
         """A connection sets a and b in turn. All of it is committed on the primary, and sent."""
-        agenda = Agenda(1)
+        schedule = Schedule(1)
         for number in range(count):
-            agenda.feed(0, SET_B if number % 2 else SET_A)
-            agenda.serve(0)
-            agenda.commit()
-            agenda.add("send")
-        return agenda
+            schedule.feed(0, SET_B if number % 2 else SET_A)
+            schedule.serve(0)
+            schedule.commit()
+            schedule.add("send")
+        return schedule
 
     def assert_stands(self, trace, position):
         for node in NODES:
             self.assertEqual(trace.nodes[node].position, position)
             self.assertEqual(trace.records[node], A_AND_B)
 
-    def show(self, agenda, number):
-        agenda.acknowledge(number)
-        agenda.read_marks(0)
-        agenda.write_out(0, 64)
+    def show(self, schedule, number):
+        schedule.acknowledge(number)
+        schedule.read_marks(0)
+        schedule.write_out(0, 64)
 
     def test_frames_may_come_twice_late_and_out_of_order(self):
-        agenda = self.sent(8)
+        schedule = self.sent(8)
         # 2 and 1 come before 0 and are refused, and 7 before 4
-        agenda.take(2, 1, 0, 0, 2, 1, 0, 1, 2, 7, 3, 0)
+        schedule.take(2, 1, 0, 0, 2, 1, 0, 1, 2, 7, 3, 0)
         # the rest comes late: it is there before any of it is taken
-        agenda.add(*(f"deliver {frame}" for frame in (6, 4, 0, 5, 6, 3, 7, 6, 8)), *(9 * ["apply"]))
+        schedule.add(*(f"deliver {frame}" for frame in (6, 4, 0, 5, 6, 3, 7, 6, 8)), *(9 * ["apply"]))
         # the acknowledgements of 6 and 8 come, and older ones after them
         for number in (10, 14, 2, 0):
-            self.show(agenda, number)
-        trace = self.play(agenda)
+            self.show(schedule, number)
+        trace = self.play(schedule)
         self.assert_stands(trace, 8)
         self.assertEqual(trace.released, [8 * OK])
 
     def test_lost_frames_are_sent_again_by_a_link_that_opens_again(self):
-        agenda = self.sent(4)
-        agenda.take(0)
+        schedule = self.sent(4)
+        schedule.take(0)
         # frames 1 to 3 are lost; the standby tells that it stands at 1
-        agenda.add("open-link")
-        self.show(agenda, 1)
+        schedule.add("open-link")
+        self.show(schedule, 1)
         for request in (SET_A, SET_B, SET_A, SET_B):
-            agenda.feed(0, request)
-            agenda.serve(0)
-            agenda.commit()
-        sends = len(agenda.events)
-        agenda.add(*(8 * ["send"]))
+            schedule.feed(0, request)
+            schedule.serve(0)
+            schedule.commit()
+        sends = len(schedule.events)
+        schedule.add(*(8 * ["send"]))
         # the three that were lost are frames 4 to 6, and the four new ones 7 to 10
-        agenda.take(7, 4, 5, 5, 8, 6, 7, 3, 8, 9, 10)
-        self.show(agenda, 10)
-        trace = self.play(agenda)
+        schedule.take(7, 4, 5, 5, 8, 6, 7, 3, 8, 9, 10)
+        self.show(schedule, 10)
+        trace = self.play(schedule)
         self.assertEqual(trace.done[sends:sends + 8], 7 * [True] + [False])
         self.assert_stands(trace, 8)
         self.assertEqual(trace.released, [8 * OK])
 
     def test_repeats_are_acknowledged_and_gaps_are_not(self):
-        agenda = self.sent(7)
-        agenda.take(0, 1, 2, 3)
+        schedule = self.sent(7)
+        schedule.take(0, 1, 2, 3)
         # a standby at 4: the frame 4 to 5 three times, 6 to 7, 5 to 6
-        agenda.take(4, 4, 4, 6, 5)
-        first = len(agenda.events)
+        schedule.take(4, 4, 4, 6, 5)
+        first = len(schedule.events)
         for number in range(3, 9):
-            agenda.acknowledge(number)
-        agenda.read_marks(0)
-        agenda.write_out(0, 64)
-        trace = self.play(agenda)
+            schedule.acknowledge(number)
+        schedule.read_marks(0)
+        schedule.write_out(0, 64)
+        trace = self.play(schedule)
         # 4, then 5 three times, then 6, and no more
         rises = [True, True, True, True, True, False, True, False, True, True, False, False]
         self.assertEqual(trace.done[first:first + 12], rises)
         self.assertEqual(trace.released, [6 * OK])
 
     def test_a_link_keeps_at_most_256_groups(self):
-        agenda = self.sent(258)
-        agenda.add("open-link", *(257 * ["send"]))
-        agenda.take(*range(256))
-        agenda.acknowledge(256)
-        agenda.add("send", "send", "send")
-        agenda.take(*range(512, 515))
-        agenda.acknowledge(258)
-        agenda.read_marks(0)
-        agenda.write_out(0)
-        trace = self.play(agenda)
+        schedule = self.sent(258)
+        schedule.add("open-link", *(257 * ["send"]))
+        schedule.take(*range(256))
+        schedule.acknowledge(256)
+        schedule.add("send", "send", "send")
+        schedule.take(*range(512, 515))
+        schedule.acknowledge(258)
+        schedule.read_marks(0)
+        schedule.write_out(0)
+        trace = self.play(schedule)
         self.assert_stands(trace, 258)
         self.assertEqual(trace.released, [258 * OK])

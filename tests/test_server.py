@@ -41,7 +41,7 @@ class FirstPath(Served):
             with self.case("cut in two", cut=cut):
                 self.assert_written(run_in_pieces("server", [data[:cut], data[cut:]]), output)
         for length in range(len(data)):
-            with self.case("front", length=length):
+            with self.case("prefix", length=length):
                 self.assert_plainly_served(data[:length])
 
     def test_no_input(self):

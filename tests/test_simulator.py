@@ -1,7 +1,7 @@
 """The simulator itself: its words and lines, what it says of bad ones, and the order and form of what it prints."""
 
 from common import Cases, run_program
-from simulation import Agenda, Trace, simulate
+from simulation import Schedule, Trace, simulate
 from worked_cases import GET_A, SET_A
 
 PROGRAMS = ["simulator"]
@@ -98,11 +98,11 @@ class Printed(Cases):
 
     def test_bytes_are_quoted(self):
         data = bytes(range(256))
-        agenda = Agenda(1)
+        schedule = Schedule(1)
         for at in range(0, 256, 8):
-            agenda.feed(0, b"*2\r\n$3\r\nSET\r\n$8\r\n" + data[at:at + 8] + b"\r\n")
-            agenda.serve(0)
-        finished = simulator([], text_of(agenda.events))
+            schedule.feed(0, b"*2\r\n$3\r\nSET\r\n$8\r\n" + data[at:at + 8] + b"\r\n")
+            schedule.serve(0)
+        finished = simulator([], text_of(schedule.events))
         words = b"".join(call.words[1] for call in Trace(finished.output.decode("ascii")).calls)
         self.assertEqual(words, data)
         for word in PRINTED_WORDS:
@@ -110,21 +110,21 @@ class Printed(Cases):
                 self.assertIn(f'"SET" {word} -> '.encode(), finished.output)
 
     def test_a_fault_is_no_request(self):
-        agenda = Agenda(1)
-        agenda.feed(0, b"P")
-        agenda.serve(0)
-        finished = simulator(["--plain"], text_of(agenda.events))
+        schedule = Schedule(1)
+        schedule.feed(0, b"P")
+        schedule.serve(0)
+        finished = simulator(["--plain"], text_of(schedule.events))
         self.assertIn(b"call 0: connection 0, fault -> \"-ERR Protocol error: expected '*'\\r\\n\"\n", finished.output)
         self.assertIn(b"plain 0: position 0 -> \"-ERR Protocol error: expected '*'\\r\\n\"\n", finished.output)
 
     def test_plain_redis_beside_a_full_store(self):
-        agenda = Agenda(1)
+        schedule = Schedule(1)
         for _ in range(514):
-            agenda.feed(0, SET_A)
-            agenda.serve(0)
-            agenda.commit()
-            agenda.add("send")
-        trace = simulate(agenda.events, "--plain")
+            schedule.feed(0, SET_A)
+            schedule.serve(0)
+            schedule.commit()
+            schedule.add("send")
+        trace = simulate(schedule.events, "--plain")
         self.assertEqual(trace.plain, [(number + 1, b"+OK\r\n") for number in range(514)])
         self.assertEqual({call.reply for call in trace.calls[512:]}, {b"-ERR store is full\r\n"})
 
@@ -160,11 +160,11 @@ class Lines(Cases):
         self.assertEqual(trace.done, [True, False, False, False])
 
     def test_ended_at_an_event_of_a_repeat(self):
-        agenda = Agenda(1)
-        agenda.feed(0, SET_A)
-        agenda.add("offer 0", "turn 0", "close-group")
+        schedule = Schedule(1)
+        schedule.feed(0, SET_A)
+        schedule.add("offer 0", "turn 0", "close-group")
         before, after = ["# the first fence of the first commit", "fail primary 4"], ["repeat 3 commit", "enter"]
-        trace = simulate(before + agenda.events + after)
+        trace = simulate(before + schedule.events + after)
         self.assertEqual(trace.ended, "at event 5, line 8: refusal 1: device fault")
         self.assertEqual(trace.event_lines, [3, 4, 5, 6, 7])
 

@@ -16,7 +16,7 @@ free_line-bounds room line free = grind (arith, nat_tests)
 -- what was handed out is what came next
 pub TakesExtent-first : (old : Room) (extent : Extent) (new : Room) → 0 < extent.lines → TakesExtent old extent new → extent.first_line ≡ old.next_line
 TakesExtent-first old extent new some takes =
-    let front = free_line-bounds old extent.first_line (takes.free extent.first_line (omega arith) (omega arith)) in
+    let prefix = free_line-bounds old extent.first_line (takes.free extent.first_line (omega arith) (omega arith)) in
     let last = extent.first_line + (extent.lines - 1) in
     let back = free_line-bounds old last (takes.free last (omega arith) (omega arith)) in
     let low = takes.lowest old.next_line (λ line from below. free_line old line from (omega arith)) in

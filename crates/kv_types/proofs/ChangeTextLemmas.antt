@@ -4,7 +4,7 @@ use Rattle.std.proofs.lemmas.List.{drop_more}
 use Rattle.kv_types.specs.declared.record_id.RecordId.TheVariants.{Str, Field}
 use Rattle.kv_types.specs.declared.change.Change.{Change}
 use Rattle.kv_types.specs.declared.change.Change.TheVariants.{Put, Drop, DropKey, Clear}
-use Rattle.kv_types.specs.Changes.{short_bytes, long_bytes, change_text, changes_text, changes_size}
+use Rattle.kv_types.specs.Change.{short_bytes, long_bytes, change_text, changes_text, changes_size}
 
 pub length-short_bytes : (bytes : List ℕ) → length (short_bytes bytes) ≡ 2 + length bytes
 length-short_bytes bytes = omega arith

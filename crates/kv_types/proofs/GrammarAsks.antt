@@ -6,8 +6,8 @@ use Rattle.kv_types.specs.declared.limits.Limits.{Limits}
 use Rattle.kv_types.specs.declared.item.ProtocolFault.{ProtocolFault}
 use Rattle.kv_types.specs.declared.item.Item.{Item}
 use Rattle.kv_types.specs.declared.item.Item.TheVariants.{Fault}
-use Rattle.kv_types.specs.Words.{IsWithin}
-use Rattle.kv_types.specs.Requests.{spelling, Begins, FaultsWith, item_of, EndsWith, AsksFor}
+use Rattle.kv_types.specs.Word.{IsWithin}
+use Rattle.kv_types.specs.Request.{spelling, Begins, FaultsWith, item_of, EndsWith, AsksFor}
 use Rattle.kv_types.specs.Reading.{Stop, Short, Broken, Read, request_at, items_from, items_at}
 use Rattle.kv_types.proofs.GrammarGrows.{request_at-more}
 use Rattle.kv_types.proofs.GrammarRests.{length-IsEndOf, Leaves, rest_of, request_at-leaves}
@@ -17,7 +17,7 @@ use Rattle.kv_types.proofs.GrammarRequests.{HasNumbers, request_at-again, reques
 pub Begins-short : (limits : Limits) (bytes : List ℕ) → HasNumbers limits → request_at limits bytes ≡ Err Short → Begins limits bytes
 Begins-short limits bytes numbers e =
     let b = request_at-short limits bytes numbers e in
-    record { rest = b.front.byte ∷ b.front.rest; words = b.words; spells = record { within = b.within; whole = b.front.joined } }
+    record { rest = b.prefix.byte ∷ b.prefix.rest; words = b.words; spells = record { within = b.within; whole = b.prefix.joined } }
 
 request_at-spelling : (limits : Limits) (words : List (List ℕ)) → HasNumbers limits → IsWithin limits words → request_at limits (spelling words) ≡ Ok (words, [])
 request_at-spelling limits words numbers within = ap (request_at limits) (sym (append-nil (spelling words))) ∙ request_at-again limits words [] numbers within
@@ -33,12 +33,12 @@ FaultsWith-broken : (limits : Limits) (bytes : List ℕ) (fault : ProtocolFault)
 FaultsWith-broken limits bytes fault numbers e =
     let b = request_at-breaks limits bytes fault numbers e in
     record {
-      front = b.front;
+      prefix = b.prefix;
       byte = b.byte;
       rest = b.rest;
       split = b.split;
-      begins = Begins-short limits b.front numbers b.short;
-      breaks = not_begun limits (b.front ++ b.byte ∷ []) fault numbers b.broken;
+      begins = Begins-short limits b.prefix numbers b.short;
+      breaks = not_begun limits (b.prefix ++ b.byte ∷ []) fault numbers b.broken;
       says = b.place;
     }
 

@@ -7,7 +7,7 @@ use Rattle.std.proofs.lemmas.Fmt.{decimal_is_IsNumeral, decimal_is_IsNumeral_wid
 use Rattle.std.specs.Str.Parse.{digits_value}
 use Rattle.std.specs.List.{AllByRecursion}
 use Rattle.std.specs.Fmt.{decimal, digits, digits_onto, digit_glyph}
-use Rattle.kv_types.specs.Requests.{number_line}
+use Rattle.kv_types.specs.Request.{number_line}
 use Rattle.kv_types.proofs.GrammarNumbers.{number_line-append}
 
 -- none of these is a carriage return

@@ -5,7 +5,7 @@ use Rattle.kv_types.specs.declared.limits.Limits.{Limits}
 use Rattle.kv_types.specs.declared.item.ProtocolFault.{ProtocolFault}
 use Rattle.kv_types.specs.declared.item.Item.{Item}
 use Rattle.kv_types.specs.declared.item.Item.TheVariants.{Request, Fault}
-use Rattle.kv_types.specs.Requests.{item_of}
+use Rattle.kv_types.specs.Request.{item_of}
 use Rattle.kv_types.specs.Reading.{Stop, Short, Broken, Read, request_at, items_from, items_within, items_at}
 use Rattle.kv_types.proofs.GrammarGrows.{Keeps, with_more, request_at-more}
 use Rattle.kv_types.proofs.GrammarRests.{IsEndOf, IsEndOf-self, IsEndOf-cons, IsEndOf-trans, length-IsEndOf, Leaves, rest_of, request_at-leaves}
@@ -179,7 +179,7 @@ continues_from limits text sound None e =
     absurd (sound broken.fault (rw broken.last (length broken.before, omega (arith, length_push broken.before (Fault broken.fault)), get_or_push broken.before (Fault broken.fault) (Fault broken.fault) (length broken.before) refl)))
 continues_from limits text sound (Some unread) e =
     let left = IsUnread-unread_at limits text unread e in
-    (left.end.front, unread, left.end.joined, left.short, λ more. items_at-append limits text more ∙ ap (λ left. items_at limits text ++ later_items limits left more) e)
+    (left.end.prefix, unread, left.end.joined, left.short, λ more. items_at-append limits text more ∙ ap (λ left. items_at limits text ++ later_items limits left more) e)
 
 pub items_at-continues : (limits : Limits) (text : List ℕ) → ((fault : ProtocolFault) → ¬ Contains (items_at limits text) (Fault fault)) → Continues limits text
 items_at-continues limits text sound = continues_from limits text sound (unread_at limits text) refl

@@ -5,7 +5,7 @@ use Rattle.std.proofs.lemmas.Bool.{ltb-true, leb-true, eqb-true, lt-ltb, le-leb,
 use Rattle.std.proofs.lemmas.Fmt.{decimal_by_steps, decimal_digit, decimal_step}
 use Rattle.std.specs.Fmt.{decimal}
 use Rattle.kv_types.specs.declared.item.ProtocolFault.{ProtocolFault}
-use Rattle.kv_types.specs.Requests.{line_end, number_line, IsProperFront}
+use Rattle.kv_types.specs.Request.{line_end, number_line, IsProperPrefix}
 use Rattle.kv_types.specs.Reading.{Short, Broken, is_digit, after_byte, with_line_feed, number_from, number_at}
 use Rattle.kv_types.proofs.GrammarSteps.{chosen, bind_ok, bind_err, ok_parts, after_byte-takes, after_byte-short, after_byte-breaks, BreaksAt, BreaksAt-first, BreaksAt-behind, BreaksAt-here, Anywhere}
 
@@ -51,9 +51,9 @@ number_at-number_line most fault n rest small fits = ap (number_at most fault) (
 
 decimal-push : (n d : ℕ) → d < 10 → 0 < n → 10 * n + d < 2 ^ 64 → decimal (10 * n + d) ≡ decimal n ++ ((48 + d) ∷ [])
 decimal-push n d small positive fits =
-    let front : (10 * n + d) / 10 ≡ n = omega arith in
+    let prefix : (10 * n + d) / 10 ≡ n = omega arith in
     let last : (10 * n + d) % 10 ≡ d = omega arith in
-    decimal_step (10 * n + d) (omega arith) fits ∙ ap (λ k. decimal k ++ ((48 + (10 * n + d) % 10) ∷ [])) front ∙ ap (λ k. decimal n ++ ((48 + k) ∷ [])) last
+    decimal_step (10 * n + d) (omega arith) fits ∙ ap (λ k. decimal k ++ ((48 + (10 * n + d) % 10) ∷ [])) prefix ∙ ap (λ k. decimal n ++ ((48 + k) ∷ [])) last
 
 -- a digit more, as a byte that was tested
 decimal-byte : (n byte : ℕ) (bytes : List ℕ) → is_digit byte ≡ true → 0 < n → 10 * n + (byte - 48) < 2 ^ 64 → decimal n ++ (byte ∷ bytes) ≡ decimal (10 * n + (byte - 48)) ++ bytes
@@ -126,7 +126,7 @@ number_at-takes most fault (byte ∷ bytes) n rest small e =
 
 -- ---- what is too short begins a spelling
 
-number_from-short : (most : ℕ) (fault : ProtocolFault) (n : ℕ) (bytes : List ℕ) → most < 2 ^ 64 → n ≤ most → number_from most fault n bytes ≡ Err Short → (m : ℕ) × (m ≤ most) × IsProperFront (decimal n ++ bytes) (number_line m)
+number_from-short : (most : ℕ) (fault : ProtocolFault) (n : ℕ) (bytes : List ℕ) → most < 2 ^ 64 → n ≤ most → number_from most fault n bytes ≡ Err Short → (m : ℕ) × (m ≤ most) × IsProperPrefix (decimal n ++ bytes) (number_line m)
 number_from-short most fault n [] small fits e = (n, fits, record { byte = 13; rest = 10 ∷ []; joined = ap (λ x. x ++ (13 ∷ 10 ∷ [])) (append-nil (decimal n)) })
 number_from-short most fault n (byte ∷ bytes) small fits e =
     ⊎_elim
@@ -145,9 +145,9 @@ number_from-short most fault n (byte ∷ bytes) small fits e =
 
 -- what stands before the byte at which a number breaks
 abbrev pub InNumber : ℕ → List ℕ → ℕ → ProtocolFault → Type 0
-InNumber most front byte fault = (n : ℕ) × (n ≤ most) × IsProperFront front (number_line n)
+InNumber most prefix byte fault = (n : ℕ) × (n ≤ most) × IsProperPrefix prefix (number_line n)
 
-pub number_at-short : (most : ℕ) (fault : ProtocolFault) (bytes : List ℕ) → most < 2 ^ 64 → number_at most fault bytes ≡ Err Short → (n : ℕ) × (n ≤ most) × IsProperFront bytes (number_line n)
+pub number_at-short : (most : ℕ) (fault : ProtocolFault) (bytes : List ℕ) → most < 2 ^ 64 → number_at most fault bytes ≡ Err Short → (n : ℕ) × (n ≤ most) × IsProperPrefix bytes (number_line n)
 number_at-short most fault [] small e = (0, omega arith, record { byte = 48; rest = 13 ∷ 10 ∷ []; joined = sym (ap (λ x. x ++ (13 ∷ 10 ∷ [])) (decimal_digit 0 (omega arith))) })
 number_at-short most fault (byte ∷ bytes) small e =
     ⊎_elim
@@ -171,15 +171,15 @@ number_from-breaks most fault n (byte ∷ bytes) said e =
     (λ h.
     let feed = after_byte-breaks 10 fault said bytes h in (
       feed.0,
-      BreaksAt-behind (with_line_feed fault n) (number_from most fault n) Anywhere Anywhere (byte ∷ []) bytes said (λ after. cond-true (byte == 13) _ _ end.0) (λ front b p. tt)
-          (BreaksAt-first (after_byte 10 fault) (λ rest. Ok (n, rest)) (λ front b f. (front ≡ []) × (f ≡ fault)) Anywhere bytes said (λ front b p. tt) feed.1),
+      BreaksAt-behind (with_line_feed fault n) (number_from most fault n) Anywhere Anywhere (byte ∷ []) bytes said (λ after. cond-true (byte == 13) _ _ end.0) (λ prefix b p. tt)
+          (BreaksAt-first (after_byte 10 fault) (λ rest. Ok (n, rest)) (λ prefix b f. (prefix ≡ []) × (f ≡ fault)) Anywhere bytes said (λ prefix b p. tt) feed.1),
     ))
     (λ h. absurd (cc))
     (bind_err (λ rest. Ok (n, rest)) (after_byte 10 fault bytes) (Broken said) end.1))
     (λ go. ⊎_elim
     (λ h.
     let found = number_from-breaks most fault (10 * n + (byte - 48)) bytes said h.1 in
-    (found.0, BreaksAt-behind (number_from most fault (10 * n + (byte - 48))) (number_from most fault n) Anywhere Anywhere (byte ∷ []) bytes said (number_from-cons most fault n byte go.0 h.0) (λ front b p. tt) found.1))
+    (found.0, BreaksAt-behind (number_from most fault (10 * n + (byte - 48))) (number_from most fault n) Anywhere Anywhere (byte ∷ []) bytes said (number_from-cons most fault n byte go.0 h.0) (λ prefix b p. tt) found.1))
     (λ h.
     let same : said ≡ fault = cc in
     (same, BreaksAt-here (number_from most fault n) Anywhere byte bytes said refl (cond-false (byte == 13) _ _ go.0 ∙ cond-false _ _ _ h.0 ∙ h.1) tt))
@@ -189,7 +189,7 @@ number_from-breaks most fault n (byte ∷ bytes) said e =
 -- as `BreaksAt`, with the place that being too short gives
 placed : (most : ℕ) (fault said : ProtocolFault) (bytes : List ℕ) → most < 2 ^ 64 → BreaksAt (number_at most fault) Anywhere bytes said → BreaksAt (number_at most fault) (InNumber most) bytes said
 placed most fault said bytes small b =
-    record { front = b.front; byte = b.byte; rest = b.rest; split = b.split; short = b.short; broken = b.broken; place = number_at-short most fault b.front small b.short }
+    record { prefix = b.prefix; byte = b.byte; rest = b.rest; split = b.split; short = b.short; broken = b.broken; place = number_at-short most fault b.prefix small b.short }
 
 pub number_at-breaks : (most : ℕ) (fault : ProtocolFault) (bytes : List ℕ) (said : ProtocolFault) → most < 2 ^ 64 → number_at most fault bytes ≡ Err (Broken said) → (said ≡ fault) × BreaksAt (number_at most fault) (InNumber most) bytes said
 number_at-breaks most fault [] said small e = absurd (cc)
@@ -197,7 +197,7 @@ number_at-breaks most fault (byte ∷ bytes) said small e =
     ⊎_elim
     (λ h.
     let found = number_from-breaks most fault (byte - 48) bytes said h.1 in
-    (found.0, placed most fault said (byte ∷ bytes) small (BreaksAt-behind (number_from most fault (byte - 48)) (number_at most fault) Anywhere Anywhere (byte ∷ []) bytes said (λ after. cond-true _ _ _ h.0) (λ front b p. tt) found.1)))
+    (found.0, placed most fault said (byte ∷ bytes) small (BreaksAt-behind (number_from most fault (byte - 48)) (number_at most fault) Anywhere Anywhere (byte ∷ []) bytes said (λ after. cond-true _ _ _ h.0) (λ prefix b p. tt) found.1)))
     (λ h.
     let same : said ≡ fault = cc in
     (same, placed most fault said (byte ∷ bytes) small (BreaksAt-here (number_at most fault) Anywhere byte bytes said refl (cond-false _ _ _ h.0 ∙ h.1) tt)))

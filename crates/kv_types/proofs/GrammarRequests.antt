@@ -5,12 +5,12 @@ use Rattle.std.specs.List.{AllByRecursion, flat_map}
 use Rattle.kv_types.specs.declared.limits.Limits.{Limits}
 use Rattle.kv_types.specs.declared.item.ProtocolFault.{ProtocolFault}
 use Rattle.kv_types.specs.declared.item.ProtocolFault.TheVariants.{ExpectedArray, InvalidMultibulkLength, ExpectedBulk, InvalidBulkLength, ExpectedLineEnd}
-use Rattle.kv_types.specs.Words.{IsWithin}
-use Rattle.kv_types.specs.Requests.{number_line, bulk, spelling, IsProperFront, Says}
+use Rattle.kv_types.specs.Word.{IsWithin}
+use Rattle.kv_types.specs.Request.{number_line, bulk, spelling, IsProperPrefix, Says}
 use Rattle.kv_types.specs.Reading.{Stop, Short, Broken, Read, ◌>>=◌, after_byte, number_at, word_at, with_first, words_at, request_at}
 use Rattle.kv_types.proofs.GrammarSteps.{bind_ok, bind_err, ok_parts, after_byte-takes, after_byte-short, after_byte-breaks, BreaksAt, BreaksAt-first, BreaksAt-behind}
 use Rattle.kv_types.proofs.GrammarNumbers.{number_at-number_line, number_at-takes, number_at-short, number_at-breaks, InNumber}
-use Rattle.kv_types.proofs.GrammarWords.{IsProperFront-append, IsProperFront-behind, IsProperFront-same, InWord, word_at-again, word_at-takes, word_at-short, word_at-breaks}
+use Rattle.kv_types.proofs.GrammarWords.{IsProperPrefix-append, IsProperPrefix-behind, IsProperPrefix-same, InWord, word_at-again, word_at-takes, word_at-short, word_at-breaks}
 
 -- numbers that the limits allow have a spelling of their own
 pub record HasNumbers (limits : Limits) : Type 0 where
@@ -38,7 +38,7 @@ words_at-again limits (word ∷ words) rest numbers short =
 pub words_at-behind : (limits : Limits) (count : ℕ) (word after : List ℕ) → HasNumbers limits → length word ≤ limits.word_bytes → words_at limits (suc count) (bulk word ++ after) ≡ words_after limits count (word, after)
 words_at-behind limits count word after numbers short = ap (λ r. r >>= words_after limits count) (word_at-again limits word after numbers.word_bytes short)
 
--- these words, so many of them and none too long, are spelled at the front of the bytes
+-- these words, so many of them and none too long, are spelled at the prefix of the bytes
 pub record TakesWords (limits : Limits) (count : ℕ) (bytes : List ℕ) (words : List (List ℕ)) (rest : List ℕ) : Type 0 where
   pub count_is : length words ≡ count
   pub short : AreShort limits words
@@ -65,7 +65,7 @@ pub record BeginsWords (limits : Limits) (count : ℕ) (bytes : List ℕ) : Type
   pub words : List (List ℕ)
   pub count_is : length words ≡ count
   pub short : AreShort limits words
-  pub front : IsProperFront bytes (flat_map bulk words)
+  pub prefix : IsProperPrefix bytes (flat_map bulk words)
 
 AreShort-empty : (limits : Limits) (count : ℕ) → AreShort limits (replicate count [])
 AreShort-empty limits zero = tt
@@ -81,7 +81,7 @@ words_at-short limits (suc count) bytes numbers e =
             words = word.0 ∷ replicate count [];
             count_is = ap suc (length-replicate count []);
             short = (word.1, AreShort-empty limits count);
-            front = IsProperFront-append bytes (bulk word.0) (flat_map bulk (replicate count [])) word.2;
+            prefix = IsProperPrefix-append bytes (bulk word.0) (flat_map bulk (replicate count [])) word.2;
           }
       | inr h ↦
           let word = word_at-takes limits bytes h.0.0 h.0.1 numbers.word_bytes h.1 in
@@ -90,16 +90,16 @@ words_at-short limits (suc count) bytes numbers e =
             words = h.0.0 ∷ others.words;
             count_is = ap suc others.count_is;
             short = (word.0, others.short);
-            front = IsProperFront-same word.1 refl (IsProperFront-behind (bulk h.0.0) h.0.1 (flat_map bulk others.words) others.front);
+            prefix = IsProperPrefix-same word.1 refl (IsProperPrefix-behind (bulk h.0.0) h.0.1 (flat_map bulk others.words) others.prefix);
           }
     ]
 
 -- what stands before the byte at which one of so many words breaks
-pub record InWords (limits : Limits) (count : ℕ) (front : List ℕ) (byte : ℕ) (fault : ProtocolFault) : Type 0 where
+pub record InWords (limits : Limits) (count : ℕ) (prefix : List ℕ) (byte : ℕ) (fault : ProtocolFault) : Type 0 where
   pub words : List (List ℕ)
   pub inner : List ℕ
   pub fewer : length words < count
-  pub front_is : front ≡ flat_map bulk words ++ inner
+  pub prefix_is : prefix ≡ flat_map bulk words ++ inner
   pub within : InWord limits inner byte fault
 
 pub words_at-breaks : (limits : Limits) (count : ℕ) (bytes : List ℕ) (said : ProtocolFault) → HasNumbers limits → words_at limits count bytes ≡ Err (Broken said) → BreaksAt (words_at limits count) (InWords limits count) bytes said
@@ -107,21 +107,21 @@ words_at-breaks limits zero bytes said numbers e = absurd (cc)
 words_at-breaks limits (suc count) bytes said numbers e =
     elim (bind_err (words_after limits count) (word_at limits bytes) (Broken said) e) [
       | inl h ↦ BreaksAt-first (word_at limits) (words_after limits count) (InWord limits) (InWords limits (suc count)) bytes said
-          (λ front byte p. record { words = []; inner = front; fewer = omega arith; front_is = refl; within = p })
+          (λ prefix byte p. record { words = []; inner = prefix; fewer = omega arith; prefix_is = refl; within = p })
           (word_at-breaks limits bytes said numbers.word_bytes h)
       | inr h ↦
           let word = word_at-takes limits bytes h.0.0 h.0.1 numbers.word_bytes h.1 in
           let others = words_at-breaks limits count h.0.1 said numbers (elim (bind_err (λ others. Ok (with_first h.0.0 others)) (words_at limits count h.0.1) (Broken said) h.2) [ inl k ↦ k | inr k ↦ absurd (cc) ]) in
           rw word.1 (BreaksAt-behind (λ after. words_after limits count (h.0.0, after)) (words_at limits (suc count)) (InWords limits count) (InWords limits (suc count)) (bulk h.0.0) h.0.1 said
           (λ after. words_at-behind limits count h.0.0 after numbers word.0)
-          (λ front byte p. record {
+          (λ prefix byte p. record {
             words = h.0.0 ∷ p.words;
             inner = p.inner;
             fewer = omega (arith, p.fewer);
-            front_is = ap (λ x. bulk h.0.0 ++ x) p.front_is ∙ sym (append_assoc (bulk h.0.0) (flat_map bulk p.words) p.inner);
+            prefix_is = ap (λ x. bulk h.0.0 ++ x) p.prefix_is ∙ sym (append_assoc (bulk h.0.0) (flat_map bulk p.words) p.inner);
             within = p.within;
           })
-          (BreaksAt-first (words_at limits count) (λ others. Ok (with_first h.0.0 others)) (InWords limits count) (InWords limits count) h.0.1 said (λ front byte p. p) others))
+          (BreaksAt-first (words_at limits count) (λ others. Ok (with_first h.0.0 others)) (InWords limits count) (InWords limits count) h.0.1 said (λ prefix byte p. p) others))
     ]
 
 -- ---- requests
@@ -154,17 +154,17 @@ request_at-takes limits bytes words rest numbers e =
 pub record BeginsRequest (limits : Limits) (bytes : List ℕ) : Type 0 where
   pub words : List (List ℕ)
   pub within : IsWithin limits words
-  pub front : IsProperFront bytes (spelling words)
+  pub prefix : IsProperPrefix bytes (spelling words)
 
 -- bytes that end in the number of words, and behind it
-begun_in_number : (limits : Limits) (n : ℕ) (inside bytes : List ℕ) → n ≤ limits.words → bytes ≡ 42 ∷ inside → IsProperFront inside (number_line n) → BeginsRequest limits bytes
+begun_in_number : (limits : Limits) (n : ℕ) (inside bytes : List ℕ) → n ≤ limits.words → bytes ≡ 42 ∷ inside → IsProperPrefix inside (number_line n) → BeginsRequest limits bytes
 begun_in_number limits n inside bytes fits whole p =
     let words : List (List ℕ) = replicate n [] in
     let count : length words ≡ n = length-replicate n [] in
     record {
       words = words;
       within = record { count = omega (arith, count); lengths = AreShort-empty limits n };
-      front = IsProperFront-same whole (ap (λ k. 42 ∷ (number_line k ++ flat_map bulk words)) (sym count)) (IsProperFront-behind (42 ∷ []) inside _ (IsProperFront-append inside (number_line n) (flat_map bulk words) p));
+      prefix = IsProperPrefix-same whole (ap (λ k. 42 ∷ (number_line k ++ flat_map bulk words)) (sym count)) (IsProperPrefix-behind (42 ∷ []) inside _ (IsProperPrefix-append inside (number_line n) (flat_map bulk words) p));
     }
 
 begun_behind_number : (limits : Limits) (n : ℕ) (after inside bytes : List ℕ) → n ≤ limits.words → bytes ≡ 42 ∷ inside → inside ≡ number_line n ++ after → BeginsWords limits n after → BeginsRequest limits bytes
@@ -172,7 +172,7 @@ begun_behind_number limits n after inside bytes fits whole line b =
     record {
       words = b.words;
       within = record { count = omega (arith, b.count_is); lengths = b.short };
-      front = IsProperFront-same (whole ∙ ap (λ x. 42 ∷ x) line) (ap (λ k. 42 ∷ (number_line k ++ flat_map bulk b.words)) (sym b.count_is)) (IsProperFront-behind (42 ∷ number_line n) after (flat_map bulk b.words) b.front);
+      prefix = IsProperPrefix-same (whole ∙ ap (λ x. 42 ∷ x) line) (ap (λ k. 42 ∷ (number_line k ++ flat_map bulk b.words)) (sym b.count_is)) (IsProperPrefix-behind (42 ∷ number_line n) after (flat_map bulk b.words) b.prefix);
     }
 
 pub request_at-short : (limits : Limits) (bytes : List ℕ) → HasNumbers limits → request_at limits bytes ≡ Err Short → BeginsRequest limits bytes
@@ -181,7 +181,7 @@ request_at-short limits bytes numbers e =
       | inl h ↦ record {
         words = [];
         within = record { count = omega arith; lengths = tt };
-        front = record { byte = 42; rest = number_line 0 ++ []; joined = ap (λ x. x ++ (42 ∷ (number_line 0 ++ []))) (after_byte-short 42 ExpectedArray bytes h) };
+        prefix = record { byte = 42; rest = number_line 0 ++ []; joined = ap (λ x. x ++ (42 ∷ (number_line 0 ++ []))) (after_byte-short 42 ExpectedArray bytes h) };
       }
       | inr h ↦
           let star = after_byte-takes 42 ExpectedArray bytes h.0 h.1 in
@@ -196,18 +196,18 @@ request_at-short limits bytes numbers e =
     ]
 
 -- the place of a byte in a request, from its place in the number or in the words
-placed_in_number : (limits : Limits) (said : ProtocolFault) (front : List ℕ) (byte : ℕ) → said ≡ InvalidMultibulkLength → InNumber limits.words front byte said → Says limits (42 ∷ front) byte said
-placed_in_number limits said front byte same p = rw same (front, p.0, p.1, p.2, refl)
+placed_in_number : (limits : Limits) (said : ProtocolFault) (prefix : List ℕ) (byte : ℕ) → said ≡ InvalidMultibulkLength → InNumber limits.words prefix byte said → Says limits (42 ∷ prefix) byte said
+placed_in_number limits said prefix byte same p = rw same (prefix, p.0, p.1, p.2, refl)
 
 pub regrouped : (a b c d e : List ℕ) → a ++ (b ++ ((c ++ d) ++ e)) ≡ (((a ++ b) ++ c) ++ d) ++ e
 regrouped a b c d e = simp append_assoc
 
-placed_in_words : (limits : Limits) (n : ℕ) (said : ProtocolFault) (front : List ℕ) (byte : ℕ) → InWords limits n front byte said → Says limits ((42 ∷ number_line n) ++ front) byte said
-placed_in_words limits n ExpectedArray front byte p = absurd p.within
-placed_in_words limits n InvalidMultibulkLength front byte p = absurd p.within
-placed_in_words limits n (ExpectedBulk got) front byte p =
-    (n, p.words, p.fewer, ap (λ x. (42 ∷ number_line n) ++ x) (p.front_is ∙ ap (λ x. flat_map bulk p.words ++ x) p.within.0 ∙ append-nil (flat_map bulk p.words)), p.within.1)
-placed_in_words limits n InvalidBulkLength front byte p = (
+placed_in_words : (limits : Limits) (n : ℕ) (said : ProtocolFault) (prefix : List ℕ) (byte : ℕ) → InWords limits n prefix byte said → Says limits ((42 ∷ number_line n) ++ prefix) byte said
+placed_in_words limits n ExpectedArray prefix byte p = absurd p.within
+placed_in_words limits n InvalidMultibulkLength prefix byte p = absurd p.within
+placed_in_words limits n (ExpectedBulk got) prefix byte p =
+    (n, p.words, p.fewer, ap (λ x. (42 ∷ number_line n) ++ x) (p.prefix_is ∙ ap (λ x. flat_map bulk p.words ++ x) p.within.0 ∙ append-nil (flat_map bulk p.words)), p.within.1)
+placed_in_words limits n InvalidBulkLength prefix byte p = (
   n,
   p.words,
   p.within.0,
@@ -215,34 +215,34 @@ placed_in_words limits n InvalidBulkLength front byte p = (
   p.fewer,
   p.within.2,
   p.within.3,
-  ap (λ x. (42 ∷ number_line n) ++ x) (p.front_is ∙ ap (λ x. flat_map bulk p.words ++ x) p.within.4) ∙ sym (append_assoc (42 ∷ number_line n) (flat_map bulk p.words) (36 ∷ p.within.0)),
+  ap (λ x. (42 ∷ number_line n) ++ x) (p.prefix_is ∙ ap (λ x. flat_map bulk p.words ++ x) p.within.4) ∙ sym (append_assoc (42 ∷ number_line n) (flat_map bulk p.words) (36 ∷ p.within.0)),
 )
-placed_in_words limits n ExpectedLineEnd front byte p = (
+placed_in_words limits n ExpectedLineEnd prefix byte p = (
   n,
   p.words,
   p.within.0,
   p.within.1,
   p.fewer,
   p.within.3,
-  ap (λ x. (42 ∷ number_line n) ++ x) (p.front_is ∙ ap (λ x. flat_map bulk p.words ++ x) p.within.4) ∙ regrouped (42 ∷ number_line n) (flat_map bulk p.words) (36 ∷ number_line (length p.within.0)) p.within.0 p.within.1,
+  ap (λ x. (42 ∷ number_line n) ++ x) (p.prefix_is ∙ ap (λ x. flat_map bulk p.words ++ x) p.within.4) ∙ regrouped (42 ∷ number_line n) (flat_map bulk p.words) (36 ∷ number_line (length p.within.0)) p.within.0 p.within.1,
 )
 
 pub request_at-breaks : (limits : Limits) (bytes : List ℕ) (said : ProtocolFault) → HasNumbers limits → request_at limits bytes ≡ Err (Broken said) → BreaksAt (request_at limits) (Says limits) bytes said
 request_at-breaks limits bytes said numbers e =
     elim (bind_err (counted_words limits) (after_byte 42 ExpectedArray bytes) (Broken said) e) [
-      | inl h ↦ BreaksAt-first (after_byte 42 ExpectedArray) (counted_words limits) (λ front byte f. (front ≡ []) × (f ≡ ExpectedArray)) (Says limits) bytes said
-          (λ front byte p. rw p.1 p.0)
+      | inl h ↦ BreaksAt-first (after_byte 42 ExpectedArray) (counted_words limits) (λ prefix byte f. (prefix ≡ []) × (f ≡ ExpectedArray)) (Says limits) bytes said
+          (λ prefix byte p. rw p.1 p.0)
           (after_byte-breaks 42 ExpectedArray said bytes h).1
       | inr h ↦
           let star = after_byte-takes 42 ExpectedArray bytes h.0 h.1 in
           elim (bind_err (λ count. words_at limits count.0 count.1) (number_at limits.words InvalidMultibulkLength h.0) (Broken said) h.2) [
             | inl k ↦
                 let number = number_at-breaks limits.words InvalidMultibulkLength h.0 said numbers.words k in
-                rw star (BreaksAt-behind (counted_words limits) (request_at limits) (InNumber limits.words) (Says limits) (42 ∷ []) h.0 said (λ after. refl) (λ front byte p. placed_in_number limits said front byte number.0 p)
-                (BreaksAt-first (number_at limits.words InvalidMultibulkLength) (λ count. words_at limits count.0 count.1) (InNumber limits.words) (InNumber limits.words) h.0 said (λ front byte p. p) number.1))
+                rw star (BreaksAt-behind (counted_words limits) (request_at limits) (InNumber limits.words) (Says limits) (42 ∷ []) h.0 said (λ after. refl) (λ prefix byte p. placed_in_number limits said prefix byte number.0 p)
+                (BreaksAt-first (number_at limits.words InvalidMultibulkLength) (λ count. words_at limits count.0 count.1) (InNumber limits.words) (InNumber limits.words) h.0 said (λ prefix byte p. p) number.1))
             | inr k ↦
                 let number = number_at-takes limits.words InvalidMultibulkLength h.0 k.0.0 k.0.1 numbers.words k.1 in
-                rw (star, number.1) (BreaksAt-behind (words_at limits k.0.0) (request_at limits) (InWords limits k.0.0) (Says limits) (42 ∷ number_line k.0.0) k.0.1 said (λ after. counted_words-behind limits k.0.0 after numbers number.0) (λ front byte p. placed_in_words limits k.0.0 said front byte p)
+                rw (star, number.1) (BreaksAt-behind (words_at limits k.0.0) (request_at limits) (InWords limits k.0.0) (Says limits) (42 ∷ number_line k.0.0) k.0.1 said (λ after. counted_words-behind limits k.0.0 after numbers number.0) (λ prefix byte p. placed_in_words limits k.0.0 said prefix byte p)
                 (words_at-breaks limits k.0.0 k.0.1 said numbers k.2))
           ]
     ]

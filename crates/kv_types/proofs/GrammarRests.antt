@@ -8,28 +8,28 @@ use Rattle.kv_types.specs.Reading.{Stop, Short, Broken, Read, ◌>>=◌, is_digi
 
 -- part is the end of whole
 pub record IsEndOf (whole part : List ℕ) : Type 0 where
-  pub front : List ℕ
-  pub joined : whole ≡ front ++ part
+  pub prefix : List ℕ
+  pub joined : whole ≡ prefix ++ part
 
 pub IsEndOf-self : (whole : List ℕ) → IsEndOf whole whole
-IsEndOf-self whole = record { front = []; joined = refl }
+IsEndOf-self whole = record { prefix = []; joined = refl }
 
 pub IsEndOf-trans : {a b c : List ℕ} → IsEndOf a b → IsEndOf b c → IsEndOf a c
 IsEndOf-trans {a} {b} {c} ab bc =
-    record { front = ab.front ++ bc.front; joined = ab.joined ∙ ap (λ part. ab.front ++ part) bc.joined ∙ sym (append_assoc ab.front bc.front c) }
+    record { prefix = ab.prefix ++ bc.prefix; joined = ab.joined ∙ ap (λ part. ab.prefix ++ part) bc.joined ∙ sym (append_assoc ab.prefix bc.prefix c) }
 
 pub IsEndOf-cons : (byte : ℕ) (bytes : List ℕ) → IsEndOf (byte ∷ bytes) bytes
-IsEndOf-cons byte bytes = record { front = byte ∷ []; joined = refl }
+IsEndOf-cons byte bytes = record { prefix = byte ∷ []; joined = refl }
 
 IsEndOf-tail : (whole : List ℕ) (byte : ℕ) (bytes : List ℕ) → IsEndOf whole (byte ∷ bytes) → IsEndOf whole bytes
-IsEndOf-tail whole byte bytes end = record { front = end.front ++ byte ∷ []; joined = end.joined ∙ sym (append_assoc end.front (byte ∷ []) bytes) }
+IsEndOf-tail whole byte bytes end = record { prefix = end.prefix ++ byte ∷ []; joined = end.joined ∙ sym (append_assoc end.prefix (byte ∷ []) bytes) }
 
 IsEndOf-drop : (whole : List ℕ) (n : ℕ) (bytes : List ℕ) → IsEndOf whole bytes → IsEndOf whole (drop n bytes)
 IsEndOf-drop whole n bytes end =
-    record { front = end.front ++ take n bytes; joined = end.joined ∙ ap (λ b. end.front ++ b) (sym (take-append-drop n bytes)) ∙ sym (append_assoc end.front (take n bytes) (drop n bytes)) }
+    record { prefix = end.prefix ++ take n bytes; joined = end.joined ∙ ap (λ b. end.prefix ++ b) (sym (take-append-drop n bytes)) ∙ sym (append_assoc end.prefix (take n bytes) (drop n bytes)) }
 
 pub length-IsEndOf : {whole part : List ℕ} → IsEndOf whole part → length part ≤ length whole
-length-IsEndOf {whole} {part} end = omega (arith, ap length end.joined, length-append end.front part)
+length-IsEndOf {whole} {part} end = omega (arith, ap length end.joined, length-append end.prefix part)
 
 -- what is left after what was read is the end of whole
 abbrev pub Leaves : {A : Type 0} → (A → List ℕ) → List ℕ → Result A Stop → Type 0

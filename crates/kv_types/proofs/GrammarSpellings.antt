@@ -3,8 +3,8 @@ use Rattle.std.proofs.Common.{◌≡◌, ℕ, ◌^◌, ◌<◌, ◌≤◌, List,
 use Rattle.std.proofs.lemmas.List.{append_assoc}
 use Rattle.std.specs.List.{flat_map}
 use Rattle.kv_types.specs.declared.limits.Limits.{Limits}
-use Rattle.kv_types.specs.Words.{IsWithin}
-use Rattle.kv_types.specs.Requests.{number_line, bulk, spelling, Begins}
+use Rattle.kv_types.specs.Word.{IsWithin}
+use Rattle.kv_types.specs.Request.{number_line, bulk, spelling, Begins}
 use Rattle.kv_types.specs.Reading.{request_at}
 use Rattle.kv_types.proofs.GrammarSteps.{ok_parts}
 use Rattle.kv_types.proofs.GrammarDecimals.{number_line-parted}
@@ -38,7 +38,7 @@ bulk-parted word other x y small e =
     let ends = parts.1 in
     (parts.0, cc)
 
--- fewer words at the front of some that are short are short, and another word comes next
+-- fewer words at the prefix of some that are short are short, and another word comes next
 pub record HasNext (limits : Limits) (words : List (List ℕ)) (after : List ℕ) : Type 0 where
   pub short : AreShort limits words
   pub next : List ℕ
@@ -54,7 +54,7 @@ HasNext-flat_map limits (word ∷ words) (other ∷ all) after numbers short few
     let others = HasNext-flat_map limits words all after numbers short.1 (omega arith) parts.1 in
     record { short = (rw parts.0 short.0, others.short); next = others.next; next_short = others.next_short; rest = others.rest; follows = others.follows }
 
--- the count and the words that a front of a spelling shows are within the limits
+-- the count and the words that a prefix of a spelling shows are within the limits
 pub record IsInside (limits : Limits) (n : ℕ) (words : List (List ℕ)) (inner : List ℕ) : Type 0 where
   pub count : n ≤ limits.words
   pub more : List ℕ

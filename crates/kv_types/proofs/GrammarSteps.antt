@@ -38,49 +38,49 @@ after_byte-short expected fault (byte ∷ bytes) e =
 
 -- The reading breaks with this fault at a byte: what stands before it is too short, and with it nothing helps. Place says where it stands.
 pub record BreaksAt {A : Type 0} (read : List ℕ → Result A Stop) (Place : List ℕ → ℕ → ProtocolFault → Type 0) (bytes : List ℕ) (fault : ProtocolFault) : Type 0 where
-  pub front : List ℕ
+  pub prefix : List ℕ
   pub byte : ℕ
   pub rest : List ℕ
-  pub split : bytes ≡ front ++ byte ∷ rest
-  pub short : read front ≡ Err Short
-  pub broken : read (front ++ byte ∷ []) ≡ Err (Broken fault)
-  pub place : Place front byte fault
+  pub split : bytes ≡ prefix ++ byte ∷ rest
+  pub short : read prefix ≡ Err Short
+  pub broken : read (prefix ++ byte ∷ []) ≡ Err (Broken fault)
+  pub place : Place prefix byte fault
 
 abbrev pub Anywhere : List ℕ → ℕ → ProtocolFault → Type 0
-Anywhere front byte fault = Unit {0}
+Anywhere prefix byte fault = Unit {0}
 
 -- it breaks in the first of two steps
-pub BreaksAt-first : {A B : Type 0} (read : List ℕ → Result A Stop) (f : A → Result B Stop) (Place Place' : List ℕ → ℕ → ProtocolFault → Type 0) (bytes : List ℕ) (fault : ProtocolFault) → ((front : List ℕ) (byte : ℕ) → Place front byte fault → Place' front byte fault) → BreaksAt read Place bytes fault → BreaksAt (λ b. read b >>= f) Place' bytes fault
+pub BreaksAt-first : {A B : Type 0} (read : List ℕ → Result A Stop) (f : A → Result B Stop) (Place Place' : List ℕ → ℕ → ProtocolFault → Type 0) (bytes : List ℕ) (fault : ProtocolFault) → ((prefix : List ℕ) (byte : ℕ) → Place prefix byte fault → Place' prefix byte fault) → BreaksAt read Place bytes fault → BreaksAt (λ b. read b >>= f) Place' bytes fault
 BreaksAt-first read f Place Place' bytes fault moves b =
     record {
-      front = b.front;
+      prefix = b.prefix;
       byte = b.byte;
       rest = b.rest;
       split = b.split;
       short = ap (λ r. r >>= f) b.short;
       broken = ap (λ r. r >>= f) b.broken;
-      place = moves b.front b.byte b.place;
+      place = moves b.prefix b.byte b.place;
     }
 
 -- it breaks behind bytes that are read well
-pub BreaksAt-behind : {A : Type 0} (read read' : List ℕ → Result A Stop) (Place Place' : List ℕ → ℕ → ProtocolFault → Type 0) (before bytes : List ℕ) (fault : ProtocolFault) → ((after : List ℕ) → read' (before ++ after) ≡ read after) → ((front : List ℕ) (byte : ℕ) → Place front byte fault → Place' (before ++ front) byte fault) → BreaksAt read Place bytes fault → BreaksAt read' Place' (before ++ bytes) fault
+pub BreaksAt-behind : {A : Type 0} (read read' : List ℕ → Result A Stop) (Place Place' : List ℕ → ℕ → ProtocolFault → Type 0) (before bytes : List ℕ) (fault : ProtocolFault) → ((after : List ℕ) → read' (before ++ after) ≡ read after) → ((prefix : List ℕ) (byte : ℕ) → Place prefix byte fault → Place' (before ++ prefix) byte fault) → BreaksAt read Place bytes fault → BreaksAt read' Place' (before ++ bytes) fault
 BreaksAt-behind read read' Place Place' before bytes fault same moves b =
     record {
-      front = before ++ b.front;
+      prefix = before ++ b.prefix;
       byte = b.byte;
       rest = b.rest;
-      split = ap (λ x. before ++ x) b.split ∙ sym (append_assoc before b.front (b.byte ∷ b.rest));
-      short = same b.front ∙ b.short;
-      broken = ap read' (append_assoc before b.front (b.byte ∷ [])) ∙ same (b.front ++ b.byte ∷ []) ∙ b.broken;
-      place = moves b.front b.byte b.place;
+      split = ap (λ x. before ++ x) b.split ∙ sym (append_assoc before b.prefix (b.byte ∷ b.rest));
+      short = same b.prefix ∙ b.short;
+      broken = ap read' (append_assoc before b.prefix (b.byte ∷ [])) ∙ same (b.prefix ++ b.byte ∷ []) ∙ b.broken;
+      place = moves b.prefix b.byte b.place;
     }
 
 -- it breaks at the first byte
 pub BreaksAt-here : {A : Type 0} (read : List ℕ → Result A Stop) (Place : List ℕ → ℕ → ProtocolFault → Type 0) (byte : ℕ) (bytes : List ℕ) (fault : ProtocolFault) → read [] ≡ Err Short → read (byte ∷ []) ≡ Err (Broken fault) → Place [] byte fault → BreaksAt read Place (byte ∷ bytes) fault
 BreaksAt-here read Place byte bytes fault short broken place =
-    record { front = []; byte = byte; rest = bytes; split = refl; short = short; broken = broken; place = place }
+    record { prefix = []; byte = byte; rest = bytes; split = refl; short = short; broken = broken; place = place }
 
-pub after_byte-breaks : (expected : ℕ) (fault other : ProtocolFault) (bytes : List ℕ) → after_byte expected fault bytes ≡ Err (Broken other) → (other ≡ fault) × BreaksAt (after_byte expected fault) (λ front byte said. (front ≡ []) × (said ≡ fault)) bytes other
+pub after_byte-breaks : (expected : ℕ) (fault other : ProtocolFault) (bytes : List ℕ) → after_byte expected fault bytes ≡ Err (Broken other) → (other ≡ fault) × BreaksAt (after_byte expected fault) (λ prefix byte said. (prefix ≡ []) × (said ≡ fault)) bytes other
 after_byte-breaks expected fault other [] e = absurd (cc)
 after_byte-breaks expected fault other (byte ∷ bytes) e =
     ⊎_elim (λ h. absurd (cc))

@@ -5,7 +5,7 @@ use Rattle.std.specs.List.{flat_map}
 use Rattle.kv_types.specs.declared.limits.Limits.{Limits}
 use Rattle.kv_types.specs.declared.item.ProtocolFault.{ProtocolFault}
 use Rattle.kv_types.specs.declared.item.ProtocolFault.TheVariants.{ExpectedArray, InvalidMultibulkLength, ExpectedBulk, InvalidBulkLength, ExpectedLineEnd}
-use Rattle.kv_types.specs.Requests.{line_end, number_line, bulk, IsProperFront, Begins, Says}
+use Rattle.kv_types.specs.Request.{line_end, number_line, bulk, IsProperPrefix, Begins, Says}
 use Rattle.kv_types.specs.Reading.{Stop, Short, Broken, Read, ◌>>=◌, after_byte, number_at, payload_at, word_at, with_first, words_at, request_at}
 use Rattle.kv_types.proofs.GrammarSteps.{ok_parts}
 use Rattle.kv_types.proofs.GrammarGrows.{Keeps, with_more, number_at-more}
@@ -31,34 +31,34 @@ Tells-if fault false x y h k = k
 
 -- ---- numbers
 
-front_from : (most : ℕ) (fault : ProtocolFault) (line : List ℕ) (byte : ℕ) (rest : List ℕ) (n : ℕ) → number_at most fault (line ++ byte ∷ rest) ≡ Ok (n, []) → (r : Result (Read ℕ) Stop) → Keeps (with_more (byte ∷ rest)) r (number_at most fault (line ++ byte ∷ rest)) → r ≡ Err Short
-front_from most fault line byte rest n whole (Ok x) keeps =
+prefix_from : (most : ℕ) (fault : ProtocolFault) (line : List ℕ) (byte : ℕ) (rest : List ℕ) (n : ℕ) → number_at most fault (line ++ byte ∷ rest) ≡ Ok (n, []) → (r : Result (Read ℕ) Stop) → Keeps (with_more (byte ∷ rest)) r (number_at most fault (line ++ byte ∷ rest)) → r ≡ Err Short
+prefix_from most fault line byte rest n whole (Ok x) keeps =
     let parts = ok_parts x.0 n (x.1 ++ byte ∷ rest) [] (sym keeps ∙ whole) in
     absurd (omega (arith, ap length parts.1, length-append x.1 (byte ∷ rest)))
-front_from most fault line byte rest n whole (Err Short) keeps = refl
-front_from most fault line byte rest n whole (Err (Broken other)) keeps = absurd (cc)
+prefix_from most fault line byte rest n whole (Err Short) keeps = refl
+prefix_from most fault line byte rest n whole (Err (Broken other)) keeps = absurd (cc)
 
--- the front of a number is too short for one
-number_at-front : (most : ℕ) (fault : ProtocolFault) (line : List ℕ) (n : ℕ) → most < 2 ^ 64 → n ≤ most → IsProperFront line (number_line n) → number_at most fault line ≡ Err Short
-number_at-front most fault line n small fits p =
+-- the prefix of a number is too short for one
+number_at-prefix : (most : ℕ) (fault : ProtocolFault) (line : List ℕ) (n : ℕ) → most < 2 ^ 64 → n ≤ most → IsProperPrefix line (number_line n) → number_at most fault line ≡ Err Short
+number_at-prefix most fault line n small fits p =
     let whole : number_at most fault (line ++ p.byte ∷ p.rest) ≡ Ok (n, []) = ap (number_at most fault) (p.joined ∙ sym (append-nil (number_line n))) ∙ number_at-number_line most fault n [] small fits in
-    front_from most fault line p.byte p.rest n whole (number_at most fault line) (number_at-more (p.byte ∷ p.rest) most fault line)
+    prefix_from most fault line p.byte p.rest n whole (number_at most fault line) (number_at-more (p.byte ∷ p.rest) most fault line)
 
 -- what begins the bytes with more than their last byte behind it begins them without that
-front_without_last : (p a : List ℕ) (byte d : ℕ) (rest : List ℕ) → p ++ byte ∷ [] ≡ a ++ d ∷ rest → (q : List ℕ) × (p ≡ a ++ q)
-front_without_last p [] byte d rest e = (p, refl)
-front_without_last [] (c ∷ a) byte d rest e = absurd (omega (arith, ap length e, length-append a (d ∷ rest)))
-front_without_last (b ∷ p) (c ∷ a) byte d rest e =
+prefix_without_last : (p a : List ℕ) (byte d : ℕ) (rest : List ℕ) → p ++ byte ∷ [] ≡ a ++ d ∷ rest → (q : List ℕ) × (p ≡ a ++ q)
+prefix_without_last p [] byte d rest e = (p, refl)
+prefix_without_last [] (c ∷ a) byte d rest e = absurd (omega (arith, ap length e, length-append a (d ∷ rest)))
+prefix_without_last (b ∷ p) (c ∷ a) byte d rest e =
     let head : b ≡ c = cc in
-    let tail = front_without_last p a byte d rest cc in
+    let tail = prefix_without_last p a byte d rest cc in
     let same = tail.1 in
     (tail.0, cc)
 
 nothing_left : (most : ℕ) (fault : ProtocolFault) (line : List ℕ) (byte m : ℕ) (rest : List ℕ) → most < 2 ^ 64 → number_at most fault line ≡ Err Short → m ≤ most → line ++ byte ∷ [] ≡ number_line m ++ rest → rest ≡ []
 nothing_left most fault line byte m [] small short fits e = refl
 nothing_left most fault line byte m (d ∷ rest) small short fits e =
-    let front = front_without_last line (number_line m) byte d rest e in
-    let read : number_at most fault line ≡ Ok (m, front.0) = ap (number_at most fault) front.1 ∙ number_at-number_line most fault m front.0 small fits in
+    let prefix = prefix_without_last line (number_line m) byte d rest e in
+    let read : number_at most fault line ≡ Ok (m, prefix.0) = ap (number_at most fault) prefix.1 ∙ number_at-number_line most fault m prefix.0 small fits in
     absurd (cc)
 
 tells_number : (most : ℕ) (fault : ProtocolFault) (line : List ℕ) (byte : ℕ) → most < 2 ^ 64 → number_at most fault line ≡ Err Short → (r : Result (Read ℕ) Stop) → number_at most fault (line ++ byte ∷ []) ≡ r → Tells fault r
@@ -68,8 +68,8 @@ tells_number most fault line byte small short (Ok x) e =
 tells_number most fault line byte small short (Err Short) e = tt
 tells_number most fault line byte small short (Err (Broken other)) e = (number_at-breaks most fault (line ++ byte ∷ []) other small e).0
 
-number_at-tells : (most : ℕ) (fault : ProtocolFault) (line : List ℕ) (byte n : ℕ) → most < 2 ^ 64 → n ≤ most → IsProperFront line (number_line n) → Tells fault (number_at most fault (line ++ byte ∷ []))
-number_at-tells most fault line byte n small fits p = tells_number most fault line byte small (number_at-front most fault line n small fits p) (number_at most fault (line ++ byte ∷ [])) refl
+number_at-tells : (most : ℕ) (fault : ProtocolFault) (line : List ℕ) (byte n : ℕ) → most < 2 ^ 64 → n ≤ most → IsProperPrefix line (number_line n) → Tells fault (number_at most fault (line ++ byte ∷ []))
+number_at-tells most fault line byte n small fits p = tells_number most fault line byte small (number_at-prefix most fault line n small fits p) (number_at most fault (line ++ byte ∷ [])) refl
 
 -- ---- words
 
@@ -79,7 +79,7 @@ regrouped_word a b c d = simp append_assoc
 regrouped_words : (a b c d : List ℕ) → (a ++ (b ++ c)) ++ d ≡ a ++ (b ++ (c ++ d))
 regrouped_words a b c d = simp append_assoc
 
-line_end-tells : (word end : List ℕ) (byte : ℕ) → IsProperFront end line_end → Tells ExpectedLineEnd (line_end_after word (end ++ byte ∷ []))
+line_end-tells : (word end : List ℕ) (byte : ℕ) → IsProperPrefix end line_end → Tells ExpectedLineEnd (line_end_after word (end ++ byte ∷ []))
 line_end-tells word [] byte p =
     elim (byte == 13) as (λ b. Tells ExpectedLineEnd (cond b (Ok []) (Err (Broken ExpectedLineEnd)) >>= λ rest. after_byte 10 ExpectedLineEnd rest >>= λ after. Ok (word, after))) [ true ↦ tt | false ↦ refl ]
 line_end-tells word (a ∷ []) byte p =
@@ -131,30 +131,30 @@ tells_in_words limits n words inner byte fault numbers fewer inside p =
     rw read (words_at-tells limits n words inner byte fault numbers fewer inside.next.short p)
 
 -- A byte tells the fault of its place.
-pub Says-tells : (limits : Limits) (front : List ℕ) (byte : ℕ) (fault : ProtocolFault) → HasNumbers limits → Begins limits front → Says limits front byte fault → Tells fault (request_at limits (front ++ byte ∷ []))
-Says-tells limits front byte ExpectedArray numbers b p =
+pub Says-tells : (limits : Limits) (prefix : List ℕ) (byte : ℕ) (fault : ProtocolFault) → HasNumbers limits → Begins limits prefix → Says limits prefix byte fault → Tells fault (request_at limits (prefix ++ byte ∷ []))
+Says-tells limits prefix byte ExpectedArray numbers b p =
     rw p (elim (byte == 42) as (λ t. Tells ExpectedArray (cond t (Ok []) (Err (Broken ExpectedArray)) >>= counted_words limits)) [ true ↦ tt | false ↦ refl ])
-Says-tells limits front byte InvalidMultibulkLength numbers b p =
+Says-tells limits prefix byte InvalidMultibulkLength numbers b p =
     rw p.4 (Tells-bind InvalidMultibulkLength (λ count. words_at limits count.0 count.1) (λ count. words-nothing limits InvalidMultibulkLength count) (number_at limits.words InvalidMultibulkLength (p.0 ++ byte ∷ [])) (number_at-tells limits.words InvalidMultibulkLength p.0 byte p.1 numbers.words p.2 p.3))
-Says-tells limits front byte (ExpectedBulk got) numbers b p =
+Says-tells limits prefix byte (ExpectedBulk got) numbers b p =
     let n = p.0 in
     let words = p.1 in
-    let whole : front ≡ (42 ∷ number_line n) ++ (flat_map bulk words ++ []) = p.3 ∙ ap (λ x. (42 ∷ number_line n) ++ x) (sym (append-nil (flat_map bulk words))) in
+    let whole : prefix ≡ (42 ∷ number_line n) ++ (flat_map bulk words ++ []) = p.3 ∙ ap (λ x. (42 ∷ number_line n) ++ x) (sym (append-nil (flat_map bulk words))) in
     let begins = rw whole at b in
     rw whole (tells_in_words limits n words [] byte (ExpectedBulk got) numbers p.2 (IsInside-begins limits n words [] numbers p.2 begins) (refl, p.4))
-Says-tells limits front byte InvalidBulkLength numbers b p =
+Says-tells limits prefix byte InvalidBulkLength numbers b p =
     let n = p.0 in
     let words = p.1 in
     let inner = 36 ∷ p.2 in
-    let whole : front ≡ (42 ∷ number_line n) ++ (flat_map bulk words ++ inner) = p.7 ∙ append_assoc (42 ∷ number_line n) (flat_map bulk words) inner in
+    let whole : prefix ≡ (42 ∷ number_line n) ++ (flat_map bulk words ++ inner) = p.7 ∙ append_assoc (42 ∷ number_line n) (flat_map bulk words) inner in
     let begins = rw whole at b in
     rw whole (tells_in_words limits n words inner byte InvalidBulkLength numbers p.4 (IsInside-begins limits n words inner numbers p.4 begins) (p.2, p.3, p.5, p.6, refl))
-Says-tells limits front byte ExpectedLineEnd numbers b p =
+Says-tells limits prefix byte ExpectedLineEnd numbers b p =
     let n = p.0 in
     let words = p.1 in
     let word = p.2 in
     let inner = ((36 ∷ number_line (length word)) ++ word) ++ p.3 in
-    let whole : front ≡ (42 ∷ number_line n) ++ (flat_map bulk words ++ inner) = p.6 ∙ sym (regrouped (42 ∷ number_line n) (flat_map bulk words) (36 ∷ number_line (length word)) word p.3) in
+    let whole : prefix ≡ (42 ∷ number_line n) ++ (flat_map bulk words ++ inner) = p.6 ∙ sym (regrouped (42 ∷ number_line n) (flat_map bulk words) (36 ∷ number_line (length word)) word p.3) in
     let begins = rw whole at b in
     let inside = IsInside-begins limits n words inner numbers p.4 begins in
     let short : length word ≤ limits.word_bytes = length-inside limits n words (length word) (word ++ p.3) numbers (rw (append_assoc (36 ∷ number_line (length word)) word p.3) at inside) in

@@ -6,8 +6,8 @@ use Rattle.kv_types.specs.declared.limits.Limits.{Limits}
 use Rattle.kv_types.specs.declared.item.ProtocolFault.{ProtocolFault}
 use Rattle.kv_types.specs.declared.item.Item.{Item}
 use Rattle.kv_types.specs.declared.item.Item.TheVariants.{Fault}
-use Rattle.kv_types.specs.Words.{IsWithin}
-use Rattle.kv_types.specs.Requests.{spelling, Begins, FaultsWith, item_of, EndsWith, AsksFor}
+use Rattle.kv_types.specs.Word.{IsWithin}
+use Rattle.kv_types.specs.Request.{spelling, Begins, FaultsWith, item_of, EndsWith, AsksFor}
 use Rattle.kv_types.specs.Reading.{Stop, Short, Broken, Read, request_at, items_from, items_at}
 use Rattle.kv_types.proofs.GrammarGrows.{request_at-more}
 use Rattle.kv_types.proofs.GrammarItems.{items_at-step}
@@ -15,19 +15,19 @@ use Rattle.kv_types.proofs.GrammarRequests.{HasNumbers, request_at-again, reques
 use Rattle.kv_types.proofs.GrammarTells.{Tells, Says-tells}
 use Rattle.kv_types.proofs.GrammarAsks.{Begins-short, not_begun}
 
-Begins-front : (limits : Limits) (a b : List ℕ) → Begins limits (a ++ b) → Begins limits a
-Begins-front limits a b h =
+Begins-prefix : (limits : Limits) (a b : List ℕ) → Begins limits (a ++ b) → Begins limits a
+Begins-prefix limits a b h =
     record { rest = b ++ h.rest; words = h.words; spells = record { within = h.spells.within; whole = sym (append_assoc a b h.rest) ∙ h.spells.whole } }
 
 -- the byte at which no spelling goes on breaks the reading, by the fault of its place
-told_by : (limits : Limits) (bytes : List ℕ) (fault said : ProtocolFault) → HasNumbers limits → (f : FaultsWith limits bytes fault) → request_at limits bytes ≡ Err (Broken said) → (r : Result (Read (List (List ℕ))) Stop) → request_at limits (f.front ++ f.byte ∷ []) ≡ r → Tells fault r → fault ≡ said
+told_by : (limits : Limits) (bytes : List ℕ) (fault said : ProtocolFault) → HasNumbers limits → (f : FaultsWith limits bytes fault) → request_at limits bytes ≡ Err (Broken said) → (r : Result (Read (List (List ℕ))) Stop) → request_at limits (f.prefix ++ f.byte ∷ []) ≡ r → Tells fault r → fault ≡ said
 told_by limits bytes fault said numbers f e (Ok x) broken tells =
-    let found = request_at-takes limits (f.front ++ f.byte ∷ []) x.0 x.1 numbers broken in
-    absurd (f.breaks (record { rest = []; words = x.0; spells = record { within = found.0; whole = append-nil (f.front ++ f.byte ∷ []) ∙ found.1 ∙ ap (λ rest. spelling x.0 ++ rest) tells ∙ append-nil (spelling x.0) } }))
-told_by limits bytes fault said numbers f e (Err Short) broken tells = absurd (f.breaks (Begins-short limits (f.front ++ f.byte ∷ []) numbers broken))
+    let found = request_at-takes limits (f.prefix ++ f.byte ∷ []) x.0 x.1 numbers broken in
+    absurd (f.breaks (record { rest = []; words = x.0; spells = record { within = found.0; whole = append-nil (f.prefix ++ f.byte ∷ []) ∙ found.1 ∙ ap (λ rest. spelling x.0 ++ rest) tells ∙ append-nil (spelling x.0) } }))
+told_by limits bytes fault said numbers f e (Err Short) broken tells = absurd (f.breaks (Begins-short limits (f.prefix ++ f.byte ∷ []) numbers broken))
 told_by limits bytes fault said numbers f e (Err (Broken other)) broken tells =
-    let later : request_at limits ((f.front ++ f.byte ∷ []) ++ f.rest) ≡ Err (Broken other) = rw broken at (request_at-more f.rest limits (f.front ++ f.byte ∷ [])) in
-    let whole : request_at limits ((f.front ++ f.byte ∷ []) ++ f.rest) ≡ Err (Broken said) = ap (request_at limits) (append_assoc f.front (f.byte ∷ []) f.rest ∙ sym f.split) ∙ e in
+    let later : request_at limits ((f.prefix ++ f.byte ∷ []) ++ f.rest) ≡ Err (Broken other) = rw broken at (request_at-more f.rest limits (f.prefix ++ f.byte ∷ [])) in
+    let whole : request_at limits ((f.prefix ++ f.byte ∷ []) ++ f.rest) ≡ Err (Broken said) = ap (request_at limits) (append_assoc f.prefix (f.byte ∷ []) f.rest ∙ sym f.split) ∙ e in
     let same : other ≡ said = cc in
     sym tells ∙ same
 
@@ -38,12 +38,12 @@ ends_so limits rest ending numbers longest ends (Ok request) e =
 ends_so limits rest ending numbers longest (inl ends) (Err Short) e = ends.1
 ends_so limits rest ending numbers longest (inr ends) (Err Short) e =
     let f = ends.1 in
-    let begins : Begins limits ((f.front ++ f.byte ∷ []) ++ f.rest) = rw (append_assoc f.front (f.byte ∷ []) f.rest, ← f.split) (Begins-short limits rest numbers e) in
-    absurd (f.breaks (Begins-front limits (f.front ++ f.byte ∷ []) f.rest begins))
+    let begins : Begins limits ((f.prefix ++ f.byte ∷ []) ++ f.rest) = rw (append_assoc f.prefix (f.byte ∷ []) f.rest, ← f.split) (Begins-short limits rest numbers e) in
+    absurd (f.breaks (Begins-prefix limits (f.prefix ++ f.byte ∷ []) f.rest begins))
 ends_so limits rest ending numbers longest (inl ends) (Err (Broken said)) e = absurd (not_begun limits rest said numbers e ends.0)
 ends_so limits rest ending numbers longest (inr ends) (Err (Broken said)) e =
     let f = ends.1 in
-    ends.2 ∙ ap (λ fault. Fault fault ∷ []) (told_by limits rest ends.0 said numbers f e (request_at limits (f.front ++ f.byte ∷ [])) refl (Says-tells limits f.front f.byte ends.0 numbers f.begins f.says))
+    ends.2 ∙ ap (λ fault. Fault fault ∷ []) (told_by limits rest ends.0 said numbers f e (request_at limits (f.prefix ++ f.byte ∷ [])) refl (Says-tells limits f.prefix f.byte ends.0 numbers f.begins f.says))
 
 once_from : (limits : Limits) (requests : List (List (List ℕ))) (rest : List ℕ) (ending : List Item) → HasNumbers limits → AllByRecursion (IsWithin limits) requests → ((words : List (List ℕ)) (more : List ℕ) → IsWithin limits words → rest ≢ spelling words ++ more) → EndsWith limits rest ending → flat_map item_of requests ++ ending ≡ items_at limits (flat_map spelling requests ++ rest)
 once_from limits [] rest ending numbers within longest ends = ends_so limits rest ending numbers longest ends (request_at limits rest) refl ∙ sym (items_at-step limits rest)

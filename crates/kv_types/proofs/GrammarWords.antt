@@ -5,24 +5,24 @@ use Rattle.std.proofs.lemmas.Bool.{eqb-true, ltb-true, ltb-false, le-ltb, cond-f
 use Rattle.kv_types.specs.declared.limits.Limits.{Limits}
 use Rattle.kv_types.specs.declared.item.ProtocolFault.{ProtocolFault}
 use Rattle.kv_types.specs.declared.item.ProtocolFault.TheVariants.{ExpectedArray, InvalidMultibulkLength, ExpectedBulk, InvalidBulkLength, ExpectedLineEnd}
-use Rattle.kv_types.specs.Requests.{line_end, number_line, bulk, IsProperFront}
+use Rattle.kv_types.specs.Request.{line_end, number_line, bulk, IsProperPrefix}
 use Rattle.kv_types.specs.Reading.{Stop, Short, Broken, Read, ◌>>=◌, after_byte, number_at, after_dollar, payload_at, word_at}
 use Rattle.kv_types.proofs.GrammarSteps.{chosen, bind_ok, bind_err, ok_parts, after_byte-takes, after_byte-short, after_byte-breaks, BreaksAt, BreaksAt-first, BreaksAt-behind, BreaksAt-here}
 use Rattle.kv_types.proofs.GrammarNumbers.{number_at-number_line, number_at-takes, number_at-short, number_at-breaks, InNumber}
 
--- ---- proper fronts
+-- ---- proper prefixes
 
-pub IsProperFront-append : (front whole more : List ℕ) → IsProperFront front whole → IsProperFront front (whole ++ more)
-IsProperFront-append front whole more p =
-    record { byte = p.byte; rest = p.rest ++ more; joined = sym (append_assoc front (p.byte ∷ p.rest) more) ∙ ap (λ x. x ++ more) p.joined }
+pub IsProperPrefix-append : (prefix whole more : List ℕ) → IsProperPrefix prefix whole → IsProperPrefix prefix (whole ++ more)
+IsProperPrefix-append prefix whole more p =
+    record { byte = p.byte; rest = p.rest ++ more; joined = sym (append_assoc prefix (p.byte ∷ p.rest) more) ∙ ap (λ x. x ++ more) p.joined }
 
-pub IsProperFront-behind : (before front whole : List ℕ) → IsProperFront front whole → IsProperFront (before ++ front) (before ++ whole)
-IsProperFront-behind before front whole p =
-    record { byte = p.byte; rest = p.rest; joined = append_assoc before front (p.byte ∷ p.rest) ∙ ap (λ x. before ++ x) p.joined }
+pub IsProperPrefix-behind : (before prefix whole : List ℕ) → IsProperPrefix prefix whole → IsProperPrefix (before ++ prefix) (before ++ whole)
+IsProperPrefix-behind before prefix whole p =
+    record { byte = p.byte; rest = p.rest; joined = append_assoc before prefix (p.byte ∷ p.rest) ∙ ap (λ x. before ++ x) p.joined }
 
-pub IsProperFront-same : {front front' whole whole' : List ℕ} → front' ≡ front → whole ≡ whole' → IsProperFront front whole → IsProperFront front' whole'
-IsProperFront-same same_front same_whole p =
-    record { byte = p.byte; rest = p.rest; joined = ap (λ x. x ++ p.byte ∷ p.rest) same_front ∙ p.joined ∙ same_whole }
+pub IsProperPrefix-same : {prefix prefix' whole whole' : List ℕ} → prefix' ≡ prefix → whole ≡ whole' → IsProperPrefix prefix whole → IsProperPrefix prefix' whole'
+IsProperPrefix-same same_prefix same_whole p =
+    record { byte = p.byte; rest = p.rest; joined = ap (λ x. x ++ p.byte ∷ p.rest) same_prefix ∙ p.joined ∙ same_whole }
 
 -- ---- the line end after a word
 
@@ -36,7 +36,7 @@ line_end_after-takes word bytes w rest e =
     let parts = ok_parts word w second.0 rest second.2 in
     (parts.0, after_byte-takes 13 ExpectedLineEnd bytes first.0 first.1 ∙ ap (λ x. 13 ∷ x) (after_byte-takes 10 ExpectedLineEnd first.0 second.0 second.1 ∙ ap (λ x. 10 ∷ x) parts.1))
 
-line_end_after-short : (word bytes : List ℕ) → line_end_after word bytes ≡ Err Short → IsProperFront bytes line_end
+line_end_after-short : (word bytes : List ℕ) → line_end_after word bytes ≡ Err Short → IsProperPrefix bytes line_end
 line_end_after-short word bytes e =
     elim (bind_err (λ rest. after_byte 10 ExpectedLineEnd rest >>= λ after. Ok (word, after)) (after_byte 13 ExpectedLineEnd bytes) Short e) [
       | inl h ↦ record { byte = 13; rest = 10 ∷ []; joined = ap (λ x. x ++ (13 ∷ 10 ∷ [])) (after_byte-short 13 ExpectedLineEnd bytes h) }
@@ -48,24 +48,24 @@ line_end_after-short word bytes e =
 
 -- the byte that should have been the next of a line end
 abbrev AtLineEnd : List ℕ → ℕ → ProtocolFault → Type 0
-AtLineEnd front byte fault = (front ≡ []) × (fault ≡ ExpectedLineEnd)
+AtLineEnd prefix byte fault = (prefix ≡ []) × (fault ≡ ExpectedLineEnd)
 
 -- what stands before the byte at which the line end breaks
 abbrev pub InLineEnd : List ℕ → ℕ → ProtocolFault → Type 0
-InLineEnd front byte fault = (fault ≡ ExpectedLineEnd) × IsProperFront front line_end
+InLineEnd prefix byte fault = (fault ≡ ExpectedLineEnd) × IsProperPrefix prefix line_end
 
 line_end_after-breaks : (word bytes : List ℕ) (said : ProtocolFault) → line_end_after word bytes ≡ Err (Broken said) → BreaksAt (line_end_after word) InLineEnd bytes said
 line_end_after-breaks word bytes said e =
     elim (bind_err (λ rest. after_byte 10 ExpectedLineEnd rest >>= λ after. Ok (word, after)) (after_byte 13 ExpectedLineEnd bytes) (Broken said) e) [
       | inl h ↦ BreaksAt-first (after_byte 13 ExpectedLineEnd) (λ rest. after_byte 10 ExpectedLineEnd rest >>= λ after. Ok (word, after)) AtLineEnd InLineEnd bytes said
-          (λ front byte p. (p.1, record { byte = 13; rest = 10 ∷ []; joined = ap (λ x. x ++ (13 ∷ 10 ∷ [])) p.0 }))
+          (λ prefix byte p. (p.1, record { byte = 13; rest = 10 ∷ []; joined = ap (λ x. x ++ (13 ∷ 10 ∷ [])) p.0 }))
           (after_byte-breaks 13 ExpectedLineEnd said bytes h).1
       | inr h ↦ elim (bind_err (λ after. Ok (word, after)) (after_byte 10 ExpectedLineEnd h.0) (Broken said) h.2) [
         | inl k ↦
             let feed = after_byte-takes 13 ExpectedLineEnd bytes h.0 h.1 in
             rw feed (BreaksAt-behind (λ rest. after_byte 10 ExpectedLineEnd rest >>= λ after. Ok (word, after)) (line_end_after word) AtLineEnd InLineEnd (13 ∷ []) h.0 said (λ after. refl)
-            (λ front byte p. (p.1, record { byte = 10; rest = []; joined = ap (λ x. 13 ∷ (x ++ (10 ∷ []))) p.0 }))
-            (BreaksAt-first (after_byte 10 ExpectedLineEnd) (λ after. Ok (word, after)) AtLineEnd AtLineEnd h.0 said (λ front byte p. p) (after_byte-breaks 10 ExpectedLineEnd said h.0 k).1))
+            (λ prefix byte p. (p.1, record { byte = 10; rest = []; joined = ap (λ x. 13 ∷ (x ++ (10 ∷ []))) p.0 }))
+            (BreaksAt-first (after_byte 10 ExpectedLineEnd) (λ after. Ok (word, after)) AtLineEnd AtLineEnd h.0 said (λ prefix byte p. p) (after_byte-breaks 10 ExpectedLineEnd said h.0 k).1))
         | inr k ↦ absurd (cc)
       ]
     ]
@@ -89,24 +89,24 @@ payload_at-takes len bytes word rest e =
     ]
 
 -- a word of this length begins with the bytes that there are
-filled : (bytes : List ℕ) (len : ℕ) → length bytes < len → (word : List ℕ) × (length word ≡ len) × IsProperFront bytes (word ++ line_end)
+filled : (bytes : List ℕ) (len : ℕ) → length bytes < len → (word : List ℕ) × (length word ≡ len) × IsProperPrefix bytes (word ++ line_end)
 filled bytes len h =
     let missing = len - length bytes - 1 in
     (bytes ++ (0 ∷ replicate missing 0), omega (arith, length-append bytes (0 ∷ replicate missing 0), length-replicate {A = ℕ} missing 0), record { byte = 0; rest = replicate missing 0 ++ line_end; joined = sym (append_assoc bytes (0 ∷ replicate missing 0) line_end) })
 
-payload_at-short : (len : ℕ) (bytes : List ℕ) → payload_at len bytes ≡ Err Short → (word : List ℕ) × (length word ≡ len) × IsProperFront bytes (word ++ line_end)
+payload_at-short : (len : ℕ) (bytes : List ℕ) → payload_at len bytes ≡ Err Short → (word : List ℕ) × (length word ≡ len) × IsProperPrefix bytes (word ++ line_end)
 payload_at-short len bytes e =
     elim (chosen (nat_lt (length bytes) len) (Err Short) (line_end_after (take len bytes) (drop len bytes)) (Err Short) e) [
       | inl h ↦ filled bytes len (ltb-true (length bytes) len h.0)
       | inr h ↦
           let fits : len ≤ length bytes = ltb-false (length bytes) len h.0 in
-          let found = IsProperFront-behind (take len bytes) (drop len bytes) line_end (line_end_after-short (take len bytes) (drop len bytes) h.1) in
+          let found = IsProperPrefix-behind (take len bytes) (drop len bytes) line_end (line_end_after-short (take len bytes) (drop len bytes) h.1) in
           (take len bytes, length-take-le len bytes fits, rw (take-append-drop len bytes) at found)
     ]
 
 -- what stands before the byte at which a word of this length is not ended
 abbrev pub AfterWord : ℕ → List ℕ → ℕ → ProtocolFault → Type 0
-AfterWord len front byte fault = (fault ≡ ExpectedLineEnd) × ((word end : List ℕ) × (length word ≡ len) × IsProperFront end line_end × (front ≡ word ++ end))
+AfterWord len prefix byte fault = (fault ≡ ExpectedLineEnd) × ((word end : List ℕ) × (length word ≡ len) × IsProperPrefix end line_end × (prefix ≡ word ++ end))
 
 pub payload_at-behind : (len : ℕ) (word after : List ℕ) → length word ≡ len → payload_at len (word ++ after) ≡ line_end_after word after
 payload_at-behind len word after same =
@@ -122,7 +122,7 @@ payload_at-breaks len bytes said e =
           let fits : len ≤ length bytes = ltb-false (length bytes) len h.0 in
           let same : length (take len bytes) ≡ len = length-take-le len bytes fits in
           let found = BreaksAt-behind (line_end_after (take len bytes)) (payload_at len) InLineEnd (AfterWord len) (take len bytes) (drop len bytes) said (λ after. payload_at-behind len (take len bytes) after same)
-          (λ front byte p. (p.0, (take len bytes, front, same, p.1, refl)))
+          (λ prefix byte p. (p.0, (take len bytes, prefix, same, p.1, refl)))
           (line_end_after-breaks (take len bytes) (drop len bytes) said h.1) in
           rw (take-append-drop len bytes) at found
     ]
@@ -143,12 +143,12 @@ after_dollar-short (byte ∷ bytes) e = absurd (elim (chosen (byte == 36) (Ok by
 
 -- what stands before the byte at which a word breaks
 abbrev pub InWord : Limits → List ℕ → ℕ → ProtocolFault → Type 0
-InWord limits front byte ExpectedArray = ⊥
-InWord limits front byte InvalidMultibulkLength = ⊥
-InWord limits front byte (ExpectedBulk got) = (front ≡ []) × (got ≡ byte)
-InWord limits front byte InvalidBulkLength = (line : List ℕ) × (len : ℕ) × (len ≤ limits.word_bytes) × IsProperFront line (number_line len) × (front ≡ 36 ∷ line)
-InWord limits front byte ExpectedLineEnd =
-    (word : List ℕ) × (end : List ℕ) × (length word ≤ limits.word_bytes) × IsProperFront end line_end × (front ≡ 36 ∷ number_line (length word) ++ word ++ end)
+InWord limits prefix byte ExpectedArray = ⊥
+InWord limits prefix byte InvalidMultibulkLength = ⊥
+InWord limits prefix byte (ExpectedBulk got) = (prefix ≡ []) × (got ≡ byte)
+InWord limits prefix byte InvalidBulkLength = (line : List ℕ) × (len : ℕ) × (len ≤ limits.word_bytes) × IsProperPrefix line (number_line len) × (prefix ≡ 36 ∷ line)
+InWord limits prefix byte ExpectedLineEnd =
+    (word : List ℕ) × (end : List ℕ) × (length word ≤ limits.word_bytes) × IsProperPrefix end line_end × (prefix ≡ 36 ∷ number_line (length word) ++ word ++ end)
 
 after_dollar-breaks : (limits : Limits) (bytes : List ℕ) (said : ProtocolFault) → after_dollar bytes ≡ Err (Broken said) → BreaksAt after_dollar (InWord limits) bytes said
 after_dollar-breaks limits [] said e = absurd (cc)
@@ -189,17 +189,17 @@ bulk-parts : (word : List ℕ) → (36 ∷ number_line (length word)) ++ (word +
 bulk-parts word = sym (append_assoc (36 ∷ number_line (length word)) word line_end)
 
 -- bytes that end in the length of a word, and behind it
-begun_in_length : (n : ℕ) (inside bytes : List ℕ) → bytes ≡ 36 ∷ inside → IsProperFront inside (number_line n) → IsProperFront bytes (bulk (replicate n 0))
+begun_in_length : (n : ℕ) (inside bytes : List ℕ) → bytes ≡ 36 ∷ inside → IsProperPrefix inside (number_line n) → IsProperPrefix bytes (bulk (replicate n 0))
 begun_in_length n inside bytes whole p =
     let word : List ℕ = replicate n 0 in
     let len : length word ≡ n = length-replicate n 0 in
-    IsProperFront-same whole (ap (λ k. 36 ∷ (number_line k ++ (word ++ line_end))) (sym len) ∙ bulk-parts word) (IsProperFront-behind (36 ∷ []) inside _ (IsProperFront-append inside (number_line n) (word ++ line_end) p))
+    IsProperPrefix-same whole (ap (λ k. 36 ∷ (number_line k ++ (word ++ line_end))) (sym len) ∙ bulk-parts word) (IsProperPrefix-behind (36 ∷ []) inside _ (IsProperPrefix-append inside (number_line n) (word ++ line_end) p))
 
-begun_behind_length : (n : ℕ) (word after inside bytes : List ℕ) → bytes ≡ 36 ∷ inside → inside ≡ number_line n ++ after → length word ≡ n → IsProperFront after (word ++ line_end) → IsProperFront bytes (bulk word)
+begun_behind_length : (n : ℕ) (word after inside bytes : List ℕ) → bytes ≡ 36 ∷ inside → inside ≡ number_line n ++ after → length word ≡ n → IsProperPrefix after (word ++ line_end) → IsProperPrefix bytes (bulk word)
 begun_behind_length n word after inside bytes whole line len p =
-    IsProperFront-same (whole ∙ ap (λ x. 36 ∷ x) line) (ap (λ k. 36 ∷ (number_line k ++ (word ++ line_end))) (sym len) ∙ bulk-parts word) (IsProperFront-behind (36 ∷ number_line n) after (word ++ line_end) p)
+    IsProperPrefix-same (whole ∙ ap (λ x. 36 ∷ x) line) (ap (λ k. 36 ∷ (number_line k ++ (word ++ line_end))) (sym len) ∙ bulk-parts word) (IsProperPrefix-behind (36 ∷ number_line n) after (word ++ line_end) p)
 
-pub word_at-short : (limits : Limits) (bytes : List ℕ) → limits.word_bytes < 2 ^ 64 → word_at limits bytes ≡ Err Short → (word : List ℕ) × (length word ≤ limits.word_bytes) × IsProperFront bytes (bulk word)
+pub word_at-short : (limits : Limits) (bytes : List ℕ) → limits.word_bytes < 2 ^ 64 → word_at limits bytes ≡ Err Short → (word : List ℕ) × (length word ≤ limits.word_bytes) × IsProperPrefix bytes (bulk word)
 word_at-short limits bytes small e =
     elim (bind_err (rest_of_word limits) (after_dollar bytes) Short e) [
       | inl h ↦ ([], omega arith, record { byte = 36; rest = number_line 0 ++ [] ++ line_end; joined = ap (λ x. x ++ (36 ∷ (number_line 0 ++ [] ++ line_end))) (after_dollar-short bytes h) })
@@ -215,27 +215,27 @@ word_at-short limits bytes small e =
     ]
 
 -- where a word breaks in its length, or behind it
-placed_in_length : (limits : Limits) (said : ProtocolFault) (front : List ℕ) (byte : ℕ) → said ≡ InvalidBulkLength → InNumber limits.word_bytes front byte said → InWord limits (36 ∷ front) byte said
-placed_in_length limits said front byte same p = rw same (front, p.0, p.1, p.2, refl)
+placed_in_length : (limits : Limits) (said : ProtocolFault) (prefix : List ℕ) (byte : ℕ) → said ≡ InvalidBulkLength → InNumber limits.word_bytes prefix byte said → InWord limits (36 ∷ prefix) byte said
+placed_in_length limits said prefix byte same p = rw same (prefix, p.0, p.1, p.2, refl)
 
-placed_behind_length : (limits : Limits) (len : ℕ) (said : ProtocolFault) (front : List ℕ) (byte : ℕ) → len ≤ limits.word_bytes → AfterWord len front byte said → InWord limits ((36 ∷ number_line len) ++ front) byte said
-placed_behind_length limits len said front byte fits p =
+placed_behind_length : (limits : Limits) (len : ℕ) (said : ProtocolFault) (prefix : List ℕ) (byte : ℕ) → len ≤ limits.word_bytes → AfterWord len prefix byte said → InWord limits ((36 ∷ number_line len) ++ prefix) byte said
+placed_behind_length limits len said prefix byte fits p =
     rw p.0 (p.1.0, p.1.1, omega (arith, p.1.2), p.1.3, ap (λ x. (36 ∷ number_line len) ++ x) p.1.4 ∙ ap (λ k. (36 ∷ number_line k) ++ (p.1.0 ++ p.1.1)) (sym p.1.2) ∙ sym (append_assoc (36 ∷ number_line (length p.1.0)) p.1.0 p.1.1))
 
 pub word_at-breaks : (limits : Limits) (bytes : List ℕ) (said : ProtocolFault) → limits.word_bytes < 2 ^ 64 → word_at limits bytes ≡ Err (Broken said) → BreaksAt (word_at limits) (InWord limits) bytes said
 word_at-breaks limits bytes said small e =
     elim (bind_err (rest_of_word limits) (after_dollar bytes) (Broken said) e) [
-      | inl h ↦ BreaksAt-first after_dollar (rest_of_word limits) (InWord limits) (InWord limits) bytes said (λ front byte p. p) (after_dollar-breaks limits bytes said h)
+      | inl h ↦ BreaksAt-first after_dollar (rest_of_word limits) (InWord limits) (InWord limits) bytes said (λ prefix byte p. p) (after_dollar-breaks limits bytes said h)
       | inr h ↦
           let dollar = after_dollar-takes bytes h.0 h.1 in
           elim (bind_err (λ len. payload_at len.0 len.1) (number_at limits.word_bytes InvalidBulkLength h.0) (Broken said) h.2) [
             | inl k ↦
                 let number = number_at-breaks limits.word_bytes InvalidBulkLength h.0 said small k in
-                rw dollar (BreaksAt-behind (rest_of_word limits) (word_at limits) (InNumber limits.word_bytes) (InWord limits) (36 ∷ []) h.0 said (λ after. refl) (λ front byte p. placed_in_length limits said front byte number.0 p)
-                (BreaksAt-first (number_at limits.word_bytes InvalidBulkLength) (λ len. payload_at len.0 len.1) (InNumber limits.word_bytes) (InNumber limits.word_bytes) h.0 said (λ front byte p. p) number.1))
+                rw dollar (BreaksAt-behind (rest_of_word limits) (word_at limits) (InNumber limits.word_bytes) (InWord limits) (36 ∷ []) h.0 said (λ after. refl) (λ prefix byte p. placed_in_length limits said prefix byte number.0 p)
+                (BreaksAt-first (number_at limits.word_bytes InvalidBulkLength) (λ len. payload_at len.0 len.1) (InNumber limits.word_bytes) (InNumber limits.word_bytes) h.0 said (λ prefix byte p. p) number.1))
             | inr k ↦
                 let number = number_at-takes limits.word_bytes InvalidBulkLength h.0 k.0.0 k.0.1 small k.1 in
-                rw (dollar, number.1) (BreaksAt-behind (payload_at k.0.0) (word_at limits) (AfterWord k.0.0) (InWord limits) (36 ∷ number_line k.0.0) k.0.1 said (λ after. rest_of_word-again limits k.0.0 after small number.0) (λ front byte p. placed_behind_length limits k.0.0 said front byte number.0 p)
+                rw (dollar, number.1) (BreaksAt-behind (payload_at k.0.0) (word_at limits) (AfterWord k.0.0) (InWord limits) (36 ∷ number_line k.0.0) k.0.1 said (λ after. rest_of_word-again limits k.0.0 after small number.0) (λ prefix byte p. placed_behind_length limits k.0.0 said prefix byte number.0 p)
                 (payload_at-breaks k.0.0 k.0.1 said k.2))
           ]
     ]

@@ -8,9 +8,9 @@ use Rattle.kv_types.specs.declared.record_id.RecordId.{RecordId}
 use Rattle.kv_types.specs.declared.record_id.RecordId.TheVariants.{Str, Field}
 use Rattle.kv_types.specs.declared.change.Change.{Change}
 use Rattle.kv_types.specs.declared.change.Change.TheVariants.{Put, Drop, DropKey, Clear}
-use Rattle.kv_types.specs.Keyspaces.{Keyspace, key_of, record_cmp, value_at, with_record, without_record, without_key, play}
-use Rattle.kv_types.specs.LookUps.{IsLookedUpAfter, PutsString, PutsField, DropsRecord, DropsKey}
-use Rattle.kv_types.specs.Orders.{record_cmp_total}
+use Rattle.kv_types.specs.Keyspace.{Keyspace, key_of, record_cmp, value_at, with_record, without_record, without_key, play}
+use Rattle.kv_types.specs.LookUp.{IsLookedUpAfter, PutsString, PutsField, DropsRecord, DropsKey}
+use Rattle.kv_types.specs.Order.{record_cmp_total}
 use Rattle.kv_types.proofs.OrderLemmas.{record_cmp_equal, same_record, record_itself, same_key, key_itself, field_is_no_string, string_is_no_field}
 
 -- whether two names are those of one record, and whether two keys are one

@@ -3,7 +3,7 @@ use Rattle.std.proofs.Common.{◌≡◌, ℕ, zero, suc, ◌<◌, List, [], ◌�
 use Rattle.std.proofs.lemmas.Bool.{and_parts}
 use Rattle.std.specs.FinMap.Entries.{is_sorted, below_all}
 use Rattle.kv_types.specs.declared.record_id.RecordId.{RecordId}
-use Rattle.kv_types.specs.Keyspaces.{Keyspace, record_cmp, value_at}
+use Rattle.kv_types.specs.Keyspace.{Keyspace, record_cmp, value_at}
 use Rattle.kv_types.proofs.OrderLemmas.{same_record, record_itself}
 use Rattle.kv_types.proofs.LookUpLemmas.{is_same}
 

@@ -6,8 +6,8 @@ use Rattle.std.specs.FinMap.{nat_cmp-IsAntisymmetric, slice_cmp-IsAntisymmetric}
 use Rattle.std.specs.Ordering.{ordering_then, eq_by_cmp}
 use Rattle.kv_types.specs.declared.record_id.RecordId.{RecordId}
 use Rattle.kv_types.specs.declared.record_id.RecordId.TheVariants.{Str, Field}
-use Rattle.kv_types.specs.Keyspaces.{bytes_cmp, record_cmp}
-use Rattle.kv_types.specs.Orders.{record_cmp_total}
+use Rattle.kv_types.specs.Keyspace.{bytes_cmp, record_cmp}
+use Rattle.kv_types.specs.Order.{record_cmp_total}
 
 both_equal : (o p : Ordering) → ordering_then o p ≡ Equal → (o ≡ Equal) × (p ≡ Equal)
 both_equal Less p e = cc

@@ -6,8 +6,8 @@ use Rattle.kv_types.specs.declared.record_id.RecordId.{RecordId}
 use Rattle.kv_types.specs.declared.record_id.RecordId.TheVariants.{Str, Field}
 use Rattle.kv_types.specs.declared.change.Change.{Change}
 use Rattle.kv_types.specs.declared.change.Change.TheVariants.{Put, Drop, DropKey, Clear}
-use Rattle.kv_types.specs.Keyspaces.{Keyspace, IsKeyspace, key_of, bytes_cmp, record_cmp, value_at, with_record, without_record, without_key, play, play_all}
-use Rattle.kv_types.specs.Orders.{record_cmp_total}
+use Rattle.kv_types.specs.Keyspace.{Keyspace, IsKeyspace, key_of, bytes_cmp, record_cmp, value_at, with_record, without_record, without_key, play, play_all}
+use Rattle.kv_types.specs.Order.{record_cmp_total}
 use Rattle.kv_types.proofs.OrderLemmas.{record_cmp_equal, same_strings, field_is_no_string, string_is_no_field}
 use Rattle.kv_types.proofs.LookUpLemmas.{is_same, is_same_key, value_at-without_record, value_at-without_key, value_at-put_string, value_at-put_field}
 

@@ -9,12 +9,12 @@ use Rattle.kv_types.specs.declared.record_id.RecordId.TheVariants.{Str, Field}
 use Rattle.kv_types.specs.declared.reply.Reply.{Reply, Simple, Error, Int, Bulk, NullBulk, Array, NullArray}
 use Rattle.kv_types.specs.declared.reply.Reply.TheBlock.{hidden-the_row-Reply-0}
 use denote.Hole.Carrier.{hidden}
-use Rattle.kv_types.specs.Changes.{change_text, changes_text, changes_size}
-use Rattle.kv_types.specs.Faults.{fault_message}
-use Rattle.kv_types.specs.Keyspaces.{play_all}
+use Rattle.kv_types.specs.Change.{change_text, changes_text, changes_size}
+use Rattle.kv_types.specs.Fault.{fault_message}
+use Rattle.kv_types.specs.Keyspace.{play_all}
 use Rattle.kv_types.specs.Reading.{items_at}
-use Rattle.kv_types.specs.Requests.{number_line, spelling}
-use Rattle.kv_types.specs.Replies.{text_of}
+use Rattle.kv_types.specs.Request.{number_line, spelling}
+use Rattle.kv_types.specs.Reply.{text_of}
 use Rattle.kv_types.proofs.ReplyLemmas.{text_of-Array}
 
 -- ---- requests and faults, under the full limits; a fault comes with the byte that makes it, and not before

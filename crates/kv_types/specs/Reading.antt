@@ -5,7 +5,7 @@ use Rattle.kv_types.specs.declared.item.ProtocolFault.{ProtocolFault}
 use Rattle.kv_types.specs.declared.item.ProtocolFault.TheVariants.{ExpectedArray, InvalidMultibulkLength, ExpectedBulk, InvalidBulkLength, ExpectedLineEnd}
 use Rattle.kv_types.specs.declared.item.Item.{Item}
 use Rattle.kv_types.specs.declared.item.Item.TheVariants.{Fault}
-use Rattle.kv_types.specs.Requests.{item_of}
+use Rattle.kv_types.specs.Request.{item_of}
 
 -- why there is no whole spelling: more may come, or nothing that comes can make one
 pub data Stop : Type 0 where
@@ -66,12 +66,12 @@ abbrev pub words_at : Limits → ℕ → List ℕ → Result (Read (List (List �
 words_at limits zero bytes = Ok ([], bytes)
 words_at limits (suc count) bytes = word_at limits bytes >>= λ word. words_at limits count word.1 >>= λ others. Ok (with_first word.0 others)
 
--- the words of the spelling at the front of the bytes, and the bytes after it
+-- the words of the spelling at the prefix of the bytes, and the bytes after it
 abbrev pub request_at : Limits → List ℕ → Result (Read (List (List ℕ))) Stop
 request_at limits bytes =
     after_byte 42 ExpectedArray bytes >>= λ rest. number_at limits.words InvalidMultibulkLength rest >>= λ count. words_at limits count.0 count.1
 
--- the items of a text whose front was read, where `following` gives those of the bytes after it
+-- the items of a text whose prefix was read, where `following` gives those of the bytes after it
 abbrev pub items_from : (List ℕ → List Item) → Result (Read (List (List ℕ))) Stop → List Item
 items_from following (Ok request) = item_of request.0 ++ following request.1
 items_from following (Err Short) = []

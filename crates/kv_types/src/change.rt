@@ -1,6 +1,6 @@
 //! What a command does to the keyspace.
 ghost use Rattle.std.specs.Prelude.{◌≡◌, ◌+◌, ◌≤◌, ◌↔◌, IsTrue, length};
-ghost use Rattle.kv_types.specs.Changes.{short_bytes, long_bytes, changes_size};
+ghost use Rattle.kv_types.specs.Change.{short_bytes, long_bytes, changes_size};
 
 use crate::bounded::{Key, Value};
 use crate::limits::{MAX_CHANGE_BYTES, MAX_KEY_BYTES, MAX_VALUE_BYTES};
@@ -21,7 +21,7 @@ pub enum Change {
 }
 
 impl Change {
-    ghost use Rattle.kv_types.specs.Changes.{change_text};
+    ghost use Rattle.kv_types.specs.Change.{change_text};
 
     /// How many bytes the change has in a frame.
     pub fn text_size(&self) -> usize

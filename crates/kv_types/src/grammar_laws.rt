@@ -4,8 +4,8 @@ ghost use Rattle.kv_types.specs.declared.limits.Limits.{Limits};
 ghost use Rattle.kv_types.specs.declared.item.ProtocolFault.{ProtocolFault};
 ghost use Rattle.kv_types.specs.declared.item.Item.{Item};
 ghost use Rattle.kv_types.specs.declared.item.Item.TheVariants.{Fault};
-ghost use Rattle.kv_types.specs.Words.{IsWithin};
-ghost use Rattle.kv_types.specs.Requests.{spelling, AsksFor};
+ghost use Rattle.kv_types.specs.Word.{IsWithin};
+ghost use Rattle.kv_types.specs.Request.{spelling, AsksFor};
 ghost use Rattle.kv_types.specs.Reading.{items_at};
 
 /// No spelling begins another: what is spelled can be read back in one way, whatever follows it.

@@ -1,6 +1,6 @@
 //! What the bytes of a connection hold: requests, and at most one fault after them.
 ghost use Rattle.std.specs.Prelude.{◌≡◌, [], ◌∷◌, ◌++◌, codes, IfOk};
-ghost use Rattle.kv_types.specs.Faults.{shown};
+ghost use Rattle.kv_types.specs.Fault.{shown};
 
 use crate::request::Request;
 use bytes::Bytes;
@@ -44,7 +44,7 @@ pub enum ProtocolFault {
 
 impl ProtocolFault {
     ghost use Rattle.std.specs.Prelude.{◌≡◌, ℕ, IfOk, IsErr};
-    ghost use Rattle.kv_types.specs.Faults.{fault_message};
+    ghost use Rattle.kv_types.specs.Fault.{fault_message};
 
     /// The text of the error that answers the fault. Only `ExpectedBulk`, which shows a byte, takes memory.
     pub fn message(self, alloc: Global) -> Result<Bytes, AllocError>

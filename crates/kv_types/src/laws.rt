@@ -3,10 +3,10 @@ ghost use Rattle.std.specs.Prelude.{◌≡◌, ◌↔◌, ℕ, List, [], ◌∷�
 ghost use Rattle.kv_types.specs.declared.change.Change.{Change};
 ghost use Rattle.kv_types.specs.declared.record_id.RecordId.{RecordId};
 ghost use Rattle.kv_types.specs.declared.reply.Reply.{Reply, Array};
-ghost use Rattle.kv_types.specs.Keyspaces.{Keyspace, IsKeyspace, value_at, play, play_all};
-ghost use Rattle.kv_types.specs.LookUps.{IsLookedUpAfter};
-ghost use Rattle.kv_types.specs.Replies.{text_of};
-ghost use Rattle.kv_types.specs.Requests.{number_line};
+ghost use Rattle.kv_types.specs.Keyspace.{Keyspace, IsKeyspace, value_at, play, play_all};
+ghost use Rattle.kv_types.specs.LookUp.{IsLookedUpAfter};
+ghost use Rattle.kv_types.specs.Reply.{text_of};
+ghost use Rattle.kv_types.specs.Request.{number_line};
 
 /// Changes played in two parts are the changes played at once.
 pub fn play_in_two_parts()

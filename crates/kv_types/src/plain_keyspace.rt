@@ -2,7 +2,7 @@
 ghost use Rattle.std.specs.Prelude.{◌≡◌, ℕ, List, ◌<◌, ◌≤◌, ◌==◌, [], length, take, insert, slice_index_or, slice_set, OnOk, OnErr, IfOk, IfErr, vec_len, vec_capacity};
 ghost use Rattle.std.specs.Option.{option_copied};
 ghost use Rattle.std.specs.Ordering.{eq_by_cmp};
-ghost use Rattle.kv_types.specs.Keyspaces.{IsKeyspace, value_at, record_cmp, with_record, without_record, without_key, play, play_all};
+ghost use Rattle.kv_types.specs.Keyspace.{IsKeyspace, value_at, record_cmp, with_record, without_record, without_key, play, play_all};
 
 use crate::bounded::{Key, Value};
 use crate::change::Change;
@@ -18,7 +18,7 @@ pub struct PlainKeyspace {
 }
 
 impl Model for PlainKeyspace {
-    ghost use Rattle.kv_types.specs.Keyspaces.{Keyspace, IsKeyspace};
+    ghost use Rattle.kv_types.specs.Keyspace.{Keyspace, IsKeyspace};
 
     ghost Value = { Keyspace };
 

@@ -16,7 +16,7 @@ impl RecordId {
     ghost use Rattle.std.specs.Prelude.{◌≡◌};
     ghost use Rattle.std.specs.Option.{option_copied};
     ghost use Rattle.std.specs.Ordering.{eq_by_cmp};
-    ghost use Rattle.kv_types.specs.Keyspaces.{key_of, field_of, record_cmp};
+    ghost use Rattle.kv_types.specs.Keyspace.{key_of, field_of, record_cmp};
 
     /// The key of the record.
     pub fn key(&self) -> &Key
@@ -65,8 +65,8 @@ impl Clone for RecordId {
 impl PartialEq for RecordId {
     ghost use Rattle.std.specs.Ordering.{eq_by_cmp};
     ghost use Rattle.std.specs.Cmp.{eq_by_cmp_equiv, partial_equiv_from_equiv};
-    ghost use Rattle.kv_types.specs.Keyspaces.{record_cmp};
-    ghost use Rattle.kv_types.specs.Orders.{record_cmp_total};
+    ghost use Rattle.kv_types.specs.Keyspace.{record_cmp};
+    ghost use Rattle.kv_types.specs.Order.{record_cmp_total};
 
     ghost eq = { eq_by_cmp record_cmp };
 
@@ -79,7 +79,7 @@ impl PartialEq for RecordId {
 
 impl Eq for RecordId {
     ghost use Rattle.std.specs.Cmp.{eq_by_cmp_equiv};
-    ghost use Rattle.kv_types.specs.Orders.{record_cmp_total};
+    ghost use Rattle.kv_types.specs.Order.{record_cmp_total};
 
     ghost laws = { eq_by_cmp_equiv record_cmp_total };
 }
@@ -87,8 +87,8 @@ impl Eq for RecordId {
 impl PartialOrd for RecordId {
     ghost use Rattle.std.specs.Prelude.{Some};
     ghost use Rattle.std.specs.Cmp.{partial_order_from_total};
-    ghost use Rattle.kv_types.specs.Keyspaces.{record_cmp};
-    ghost use Rattle.kv_types.specs.Orders.{record_cmp_total};
+    ghost use Rattle.kv_types.specs.Keyspace.{record_cmp};
+    ghost use Rattle.kv_types.specs.Order.{record_cmp_total};
 
     ghost partial_cmp = { λ x y. Some (record_cmp x y) };
 
@@ -101,8 +101,8 @@ impl PartialOrd for RecordId {
 
 impl Ord for RecordId {
     ghost use Rattle.std.specs.Prelude.{refl};
-    ghost use Rattle.kv_types.specs.Keyspaces.{record_cmp};
-    ghost use Rattle.kv_types.specs.Orders.{record_cmp_total};
+    ghost use Rattle.kv_types.specs.Keyspace.{record_cmp};
+    ghost use Rattle.kv_types.specs.Order.{record_cmp_total};
 
     ghost cmp = { record_cmp };
 

@@ -63,7 +63,7 @@ impl<T: Drop> From<AllocFailed<T>> for Refusal {
 }
 
 impl Refusal {
-    ghost use Rattle.kv_types.specs.Refusals.{refusal_number};
+    ghost use Rattle.kv_types.specs.Refusal.{refusal_number};
 
     /// The number that programs print, 1 to 16.
     pub fn number(self) -> u8
@@ -75,7 +75,7 @@ impl Refusal {
 
 impl fmt::Display for Refusal {
     ghost use Rattle.std.specs.Prelude.{Some};
-    ghost use Rattle.kv_types.specs.Refusals.{refusal_text};
+    ghost use Rattle.kv_types.specs.Refusal.{refusal_text};
 
     ghost output = { λ r. Some (refusal_text r) };
 

@@ -16,7 +16,7 @@ impl Model for Request {
 
     ghost Value = { List (List ℕ) };
 
-    ghost use Rattle.kv_types.specs.Words.{AreWords};
+    ghost use Rattle.kv_types.specs.Word.{AreWords};
 
     ghost view = { λ r. r.words.items };
 
@@ -24,7 +24,7 @@ impl Model for Request {
 }
 
 impl Request {
-    ghost use Rattle.kv_types.specs.Words.{AreWords};
+    ghost use Rattle.kv_types.specs.Word.{AreWords};
 
     /// A request of these words.
     pub fn new(words: Vec<Bytes>) -> Request

@@ -8,7 +8,7 @@ use Rattle.std.proofs.lemmas.Option.{get_or_from_slice_get}
 use Rattle.pipes.specs.declared.limits.TheConstants.{MAX_SEATS}
 use Rattle.kv_types.specs.declared.refusal.Refusal.TheVariants.{SeatsFull}
 use Rattle.lobby.specs.Book.{Book, Status, free, taken, IsEachOnce, Moves}
-use Rattle.lobby.specs.Slots.{status_of, IsSound, TakesLowest}
+use Rattle.lobby.specs.Slot.{status_of, IsSound, TakesLowest}
 use Rattle.lobby.proofs.SlotsLemmas.{All-taken, status-at, own-at}
 
 -- books with the same statuses are the same

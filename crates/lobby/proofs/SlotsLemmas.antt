@@ -4,7 +4,7 @@ use Rattle.std.proofs.lemmas.List.{get_or-map, length-map, length-set}
 use Rattle.std.proofs.lemmas.Option.{slice_get-map, slice_get-get_or, slice_get_within, get_or_from_slice_get}
 use Rattle.pipes.specs.declared.limits.TheConstants.{MAX_SEATS}
 use Rattle.lobby.specs.Book.{free, taken}
-use Rattle.lobby.specs.Slots.{status_of, IsSound, IsEmptyBelow, TakesLowest}
+use Rattle.lobby.specs.Slot.{status_of, IsSound, IsEmptyBelow, TakesLowest}
 use Rattle.lobby.proofs.Numbers.{each_once_from_complete}
 
 -- after a write, a place has what was written, where it is that place, and else what it had

@@ -47,7 +47,7 @@ module _ (statuses : List Status) (waiting : List ℕ) (complete : length status
       ≡ occurrences number (free_numbers 0 statuses) + cond (not (waits waiting number)) (occurrences number (taken_numbers 0 statuses)) 0 + occurrences number waiting
   together number =
       let all = occurrences-append number (free_numbers 0 statuses ++ held_numbers statuses waiting) waiting in
-      let front = occurrences-append number (free_numbers 0 statuses) (held_numbers statuses waiting) in
+      let prefix = occurrences-append number (free_numbers 0 statuses) (held_numbers statuses waiting) in
       let held = occurrences-filter (λ n. not (waits waiting n)) number (taken_numbers 0 statuses) in
       omega arith
 

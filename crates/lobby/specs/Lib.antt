@@ -1,3 +1,3 @@
 pub mod Attendance
 pub mod Book
-pub mod Slots
+pub mod Slot

@@ -1,7 +1,7 @@
 //! The lobby and its book of seats.
 ghost use Rattle.std.specs.Prelude.{◌≡◌, ◌≢◌, ℕ, ◌<◌, ◌↔◌, All, IsTrue, IfOk, IfErr, IsErrOf, Some, map, slice_get, slice_set, vec_len};
 ghost use Rattle.lobby.specs.Book.{Moves, free, taken};
-ghost use Rattle.lobby.specs.Slots.{IsSound, TakesLowest};
+ghost use Rattle.lobby.specs.Slot.{IsSound, TakesLowest};
 
 use kv_types::Refusal;
 use pipes::{MAX_SEATS, Seat};
@@ -18,7 +18,7 @@ pub struct Lobby {
 
 impl Model for Lobby {
     ghost use Rattle.lobby.specs.Book.{Book};
-    ghost use Rattle.lobby.specs.Slots.{book_of};
+    ghost use Rattle.lobby.specs.Slot.{book_of};
 
     ghost Value = { Book };
 

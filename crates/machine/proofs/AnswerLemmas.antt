@@ -2,12 +2,12 @@
 use Rattle.std.proofs.Common.{◌≡◌, ◌≢◌, ℕ, ◌+◌, true, false, cond, nat_eq, List, [], ◌∷◌, ◌++◌, flat_map, refl, sym, ap, ◌∙◌, arith, append_assoc, append-nil, eq-eqb, ne_eqb}
 use Rattle.std.proofs.lemmas.Grind.{flat_map-append}
 use Rattle.kv_types.specs.declared.reply.Held.{Held}
-use Rattle.kv_types.specs.Replies.{text_of}
+use Rattle.kv_types.specs.Reply.{text_of}
 use Rattle.model.specs.declared.call.Call.{Call}
-use Rattle.model.specs.States.{State, start_state}
-use Rattle.model.specs.Calls.{after_call, state_from, state_after, position_from, position_of, calls_of, replies_to}
+use Rattle.model.specs.State.{State, start_state}
+use Rattle.model.specs.Call.{after_call, state_from, state_after, position_from, position_of, calls_of, replies_to}
 use Rattle.model.proofs.CallsLemmas.{position_of-push}
-use Rattle.machine.specs.Events.{texts_of}
+use Rattle.machine.specs.Event.{texts_of}
 use Rattle.machine.specs.Sound.{position_with, answer_at, answers_from, answers_to}
 
 pub answers_from-append : (s : State) (p c : ℕ) (xs ys : List Call) → answers_from s p c (xs ++ ys) ≡ answers_from s p c xs ++ answers_from (state_from s xs) (p + position_from s xs) c ys

@@ -1,8 +1,8 @@
 -- What each event leaves of the committer: the groups that wait lead from its record's position to where groups were closed.
 use Rattle.std.proofs.Common.{◌≡◌, ℕ, ◌+◌, ◌-◌, ◌<◌, ◌≤◌, true, List, [], ◌∷◌, length, refl, sym, ◌∙◌, arith, length-append, le_refl}
-use Rattle.model.specs.Calls.{is_nonempty}
+use Rattle.model.specs.Call.{is_nonempty}
 use Rattle.machine.specs.declared.event.TheConstants.{PIPE_ITEMS, OPEN_CHANGES}
-use Rattle.machine.specs.Events.{Span, Stage, Ready, Durable, Shown, Committer, is_ready, is_shown, shown, closed_group, committed_first, raised_local, ready_again, start}
+use Rattle.machine.specs.Event.{Span, Stage, Ready, Durable, Shown, Committer, is_ready, is_shown, shown, closed_group, committed_first, raised_local, ready_again, start}
 use Rattle.machine.specs.Sound.{IsChain, IsShownUpTo, SoundCommitter}
 use Rattle.machine.proofs.GroupLemmas.{chain-push}
 

@@ -3,7 +3,7 @@ use Rattle.std.proofs.Common.{◌≡◌, ◌≢◌, ℕ, zero, suc, ◌<◌, ◌
 use Rattle.std.proofs.Common.{inl, inr}
 use Rattle.std.proofs.lemmas.Bool.{cases_eq}
 use Rattle.std.proofs.lemmas.List.Elements.{All-nil, All-cons, All-head, All-tail, All-push}
-use Rattle.machine.specs.Events.{Connection, no_connection, new_connection, get_connection, count_open, changed_at}
+use Rattle.machine.specs.Event.{Connection, no_connection, new_connection, get_connection, count_open, changed_at}
 use Rattle.machine.specs.Sound.{SoundConnections}
 use Rattle.machine.specs.declared.event.TheConstants.{SEATS}
 

@@ -2,8 +2,8 @@
 use Rattle.std.proofs.Common.{◌≡◌, ℕ, ◌<◌, Bool, true, false, not, cond, List, [], ◌∷◌, ◌++◌, length, refl, sym, ap, ◌∙◌, append_assoc, append-nil, eq-eqb, ne_eqb}
 use Rattle.machine.specs.declared.event.Event.{Event}
 use Rattle.machine.specs.declared.event.Event.TheVariants.{Enter, Feed, Offer, Turn, CloseGroup, Commit, RaiseLocal, Hand, OpenLink, Send, Deliver, Apply, AckDelivered, RaiseRemote, Hold, Read, Release, Write}
-use Rattle.machine.specs.Events.{Inbound, Outbound, World, connection_of, with_inbound, with_outbound, on_inbound, on_outbound, is_closed_by, is_open, may_happen, with_call, fed_with, offered_next, taken_first, held_first, having_read, let_out, written, Happens, Step, Run, start, last_world}
-use Rattle.machine.specs.Promises.{fed_by, fed_to}
+use Rattle.machine.specs.Event.{Inbound, Outbound, World, connection_of, with_inbound, with_outbound, on_inbound, on_outbound, is_closed_by, is_open, may_happen, with_call, fed_with, offered_next, taken_first, held_first, having_read, having_released, written, Happens, Step, Run, start, last_world}
+use Rattle.machine.specs.Promise.{fed_by, fed_to}
 use Rattle.machine.proofs.ConnectionLemmas.{each-changed, get-entered, open-lt, same-changed}
 use Rattle.machine.proofs.SoundEvents.{both, enabled-may}
 
@@ -50,7 +50,7 @@ fed-happens w (AckDelivered a) new d e h = nothing (ap (λ x. fed_in x d) h)
 fed-happens w RaiseRemote new d e h = nothing (ap (λ x. fed_in x d) h)
 fed-happens w (Hold c) new d e h = nothing (ap (λ x. fed_in x d) h ∙ fed-outbound w c d held_first)
 fed-happens w (Read c mark) new d e h = nothing (ap (λ x. fed_in x d) h ∙ fed-outbound w c d (having_read mark w))
-fed-happens w (Release c) new d e h = nothing (ap (λ x. fed_in x d) h ∙ fed-outbound w c d let_out)
+fed-happens w (Release c) new d e h = nothing (ap (λ x. fed_in x d) h ∙ fed-outbound w c d having_released)
 fed-happens w (Write c n) new d e h = nothing (ap (λ x. fed_in x d) h ∙ fed-outbound w c d (written n))
 
 fed_by-not : (d : ℕ) (event : Event) → fed_by d event false ≡ []
@@ -64,7 +64,7 @@ fed-step old event false new d step = ap (λ x. fed_in x d) (step.stands refl) �
 pub fed-from : (w : World) (events : List Event) (done : List Bool) (worlds : List World) (d : ℕ) → Run w events done worlds → fed_in (last_world w worlds) d ≡ fed_in w d ++ fed_to d events done
 fed-from w [] [] [] d run = sym (append-nil (fed_in w d))
 fed-from w (event ∷ events) (did ∷ done) (new ∷ worlds) d run =
-    fed-from new events done worlds d run.1 ∙ ap (λ front. front ++ fed_to d events done) (fed-step w event did new d run.0)
+    fed-from new events done worlds d run.1 ∙ ap (λ prefix. prefix ++ fed_to d events done) (fed-step w event did new d run.0)
     ∙ append_assoc (fed_in w d) (fed_by d event did) (fed_to d events done)
 fed-from w events done worlds d run = absurd run
 

@@ -2,7 +2,7 @@
 use Rattle.std.proofs.Common.{◌≡◌, ℕ, ◌<◌, ◌≤◌, max, true, false, cond, nat_lt, List, [], ◌∷◌, ◌++◌, map, All, refl, arith, le_refl}
 use Rattle.std.proofs.lemmas.Bool.{ltb-true, ltb-false}
 use Rattle.std.proofs.lemmas.List.Elements.{All-nil, All-cons, All-head, All-tail, All-weaker}
-use Rattle.machine.specs.Events.{Span, Frame, framed, above}
+use Rattle.machine.specs.Event.{Span, Frame, framed, above}
 use Rattle.machine.specs.Sound.{IsChain, IsGroupWithin, IsFrameWithin}
 
 pub chain-le : (from : ℕ) (groups : List Span) (to : ℕ) → IsChain from groups to → from ≤ to

@@ -1,17 +1,17 @@
 -- What is there later: lists go on, and no number falls.
 use Rattle.std.proofs.Common.{◌≡◌, ℕ, zero, suc, ◌≤◌, Bool, true, false, List, [], ◌∷◌, ◌++◌, take, drop, cond, nat_eq, Option, Some, None, slice_get, refl, sym, ap, subst, ◌∙◌, arith, le_refl, inl, inr}
 use Rattle.model.specs.declared.call.Call.{Call}
-use Rattle.model.specs.Calls.{IsPrefix, cut_at, keyspace_after, position_of}
-use Rattle.model.proofs.PrefixLemmas.{IsPrefix-itself, IsPrefix-front, IsPrefix-trans}
+use Rattle.model.specs.Call.{IsPrefix, cut_at, keyspace_after, position_of}
+use Rattle.model.proofs.PrefixLemmas.{IsPrefix-itself, IsPrefix-of_append, IsPrefix-trans}
 use Rattle.model.proofs.CallsLemmas.{keyspace_after-cut_at-append}
 use Rattle.machine.specs.declared.event.Event.{Event}
 use Rattle.machine.specs.declared.event.Event.TheVariants.{Enter, Feed, Offer, Turn, CloseGroup, Commit, RaiseLocal, Hand, OpenLink, Send, Deliver, Apply, AckDelivered, RaiseRemote, Hold, Read, Release, Write}
 use Rattle.machine.specs.declared.event.Mark.{Mark}
 use Rattle.machine.specs.declared.event.Mark.TheVariants.{Local, Remote}
-use Rattle.machine.specs.Events.{Inbound, Outbound, Connection, Span, Frame, Acknowledgement, Committer, Link, Standby, Wire, World, get_connection, changed_at, with_inbound, with_outbound, with_connections, on_inbound, on_outbound, with_call, with_committer, with_link, with_standby, with_sent, with_acknowledged, sent, fed_with, offered_next, taken_first, with_made, called, closed_group, committed_first, raised_local, ready_again, handed, handed_to, opened_link, acknowledgement_of, next_to_send, framed, sent_next, delivered, without_first, Takes, told, knowing, raised_remote, held_first, having_read, let_out, written, option_items, Happens, Step, Run, start, last_world}
-use Rattle.machine.specs.Promises.{released_in}
+use Rattle.machine.specs.Event.{Inbound, Outbound, Connection, Span, Frame, Acknowledgement, Committer, Link, Standby, Wire, World, get_connection, changed_at, with_inbound, with_outbound, with_connections, on_inbound, on_outbound, with_call, with_committer, with_link, with_standby, with_sent, with_acknowledged, sent, fed_with, offered_next, taken_first, with_made, called, closed_group, committed_first, raised_local, ready_again, handed, handed_to, opened_link, acknowledgement_of, next_to_send, framed, sent_next, delivered, without_first, Takes, told, knowing, raised_remote, held_first, having_read, having_released, written, option_items, Happens, Step, Run, start, last_world}
+use Rattle.machine.specs.Promise.{released_in}
 use Rattle.machine.specs.Sound.{IsChain, Sound}
-use Rattle.machine.specs.Laws.{Grows}
+use Rattle.machine.specs.Law.{Grows}
 use Rattle.machine.proofs.ConnectionLemmas.{get-entered}
 use Rattle.machine.proofs.SoundEvents.{sent-known, sent-remote, sound-step}
 use Rattle.machine.proofs.RunLemmas.{run-take, run-drop, sound-run}
@@ -81,7 +81,7 @@ grows-outbound w c change each =
 grows-called : (w : World) (c : ℕ) (call : Call) → Grows w (called c call w)
 grows-called w c call =
     let first : Grows w (with_call call w) = record {
-      calls = IsPrefix-front w.primary.calls (call ∷ []);
+      calls = IsPrefix-of_append w.primary.calls (call ∷ []);
       released = (grows-itself w).released;
       frames = (grows-itself w).frames;
       acknowledgements = (grows-itself w).acknowledgements;
@@ -163,7 +163,7 @@ grows-standby w standby told le =
       calls = g.calls;
       released = g.released;
       frames = g.frames;
-      acknowledgements = IsPrefix-front w.wire.acknowledgements told;
+      acknowledgements = IsPrefix-of_append w.wire.acknowledgements told;
       primary_position = g.primary_position;
       standby_position = le;
       local = g.local;
@@ -210,7 +210,7 @@ grows-happens w Send new h s =
     subst (Grows w) (sym h) (record {
       calls = (grows-itself w).calls;
       released = (grows-itself w).released;
-      frames = IsPrefix-front w.wire.frames (framed w.primary.epoch (next_to_send link));
+      frames = IsPrefix-of_append w.wire.frames (framed w.primary.epoch (next_to_send link));
       acknowledgements = (grows-itself w).acknowledgements;
       primary_position = (grows-itself w).primary_position;
       standby_position = (grows-itself w).standby_position;
@@ -224,8 +224,8 @@ grows-happens w (AckDelivered a) new h s = subst (Grows w) (sym h) (grows-told w
 grows-happens w RaiseRemote new h s = subst (Grows w) (sym h) (grows-link w (raised_remote w.primary.link) (le_refl w.primary.link.known) s.link.remote)
 grows-happens w (Hold c) new h s = subst (Grows w) (sym h) (grows-outbound w c held_first (λ outbound. IsPrefix-itself outbound.released))
 grows-happens w (Read c mark) new h s = subst (Grows w) (sym h) (grows-outbound w c (having_read mark w) (grows-read w mark))
-grows-happens w (Release c) new h s = subst (Grows w) (sym h) (grows-outbound w c let_out (λ outbound. IsPrefix-itself outbound.released))
-grows-happens w (Write c n) new h s = subst (Grows w) (sym h) (grows-outbound w c (written n) (λ outbound. IsPrefix-front outbound.released (take n outbound.pending)))
+grows-happens w (Release c) new h s = subst (Grows w) (sym h) (grows-outbound w c having_released (λ outbound. IsPrefix-itself outbound.released))
+grows-happens w (Write c n) new h s = subst (Grows w) (sym h) (grows-outbound w c (written n) (λ outbound. IsPrefix-of_append outbound.released (take n outbound.pending)))
 
 pub grows-step : (old : World) (event : Event) (did : Bool) (new : World) → Step old event did new → Sound old → Grows old new
 grows-step old event true new step s = grows-happens old event new (step.happens refl) s

@@ -6,10 +6,10 @@ use Rattle.kv_types.specs.declared.limits.TheConstants.{SERVED_LIMITS}
 use Rattle.kv_types.specs.Reading.{items_at}
 use Rattle.kv_types.proofs.GrammarItems.{items_at-append, later_items, unread_at}
 use Rattle.model.specs.declared.call.Call.{Call}
-use Rattle.model.specs.Calls.{items_of, up_to_closing}
+use Rattle.model.specs.Call.{items_of, up_to_closing}
 use Rattle.model.proofs.ServesLemmas.{up_to_closing-open, up_to_closing-all, items_of-push_own, items_of-push_other}
 use Rattle.machine.specs.declared.event.TheConstants.{PIPE_ITEMS}
-use Rattle.machine.specs.Events.{Inbound, no_connection, asked, is_closed_by, fed_with, offered_next, taken_first}
+use Rattle.machine.specs.Event.{Inbound, no_connection, asked, is_closed_by, fed_with, offered_next, taken_first}
 use Rattle.machine.specs.Sound.{SoundInbound}
 
 -- what more bytes ask for comes after what was asked for, where nothing closes the connection
@@ -18,7 +18,7 @@ asked-append fed piece stays =
     let items = items_at SERVED_LIMITS fed in
     let later = later_items SERVED_LIMITS (unread_at SERVED_LIMITS fed) piece in
     ap up_to_closing (items_at-append SERVED_LIMITS fed piece) ∙ up_to_closing-open items later stays
-    ∙ ap (λ front. front ++ up_to_closing later) (sym (up_to_closing-all items stays))
+    ∙ ap (λ prefix. prefix ++ up_to_closing later) (sym (up_to_closing-all items stays))
 
 pub inbound-start : (c : ℕ) → SoundInbound [] c no_connection.inbound
 inbound-start c = record { offered = omega arith; order = refl; few = omega arith }
@@ -39,7 +39,7 @@ inbound-offered calls c inbound more room s =
     let next = take 1 (drop inbound.offered items) in
     record {
       offered = omega arith;
-      order = sym (append_assoc (items_of c calls) inbound.waiting next) ∙ ap (λ front. front ++ next) s.order ∙ sym (take-add inbound.offered 1 items);
+      order = sym (append_assoc (items_of c calls) inbound.waiting next) ∙ ap (λ prefix. prefix ++ next) s.order ∙ sym (take-add inbound.offered 1 items);
       few = omega (arith, length-append inbound.waiting next, length-take 1 (drop inbound.offered items));
     }
 
@@ -50,8 +50,8 @@ inbound-called_own calls c inbound call own first s =
     let rest = drop 1 inbound.waiting in
     record {
       offered = s.offered;
-      order = ap (λ front. front ++ rest) (items_of-push_own c calls call own) ∙ append_assoc items (call.item ∷ []) rest
-          ∙ ap (λ front. items ++ (front ++ rest)) (sym first) ∙ ap (λ waiting. items ++ waiting) (take-append-drop 1 inbound.waiting) ∙ s.order;
+      order = ap (λ prefix. prefix ++ rest) (items_of-push_own c calls call own) ∙ append_assoc items (call.item ∷ []) rest
+          ∙ ap (λ prefix. items ++ (prefix ++ rest)) (sym first) ∙ ap (λ waiting. items ++ waiting) (take-append-drop 1 inbound.waiting) ∙ s.order;
       few = omega (arith, s.few, length-drop 1 inbound.waiting);
     }
 

@@ -1,13 +1,13 @@
 -- The laws of every run, from what holds between any two events.
 use Rattle.std.proofs.Common.{◌≡◌, ℕ, ◌+◌, ◌≤◌, Bool, true, false, ◌&&◌, cond, nat_eq, List, [], ◌∷◌, ◌++◌, length, refl, sym, ap, ◌∙◌, arith, append_assoc, le-ltb, Option, Some, None, slice_get}
 use Rattle.std.proofs.lemmas.List.Elements.{All-weaker}
-use Rattle.model.specs.States.{start_state}
-use Rattle.model.specs.Calls.{state_after, position_of}
+use Rattle.model.specs.State.{start_state}
+use Rattle.model.specs.Call.{state_after, position_of}
 use Rattle.machine.specs.declared.event.Event.{Event}
 use Rattle.machine.specs.declared.event.Event.TheVariants.{Enter, Feed, Offer, Turn, CloseGroup, Commit, RaiseLocal, Hand, OpenLink, Send, Deliver, Apply, AckDelivered, RaiseRemote, Hold, Read, Release, Write}
-use Rattle.machine.specs.Events.{World, Frame, Acknowledgement, Link, told, knowing, nodes_run, may_happen, is_enabled, Happens, Step, Run, start, last_world}
+use Rattle.machine.specs.Event.{World, Frame, Acknowledgement, Link, told, knowing, nodes_run, may_happen, is_enabled, Happens, Step, Run, start, last_world}
 use Rattle.machine.specs.Sound.{IsFrameWithin, IsToldWithin, Sound, answers_from, answers_to}
-use Rattle.machine.specs.Laws.{IsInOrder, FramesAreCommitted, AnswersBearPositions, RaisesNoRemote, NothingIsReleasedUnacknowledged, OnlyWhatWasMadeIsDelivered}
+use Rattle.machine.specs.Law.{IsInOrder, FramesAreCommitted, AnswersBearPositions, RaisesNoRemote, NothingIsReleasedUnacknowledged, OnlyWhatWasMadeIsDelivered}
 use Rattle.machine.proofs.AnswerLemmas.{answers_from-append, answers_to-push_own}
 use Rattle.machine.proofs.GroupLemmas.{chain-le, frames_within-weaker}
 use Rattle.machine.proofs.SoundEvents.{sent-remote}
@@ -39,13 +39,13 @@ frames_are_committed events done worlds run =
     (frames_within-weaker w.primary.epoch s.sent w.primary.committer.position w.wire.frames le s.wire.frames, frames_within-weaker w.primary.epoch s.sent w.primary.committer.position w.standby.waiting le s.standby.frames)
 
 pub answers_bear_positions : AnswersBearPositions
-answers_bear_positions front call rest =
+answers_bear_positions prefix call rest =
     let c = call.connection in
-    let calls = front ++ call ∷ [] in
+    let calls = prefix ++ call ∷ [] in
     record {
       rest = answers_from (state_after calls) (0 + position_of calls) c rest;
-      joined = ap (λ answers. answers ++ answers_from (state_after calls) (0 + position_of calls) c rest) (sym (answers_to-push_own c front call refl))
-          ∙ sym (answers_from-append start_state 0 c calls rest) ∙ ap (answers_to c) (append_assoc front (call ∷ []) rest);
+      joined = ap (λ answers. answers ++ answers_from (state_after calls) (0 + position_of calls) c rest) (sym (answers_to-push_own c prefix call refl))
+          ∙ sym (answers_from-append start_state 0 c calls rest) ∙ ap (answers_to c) (append_assoc prefix (call ∷ []) rest);
     }
 
 -- ---- without RaiseRemote
@@ -92,9 +92,9 @@ remote-from w (event ∷ events) (did ∷ done) (new ∷ worlds) run none =
 remote-from w events done worlds run none = absurd run
 
 pub nothing_is_released_unacknowledged : NothingIsReleasedUnacknowledged
-nothing_is_released_unacknowledged events done worlds run none front call released =
+nothing_is_released_unacknowledged events done worlds run none prefix call released =
     let w = last_world start worlds in
-    let marks = released-covered w (sound-run events done worlds run) front call released in
+    let marks = released-covered w (sound-run events done worlds run) prefix call released in
     omega (arith, marks.1, remote-from start events done worlds run none)
 
 -- ---- what was not made

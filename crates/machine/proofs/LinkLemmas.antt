@@ -3,9 +3,9 @@ use Rattle.std.proofs.Common.{◌≡◌, ℕ, ◌<◌, ◌≤◌, true, not, nat
 use Rattle.std.proofs.lemmas.Bool.{ltb-true}
 use Rattle.std.proofs.lemmas.List.Elements.{All-nil, All-cons, All-head, All-tail, filter-append}
 use Rattle.std.proofs.lemmas.List.Filters.{length-filter_both}
-use Rattle.model.specs.Calls.{is_nonempty}
+use Rattle.model.specs.Call.{is_nonempty}
 use Rattle.machine.specs.declared.event.TheConstants.{PIPE_ITEMS, KEPT_GROUPS}
-use Rattle.machine.specs.Events.{Span, Stage, Ready, Durable, Shown, Committer, Link, is_ready, is_shown, shown, handed, handed_to, opened_link, sent_waiting, sent_next, next_to_send, above, knowing, raised_remote, start}
+use Rattle.machine.specs.Event.{Span, Stage, Ready, Durable, Shown, Committer, Link, is_ready, is_shown, shown, handed, handed_to, opened_link, sent_waiting, sent_next, next_to_send, above, knowing, raised_remote, start}
 use Rattle.machine.specs.Sound.{IsChain, IsGroupWithin, in_hand, HasRoomFor, SoundLink}
 use Rattle.machine.proofs.GroupLemmas.{chain-push, chain-above, chain-within}
 

@@ -1,24 +1,24 @@
--- What each event leaves of a connection's replies: those of its calls, in order, and let out only where both marks cover them.
+-- What each event leaves of a connection's replies: those of its calls, in order, and released only where both marks cover them.
 use Rattle.std.proofs.Common.{◌≡◌, ◌≢◌, ℕ, ◌<◌, ◌≤◌, true, false, cond, nat_le, List, [], ◌∷◌, ◌++◌, length, take, drop, All, refl, sym, ap, ◌∙◌, arith, append_assoc, length-append, length-drop, take-append-drop}
 use Rattle.std.proofs.lemmas.Bool.{leb-true, and_parts}
 use Rattle.std.proofs.lemmas.List.Elements.{All-nil, All-cons, All-append, All-weaker}
 use Rattle.kv_types.specs.declared.reply.Held.{Held}
 use Rattle.model.specs.declared.call.Call.{Call}
-use Rattle.model.specs.Calls.{position_of}
+use Rattle.model.specs.Call.{position_of}
 use Rattle.machine.specs.declared.event.TheConstants.{PIPE_ITEMS}
 use Rattle.machine.specs.declared.event.Mark.{Mark}
 use Rattle.machine.specs.declared.event.Mark.TheVariants.{Local, Remote}
-use Rattle.machine.specs.Events.{Outbound, World, no_connection, is_covered, covered_front, uncovered_rest, texts_of, with_made, held_first, having_read, let_out, written}
+use Rattle.machine.specs.Event.{Outbound, World, no_connection, is_covered, covered_prefix, uncovered_rest, texts_of, with_made, held_first, having_read, having_released, written}
 use Rattle.machine.specs.Sound.{IsCoveredBy, SoundOutbound}
 use Rattle.machine.proofs.AnswerLemmas.{answers_to-push_own, answers_to-push_other, texts_of-append}
 
--- ---- the covered front
+-- ---- the covered prefix
 
-pub covered_front-rest : (local remote : ℕ) (replies : List Held) → covered_front local remote replies ++ uncovered_rest local remote replies ≡ replies
-covered_front-rest local remote [] = refl
-covered_front-rest local remote (reply ∷ replies) =
-    elim (is_covered local remote reply) as (λ b. cond b (reply ∷ covered_front local remote replies) [] ++ cond b (uncovered_rest local remote replies) (reply ∷ replies) ≡ reply ∷ replies) [
-      | true ↦ ap (λ rest. reply ∷ rest) (covered_front-rest local remote replies)
+pub covered_prefix-rest : (local remote : ℕ) (replies : List Held) → covered_prefix local remote replies ++ uncovered_rest local remote replies ≡ replies
+covered_prefix-rest local remote [] = refl
+covered_prefix-rest local remote (reply ∷ replies) =
+    elim (is_covered local remote reply) as (λ b. cond b (reply ∷ covered_prefix local remote replies) [] ++ cond b (uncovered_rest local remote replies) (reply ∷ replies) ≡ reply ∷ replies) [
+      | true ↦ ap (λ rest. reply ∷ rest) (covered_prefix-rest local remote replies)
       | false ↦ refl
     ]
 
@@ -27,11 +27,11 @@ covered-is local remote reply e =
     let parts = and_parts (nat_le reply.position local) (nat_le reply.position remote) e in
     record { on_primary = leb-true reply.position local parts.0; on_standby = leb-true reply.position remote parts.1 }
 
-pub covered_front-covered : (local remote : ℕ) (replies : List Held) → All (IsCoveredBy local remote) (covered_front local remote replies)
-covered_front-covered local remote [] = All-nil (IsCoveredBy local remote)
-covered_front-covered local remote (reply ∷ replies) =
-    elim (is_covered local remote reply) as (λ b. is_covered local remote reply ≡ b → All (IsCoveredBy local remote) (cond b (reply ∷ covered_front local remote replies) [])) [
-      | true ↦ λ e. All-cons (IsCoveredBy local remote) reply (covered_front local remote replies) (covered-is local remote reply e) (covered_front-covered local remote replies)
+pub covered_prefix-covered : (local remote : ℕ) (replies : List Held) → All (IsCoveredBy local remote) (covered_prefix local remote replies)
+covered_prefix-covered local remote [] = All-nil (IsCoveredBy local remote)
+covered_prefix-covered local remote (reply ∷ replies) =
+    elim (is_covered local remote reply) as (λ b. is_covered local remote reply ≡ b → All (IsCoveredBy local remote) (cond b (reply ∷ covered_prefix local remote replies) [])) [
+      | true ↦ λ e. All-cons (IsCoveredBy local remote) reply (covered_prefix local remote replies) (covered-is local remote reply e) (covered_prefix-covered local remote replies)
       | false ↦ λ e. All-nil (IsCoveredBy local remote)
     ] refl
 
@@ -65,7 +65,7 @@ outbound-called_own calls c local remote outbound call own room s =
     record {
       out = s.out;
       replies = ap (λ more. s.out ++ more) (sym (append_assoc outbound.held outbound.made last)) ∙ sym (append_assoc s.out (outbound.held ++ outbound.made) last)
-          ∙ ap (λ front. front ++ last) s.replies ∙ sym (answers_to-push_own c calls call own);
+          ∙ ap (λ prefix. prefix ++ last) s.replies ∙ sym (answers_to-push_own c calls call own);
       texts = s.texts;
       covered = s.covered;
       local_read = s.local_read;
@@ -103,17 +103,17 @@ outbound-read calls c Local w outbound s =
 outbound-read calls c Remote w outbound s =
     record { out = s.out; replies = s.replies; texts = s.texts; covered = s.covered; local_read = s.local_read; remote_read = omega arith; few = s.few }
 
-pub outbound-let_out : (calls : List Call) (c local remote : ℕ) (outbound : Outbound) → SoundOutbound calls c local remote outbound → SoundOutbound calls c local remote (let_out outbound)
-outbound-let_out calls c local remote outbound s =
-    let front = covered_front outbound.local outbound.remote outbound.held in
+pub outbound-having_released : (calls : List Call) (c local remote : ℕ) (outbound : Outbound) → SoundOutbound calls c local remote outbound → SoundOutbound calls c local remote (having_released outbound)
+outbound-having_released calls c local remote outbound s =
+    let prefix = covered_prefix outbound.local outbound.remote outbound.held in
     let rest = uncovered_rest outbound.local outbound.remote outbound.held in
     record {
-      out = s.out ++ front;
-      replies = append_assoc s.out front (rest ++ outbound.made)
-          ∙ ap (λ more. s.out ++ more) (sym (append_assoc front rest outbound.made) ∙ ap (λ held. held ++ outbound.made) (covered_front-rest outbound.local outbound.remote outbound.held)) ∙ s.replies;
-      texts = sym (append_assoc outbound.released outbound.pending (texts_of front)) ∙ ap (λ text. text ++ texts_of front) s.texts ∙ sym (texts_of-append s.out front);
-      covered = All-append (IsCoveredBy local remote) s.out front s.covered
-          (covered-weaker outbound.local outbound.remote local remote front s.local_read s.remote_read (covered_front-covered outbound.local outbound.remote outbound.held));
+      out = s.out ++ prefix;
+      replies = append_assoc s.out prefix (rest ++ outbound.made)
+          ∙ ap (λ more. s.out ++ more) (sym (append_assoc prefix rest outbound.made) ∙ ap (λ held. held ++ outbound.made) (covered_prefix-rest outbound.local outbound.remote outbound.held)) ∙ s.replies;
+      texts = sym (append_assoc outbound.released outbound.pending (texts_of prefix)) ∙ ap (λ text. text ++ texts_of prefix) s.texts ∙ sym (texts_of-append s.out prefix);
+      covered = All-append (IsCoveredBy local remote) s.out prefix s.covered
+          (covered-weaker outbound.local outbound.remote local remote prefix s.local_read s.remote_read (covered_prefix-covered outbound.local outbound.remote outbound.held));
       local_read = s.local_read;
       remote_read = s.remote_read;
       few = s.few;

@@ -5,13 +5,13 @@ use mathlib.Core.Path.{fun_ext}
 use Rattle.kv_types.specs.declared.limits.TheConstants.{SERVED_LIMITS}
 use Rattle.kv_types.specs.declared.reply.Held.{Held}
 use Rattle.kv_types.specs.Reading.{items_at}
-use Rattle.kv_types.specs.Replies.{text_of}
+use Rattle.kv_types.specs.Reply.{text_of}
 use Rattle.model.specs.declared.call.Call.{Call}
-use Rattle.model.specs.States.{start_state}
-use Rattle.model.specs.Calls.{Serves, items_of, position_of, replies_to, state_after}
+use Rattle.model.specs.State.{start_state}
+use Rattle.model.specs.Call.{Serves, items_of, position_of, replies_to, state_after}
 use Rattle.machine.specs.declared.event.Event.{Event}
-use Rattle.machine.specs.Events.{World, Run, start, last_world, connection_of, asked, texts_of}
-use Rattle.machine.specs.Promises.{Tells, IsReleased, HasMarks, IsPromised, EveryRunIsPromised, released_in, fed_to}
+use Rattle.machine.specs.Event.{World, Run, start, last_world, connection_of, asked, texts_of}
+use Rattle.machine.specs.Promise.{Tells, IsReleased, HasMarks, IsPromised, EveryRunIsPromised, released_in, fed_to}
 use Rattle.machine.specs.Sound.{IsCoveredBy, Sound, answers_from, answers_to}
 use Rattle.machine.proofs.AnswerLemmas.{answers_from-append, answers_to-push_own, texts_of-answers_to, texts_of-append}
 use Rattle.machine.proofs.GroupLemmas.{chain-le}
@@ -20,32 +20,32 @@ use Rattle.machine.proofs.FedLemmas.{fed-run}
 
 -- ---- what was released
 
--- the replies let out are a front of all replies: one that begins within their texts is among them
-among : (P : Held → Type 0) (out others front : List Held) (reply : Held) (more : List Held) → out ++ others ≡ front ++ reply ∷ more → length (texts_of front) < length (texts_of out) → All P out → P reply
-among P [] others front reply more e lt all = absurd (omega arith)
+-- the replies released are a prefix of all replies: one that begins within their texts is among them
+among : (P : Held → Type 0) (out others prefix : List Held) (reply : Held) (more : List Held) → out ++ others ≡ prefix ++ reply ∷ more → length (texts_of prefix) < length (texts_of out) → All P out → P reply
+among P [] others prefix reply more e lt all = absurd (omega arith)
 among P (x ∷ out) others [] reply more e lt all = let same : x ≡ reply = cc in subst P same (All-head P x out all)
-among P (x ∷ out) others (y ∷ front) reply more e lt all =
+among P (x ∷ out) others (y ∷ prefix) reply more e lt all =
     let same : x ≡ y = cc in
-    let rest : out ++ others ≡ front ++ reply ∷ more = cc in
+    let rest : out ++ others ≡ prefix ++ reply ∷ more = cc in
     let first = length-append (text_of x.reply) (texts_of out) in
-    let second = length-append (text_of y.reply) (texts_of front) in
+    let second = length-append (text_of y.reply) (texts_of prefix) in
     let texts : length (text_of x.reply) ≡ length (text_of y.reply) = ap (λ (z : Held). length (text_of z.reply)) same in
-    among P out others front reply more rest (omega arith) (All-tail P x out all)
+    among P out others prefix reply more rest (omega arith) (All-tail P x out all)
 
-pub released-covered : (w : World) → Sound w → (front : List Call) (call : Call) → IsReleased w.primary.calls (released_in w) front call
-    → (position_of (front ++ call ∷ []) ≤ w.primary.committer.local) × (position_of (front ++ call ∷ []) ≤ w.primary.link.remote)
-released-covered w s front call released =
+pub released-covered : (w : World) → Sound w → (prefix : List Call) (call : Call) → IsReleased w.primary.calls (released_in w) prefix call
+    → (position_of (prefix ++ call ∷ []) ≤ w.primary.committer.local) × (position_of (prefix ++ call ∷ []) ≤ w.primary.link.remote)
+released-covered w s prefix call released =
     let c = call.connection in
     let outbound = (connection_of w c).outbound in
     let o = s.outbound c in
-    let reply : Held = record { reply = call.reply; position = position_of (front ++ call ∷ []) } in
-    let more = answers_from (state_after (front ++ call ∷ [])) (0 + position_of (front ++ call ∷ [])) c released.rest in
-    let all : o.out ++ (outbound.held ++ outbound.made) ≡ answers_to c front ++ reply ∷ more =
-    o.replies ∙ ap (answers_to c) (released.stands ∙ sym (append_assoc front (call ∷ []) released.rest)) ∙ answers_from-append start_state 0 c (front ++ call ∷ []) released.rest
-    ∙ ap (λ answers. answers ++ more) (answers_to-push_own c front call refl) ∙ append_assoc (answers_to c front) (reply ∷ []) more in
-    let before = ap length (texts_of-answers_to c front) in
-    let let_out = length-append outbound.released outbound.pending in
-    let covered = among (IsCoveredBy w.primary.committer.local w.primary.link.remote) o.out (outbound.held ++ outbound.made) (answers_to c front) reply more all (omega (arith, released.written, ap length o.texts)) o.covered in
+    let reply : Held = record { reply = call.reply; position = position_of (prefix ++ call ∷ []) } in
+    let more = answers_from (state_after (prefix ++ call ∷ [])) (0 + position_of (prefix ++ call ∷ [])) c released.rest in
+    let all : o.out ++ (outbound.held ++ outbound.made) ≡ answers_to c prefix ++ reply ∷ more =
+    o.replies ∙ ap (answers_to c) (released.stands ∙ sym (append_assoc prefix (call ∷ []) released.rest)) ∙ answers_from-append start_state 0 c (prefix ++ call ∷ []) released.rest
+    ∙ ap (λ answers. answers ++ more) (answers_to-push_own c prefix call refl) ∙ append_assoc (answers_to c prefix) (reply ∷ []) more in
+    let before = ap length (texts_of-answers_to c prefix) in
+    let having_released = length-append outbound.released outbound.pending in
+    let covered = among (IsCoveredBy w.primary.committer.local w.primary.link.remote) o.out (outbound.held ++ outbound.made) (answers_to c prefix) reply more all (omega (arith, released.written, ap length o.texts)) o.covered in
     (covered.on_primary, covered.on_standby)
 
 -- what was released and what waits are the replies
@@ -55,7 +55,7 @@ replies-add_up w s c =
     let outbound = (connection_of w c).outbound in
     let o = s.outbound c in
     sym (append_assoc outbound.released outbound.pending (texts_of outbound.held ++ texts_of outbound.made))
-    ∙ ap (λ front. front ++ (texts_of outbound.held ++ texts_of outbound.made)) o.texts
+    ∙ ap (λ prefix. prefix ++ (texts_of outbound.held ++ texts_of outbound.made)) o.texts
     ∙ ap (λ rest. texts_of o.out ++ rest) (sym (texts_of-append outbound.held outbound.made)) ∙ sym (texts_of-append o.out (outbound.held ++ outbound.made))
     ∙ ap texts_of o.replies ∙ texts_of-answers_to c w.primary.calls
 
@@ -69,7 +69,7 @@ serves-run events done worlds run = λ c.
     record {
       rest = inbound.waiting ++ drop inbound.offered (asked inbound.fed);
       joined = sym (append_assoc (items_of c w.primary.calls) inbound.waiting (drop inbound.offered (asked inbound.fed)))
-          ∙ ap (λ front. front ++ drop inbound.offered (asked inbound.fed)) s.order ∙ take-append-drop inbound.offered (asked inbound.fed)
+          ∙ ap (λ prefix. prefix ++ drop inbound.offered (asked inbound.fed)) s.order ∙ take-append-drop inbound.offered (asked inbound.fed)
           ∙ ap asked (fed-run events done worlds c run);
     }
 
@@ -86,11 +86,11 @@ every_run_is_promised events done worlds run =
       begins = λ c.
           let outbound = (connection_of w c).outbound in
           record { rest = outbound.pending ++ (texts_of outbound.held ++ texts_of outbound.made); joined = replies-add_up w s c };
-      covered = λ front call released.
-          let marks = released-covered w s front call released in
-          some-last (HasMarks front call) start worlds
-          (record { made = record { rest = released.rest; joined = append_assoc front (call ∷ []) released.rest ∙ sym released.stands }; local = marks.0; remote = marks.1 });
-      held = λ front call released. let marks = released-covered w s front call released in omega (arith, marks.1, s.link.remote, s.standby.known);
+      covered = λ prefix call released.
+          let marks = released-covered w s prefix call released in
+          some-last (HasMarks prefix call) start worlds
+          (record { made = record { rest = released.rest; joined = append_assoc prefix (call ∷ []) released.rest ∙ sym released.stands }; local = marks.0; remote = marks.1 });
+      held = λ prefix call released. let marks = released-covered w s prefix call released in omega (arith, marks.1, s.link.remote, s.standby.known);
       behind = omega (arith, s.standby.behind, chain-le _ _ _ s.link.waiting);
       within = omega (arith, s.committer.closed, chain-le _ _ _ s.committer.waiting);
     }

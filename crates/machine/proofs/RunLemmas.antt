@@ -2,8 +2,8 @@
 use Rattle.std.proofs.Common.{◌≡◌, ℕ, zero, suc, Bool, true, false, List, [], ◌∷◌, ◌++◌, length, take, drop, All, refl, sym, ap, arith, inl, inr, true≢false}
 use Rattle.std.proofs.lemmas.List.Elements.{All-nil, All-cons}
 use Rattle.machine.specs.declared.event.Event.{Event}
-use Rattle.machine.specs.Events.{Connection, World, is_enabled, Happens, Step, Run, start, last_world}
-use Rattle.machine.specs.Promises.{SomeWorld}
+use Rattle.machine.specs.Event.{Connection, World, is_enabled, Happens, Step, Run, start, last_world}
+use Rattle.machine.specs.Promise.{SomeWorld}
 use Rattle.machine.specs.Sound.{Sound}
 use Rattle.machine.proofs.InboundLemmas.{inbound-start}
 use Rattle.machine.proofs.OutboundLemmas.{outbound-start}

@@ -3,18 +3,18 @@ use Rattle.std.proofs.Common.{◌≡◌, ℕ, ◌+◌, ◌<◌, ◌≤◌, max, 
 use Rattle.std.proofs.lemmas.Bool.{ltb-true, not-true}
 use Rattle.std.proofs.lemmas.List.Elements.{All-head, All-push}
 use Rattle.model.specs.declared.call.Call.{Call}
-use Rattle.model.specs.Calls.{MayReply, is_nonempty, is_changing, state_after, position_of}
+use Rattle.model.specs.Call.{MayReply, is_nonempty, is_changing, state_after, position_of}
 use Rattle.model.proofs.CallsLemmas.{IsLegal-push, position_of-push, position_of_grows}
 use Rattle.machine.specs.declared.event.TheConstants.{SEATS, PIPE_ITEMS, OPEN_CHANGES}
 use Rattle.machine.specs.declared.event.Event.{Event}
 use Rattle.machine.specs.declared.event.Event.TheVariants.{Enter, Feed, Offer, Turn, CloseGroup, Commit, RaiseLocal, Hand, OpenLink, Send, Deliver, Apply, AckDelivered, RaiseRemote, Hold, Read, Release, Write}
 use Rattle.machine.specs.declared.event.Mark.{Mark}
-use Rattle.machine.specs.Events.{Inbound, Outbound, Connection, Span, Acknowledgement, Link, Standby, World, new_connection, get_connection, connection_of, count_open, changed_at, with_inbound, with_outbound, on_inbound, on_outbound, with_committer, with_link, with_standby, with_sent, with_acknowledged, asked, is_closed_by, is_open, open_changes, has_room, is_ready, nodes_run, may_happen, is_enabled, entered, fed_with, offered_next, taken_first, with_made, called, Turns, closed_group, committed_first, raised_local, ready_again, handed, handed_to, opened_link, acknowledgement_of, sent_waiting, sent_next, next_to_send, framed, sent, delivered, without_first, Applies, told, knowing, raised_remote, held_first, having_read, let_out, written, option_items, Happens, Step}
+use Rattle.machine.specs.Event.{Inbound, Outbound, Connection, Span, Acknowledgement, Link, Standby, World, new_connection, get_connection, connection_of, count_open, changed_at, with_inbound, with_outbound, on_inbound, on_outbound, with_committer, with_link, with_standby, with_sent, with_acknowledged, asked, is_closed_by, is_open, open_changes, has_room, is_ready, nodes_run, may_happen, is_enabled, entered, fed_with, offered_next, taken_first, with_made, called, Turns, closed_group, committed_first, raised_local, ready_again, handed, handed_to, opened_link, acknowledgement_of, sent_waiting, sent_next, next_to_send, framed, sent, delivered, without_first, Applies, told, knowing, raised_remote, held_first, having_read, having_released, written, option_items, Happens, Step}
 use Rattle.machine.specs.Sound.{IsChain, IsFrameWithin, IsToldWithin, SoundInbound, SoundOutbound, SoundCommitter, SoundStandby, Sound}
 use Rattle.machine.proofs.ConnectionLemmas.{get-changed_same, get-changed_other, length-changed_at, get-entered, each-changed, open-lt, count-open, connections-changed}
 use Rattle.machine.proofs.GroupLemmas.{framed-within}
 use Rattle.machine.proofs.InboundLemmas.{inbound-fed, inbound-offered, inbound-called_own, inbound-called_other}
-use Rattle.machine.proofs.OutboundLemmas.{outbound-marked, outbound-called_own, outbound-called_other, outbound-held, outbound-read, outbound-let_out, outbound-written}
+use Rattle.machine.proofs.OutboundLemmas.{outbound-marked, outbound-called_own, outbound-called_other, outbound-held, outbound-read, outbound-having_released, outbound-written}
 use Rattle.machine.proofs.CommitterLemmas.{committer-called, committer-closed_group, committer-committed, committer-raised, committer-handed}
 use Rattle.machine.proofs.LinkLemmas.{link-committed, link-raised, link-handed, link-opened, link-sent, link-knowing, link-raised_remote}
 use Rattle.machine.proofs.StandbyLemmas.{all-at, standby-sent, standby-known, standby-delivered, standby-without_first, standby-first, standby-takes, TakesWell, told-one, wire-sent, wire-told}
@@ -160,11 +160,11 @@ sound-Hold w c e s =
 sound-Read : (w : World) (c : ℕ) (mark : Mark) → may_happen w (Read c mark) ≡ true → Sound w → Sound (on_outbound c (having_read mark w) w)
 sound-Read w c mark e s = sound-outbound w c (having_read mark w) e (outbound-read w.primary.calls c mark w (connection_of w c).outbound (s.outbound c)) s
 
-sound-Release : (w : World) (c : ℕ) → may_happen w (Release c) ≡ true → Sound w → Sound (on_outbound c let_out w)
+sound-Release : (w : World) (c : ℕ) → may_happen w (Release c) ≡ true → Sound w → Sound (on_outbound c having_released w)
 sound-Release w c e s =
     let outbound = (connection_of w c).outbound in
     let parts = both (is_open w c) _ e in
-    sound-outbound w c let_out parts.0 (outbound-let_out w.primary.calls c w.primary.committer.local w.primary.link.remote outbound (s.outbound c)) s
+    sound-outbound w c having_released parts.0 (outbound-having_released w.primary.calls c w.primary.committer.local w.primary.link.remote outbound (s.outbound c)) s
 
 sound-Write : (w : World) (c n : ℕ) → may_happen w (Write c n) ≡ true → Sound w → Sound (on_outbound c (written n) w)
 sound-Write w c n e s =

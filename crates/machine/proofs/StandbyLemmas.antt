@@ -1,7 +1,7 @@
 -- What each event leaves of the standby and of the wire: frames are committed groups, and no acknowledgement is of a position above the standby's.
 use Rattle.std.proofs.Common.{◌≡◌, ℕ, zero, suc, ◌≤◌, List, [], ◌∷◌, ◌++◌, take, All, slice_get, sym, subst, arith, le_refl, refl, inl, inr}
 use Rattle.std.proofs.lemmas.List.Elements.{All-nil, All-cons, All-append, All-head, All-tail, All-take, All-drop, All-weaker}
-use Rattle.machine.specs.Events.{Frame, Acknowledgement, Standby, Wire, Takes, acknowledgement_of, delivered, moved_to, without_first, option_items, start}
+use Rattle.machine.specs.Event.{Frame, Acknowledgement, Standby, Wire, Takes, acknowledgement_of, delivered, moved_to, without_first, option_items, start}
 use Rattle.machine.specs.Sound.{IsFrameWithin, IsToldWithin, SoundStandby, SoundWire}
 use Rattle.machine.proofs.GroupLemmas.{frames_within-weaker}
 

@@ -7,11 +7,11 @@ use Rattle.kv_types.specs.declared.reply.Reply.{Reply, Simple}
 use Rattle.kv_types.specs.declared.reply.Held.{Held}
 use Rattle.kv_types.specs.Reading.{items_at}
 use Rattle.model.specs.declared.call.Call.{Call}
-use Rattle.model.specs.Calls.{MayReply, state_after}
+use Rattle.model.specs.Call.{MayReply, state_after}
 use Rattle.machine.specs.declared.event.Event.TheVariants.{Feed, Offer, Turn, Apply}
 use Rattle.model.specs.declared.record.TheConstants.{FIRST_EPOCH}
-use Rattle.machine.specs.Events.{Inbound, Outbound, Span, Frame, Stage, Ready, Durable, Shown, Committer, Link, Running, Standby, Wire, World, Step, Run, start}
-use Rattle.machine.specs.Promises.{released_in}
+use Rattle.machine.specs.Event.{Inbound, Outbound, Span, Frame, Stage, Ready, Durable, Shown, Committer, Link, Running, Standby, Wire, World, Step, Run, start}
+use Rattle.machine.specs.Promise.{released_in}
 use Rattle.machine.proofs.RunLemmas.{step-does, step-stays}
 use Rattle.machine.specs.Worked.{set_request, worked_events, worked_done, FirstCaseIsARun}
 

@@ -2,10 +2,10 @@
 use Rattle.std.specs.Prelude.{◌≡◌, ℕ, ◌+◌, ◌<◌, ◌≤◌, true, nat_eq, if◌then◌else◌, List, [], ◌∷◌, ◌++◌, length, take, All}
 use Rattle.kv_types.specs.declared.reply.Held.{Held}
 use Rattle.model.specs.declared.call.Call.{Call}
-use Rattle.model.specs.States.{State, start_state}
-use Rattle.model.specs.Calls.{IsLegal, after_call, is_changing, items_of, position_of}
+use Rattle.model.specs.State.{State, start_state}
+use Rattle.model.specs.Call.{IsLegal, after_call, is_changing, items_of, position_of}
 use Rattle.machine.specs.declared.event.TheConstants.{SEATS, PIPE_ITEMS, OPEN_CHANGES, KEPT_GROUPS}
-use Rattle.machine.specs.Events.{Span, Frame, Acknowledgement, Stage, Ready, Durable, Shown, Inbound, Outbound, Connection, Committer, Link, Life, Running, Primary, Standby, Wire, World, asked, connection_of, count_open, texts_of}
+use Rattle.machine.specs.Event.{Span, Frame, Acknowledgement, Stage, Ready, Durable, Shown, Inbound, Outbound, Connection, Committer, Link, Life, Running, Primary, Standby, Wire, World, asked, connection_of, count_open, texts_of}
 
 -- ---- replies
 
@@ -78,9 +78,9 @@ pub record SoundInbound (calls : List Call) (c : ℕ) (inbound : Inbound) : Type
   pub order : items_of c calls ++ inbound.waiting ≡ take inbound.offered (asked inbound.fed)
   pub few : length inbound.waiting ≤ PIPE_ITEMS
 
--- the replies of the connection's calls are those that were let out and those that wait, and both marks cover what was let out
+-- the replies of the connection's calls are those that were released and those that wait, and both marks cover what was released
 pub record SoundOutbound (calls : List Call) (c : ℕ) (local remote : ℕ) (outbound : Outbound) : Type 0 where
-  -- what was let out
+  -- what was released
   pub out : List Held
   pub replies : out ++ (outbound.held ++ outbound.made) ≡ answers_to c calls
   pub texts : outbound.released ++ outbound.pending ≡ texts_of out

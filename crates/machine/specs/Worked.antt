@@ -3,8 +3,8 @@ use Rattle.std.specs.Prelude.{◌≡◌, ℕ, Bool, true, false, List, [], ◌�
 use Rattle.machine.specs.declared.event.Event.{Event}
 use Rattle.machine.specs.declared.event.Event.TheVariants.{Enter, Feed, Offer, Turn, CloseGroup, Commit, RaiseLocal, Hand, OpenLink, Send, Deliver, Apply, AckDelivered, RaiseRemote, Hold, Read, Release, Write}
 use Rattle.machine.specs.declared.event.Mark.TheVariants.{Local, Remote}
-use Rattle.machine.specs.Events.{World, Run, start, last_world}
-use Rattle.machine.specs.Promises.{released_in}
+use Rattle.machine.specs.Event.{World, Run, start, last_world}
+use Rattle.machine.specs.Promise.{released_in}
 
 abbrev pub set_request : List ℕ
 set_request = codes "*3\r\n$3\r\nSET\r\n$1\r\na\r\n$1\r\n1\r\n"

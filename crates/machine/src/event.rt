@@ -59,8 +59,8 @@ pub enum Event {
     Hold(u64),
     /// A connection's gate reads a mark.
     Read(u64, Mark),
-    /// A connection's gate lets out the replies that both its numbers cover.
+    /// A connection's gate releases the replies that both its numbers cover.
     Release(u64),
-    /// So many bytes of what was let out are written to the connection.
+    /// So many bytes of what was released are written to the connection.
     Write(u64, u64),
 }

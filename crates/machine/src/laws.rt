@@ -1,8 +1,8 @@
 //! Laws of every run, each the contract of a function that does nothing.
-ghost use Rattle.machine.specs.Promises.{EveryRunIsPromised};
-ghost use Rattle.machine.specs.Laws.{
+ghost use Rattle.machine.specs.Promise.{EveryRunIsPromised};
+ghost use Rattle.machine.specs.Law.{
   EveryWorldIsSound,
-  BeginningsAreRuns,
+  PrefixesAreRuns,
   RunsGoOn,
   WorldsGrow,
   CutsStay,
@@ -32,9 +32,9 @@ pub fn every_world_is_sound()
     ensures { EveryWorldIsSound }
 {}
 
-/// A beginning of a run is a run, the rest goes on from there, and a step more makes a longer one.
+/// A prefix of a run is a run, the rest goes on from there, and a step more makes a longer one.
 pub fn runs_are_made_of_steps()
-    ensures beginning { BeginningsAreRuns }
+    ensures prefix { PrefixesAreRuns }
     ensures longer { RunsGoOn }
 {}
 

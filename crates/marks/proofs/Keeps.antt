@@ -8,7 +8,7 @@ use Rattle.atomic_table.specs.Table as table
 use Rattle.atomic_table.proofs.Lists.{at_set}
 use Rattle.marks.proofs.Holders.{has_after}
 use Rattle.marks.specs.declared.view.MarkView.{MarkView}
-use Rattle.marks.specs.Views.{opening}
+use Rattle.marks.specs.View.{opening}
 use Rattle.marks.specs.Rule.{Suits, Marked, RaisesLocal, RaisesRemote, FindsLocal, FindsRemote, Stops, FindsStop}
 
 off : {X : Type 0} → (b : Bool) → b ≡ false → b ≡ true → X

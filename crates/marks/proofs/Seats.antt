@@ -6,7 +6,7 @@ use Rattle.atomic_table.specs.Table.{Splits, Joins}
 use Rattle.atomic_table.proofs.Lists.{at_set, at_last, at_longer, set_else}
 use Rattle.marks.proofs.Holders.{has_after, set_at, unset}
 use Rattle.marks.specs.declared.view.MarkView.{MarkView}
-use Rattle.marks.specs.Views.{keeping, taking, number_of_both, joined, spent}
+use Rattle.marks.specs.View.{keeping, taking, number_of_both, joined, spent}
 use Rattle.marks.specs.Rule.{Suits, Has, Marked}
 
 -- who raises a word knows all of it

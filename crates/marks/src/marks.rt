@@ -1,6 +1,6 @@
 //! The three words, and the steps on them.
 ghost use Rattle.std.specs.Prelude.{◌≡◌, ℕ, ◌≤◌, max, true, false, if◌then◌else◌, IfOk, IfErr};
-ghost use Rattle.marks.specs.Views.{opening, keeping, taking, joined};
+ghost use Rattle.marks.specs.View.{opening, keeping, taking, joined};
 
 use crate::rule::{FindLocal, FindRemote, FindStop, MarkRule, RaiseLocal, RaiseRemote, Stop};
 use crate::seat::MarkSeat;

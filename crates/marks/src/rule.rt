@@ -7,7 +7,7 @@ pub(crate) struct MarkRule;
 
 impl TableRule<(), MarkView, u64> for MarkRule {
     ghost use Rattle.marks.specs.Rule.{Marked};
-    ghost use Rattle.marks.specs.Views.{opening};
+    ghost use Rattle.marks.specs.View.{opening};
 
     ghost holds = { λ _. Marked };
 

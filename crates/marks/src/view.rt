@@ -64,7 +64,7 @@ pub(crate) struct Halves<C: Cut> {
 }
 
 impl<C: Cut> Split<MarkView> for Halves<C> {
-    ghost use Rattle.marks.specs.Views.{keeping, taking};
+    ghost use Rattle.marks.specs.View.{keeping, taking};
 
     ghost left = { keeping C.takes_local C.takes_remote };
 
@@ -75,7 +75,7 @@ impl<C: Cut> Split<MarkView> for Halves<C> {
 pub(crate) struct Both;
 
 impl Join<MarkView> for Both {
-    ghost use Rattle.marks.specs.Views.{joined, spent};
+    ghost use Rattle.marks.specs.View.{joined, spent};
 
     ghost both = { joined };
 

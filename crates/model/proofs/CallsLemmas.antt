@@ -2,12 +2,12 @@
 use Rattle.std.proofs.Common.{◌≡◌, ℕ, zero, suc, ◌+◌, ◌-◌, ◌≤◌, min, true, false, cond, List, [], ◌∷◌, ◌++◌, length, refl, sym, ap, subst, ◌∙◌, arith, add-zero}
 use Rattle.kv_types.specs.declared.item.Item.{Item}
 use Rattle.kv_types.specs.declared.reply.Reply.{Reply, Error}
-use Rattle.kv_types.specs.Keyspaces.{Keyspace, IsKeyspace, play_all}
+use Rattle.kv_types.specs.Keyspace.{Keyspace, IsKeyspace, play_all}
 use Rattle.kv_types.proofs.PlayLemmas.{is_keyspace-empty, is_keyspace-play_all}
 use Rattle.model.specs.declared.call.Call.{Call}
-use Rattle.model.specs.Commands.{outcome_of}
-use Rattle.model.specs.States.{idle_session, State, start_state}
-use Rattle.model.specs.Calls.{MayStand, MayReply, unless_error, outcome_at, changes_of, after_call, IsLegalFrom, IsLegal, state_from, state_after, keyspace_after, is_nonempty, is_changing, AreAlike, position_from, position_of, cut_changing, cut_from, cut_at, IsPrefix}
+use Rattle.model.specs.Command.{outcome_of}
+use Rattle.model.specs.State.{idle_session, State, start_state}
+use Rattle.model.specs.Call.{MayStand, MayReply, unless_error, outcome_at, changes_of, after_call, IsLegalFrom, IsLegal, state_from, state_after, keyspace_after, is_nonempty, is_changing, AreAlike, position_from, position_of, cut_changing, cut_from, cut_at, IsPrefix}
 use Rattle.model.proofs.PrefixLemmas.{IsPrefix-itself, IsPrefix-none, IsPrefix-cons}
 
 -- ---- one call more
@@ -17,12 +17,12 @@ state_from-append s [] ys = refl
 state_from-append s (call ∷ xs) ys = state_from-append (after_call s call) xs ys
 
 pub IsLegalFrom-append : (s : State) (xs ys : List Call) → IsLegalFrom s xs → IsLegalFrom (state_from s xs) ys → IsLegalFrom s (xs ++ ys)
-IsLegalFrom-append s [] ys front rest = rest
-IsLegalFrom-append s (call ∷ xs) ys front rest = (front.0, IsLegalFrom-append (after_call s call) xs ys front.1 rest)
+IsLegalFrom-append s [] ys prefix rest = rest
+IsLegalFrom-append s (call ∷ xs) ys prefix rest = (prefix.0, IsLegalFrom-append (after_call s call) xs ys prefix.1 rest)
 
-pub IsLegalFrom-front : (s : State) (xs ys : List Call) → IsLegalFrom s (xs ++ ys) → IsLegalFrom s xs
-IsLegalFrom-front s [] ys all = tt
-IsLegalFrom-front s (call ∷ xs) ys all = (all.0, IsLegalFrom-front (after_call s call) xs ys all.1)
+pub IsLegalFrom-prefix : (s : State) (xs ys : List Call) → IsLegalFrom s (xs ++ ys) → IsLegalFrom s xs
+IsLegalFrom-prefix s [] ys all = tt
+IsLegalFrom-prefix s (call ∷ xs) ys all = (all.0, IsLegalFrom-prefix (after_call s call) xs ys all.1)
 
 pub IsLegalFrom-rest : (s : State) (xs ys : List Call) → IsLegalFrom s (xs ++ ys) → IsLegalFrom (state_from s xs) ys
 IsLegalFrom-rest s [] ys all = all
@@ -51,13 +51,13 @@ pub state_after-append : (xs ys : List Call) → state_after (xs ++ ys) ≡ stat
 state_after-append xs ys = state_from-append start_state xs ys
 
 pub IsLegal-push : (calls : List Call) (call : Call) → IsLegal calls → MayReply (state_after calls) call → IsLegal (calls ++ call ∷ [])
-IsLegal-push calls call front may = IsLegalFrom-append start_state calls (call ∷ []) front (may, tt)
+IsLegal-push calls call prefix may = IsLegalFrom-append start_state calls (call ∷ []) prefix (may, tt)
 
 pub IsLegal-append : (xs ys : List Call) → IsLegal xs → IsLegalFrom (state_after xs) ys → IsLegal (xs ++ ys)
-IsLegal-append xs ys front rest = IsLegalFrom-append start_state xs ys front rest
+IsLegal-append xs ys prefix rest = IsLegalFrom-append start_state xs ys prefix rest
 
-pub IsLegal-front : (xs ys : List Call) → IsLegal (xs ++ ys) → IsLegal xs
-IsLegal-front xs ys all = IsLegalFrom-front start_state xs ys all
+pub IsLegal-prefix : (xs ys : List Call) → IsLegal (xs ++ ys) → IsLegal xs
+IsLegal-prefix xs ys all = IsLegalFrom-prefix start_state xs ys all
 
 pub IsLegal-last : (calls : List Call) (call : Call) → IsLegal (calls ++ call ∷ []) → MayReply (state_after calls) call
 IsLegal-last calls call all = (IsLegalFrom-rest start_state calls (call ∷ []) all).0
@@ -116,7 +116,7 @@ after_call_error s call text e = ap (λ reply. play_all s.keyspace (unless_error
 
 -- ---- cuts
 
--- at position 0 the keyspace is that of the beginning
+-- at position 0 the keyspace is the first one
 pub state_from-cut_zero : (s : State) (calls : List Call) → (state_from s (cut_from s calls 0)).keyspace ≡ s.keyspace
 state_from-cut_zero s [] = refl
 state_from-cut_zero s (call ∷ calls) =
@@ -203,11 +203,11 @@ cut_from-prefix s (call ∷ calls) p =
 pub IsPrefix-cut_at : (calls : List Call) (p : ℕ) → IsPrefix (cut_at calls p) calls
 IsPrefix-cut_at calls p = cut_from-prefix start_state calls p
 
-pub IsLegal-prefix : {xs ys : List Call} → IsPrefix xs ys → IsLegal ys → IsLegal xs
-IsLegal-prefix {xs} a legal = IsLegal-front xs a.rest (subst IsLegal (sym a.joined) legal)
+pub IsLegal-IsPrefix : {xs ys : List Call} → IsPrefix xs ys → IsLegal ys → IsLegal xs
+IsLegal-IsPrefix {xs} a legal = IsLegal-prefix xs a.rest (subst IsLegal (sym a.joined) legal)
 
 pub IsLegal-cut_at : (calls : List Call) (p : ℕ) → IsLegal calls → IsLegal (cut_at calls p)
-IsLegal-cut_at calls p legal = IsLegal-prefix (IsPrefix-cut_at calls p) legal
+IsLegal-cut_at calls p legal = IsLegal-IsPrefix (IsPrefix-cut_at calls p) legal
 
 -- the keyspace of a cut is stable while the list grows
 pub keyspace_after-cut_at-append : (xs ys : List Call) (p : ℕ) → p ≤ position_of xs → keyspace_after (cut_at (xs ++ ys) p) ≡ keyspace_after (cut_at xs p)
@@ -221,8 +221,8 @@ pub keyspace_after-cut_at-position : (calls : List Call) → keyspace_after (cut
 keyspace_after-cut_at-position calls = ap keyspace_after (cut_at-all calls (position_of calls) (omega arith))
 
 -- and so has it while the list grows
-pub keyspace_after-cut_at-front : (xs ys : List Call) → keyspace_after (cut_at (xs ++ ys) (position_of xs)) ≡ keyspace_after xs
-keyspace_after-cut_at-front xs ys = keyspace_after-cut_at-append xs ys (position_of xs) (omega arith) ∙ keyspace_after-cut_at-position xs
+pub keyspace_after-cut_at-prefix : (xs ys : List Call) → keyspace_after (cut_at (xs ++ ys) (position_of xs)) ≡ keyspace_after xs
+keyspace_after-cut_at-prefix xs ys = keyspace_after-cut_at-append xs ys (position_of xs) (omega arith) ∙ keyspace_after-cut_at-position xs
 
 pub keyspace_after-cut_at-zero : (calls : List Call) → keyspace_after (cut_at calls 0) ≡ []
 keyspace_after-cut_at-zero calls = state_from-cut_zero start_state calls
@@ -230,12 +230,12 @@ keyspace_after-cut_at-zero calls = state_from-cut_zero start_state calls
 pub position_of-cut_at : (calls : List Call) (p : ℕ) → position_of (cut_at calls p) ≡ min p (position_of calls)
 position_of-cut_at calls p = position_from-cut start_state calls p
 
--- a front whose position is at most p is in the cut at p
-pub IsPrefix-front-cut_at : (front rest : List Call) (p : ℕ) → position_of front ≤ p → IsPrefix front (cut_at (front ++ rest) p)
-IsPrefix-front-cut_at front rest p le = record { rest = cut_from (state_after front) rest (p - position_of front); joined = sym (cut_from-append start_state front rest p le) }
+-- a prefix whose position is at most p is in the cut at p
+pub IsPrefix-of_append-cut_at : (prefix rest : List Call) (p : ℕ) → position_of prefix ≤ p → IsPrefix prefix (cut_at (prefix ++ rest) p)
+IsPrefix-of_append-cut_at prefix rest p le = record { rest = cut_from (state_after prefix) rest (p - position_of prefix); joined = sym (cut_from-append start_state prefix rest p le) }
 
-pub IsPrefix-into-cut_at : {front calls : List Call} (p : ℕ) → IsPrefix front calls → position_of front ≤ p → IsPrefix front (cut_at calls p)
-IsPrefix-into-cut_at {front} p a le = let P : List Call → Type 0 = λ whole. IsPrefix front (cut_at whole p) in subst P a.joined (IsPrefix-front-cut_at front a.rest p le)
+pub IsPrefix-into-cut_at : {prefix calls : List Call} (p : ℕ) → IsPrefix prefix calls → position_of prefix ≤ p → IsPrefix prefix (cut_at calls p)
+IsPrefix-into-cut_at {prefix} p a le = let P : List Call → Type 0 = λ whole. IsPrefix prefix (cut_at whole p) in subst P a.joined (IsPrefix-of_append-cut_at prefix a.rest p le)
 
 -- cuts of one list go one into the other
 pub IsPrefix-cuts : (calls : List Call) (p q : ℕ) → p ≤ q → IsPrefix (cut_at calls p) (cut_at calls q)

@@ -1,15 +1,15 @@
 -- What a group does to the versions, their map and the contents of an engine.
 use Rattle.std.proofs.Common.{◌≡◌, ℕ, ◌<◌, ◌≤◌, Bool, true, false, cond, not, ◌||◌, ◌&&◌, List, [], ◌∷◌, ◌++◌, map, IsTrue, Some, None, nat_eq, refl, sym, ap, subst, ◌∙◌, arith, append-nil, ne_eqb}
 use Rattle.std.specs.List.{flat_map, AllByRecursion}
-use Rattle.kv_types.specs.Keyspaces.{Keyspace, play, play_all}
+use Rattle.kv_types.specs.Keyspace.{Keyspace, play, play_all}
 use Rattle.kv_types.proofs.PlayLemmas.{play_all-append}
-use Rattle.model.specs.Images.{IsMapOf, entries_of_lines}
+use Rattle.model.specs.Image.{IsMapOf, entries_of_lines}
 use Rattle.model.specs.declared.group.Group.{Group}
 use Rattle.model.specs.declared.group.Part.{Part}
 use Rattle.model.specs.declared.group.Put.{Put}
 use Rattle.model.specs.declared.group.PlacedChange.{PlacedChange}
 use Rattle.model.specs.declared.group.PlacedChange.TheVariants as placed
-use Rattle.model.specs.Groups.{change_of, put_of, changes_of_part, puts_of_part, changes_of_group, puts_of_group, Versions, ended_where_begun, version_of_put, change_versions, changes_versions, part_versions, parts_versions, is_put_at, IsPlaced, IsApartFrom, AreAllApart, IsUnused, Contents, IsGroup, IsConsistent, after_group}
+use Rattle.model.specs.Group.{change_of, put_of, changes_of_part, puts_of_part, changes_of_group, puts_of_group, Versions, ended_where_begun, version_of_put, change_versions, changes_versions, part_versions, parts_versions, is_put_at, IsPlaced, IsApartFrom, AreAllApart, IsUnused, Contents, IsGroup, IsConsistent, after_group}
 use Rattle.model.proofs.VersionsLemmas.{HasRoom, IsMapOf-change}
 
 -- ---- facts of each element
@@ -22,9 +22,9 @@ All-both : {X : Type 0} (P Q R : X → Type 0) → ((x : X) → P x → Q x → 
 All-both P Q R f [] h k = tt
 All-both P Q R f (x ∷ xs) h k = (f x h.0 k.0, All-both P Q R f xs h.1 k.1)
 
-All-front : {X : Type 0} (P : X → Type 0) (xs ys : List X) → AllByRecursion P (xs ++ ys) → AllByRecursion P xs
-All-front P [] ys h = tt
-All-front P (x ∷ xs) ys h = (h.0, All-front P xs ys h.1)
+All-prefix : {X : Type 0} (P : X → Type 0) (xs ys : List X) → AllByRecursion P (xs ++ ys) → AllByRecursion P xs
+All-prefix P [] ys h = tt
+All-prefix P (x ∷ xs) ys h = (h.0, All-prefix P xs ys h.1)
 
 All-rest : {X : Type 0} (P : X → Type 0) (xs ys : List X) → AllByRecursion P (xs ++ ys) → AllByRecursion P ys
 All-rest P [] ys h = h
@@ -32,9 +32,9 @@ All-rest P (x ∷ xs) ys h = All-rest P xs ys h.1
 
 -- ---- puts that are apart
 
-pub AreAllApart-front : (xs ys : List Put) → AreAllApart (xs ++ ys) → AreAllApart xs
-AreAllApart-front [] ys h = tt
-AreAllApart-front (x ∷ xs) ys h = (All-front (IsApartFrom x) xs ys h.0, AreAllApart-front xs ys h.1)
+pub AreAllApart-prefix : (xs ys : List Put) → AreAllApart (xs ++ ys) → AreAllApart xs
+AreAllApart-prefix [] ys h = tt
+AreAllApart-prefix (x ∷ xs) ys h = (All-prefix (IsApartFrom x) xs ys h.0, AreAllApart-prefix xs ys h.1)
 
 pub AreAllApart-rest : (xs ys : List Put) → AreAllApart (xs ++ ys) → AreAllApart ys
 AreAllApart-rest [] ys h = h
@@ -109,7 +109,7 @@ IsMapOf-changes position versions entries s (c ∷ changes) room apart map =
     IsMapOf-changes position after entries (play s (change_of c)) changes
     (All-both (HasRoom versions entries) (IsBeside (flat_map put_of (c ∷ []))) (HasRoom after entries) (room_after entries position versions (c ∷ [])) others (All-rest (HasRoom versions entries) first others room) none_first)
     (AreAllApart-rest first others apart)
-    (IsMapOf-change position versions entries s c (All-front (HasRoom versions entries) first others room) map)
+    (IsMapOf-change position versions entries s c (All-prefix (HasRoom versions entries) first others room) map)
 
 -- the map moves by parts
 pub IsMapOf-parts : (versions : Versions) (entries : ℕ) (s : Keyspace) (parts : List Part) → AllByRecursion (HasRoom versions entries) (flat_map puts_of_part parts) → AreAllApart (flat_map puts_of_part parts)
@@ -123,7 +123,7 @@ IsMapOf-parts versions entries s (part ∷ parts) room apart map =
     (IsMapOf-parts after entries (play_all s (changes_of_part part)) parts
     (All-both (HasRoom versions entries) (IsBeside first) (HasRoom after entries) (room_after entries part.position versions part.changes.items) others (All-rest (HasRoom versions entries) first others room) (AllBeside first others apart))
     (AreAllApart-rest first others apart)
-    (IsMapOf-changes part.position versions entries s part.changes.items (All-front (HasRoom versions entries) first others room) (AreAllApart-front first others apart) map))
+    (IsMapOf-changes part.position versions entries s part.changes.items (All-prefix (HasRoom versions entries) first others room) (AreAllApart-prefix first others apart) map))
 
 -- ---- a group
 

@@ -4,11 +4,11 @@ use Rattle.std.proofs.lemmas.Bool.{cases_lt}
 use Rattle.std.specs.FinMap.Entries.{is_sorted}
 use Rattle.kv_types.specs.declared.record_id.RecordId.{RecordId}
 use Rattle.kv_types.specs.declared.record_id.RecordId.TheVariants.{Str, Field}
-use Rattle.kv_types.specs.Keyspaces.{Keyspace, IsKeyspace, record_cmp, value_at, with_record}
+use Rattle.kv_types.specs.Keyspace.{Keyspace, IsKeyspace, record_cmp, value_at, with_record}
 use Rattle.kv_types.proofs.OrderLemmas.{same_record}
 use Rattle.kv_types.proofs.LookUpLemmas.{is_same, is_same_at, is_other, value_at-with_record}
 use Rattle.kv_types.proofs.PlayLemmas.{is_sorted-with_record, same_keyspace}
-use Rattle.model.specs.Images.{Version, IsLive, IsMapOf, with_version, map_below}
+use Rattle.model.specs.Image.{Version, IsLive, IsMapOf, with_version, map_below}
 
 not_below : (i n : ℕ) → i < n → i ≡ n → ⊥
 not_below i n lt e = omega arith

@@ -1,11 +1,11 @@
 -- Laws of the changes of a list by their position.
 use Rattle.std.proofs.Common.{◌≡◌, ℕ, zero, suc, ◌+◌, ◌<◌, ◌≤◌, true, false, cond, List, [], ◌∷◌, ◌++◌, refl, sym, ap, ◌∙◌, arith, add-one, add-zero, append_assoc, append-nil}
-use Rattle.kv_types.specs.Keyspaces.{play_all}
+use Rattle.kv_types.specs.Keyspace.{play_all}
 use Rattle.kv_types.proofs.PlayLemmas.{play_all-append}
 use Rattle.model.specs.declared.call.Call.{Call}
-use Rattle.model.specs.States.{State, start_state}
-use Rattle.model.specs.Calls.{changes_of, after_call, state_from, state_after, keyspace_after, is_nonempty, is_changing, position_from, position_of, cut_changing, cut_from, cut_at}
-use Rattle.model.specs.Positions.{changes_or, changes_at_from, changes_at, changes_since}
+use Rattle.model.specs.State.{State, start_state}
+use Rattle.model.specs.Call.{changes_of, after_call, state_from, state_after, keyspace_after, is_nonempty, is_changing, position_from, position_of, cut_changing, cut_from, cut_at}
+use Rattle.model.specs.Position.{changes_or, changes_at_from, changes_at, changes_since}
 use Rattle.model.proofs.CallsLemmas.{state_from-cut_zero}
 
 -- the changes of a position take the keyspace of the cut there to that of the next cut

@@ -1,10 +1,10 @@
--- Laws of beginnings of a list.
+-- Laws of prefixes of a list.
 use Rattle.std.proofs.Common.{◌≤◌, Bool, List, [], ◌∷◌, ◌++◌, length, map, filter, refl, sym, ap, ◌∙◌, append_assoc, append-nil, arith, length-append}
 use Rattle.std.specs.List.{flat_map}
 use Rattle.std.proofs.lemmas.Grind.{flat_map-append}
 use Rattle.std.proofs.lemmas.List.{map-append}
 use Rattle.std.proofs.lemmas.List.Elements.{filter-append}
-use Rattle.model.specs.Calls.{IsPrefix}
+use Rattle.model.specs.Call.{IsPrefix}
 
 pub IsPrefix-itself : {X : Type 0} (xs : List X) → IsPrefix xs xs
 IsPrefix-itself xs = record { rest = []; joined = append-nil xs }
@@ -12,21 +12,21 @@ IsPrefix-itself xs = record { rest = []; joined = append-nil xs }
 pub IsPrefix-none : {X : Type 0} (xs : List X) → IsPrefix [] xs
 IsPrefix-none xs = record { rest = xs; joined = refl }
 
-pub IsPrefix-front : {X : Type 0} (xs ys : List X) → IsPrefix xs (xs ++ ys)
-IsPrefix-front xs ys = record { rest = ys; joined = refl }
+pub IsPrefix-of_append : {X : Type 0} (xs ys : List X) → IsPrefix xs (xs ++ ys)
+IsPrefix-of_append xs ys = record { rest = ys; joined = refl }
 
 pub IsPrefix-trans : {X : Type 0} {xs ys zs : List X} → IsPrefix xs ys → IsPrefix ys zs → IsPrefix xs zs
-IsPrefix-trans {xs = xs} a b = record { rest = a.rest ++ b.rest; joined = sym (append_assoc xs a.rest b.rest) ∙ ap (λ front. front ++ b.rest) a.joined ∙ b.joined }
+IsPrefix-trans {xs = xs} a b = record { rest = a.rest ++ b.rest; joined = sym (append_assoc xs a.rest b.rest) ∙ ap (λ prefix. prefix ++ b.rest) a.joined ∙ b.joined }
 
 pub IsPrefix-append : {X : Type 0} {xs ys : List X} (more : List X) → IsPrefix xs ys → IsPrefix xs (ys ++ more)
-IsPrefix-append {ys = ys} more a = IsPrefix-trans a (IsPrefix-front ys more)
+IsPrefix-append {ys = ys} more a = IsPrefix-trans a (IsPrefix-of_append ys more)
 
 pub IsPrefix-cons : {X : Type 0} {xs ys : List X} (x : X) → IsPrefix xs ys → IsPrefix (x ∷ xs) (x ∷ ys)
 IsPrefix-cons x a = record { rest = a.rest; joined = ap (λ whole. x ∷ whole) a.joined }
 
--- both go on after the same front
-pub IsPrefix-same_front : {X : Type 0} {xs ys : List X} (front : List X) → IsPrefix xs ys → IsPrefix (front ++ xs) (front ++ ys)
-IsPrefix-same_front {xs = xs} front a = record { rest = a.rest; joined = append_assoc front xs a.rest ∙ ap (λ whole. front ++ whole) a.joined }
+-- both go on after the same prefix
+pub IsPrefix-same_prefix : {X : Type 0} {xs ys : List X} (prefix : List X) → IsPrefix xs ys → IsPrefix (prefix ++ xs) (prefix ++ ys)
+IsPrefix-same_prefix {xs = xs} prefix a = record { rest = a.rest; joined = append_assoc prefix xs a.rest ∙ ap (λ whole. prefix ++ whole) a.joined }
 
 pub IsPrefix-map : {X Y : Type 0} {xs ys : List X} (f : X → Y) → IsPrefix xs ys → IsPrefix (map f xs) (map f ys)
 IsPrefix-map {xs = xs} f a = record { rest = map f a.rest; joined = sym (map-append f xs a.rest) ∙ ap (map f) a.joined }

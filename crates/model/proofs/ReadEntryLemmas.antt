@@ -3,7 +3,7 @@ use Rattle.std.proofs.Common.{◌≡◌, ℕ, zero, suc, ◌+◌, ◌*◌, ◌/�
 use Rattle.std.specs.Int.{to_le_bytes}
 use Rattle.std.specs.List.{flat_map}
 use Rattle.std.proofs.lemmas.Grind.{flat_map-append}
-use Rattle.model.specs.Images.{Image, words_from, bytes_at}
+use Rattle.model.specs.Image.{Image, words_from, bytes_at}
 
 words_from-suc : (image : Image) (first count : ℕ) → words_from image first (suc count) ≡ words_from image first count ++ image (first + count) ∷ []
 words_from-suc image first zero = let same : first ≡ first + 0 = omega arith in ap (λ n. image n ∷ []) same

@@ -5,12 +5,12 @@ use Rattle.std.specs.List.{list_any}
 use Rattle.kv_types.specs.declared.record_id.RecordId.{RecordId}
 use Rattle.kv_types.specs.declared.record_id.RecordId.TheVariants.{Str, Field}
 use Rattle.kv_types.specs.declared.change.Change.TheVariants as change
-use Rattle.kv_types.specs.Keyspaces.{Keyspace, IsKeyspace, key_of, value_at, with_record, without_record, without_key, play}
+use Rattle.kv_types.specs.Keyspace.{Keyspace, IsKeyspace, key_of, value_at, with_record, without_record, without_key, play}
 use Rattle.kv_types.proofs.OrderLemmas.{same_record, record_itself, same_key, key_itself, same_strings, field_is_no_string}
 use Rattle.kv_types.proofs.LookUpLemmas.{is_same, is_same_key}
 use Rattle.model.specs.declared.record.Record.{Record}
-use Rattle.model.specs.Images.{Image, Version, IsLive, IsMapOf, version_in, version_at, with_version, entries_of_lines, counts, entry_word}
-use Rattle.model.specs.ReadImages.{image_of, line_count, record_in, is_clash, IsRecordOf, HasMap, IsWhole, AddsEntry, CannotAdd}
+use Rattle.model.specs.Image.{Image, Version, IsLive, IsMapOf, version_in, version_at, with_version, entries_of_lines, counts, entry_word}
+use Rattle.model.specs.ReadImage.{image_of, line_count, record_in, is_clash, IsRecordOf, HasMap, IsWhole, AddsEntry, CannotAdd}
 use Rattle.model.proofs.MapLemmas.{OnceBelow, more_version}
 use Rattle.model.proofs.RecordLemmas.{HasRecord-unique}
 

@@ -8,10 +8,10 @@ use Rattle.model.specs.declared.record.Record.{Record}
 use Rattle.model.specs.declared.record.Role.{Role}
 use Rattle.model.specs.declared.record.TheConstants.{MAX_GAPS}
 use Rattle.model.specs.declared.layout.TheConstants.{LAYOUT}
-use Rattle.model.specs.Layouts.{first_word}
-use Rattle.model.specs.Images.{Image, HasWords, root_word, slot_line, record_word, gap_room, role_number, gap_words, gaps_words, record_words}
+use Rattle.model.specs.Layout.{first_word}
+use Rattle.model.specs.Image.{Image, HasWords, root_word, slot_line, record_word, gap_room, role_number, gap_words, gaps_words, record_words}
 use Rattle.model.proofs.RecordLemmas.{length-gaps_words}
-use Rattle.model.specs.ReadImages.{gaps_from, AreZero, IsFilled, IsRecordOf}
+use Rattle.model.specs.ReadImage.{gaps_from, AreZero, IsFilled, IsRecordOf}
 
 -- ---- words one after another
 
@@ -22,9 +22,9 @@ pub HasWords-append : (image : Image) (first : ℕ) (xs ys : List ℕ) → HasWo
 HasWords-append image first [] ys a b = HasWords-at image (first + 0) first ys (omega arith) b
 HasWords-append image first (x ∷ xs) ys a b = (a.0, HasWords-append image (first + 1) xs ys a.1 (HasWords-at image (first + suc (length xs)) (first + 1 + length xs) ys (omega arith) b))
 
-pub HasWords-front : (image : Image) (first : ℕ) (xs ys : List ℕ) → HasWords image first (xs ++ ys) → HasWords image first xs
-HasWords-front image first [] ys h = tt
-HasWords-front image first (x ∷ xs) ys h = (h.0, HasWords-front image (first + 1) xs ys h.1)
+pub HasWords-prefix : (image : Image) (first : ℕ) (xs ys : List ℕ) → HasWords image first (xs ++ ys) → HasWords image first xs
+HasWords-prefix image first [] ys h = tt
+HasWords-prefix image first (x ∷ xs) ys h = (h.0, HasWords-prefix image (first + 1) xs ys h.1)
 
 pub HasWords-rest : (image : Image) (first : ℕ) (xs ys : List ℕ) → HasWords image first (xs ++ ys) → HasWords image (first + length xs) ys
 HasWords-rest image first [] ys h = HasWords-at image first (first + 0) ys (omega arith) h
@@ -155,7 +155,7 @@ slot-IsRecordOf image r is =
     let ending = role_number r.role ∷ 0 ∷ [] in
     let count = words.1.1.1.1.1.0 in
     let tail : HasWords image (first + 6) (gaps_words r.gaps.items ++ ending) = HasWords-at image (first + 1 + 1 + 1 + 1 + 1 + 1) (first + 6) (gaps_words r.gaps.items ++ ending) (omega arith) words.1.1.1.1.1.1 in
-    let middle : HasWords image (first + 6) (pairs ++ replicate unused 0) = subst (HasWords image (first + 6)) (gaps_words-pairs r.gaps.items is.few) (HasWords-front image (first + 6) (gaps_words r.gaps.items) ending tail) in
+    let middle : HasWords image (first + 6) (pairs ++ replicate unused 0) = subst (HasWords image (first + 6)) (gaps_words-pairs r.gaps.items is.few) (HasWords-prefix image (first + 6) (gaps_words r.gaps.items) ending tail) in
     let after : HasWords image (first + 6 + length (gaps_words r.gaps.items)) ending = HasWords-rest image (first + 6) (gaps_words r.gaps.items) ending tail in
     record {
       root = is.has_record.root;
@@ -167,7 +167,7 @@ slot-IsRecordOf image r is =
       epoch = word_is image (first + 4) (first + 1 + 1 + 1 + 1) r.epoch (omega arith) words.1.1.1.1.0;
       count = word_is image (first + 5) (first + 1 + 1 + 1 + 1 + 1) (length r.gaps.items) (omega arith) count;
       few = is.few;
-      gaps = sym (gaps_from-HasWords image (first + 6) r.gaps.items (HasWords-front image (first + 6) pairs (replicate unused 0) middle));
+      gaps = sym (gaps_from-HasWords image (first + 6) r.gaps.items (HasWords-prefix image (first + 6) pairs (replicate unused 0) middle));
       unused = HasWords-at image (first + 6 + length pairs) (first + 6 + 2 * length r.gaps.items) (replicate unused 0) (ap (λ n. first + 6 + n) (length-pairs r.gaps.items)) (HasWords-rest image (first + 6) pairs (replicate unused 0) middle);
       role = word_is image (first + LAYOUT.role_word) (first + 6 + length (gaps_words r.gaps.items)) (role_number r.role) (omega (arith, length-gaps_words r.gaps.items)) after.0;
       last = word_is image (first + (LAYOUT.role_word + 1)) (first + 6 + length (gaps_words r.gaps.items) + 1) 0 (omega (arith, length-gaps_words r.gaps.items)) after.1.0;

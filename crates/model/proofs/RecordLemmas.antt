@@ -6,7 +6,7 @@ use Rattle.model.specs.declared.record.Record.{Record}
 use Rattle.model.specs.declared.record.Role.{Role}
 use Rattle.model.specs.declared.record.Role.TheVariants.{Primary, Standby}
 use Rattle.model.specs.declared.record.TheConstants.{MAX_GAPS}
-use Rattle.model.specs.Images.{Image, HasWords, words_from, record_word, role_number, gap_words, gaps_words, record_words, HasRecord}
+use Rattle.model.specs.Image.{Image, HasWords, words_from, record_word, role_number, gap_words, gaps_words, record_words, HasRecord}
 
 -- ---- words one after another
 
@@ -60,14 +60,14 @@ same_gaps (x ∷ xs) (y ∷ ys) (suc (suc room)) e le same =
     let rest = same_gaps xs ys room (omega arith) (omega arith) more in
     λ i. gap i ∷ rest i
 
-same_fronts : (xs ys us vs : List ℕ) → length xs ≡ length ys → xs ++ us ≡ ys ++ vs → (xs ≡ ys) × (us ≡ vs)
-same_fronts [] [] us vs e same = (refl, same)
-same_fronts [] (y ∷ ys) us vs e same = absurd (omega arith)
-same_fronts (x ∷ xs) [] us vs e same = absurd (omega arith)
-same_fronts (x ∷ xs) (y ∷ ys) us vs e same =
+same_prefixes : (xs ys us vs : List ℕ) → length xs ≡ length ys → xs ++ us ≡ ys ++ vs → (xs ≡ ys) × (us ≡ vs)
+same_prefixes [] [] us vs e same = (refl, same)
+same_prefixes [] (y ∷ ys) us vs e same = absurd (omega arith)
+same_prefixes (x ∷ xs) [] us vs e same = absurd (omega arith)
+same_prefixes (x ∷ xs) (y ∷ ys) us vs e same =
     let head : x ≡ y = cc in
     let more : xs ++ us ≡ ys ++ vs = cc in
-    let tails = same_fronts xs ys us vs (omega arith) more in
+    let tails = same_prefixes xs ys us vs (omega arith) more in
     (λ i. head i ∷ tails.0 i, tails.1)
 
 -- two records with the same words are one, where the gaps have room in them
@@ -80,7 +80,7 @@ same_record_words a b few same =
     let epoch : a.epoch ≡ b.epoch = cc in
     let count : length a.gaps.items ≡ length b.gaps.items = cc in
     let rest : gaps_words a.gaps.items ++ role_number a.role ∷ 0 ∷ [] ≡ gaps_words b.gaps.items ++ role_number b.role ∷ 0 ∷ [] = cc in
-    let parts = same_fronts (gaps_words a.gaps.items) (gaps_words b.gaps.items) (role_number a.role ∷ 0 ∷ []) (role_number b.role ∷ 0 ∷ []) (length-gaps_words a.gaps.items ∙ sym (length-gaps_words b.gaps.items)) rest in
+    let parts = same_prefixes (gaps_words a.gaps.items) (gaps_words b.gaps.items) (role_number a.role ∷ 0 ∷ []) (role_number b.role ∷ 0 ∷ []) (length-gaps_words a.gaps.items ∙ sym (length-gaps_words b.gaps.items)) rest in
     let last = parts.1 in
     let number_of_role : role_number a.role ≡ role_number b.role = cc in
     let role = same_role a.role b.role number_of_role in

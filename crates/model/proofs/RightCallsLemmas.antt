@@ -5,15 +5,15 @@ use Rattle.kv_types.specs.declared.record_id.RecordId.TheVariants.{Str}
 use Rattle.kv_types.specs.declared.item.Item.{Item}
 use Rattle.kv_types.specs.declared.item.Item.TheVariants.{Request, Fault}
 use Rattle.kv_types.specs.declared.reply.Reply.{Reply}
-use Rattle.kv_types.specs.Keyspaces.{Keyspace, value_at, play_all}
-use Rattle.kv_types.specs.Changes.{changes_size}
+use Rattle.kv_types.specs.Keyspace.{Keyspace, value_at, play_all}
+use Rattle.kv_types.specs.Change.{changes_size}
 use Rattle.model.specs.declared.call.Call.{Call}
 use Rattle.model.specs.declared.call.TheConstants.{MAX_CHANGE_TEXT_BYTES}
 use Rattle.model.specs.declared.outcome.Outcome.{Outcome as Computed}
-use Rattle.model.specs.Commands.{Command, Get, Set, Misuse, Outcome, does, bulk_or_null, refusing, outcome_of_reading, outcome_of, read_command}
-use Rattle.model.specs.States.{State}
-use Rattle.model.specs.Calls.{MayStand, MayReply, unless_error, outcome_at, changes_of, IsLegal, state_after, keyspace_after, position_of, is_nonempty}
-use Rattle.model.specs.RightCalls.{within_limit, right_outcome, right_call, Gives}
+use Rattle.model.specs.Command.{Command, Get, Set, Misuse, Outcome, does, bulk_or_null, refusing, outcome_of_reading, outcome_of, read_command}
+use Rattle.model.specs.State.{State}
+use Rattle.model.specs.Call.{MayStand, MayReply, unless_error, outcome_at, changes_of, IsLegal, state_after, keyspace_after, position_of, is_nonempty}
+use Rattle.model.specs.RightCall.{within_limit, right_outcome, right_call, Gives}
 use Rattle.model.specs.Kept.{IsKept}
 use Rattle.model.proofs.CallsLemmas.{IsLegal-push, keyspace_after-push, position_of-push}
 

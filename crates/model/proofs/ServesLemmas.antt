@@ -6,10 +6,10 @@ use Rattle.std.proofs.lemmas.Grind.{flat_map-append}
 use Rattle.std.proofs.lemmas.List.{map-append}
 use Rattle.std.proofs.lemmas.List.Elements.{filter-append}
 use Rattle.kv_types.specs.declared.item.Item.{Item}
-use Rattle.kv_types.specs.Replies.{text_of}
+use Rattle.kv_types.specs.Reply.{text_of}
 use Rattle.model.specs.declared.call.Call.{Call}
-use Rattle.model.specs.Commands.{closes}
-use Rattle.model.specs.Calls.{calls_of, items_of, replies_to, up_to_closing, IsPrefix, Serves}
+use Rattle.model.specs.Command.{closes}
+use Rattle.model.specs.Call.{calls_of, items_of, replies_to, up_to_closing, IsPrefix, Serves}
 use Rattle.model.proofs.PrefixLemmas.{IsPrefix-itself, IsPrefix-none, IsPrefix-cons, IsPrefix-trans, IsPrefix-map, IsPrefix-flat_map, IsPrefix-filter}
 
 -- ---- the lists of one connection

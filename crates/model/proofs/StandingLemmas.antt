@@ -1,11 +1,11 @@
 -- Images that hold a record and a keyspace, and that stand at a position.
 use Rattle.std.proofs.Common.{◌≡◌, ℕ, ◌<◌, ◌≤◌, Option, List, ◌++◌, length, sym, subst}
-use Rattle.kv_types.specs.Keyspaces.{Keyspace, IsKeyspace}
+use Rattle.kv_types.specs.Keyspace.{Keyspace, IsKeyspace}
 use Rattle.model.specs.declared.call.Call.{Call}
 use Rattle.model.specs.declared.record.Record.{Record}
 use Rattle.model.specs.declared.record.TheConstants.{MAX_GAPS}
-use Rattle.model.specs.Calls.{position_of}
-use Rattle.model.specs.Images.{Image, Version, entries_of_lines, HasSuperblock, HasRecord, version_at, IsMapOf, map_below, Holds}
+use Rattle.model.specs.Call.{position_of}
+use Rattle.model.specs.Image.{Image, Version, entries_of_lines, HasSuperblock, HasRecord, version_at, IsMapOf, map_below, Holds}
 use Rattle.model.specs.Standing.{Holder, StandsAt}
 use Rattle.model.proofs.CallsLemmas.{keyspace_after-cut_at-append}
 use Rattle.model.proofs.MapLemmas.{IsMapOf-unique, IsMapOf-same, map_below-map}

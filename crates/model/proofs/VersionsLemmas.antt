@@ -5,14 +5,14 @@ use Rattle.kv_types.specs.declared.record_id.RecordId.{RecordId}
 use Rattle.kv_types.specs.declared.record_id.RecordId.TheVariants.{Str, Field}
 use Rattle.kv_types.specs.declared.change.Change.{Change}
 use Rattle.kv_types.specs.declared.change.Change.TheVariants as change
-use Rattle.kv_types.specs.Keyspaces.{Keyspace, value_at, play}
+use Rattle.kv_types.specs.Keyspace.{Keyspace, value_at, play}
 use Rattle.kv_types.proofs.OrderLemmas.{same_record, record_itself, key_itself}
 use Rattle.kv_types.proofs.LookUpLemmas.{is_same, is_same_at, is_other, value_at-put_string, value_at-put_field, value_at-without_record, value_at-without_key}
-use Rattle.model.specs.Images.{Version, IsLive, IsMapOf}
+use Rattle.model.specs.Image.{Version, IsLive, IsMapOf}
 use Rattle.model.specs.declared.group.Put.{Put}
 use Rattle.model.specs.declared.group.PlacedChange.{PlacedChange}
 use Rattle.model.specs.declared.group.PlacedChange.TheVariants as placed
-use Rattle.model.specs.Groups.{change_of, put_of, Versions, ends_record, ended_by, ended_where_begun, version_of_put, with_puts, change_versions}
+use Rattle.model.specs.Group.{change_of, put_of, Versions, ends_record, ended_by, ended_where_begun, version_of_put, with_puts, change_versions}
 use Rattle.model.proofs.MapLemmas.{live_version, not_live}
 
 -- ---- what a look-up finds after a change, in the words of versions

@@ -6,12 +6,12 @@ use Rattle.kv_types.specs.declared.item.Item.TheVariants.{Request, Fault}
 use Rattle.kv_types.specs.declared.item.ProtocolFault.TheVariants.{ExpectedBulk}
 use Rattle.kv_types.specs.declared.record_id.RecordId.TheVariants.{Str}
 use Rattle.kv_types.specs.declared.reply.Reply.{Reply, Simple, Bulk, NullBulk}
-use Rattle.kv_types.specs.Keyspaces.{Keyspace}
+use Rattle.kv_types.specs.Keyspace.{Keyspace}
 use Rattle.model.specs.declared.call.Call.{Call}
-use Rattle.model.specs.Commands.{outcome_of, refusing}
-use Rattle.model.specs.States.{idle_session}
-use Rattle.model.specs.Calls.{memory_reply, full_reply, IsLegal, state_after, keyspace_after, position_of, cut_at, replies_to, up_to_closing}
-use Rattle.model.specs.Positions.{changes_at}
+use Rattle.model.specs.Command.{outcome_of, refusing}
+use Rattle.model.specs.State.{idle_session}
+use Rattle.model.specs.Call.{memory_reply, full_reply, IsLegal, state_after, keyspace_after, position_of, cut_at, replies_to, up_to_closing}
+use Rattle.model.specs.Position.{changes_at}
 
 -- ---- what a command answers and changes
 

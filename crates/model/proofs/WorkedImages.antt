@@ -6,11 +6,11 @@ use Rattle.kv_types.specs.declared.item.Item.TheVariants.{Request}
 use Rattle.kv_types.specs.declared.record_id.RecordId.{RecordId}
 use Rattle.kv_types.specs.declared.record_id.RecordId.TheVariants.{Str, Field}
 use Rattle.kv_types.specs.declared.reply.Reply.{Simple}
-use Rattle.kv_types.specs.Keyspaces.{Keyspace}
+use Rattle.kv_types.specs.Keyspace.{Keyspace}
 use Rattle.model.specs.declared.call.Call.{Call}
 use Rattle.model.specs.declared.record.Record.{Record}
 use Rattle.model.specs.declared.record.Role.TheVariants.{Primary}
-use Rattle.model.specs.Images.{Image, Version, IsLive, IsMapOf, counts, version_at, map_below, Holds}
+use Rattle.model.specs.Image.{Image, Version, IsLive, IsMapOf, counts, version_at, map_below, Holds}
 use Rattle.model.specs.Standing.{Holder, StandsAt}
 use Rattle.model.proofs.MapLemmas.{OnceBelow, IsMapOf-map_below, not_live}
 

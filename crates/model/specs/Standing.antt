@@ -4,8 +4,8 @@ use Rattle.model.specs.declared.call.Call.{Call}
 use Rattle.model.specs.declared.record.Record.{Record}
 use Rattle.model.specs.declared.record.Role.{Role}
 use Rattle.model.specs.declared.record.TheConstants.{FIRST_EPOCH}
-use Rattle.model.specs.Calls.{keyspace_after, cut_at}
-use Rattle.model.specs.Images.{Image, Holds}
+use Rattle.model.specs.Call.{keyspace_after, cut_at}
+use Rattle.model.specs.Image.{Image, Holds}
 
 -- whose image it is
 pub record Holder : Type 0 where
@@ -18,7 +18,7 @@ pub record Holder : Type 0 where
 abbrev pub new_holder : ℕ → Role → Holder
 new_holder lines role = record { lines = lines; role = role; epoch = FIRST_EPOCH }
 
--- Its record's position is p, its role and epoch are the holder's, and its map is the keyspace after the longest beginning of the list with at most p
+-- Its record's position is p, its role and epoch are the holder's, and its map is the keyspace after the longest prefix of the list with at most p
 -- changes.
 pub record StandsAt (holder : Holder) (calls : List Call) (p : ℕ) (image : Image) : Type 0 where
   pub current : Record

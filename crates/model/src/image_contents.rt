@@ -1,8 +1,8 @@
 //! The plain, slow reader of an image, with which every faster one is compared.
 ghost use Rattle.std.specs.Prelude.{◌≡◌, ◌<◌, IsTrue, MatchOption, MatchBool, IfOk, IfSome, IfNone};
 ghost use Rattle.std.specs.List.{list_any};
-ghost use Rattle.model.specs.Images.{IsMapOf, Holds, version_at, entries_of_lines, entry_word as the_entry_word};
-ghost use Rattle.model.specs.ReadImages.{image_of, line_count, is_clash as the_clash, IsWhole, HasMap, AddsEntry, CannotAdd};
+ghost use Rattle.model.specs.Image.{IsMapOf, Holds, version_at, entries_of_lines, entry_word as the_entry_word};
+ghost use Rattle.model.specs.ReadImage.{image_of, line_count, is_clash as the_clash, IsWhole, HasMap, AddsEntry, CannotAdd};
 
 use crate::image_entries::read_entry;
 use crate::image_words::{entry_word, has_superblock, read_record, word_at};

@@ -1,9 +1,9 @@
 //! The entries of an image: which record each holds.
 ghost use Rattle.std.specs.Prelude.{◌≡◌, ℕ, ◌+◌, ◌-◌, ◌/◌, ◌<◌, ◌≤◌, length, vec_len, MatchOption, IfOk};
-ghost use Rattle.model.specs.Images as images;
-ghost use Rattle.model.specs.Layouts.{first_word};
-ghost use Rattle.model.specs.ReadImages.{image_of, line_count, IsInFormat, record_in};
-ghost use Rattle.model.specs.Shapes.{IsShape};
+ghost use Rattle.model.specs.Image as images;
+ghost use Rattle.model.specs.Layout.{first_word};
+ghost use Rattle.model.specs.ReadImage.{image_of, line_count, IsInFormat, record_in};
+ghost use Rattle.model.specs.Shape.{IsShape};
 
 use crate::image_words::{entry_word, word_at};
 use crate::layout::{FIELD_LENGTH_UNIT, LINE_BYTES, LINE_WORDS, WORD_BYTES};

@@ -2,8 +2,8 @@
 ghost use Rattle.std.specs.Prelude.{◌≡◌, ◌≢◌, ◌↔◌, ◌+◌, ◌*◌, ◌<◌, ◌≤◌, ◌^◌, IsTrue, MatchOption, length, slice_index};
 ghost use Rattle.model.specs.declared.record.Record.{Record as CommitRecord};
 ghost use Rattle.model.specs.declared.record.Role.{Role as NodeRole};
-ghost use Rattle.model.specs.Images.{HasSuperblock, role_number, entry_word as the_entry_word};
-ghost use Rattle.model.specs.ReadImages.{image_of, line_count, gaps_from, AreZero, IsFilled, IsRecordOf};
+ghost use Rattle.model.specs.Image.{HasSuperblock, role_number, entry_word as the_entry_word};
+ghost use Rattle.model.specs.ReadImage.{image_of, line_count, gaps_from, AreZero, IsFilled, IsRecordOf};
 
 use crate::image::MAGIC;
 use crate::layout::{GAPS_WORD, LAYOUT, LINE_WORDS};

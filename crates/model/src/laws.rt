@@ -1,24 +1,24 @@
 //! Laws of the definitions, each the contract of a function that does nothing.
 ghost use Rattle.std.specs.Prelude.{◌≡◌, ℕ, ◌+◌, ◌<◌, ◌≤◌, min, true, false, if◌then◌else◌, List, [], ◌∷◌, ◌++◌, length, Option, None};
 ghost use Rattle.kv_types.specs.declared.reply.Reply.{Error};
-ghost use Rattle.kv_types.specs.Keyspaces.{Keyspace, IsKeyspace, play_all};
+ghost use Rattle.kv_types.specs.Keyspace.{Keyspace, IsKeyspace, play_all};
 ghost use Rattle.model.specs.declared.call.Call.{Call};
 ghost use Rattle.model.specs.declared.group.Group.{Group};
 ghost use Rattle.model.specs.declared.record.Record.{Record};
-ghost use Rattle.model.specs.States.{State};
-ghost use Rattle.model.specs.Calls.{MayReply, changes_of, after_call, is_changing, AreAlike, IsLegal, state_after, keyspace_after, position_of, cut_at, IsPrefix};
-ghost use Rattle.model.specs.Positions.{changes_at};
-ghost use Rattle.model.specs.Images.{Image, Version, IsMapOf, map_below, Holds, entries_of_lines};
-ghost use Rattle.model.specs.Groups.{Contents, IsGroup, IsConsistent, after_group, changes_of_group};
+ghost use Rattle.model.specs.State.{State};
+ghost use Rattle.model.specs.Call.{MayReply, changes_of, after_call, is_changing, AreAlike, IsLegal, state_after, keyspace_after, position_of, cut_at, IsPrefix};
+ghost use Rattle.model.specs.Position.{changes_at};
+ghost use Rattle.model.specs.Image.{Image, Version, IsMapOf, map_below, Holds, entries_of_lines};
+ghost use Rattle.model.specs.Group.{Contents, IsGroup, IsConsistent, after_group, changes_of_group};
 ghost use Rattle.model.specs.Standing.{Holder, StandsAt};
 
 use crate::record::MAX_GAPS;
 
 /// What one call more makes of a list: it is legal where the call's reply may stand at its place, its state is that after the call, its keyspace
-/// the one that the call's changes make, and its position rises by one exactly where there are any. A beginning of a legal list is legal.
+/// the one that the call's changes make, and its position rises by one exactly where there are any. A prefix of a legal list is legal.
 pub fn list_grows()
     ensures legal { (calls : List Call) (call : Call) → IsLegal calls → MayReply (state_after calls) call → IsLegal (calls ++ call ∷ []) }
-    ensures beginning { (front rest : List Call) → IsLegal (front ++ rest) → IsLegal front }
+    ensures prefix { (prefix rest : List Call) → IsLegal (prefix ++ rest) → IsLegal prefix }
     ensures state { (calls : List Call) (call : Call) → state_after (calls ++ call ∷ []) ≡ after_call (state_after calls) call }
     ensures keyspace { (calls : List Call) (call : Call)
         → keyspace_after (calls ++ call ∷ []) ≡ play_all (keyspace_after calls) (changes_of (state_after calls) call) }
@@ -40,11 +40,11 @@ pub fn calls_see_their_own_session()
     ensures session { (s t : State) (a b : Call) → AreAlike s a t b → (after_call s a).sessions a.connection ≡ (after_call t b).sessions b.connection }
 {}
 
-/// The cut at a position is the longest beginning of the list with at most so many changing calls: it is one, and every other begins it.
-pub fn cut_is_the_longest_beginning()
-    ensures beginning { (calls : List Call) (p : ℕ) → IsPrefix (cut_at calls p) calls }
+/// The cut at a position is the longest prefix of the list with at most so many changing calls: it is one, and every other begins it.
+pub fn cut_is_the_longest_prefix()
+    ensures prefix { (calls : List Call) (p : ℕ) → IsPrefix (cut_at calls p) calls }
     ensures few { (calls : List Call) (p : ℕ) → position_of (cut_at calls p) ≤ p }
-    ensures longest { (calls front : List Call) (p : ℕ) → IsPrefix front calls → position_of front ≤ p → IsPrefix front (cut_at calls p) }
+    ensures longest { (calls prefix : List Call) (p : ℕ) → IsPrefix prefix calls → position_of prefix ≤ p → IsPrefix prefix (cut_at calls p) }
 {}
 
 /// The keyspace at a position does not change while the list grows. At the position of the list it is the keyspace of the list.

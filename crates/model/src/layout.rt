@@ -54,7 +54,7 @@ pub const LAYOUT: Layout = VERSION_1;
 
 impl Layout {
     ghost use Rattle.std.specs.Prelude.{◌≡◌, ◌+◌, ◌<◌, ◌^◌};
-    ghost use Rattle.model.specs.Layouts as layouts;
+    ghost use Rattle.model.specs.Layout as layouts;
 
     /// How many entries the directory has, in an image of so many lines.
     pub fn entries_of_lines(self, lines: u64) -> u64

@@ -2,9 +2,9 @@
 ghost use Rattle.std.specs.Prelude.{◌≡◌, ◌≤◌, length, IfOk};
 ghost use Rattle.std.specs.List.{AllByRecursion};
 ghost use Rattle.std.specs.Option.{option_copied};
-ghost use Rattle.kv_types.specs.Words.{AreWords};
-ghost use Rattle.model.specs.Commands as meaning;
-ghost use Rattle.model.specs.RightCalls.{Gives, within_limit};
+ghost use Rattle.kv_types.specs.Word.{AreWords};
+ghost use Rattle.model.specs.Command as meaning;
+ghost use Rattle.model.specs.RightCall.{Gives, within_limit};
 
 use crate::call::MAX_CHANGE_TEXT_BYTES;
 use bytes::Bytes;

@@ -42,7 +42,7 @@ pub struct Record {
 impl Record {
     ghost use Rattle.std.specs.Prelude.{◌≡◌};
     ghost use Rattle.std.specs.List.{list_any};
-    ghost use Rattle.model.specs.Images.{counts, is_in_gap};
+    ghost use Rattle.model.specs.Image.{counts, is_in_gap};
 
     /// Whether a stamp was committed: it is 1 to `cp`, and in no gap.
     pub fn counts(&self, stamp: u64) -> bool
@@ -61,7 +61,7 @@ impl Record {
 
 impl Gap {
     ghost use Rattle.std.specs.Prelude.{◌≡◌};
-    ghost use Rattle.model.specs.Images.{is_in_gap};
+    ghost use Rattle.model.specs.Image.{is_in_gap};
 
     /// Whether the stamp is one of the gap's.
     pub fn holds(&self, stamp: u64) -> bool

@@ -1,8 +1,8 @@
 //! One sequential Redis: the plain, slow program with which every faster one is compared.
 ghost use Rattle.std.specs.Prelude.{◌≡◌, ◌≤◌, [], ◌∷◌, ◌++◌, length, OnOk, OnErr, IfOk};
-ghost use Rattle.kv_types.specs.Keyspaces.{play_all};
-ghost use Rattle.model.specs.Calls.{IsLegal, state_after, keyspace_after, position_of, is_nonempty};
-ghost use Rattle.model.specs.RightCalls.{right_call};
+ghost use Rattle.kv_types.specs.Keyspace.{play_all};
+ghost use Rattle.model.specs.Call.{IsLegal, state_after, keyspace_after, position_of, is_nonempty};
+ghost use Rattle.model.specs.RightCall.{right_call};
 
 use crate::call::Call;
 use crate::outcome::{Outcome, right_outcome};

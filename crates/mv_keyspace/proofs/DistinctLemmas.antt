@@ -5,8 +5,8 @@ use Rattle.std.proofs.lemmas.Option.{none-some}
 use Rattle.std.specs.List.{AllByRecursion, IsDistinct}
 use Rattle.std.specs.FinMap.Entries.{is_sorted, below_all}
 use Rattle.kv_types.specs.declared.record_id.RecordId.{RecordId}
-use Rattle.kv_types.specs.Keyspaces.{record_cmp}
-use Rattle.mv_keyspace.specs.Tables.{Cell, Table, cell_at, entries_of}
+use Rattle.kv_types.specs.Keyspace.{record_cmp}
+use Rattle.mv_keyspace.specs.Table.{Cell, Table, cell_at, entries_of}
 use Rattle.mv_keyspace.proofs.TableMembers.{IsSortedTable, found-from_entry, found-first, found-later, missed-below}
 
 -- ---- lists of numbers

@@ -7,18 +7,18 @@ use Rattle.kv_types.specs.declared.record_id.RecordId.{RecordId}
 use Rattle.kv_types.specs.declared.record_id.RecordId.TheVariants.{Str, Field}
 use Rattle.kv_types.specs.declared.change.Change.{Change}
 use Rattle.kv_types.specs.declared.change.Change.TheVariants as change
-use Rattle.kv_types.specs.Keyspaces.{IsKeyspace, record_cmp}
-use Rattle.kv_types.specs.Orders.{record_cmp_total}
+use Rattle.kv_types.specs.Keyspace.{IsKeyspace, record_cmp}
+use Rattle.kv_types.specs.Order.{record_cmp_total}
 use Rattle.kv_types.proofs.OrderLemmas.{record_cmp_equal, same_record, record_itself}
 use Rattle.kv_types.proofs.LookUpLemmas.{is_same}
 use Rattle.kv_types.proofs.PlayLemmas.{is_keyspace-play}
 use Rattle.model.specs.declared.group.Put.{Put}
 use Rattle.model.specs.declared.group.PlacedChange.{PlacedChange}
 use Rattle.model.specs.declared.group.PlacedChange.TheVariants as placed
-use Rattle.model.specs.Groups.{change_of, put_of, ends_record, is_put_at}
+use Rattle.model.specs.Group.{change_of, put_of, ends_record, is_put_at}
 use Rattle.model.proofs.VersionsLemmas.{ends_record-own}
-use Rattle.mv_keyspace.specs.Tables.{Cell, Table, records, cell_at, with_cell, entries_of, cell_of_put, placed_at, place, place_all, puts_of, AreFresh, IsLawful, AreNumbersEnded}
-use Rattle.mv_keyspace.specs.Rows.{ended_rows, spared_rows}
+use Rattle.mv_keyspace.specs.Table.{Cell, Table, records, cell_at, with_cell, entries_of, cell_of_put, placed_at, place, place_all, puts_of, AreFresh, IsLawful, AreNumbersEnded}
+use Rattle.mv_keyspace.specs.Row.{ended_rows, spared_rows}
 use Rattle.mv_keyspace.proofs.TableLemmas.{cell_at-with_cell, records-place}
 use Rattle.mv_keyspace.proofs.TableMembers.{IsEntryOf, IsSortedTable, entry-from_found, found-from_entry, is_sorted-records}
 use Rattle.mv_keyspace.proofs.DistinctLemmas.{distinct-none, distinct-append, entries-distinct}

@@ -12,13 +12,13 @@ use Rattle.kv_types.specs.declared.record_id.RecordId.{RecordId}
 use Rattle.kv_types.specs.declared.change.Change.{Change}
 use Rattle.kv_types.specs.declared.record_id.RecordId.TheVariants.{Str}
 use Rattle.kv_types.specs.declared.place.EntryNo.{EntryNo}
-use Rattle.kv_types.specs.Keyspaces.{record_cmp, value_at}
+use Rattle.kv_types.specs.Keyspace.{record_cmp, value_at}
 use Rattle.kv_types.proofs.OrderLemmas.{same_record}
 use Rattle.kv_types.proofs.LookUpLemmas.{is_same, is_same_at}
-use Rattle.model.specs.Groups.{ends_record}
+use Rattle.model.specs.Group.{ends_record}
 use Rattle.mv_keyspace.specs.declared.list_keyspace.Row.{Row}
-use Rattle.mv_keyspace.specs.Tables.{Cell, Table, records, cell_at, with_cell, entries_of}
-use Rattle.mv_keyspace.specs.Rows.{cell_of_row, table_of, numbers_of, ended_rows, spared_rows}
+use Rattle.mv_keyspace.specs.Table.{Cell, Table, records, cell_at, with_cell, entries_of}
+use Rattle.mv_keyspace.specs.Row.{cell_of_row, table_of, numbers_of, ended_rows, spared_rows}
 
 same_back : (x y : RecordId) → is_same x y ≡ is_same y x
 same_back x y = both_ways (is_same x y) (is_same y x) (λ e. is_same_at y x (sym (same_record x y e))) (λ e. is_same_at x y (sym (same_record y x e)))
@@ -45,8 +45,8 @@ length-spared c table = length-filter_both (λ row. ends_record c row.0) (λ row
 
 -- ---- the place of a record
 
--- the record goes below the front of n rows, and is in none of the others
-pub record PassesFront (id : RecordId) (table : Table) (n : ℕ) : Type 0 where
+-- the record goes below the prefix of n rows, and is in none of the others
+pub record PassesPrefix (id : RecordId) (table : Table) (n : ℕ) : Type 0 where
   pub passes : (cell : Cell) → with_cell id cell table ≡ take n table ++ with_cell id cell (drop n table)
   pub absent : cell_at (drop n table) id ≡ None
 
@@ -64,25 +64,25 @@ missed_first : (b : Bool) (cell : Cell) (rest : Option Cell) → cond b (Some ce
 missed_first true cell rest e = cc
 missed_first false cell rest e = (refl, e)
 
-module _ (id : RecordId) (table : Table) (n : ℕ) (e : RecordId × Cell) (front : PassesFront id table n) (lt : n < length table) (is : e ≡ get_or table n e) where
+module _ (id : RecordId) (table : Table) (n : ℕ) (e : RecordId × Cell) (prefix : PassesPrefix id table n) (lt : n < length table) (is : e ≡ get_or table n e) where
   rest_at : drop n table ≡ e ∷ drop (n + 1) table
   rest_at = drop_more table n e lt ∙ ap (λ x. x ∷ drop (n + 1) table) (sym is)
 
   missed : (is_eq (record_cmp id e.0) ≡ false) × (cell_at (drop (n + 1) table) id ≡ None)
-  missed = missed_first (is_eq (record_cmp id e.0)) e.1 (cell_at (drop (n + 1) table) id) (sym (ap (λ t. cell_at t id) rest_at) ∙ front.absent)
+  missed = missed_first (is_eq (record_cmp id e.0)) e.1 (cell_at (drop (n + 1) table) id) (sym (ap (λ t. cell_at t id) rest_at) ∙ prefix.absent)
 
   put_rest : (cell : Cell) → with_cell id cell (drop n table) ≡ by_order (record_cmp id e.0) ((id, cell) ∷ e ∷ drop (n + 1) table) ((e.0, cell) ∷ drop (n + 1) table) (e ∷ with_cell id cell (drop (n + 1) table))
   put_rest cell = ap (with_cell id cell) rest_at
 
   pub place_here : is_lt (record_cmp id e.0) ≡ true → (cell : Cell) → with_cell id cell table ≡ insert table n (id, cell)
   place_here below cell =
-      front.passes cell
+      prefix.passes cell
       ∙ ap (λ rest. take n table ++ rest) (put_rest cell ∙ by_less (record_cmp id e.0) _ _ _ below ∙ ap (λ rest. (id, cell) ∷ rest) (sym rest_at))
 
-  pub place_later : is_lt (record_cmp id e.0) ≡ false → PassesFront id table (n + 1)
+  pub place_later : is_lt (record_cmp id e.0) ≡ false → PassesPrefix id table (n + 1)
   place_later above = record {
     passes = λ cell.
-        front.passes cell ∙ ap (λ rest. take n table ++ rest) (put_rest cell ∙ by_greater (record_cmp id e.0) _ _ _ above missed.0)
+        prefix.passes cell ∙ ap (λ rest. take n table ++ rest) (put_rest cell ∙ by_greater (record_cmp id e.0) _ _ _ above missed.0)
         ∙ sym (append_assoc (take n table) (e ∷ []) (with_cell id cell (drop (n + 1) table)))
         ∙ ap (λ f. f ++ with_cell id cell (drop (n + 1) table)) (sym (take_more table n e lt ∙ ap (λ x. take n table ++ x ∷ []) (sym is)));
     absent = missed.1;
@@ -93,10 +93,10 @@ module _ (id : RecordId) (table : Table) (n : ℕ) (e : RecordId × Cell) (front
 pub table_of-insert : (rows : List Row) (n : ℕ) (row : Row) → table_of (insert rows n row) ≡ insert (table_of rows) n (row.id, cell_of_row row)
 table_of-insert rows n row =
     map-append entry_of (take n rows) (row ∷ drop n rows)
-    ∙ ap (λ front. front ++ entry_of row ∷ table_of (drop n rows)) (sym (take-map entry_of n rows))
+    ∙ ap (λ prefix. prefix ++ entry_of row ∷ table_of (drop n rows)) (sym (take-map entry_of n rows))
     ∙ ap (λ rest. take n (table_of rows) ++ entry_of row ∷ rest) (sym (drop-map entry_of n rows))
 
-module _ (id : RecordId) (rows : List Row) (n : ℕ) (row : Row) (front : PassesFront id (table_of rows) n) (lt : n < length rows) (is : row ≡ get_or rows n row) where
+module _ (id : RecordId) (rows : List Row) (n : ℕ) (row : Row) (prefix : PassesPrefix id (table_of rows) n) (lt : n < length rows) (is : row ≡ get_or rows n row) where
   lt_table : n < length (table_of rows)
   lt_table = let same = length_map entry_of rows in omega (arith, lt, same)
 
@@ -104,10 +104,10 @@ module _ (id : RecordId) (rows : List Row) (n : ℕ) (row : Row) (front : Passes
   is_table = sym (get_or-map entry_of rows n row (entry_of row) lt ∙ ap entry_of (sym is))
 
   pub row_here : is_lt (record_cmp id row.id) ≡ true → (cell : Cell) → with_cell id cell (table_of rows) ≡ insert (table_of rows) n (id, cell)
-  row_here below cell = place_here id (table_of rows) n (entry_of row) front lt_table is_table below cell
+  row_here below cell = place_here id (table_of rows) n (entry_of row) prefix lt_table is_table below cell
 
-  pub row_later : is_lt (record_cmp id row.id) ≡ false → PassesFront id (table_of rows) (n + 1)
-  row_later above = place_later id (table_of rows) n (entry_of row) front lt_table is_table above
+  pub row_later : is_lt (record_cmp id row.id) ≡ false → PassesPrefix id (table_of rows) (n + 1)
+  row_later above = place_later id (table_of rows) n (entry_of row) prefix lt_table is_table above
 
 -- ---- the look-up, row by row
 

@@ -10,10 +10,10 @@ use Rattle.model.specs.declared.group.Part.{Part}
 use Rattle.model.specs.declared.group.Put.{Put}
 use Rattle.model.specs.declared.group.PlacedChange.{PlacedChange}
 use Rattle.model.specs.declared.group.PlacedChange.TheVariants as placed
-use Rattle.model.specs.Images.{Version, IsLive, IsMapOf}
-use Rattle.model.specs.Groups.{Versions, change_of, put_of, ended_by, ended_where_begun, version_of_put, change_versions, changes_versions, part_versions, is_put_at, is_live_version, is_ended_version, NamesEnded}
+use Rattle.model.specs.Image.{Version, IsLive, IsMapOf}
+use Rattle.model.specs.Group.{Versions, change_of, put_of, ended_by, ended_where_begun, version_of_put, change_versions, changes_versions, part_versions, is_put_at, is_live_version, is_ended_version, NamesEnded}
 use Rattle.model.proofs.MapLemmas.{not_live}
-use Rattle.mv_keyspace.specs.Tables.{Cell, Table, records, cell_at, entries_of, place, place_all, puts_of, AreEnded, AreFresh, IsLawful, IsTable}
+use Rattle.mv_keyspace.specs.Table.{Cell, Table, records, cell_at, entries_of, place, place_all, puts_of, AreEnded, AreFresh, IsLawful, IsTable}
 use Rattle.mv_keyspace.proofs.TableLemmas.{value_at-records}
 use Rattle.mv_keyspace.proofs.TableMembers.{IsSortedTable, entry-from_found, found-from_entry, is_sorted-records}
 use Rattle.mv_keyspace.proofs.VersionTables.{AreEmpty, IsTable-change, cell-of_live}

@@ -5,9 +5,9 @@ use Rattle.kv_types.specs.declared.record_id.RecordId.{RecordId}
 use Rattle.model.specs.declared.group.Put.{Put}
 use Rattle.model.specs.declared.group.PlacedChange.{PlacedChange}
 use Rattle.model.specs.declared.group.PlacedChange.TheVariants as placed
-use Rattle.model.specs.Groups.{change_of}
-use Rattle.mv_keyspace.specs.Tables.{Cell, Table, cell_at, with_cell, entries_of, cell_of_put, place, place_all, puts_of, AreFresh, IsLawful, AreNumbersEnded}
-use Rattle.mv_keyspace.specs.Rows.{ended_rows, spared_rows, rows_of_puts}
+use Rattle.model.specs.Group.{change_of}
+use Rattle.mv_keyspace.specs.Table.{Cell, Table, cell_at, with_cell, entries_of, cell_of_put, place, place_all, puts_of, AreFresh, IsLawful, AreNumbersEnded}
+use Rattle.mv_keyspace.specs.Row.{ended_rows, spared_rows, rows_of_puts}
 use Rattle.mv_keyspace.proofs.EndedLemmas.{sorted-lawful, absent-spared, place-made, MakesNone, place-spared, lawful-place, fresh-place, none-ended, ended-first}
 
 -- Of all changes, from the table at the start, those before the rest are made: the table is this one, the rows of the rest are staged, and these entries were ended.

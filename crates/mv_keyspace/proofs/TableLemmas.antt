@@ -6,14 +6,14 @@ use Rattle.std.specs.declared.cmp.Ordering.TheVariants.{Less, Equal, Greater}
 use Rattle.kv_types.specs.declared.record_id.RecordId.{RecordId}
 use Rattle.kv_types.specs.declared.record_id.RecordId.TheVariants.{Str, Field}
 use Rattle.kv_types.specs.declared.change.Change.TheVariants as change
-use Rattle.kv_types.specs.Keyspaces.{key_of, record_cmp, value_at, with_record, without_record, without_key, play, play_all}
-use Rattle.kv_types.specs.Orders.{record_cmp_total}
+use Rattle.kv_types.specs.Keyspace.{key_of, record_cmp, value_at, with_record, without_record, without_key, play, play_all}
+use Rattle.kv_types.specs.Order.{record_cmp_total}
 use Rattle.kv_types.proofs.OrderLemmas.{record_cmp_equal}
 use Rattle.kv_types.proofs.LookUpLemmas.{is_same, is_same_key}
 use Rattle.model.specs.declared.group.PlacedChange.{PlacedChange}
 use Rattle.model.specs.declared.group.PlacedChange.TheVariants as placed
-use Rattle.model.specs.Groups.{change_of}
-use Rattle.mv_keyspace.specs.Tables.{Cell, Table, records, cell_at, with_cell, without_row, without_rows, cell_of_put, placed_at, place, place_all}
+use Rattle.model.specs.Group.{change_of}
+use Rattle.mv_keyspace.specs.Table.{Cell, Table, records, cell_at, with_cell, without_row, without_rows, cell_of_put, placed_at, place, place_all}
 
 -- ---- the records of a table
 

@@ -6,10 +6,10 @@ use Rattle.std.specs.declared.cmp.Ordering.{Ordering}
 use Rattle.std.specs.declared.cmp.Ordering.TheVariants.{Less, Equal, Greater}
 use Rattle.std.specs.Ordering.{is_eq, is_lt}
 use Rattle.kv_types.specs.declared.record_id.RecordId.{RecordId}
-use Rattle.kv_types.specs.Keyspaces.{record_cmp}
+use Rattle.kv_types.specs.Keyspace.{record_cmp}
 use Rattle.kv_types.proofs.OrderLemmas.{same_record, record_itself}
 use Rattle.kv_types.proofs.LookUpLemmas.{is_same}
-use Rattle.mv_keyspace.specs.Tables.{Cell, Table, records, cell_at, entries_of}
+use Rattle.mv_keyspace.specs.Table.{Cell, Table, records, cell_at, entries_of}
 
 is_lt-no_eq : (o : Ordering) → is_lt o ≡ true → is_eq o ≡ false
 is_lt-no_eq Less e = refl

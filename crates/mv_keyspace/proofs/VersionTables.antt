@@ -5,19 +5,19 @@ use Rattle.kv_types.specs.declared.record_id.RecordId.{RecordId}
 use Rattle.kv_types.specs.declared.record_id.RecordId.TheVariants.{Str, Field}
 use Rattle.kv_types.specs.declared.change.Change.{Change}
 use Rattle.kv_types.specs.declared.change.Change.TheVariants as change
-use Rattle.kv_types.specs.Keyspaces.{IsKeyspace}
+use Rattle.kv_types.specs.Keyspace.{IsKeyspace}
 use Rattle.kv_types.proofs.LookUpLemmas.{is_same, is_same_at, is_other}
 use Rattle.kv_types.proofs.OrderLemmas.{same_record}
 use Rattle.kv_types.proofs.PlayLemmas.{is_keyspace-play}
 use Rattle.model.specs.declared.group.Put.{Put}
 use Rattle.model.specs.declared.group.PlacedChange.{PlacedChange}
 use Rattle.model.specs.declared.group.PlacedChange.TheVariants as placed
-use Rattle.model.specs.Images.{IsLive, Version}
-use Rattle.model.specs.Groups.{Versions, change_of, put_of, ends_record, ended_by, ended_where_begun, version_of_put, change_versions}
+use Rattle.model.specs.Image.{IsLive, Version}
+use Rattle.model.specs.Group.{Versions, change_of, put_of, ends_record, ended_by, ended_where_begun, version_of_put, change_versions}
 use Rattle.model.proofs.MapLemmas.{not_live}
 use Rattle.model.proofs.VersionsLemmas.{ends_record-own, live_after, live_before, with_put, LiveWithPut, live_with_put, live_put, live_beside, still_empty}
 use Rattle.model.proofs.VersionsLemmas as live
-use Rattle.mv_keyspace.specs.Tables.{Cell, Table, records, cell_at, without_row, without_rows, cell_of_put, placed_at, place, IsCellOf, IsTable}
+use Rattle.mv_keyspace.specs.Table.{Cell, Table, records, cell_at, without_row, without_rows, cell_of_put, placed_at, place, IsCellOf, IsTable}
 use Rattle.mv_keyspace.proofs.TableLemmas.{cell_at-with_cell, cell_at-without_row, cell_at-without_rows, records-place}
 
 -- ---- what a change leaves to be found

@@ -1,2 +1,2 @@
-pub mod Tables
-pub mod Rows
+pub mod Table
+pub mod Row

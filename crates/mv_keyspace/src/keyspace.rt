@@ -3,8 +3,8 @@ ghost use Rattle.std.specs.Prelude.{◌≡◌, OnOk, OnErr, IfOk, IfErr};
 ghost use Rattle.std.specs.Option.{option_copied};
 ghost use Rattle.kv_types.specs.declared.record_id.RecordId.TheVariants.{Str};
 ghost use Rattle.kv_types.specs.declared.refusal.Refusal.TheVariants.{Memory};
-ghost use Rattle.kv_types.specs.Keyspaces.{value_at, IsKeyspace};
-ghost use Rattle.mv_keyspace.specs.Tables.{Table, records, place_all, puts_of, AreEnded, AreFresh, IsLawful};
+ghost use Rattle.kv_types.specs.Keyspace.{value_at, IsKeyspace};
+ghost use Rattle.mv_keyspace.specs.Table.{Table, records, place_all, puts_of, AreEnded, AreFresh, IsLawful};
 
 use kv_types::{EntryNo, Refusal, Value};
 use model::PlacedChange;

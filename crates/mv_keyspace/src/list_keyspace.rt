@@ -3,10 +3,10 @@ ghost use Rattle.std.specs.Prelude.{◌≡◌, ℕ, ◌+◌, ◌<◌, ◌≤◌,
 ghost use Rattle.std.specs.Option.{option_copied};
 ghost use Rattle.std.specs.Ordering.{eq_by_cmp};
 ghost use Rattle.kv_types.specs.declared.change.Change.TheVariants as kinds;
-ghost use Rattle.kv_types.specs.Keyspaces.{value_at, record_cmp};
-ghost use Rattle.model.specs.Groups.{change_of, ends_record};
-ghost use Rattle.mv_keyspace.specs.Tables.{Cell, records, cell_at, entries_of, with_cell, cell_of_put, place_all, puts_of, AreEnded, AreFresh, IsLawful};
-ghost use Rattle.mv_keyspace.specs.Rows.{cell_of_row, table_of, rows_of_puts, numbers_of, ended_rows, spared_rows};
+ghost use Rattle.kv_types.specs.Keyspace.{value_at, record_cmp};
+ghost use Rattle.model.specs.Group.{change_of, ends_record};
+ghost use Rattle.mv_keyspace.specs.Table.{Cell, records, cell_at, entries_of, with_cell, cell_of_put, place_all, puts_of, AreEnded, AreFresh, IsLawful};
+ghost use Rattle.mv_keyspace.specs.Row.{cell_of_row, table_of, rows_of_puts, numbers_of, ended_rows, spared_rows};
 
 use crate::keyspace::Keyspace;
 use kv_types::{EntryNo, RecordId, Refusal, Value};
@@ -31,7 +31,7 @@ pub struct ListKeyspace {
 
 impl ListKeyspace {
     ghost use Rattle.std.specs.Prelude.{◌≡◌, ◌==◌, [], length};
-    ghost use Rattle.mv_keyspace.specs.Rows.{table_of};
+    ghost use Rattle.mv_keyspace.specs.Row.{table_of};
 
     /// A keyspace without records. It takes no memory.
     pub fn new(alloc: Global) -> ListKeyspace
@@ -57,7 +57,7 @@ impl ListKeyspace {
 }
 
 impl Keyspace for ListKeyspace {
-    ghost use Rattle.mv_keyspace.specs.Rows.{table_of};
+    ghost use Rattle.mv_keyspace.specs.Row.{table_of};
 
     ghost table = { λ keyspace. table_of keyspace.rows.items };
 

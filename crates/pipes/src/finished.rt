@@ -52,11 +52,11 @@ impl<T> Model for LeftItems<T> {
 }
 
 /// Brings the two ends of one pipe together. What was taken, and then what is left, is what was offered: in order, and each once. So what
-/// had been taken at any earlier moment was a beginning of what was offered.
+/// had been taken at any earlier moment was a prefix of what was offered.
 pub fn join<T: Drop>(outlet: FinishedOutlet<T>, inlet: FinishedInlet<T>) -> LeftItems<T>
     requires { AreEndsOfOne outlet inlet }
     ensures each_once { taken_at inlet ++ result ≡ offered_at outlet }
-    ensures beginning { (earlier : List T) → IsPrefix earlier (taken_at inlet) → IsPrefix earlier (offered_at outlet) }
+    ensures prefix { (earlier : List T) → IsPrefix earlier (taken_at inlet) → IsPrefix earlier (offered_at outlet) }
 {
     let FinishedOutlet { mut outlet } = outlet;
     let FinishedInlet { mut inlet } = inlet;

@@ -1,14 +1,14 @@
 -- A table and a heap stay beside each other where changes take places from the heap.
 use Rattle.std.proofs.Common.{◌≡◌, ℕ, List, [], None, refl, sym, subst}
 use Rattle.model.specs.declared.group.PlacedChange.{PlacedChange}
-use Rattle.model.specs.Groups.{changes_versions}
+use Rattle.model.specs.Group.{changes_versions}
 use Rattle.model.proofs.GroupsLemmas.{changes_versions-none}
 use Rattle.extent_heap.specs.Room.{Room}
-use Rattle.mv_keyspace.specs.Tables.{Table, IsLawful, AreFresh, puts_of, place_all}
+use Rattle.mv_keyspace.specs.Table.{Table, IsLawful, AreFresh, puts_of, place_all}
 use Rattle.mv_keyspace.proofs.VersionTables.{AreEmpty}
 use Rattle.mv_keyspace.proofs.PartTables.{AreDistinct, IsTable-changes, lawful-from_table, fresh-from_table, table-none}
 use Rattle.placing.specs.Left.{IsBeside}
-use Rattle.placing.specs.Places.{TakesPlaces}
+use Rattle.placing.specs.Place.{TakesPlaces}
 use Rattle.placing.proofs.TakenLemmas.{All-map, IsFree, places_within, places_free, places_taken, places_apart, not_put_at, AreDistinct-from_apart}
 
 -- an empty table is beside any heap

@@ -6,14 +6,14 @@ use Rattle.model.specs.declared.group.Put.{Put}
 use Rattle.model.specs.declared.group.PlacedChange.{PlacedChange}
 use Rattle.model.specs.declared.group.PlacedChange.TheVariants as placed
 use Rattle.model.specs.declared.image.TheConstants.{STAMP_WINDOW}
-use Rattle.model.specs.Images.{Version}
-use Rattle.model.specs.Groups.{Contents, Versions, change_of, put_of, puts_of_part, change_versions, changes_versions, part_versions, parts_versions, ended_where_begun, version_of_put, last_position, IsPlaced, IsUnused, AreApart, is_put_at}
+use Rattle.model.specs.Image.{Version}
+use Rattle.model.specs.Group.{Contents, Versions, change_of, put_of, puts_of_part, change_versions, changes_versions, part_versions, parts_versions, ended_where_begun, version_of_put, last_position, IsPlaced, IsUnused, AreApart, is_put_at}
 use Rattle.model.proofs.GroupsLemmas.{parts_versions-none}
 use Rattle.extent_heap.specs.Room.{Room}
-use Rattle.mv_keyspace.specs.Tables.{puts_of}
+use Rattle.mv_keyspace.specs.Table.{puts_of}
 use Rattle.placing.specs.Left.{HasNoFreeLine, IsTaken, IsLeftOf}
 use Rattle.placing.proofs.PartsLemmas.{puts_alone}
-use Rattle.placing.proofs.TakenLemmas.{All-map, All-front, All-rest, IsFree, IsWithin, lines_within, lines_apart, not_put_at}
+use Rattle.placing.proofs.TakenLemmas.{All-map, All-prefix, All-rest, IsFree, IsWithin, lines_within, lines_apart, not_put_at}
 
 -- ---- what is free of the heap is free in the contents
 
@@ -84,14 +84,14 @@ module _ (Good : ℕ → ℕ → Type 0) where
   pub good_changes : (position : ℕ) (versions : Versions) (changes : List PlacedChange) → AllGood versions → AllByRecursion HasGood (puts_of changes) → AllGood (changes_versions position versions changes)
   good_changes position versions [] good new = good
   good_changes position versions (c ∷ changes) good new =
-      good_changes position (change_versions position versions c) changes (good_change position versions c good (All-front HasGood (put_of c) (puts_of changes) new)) (All-rest HasGood (put_of c) (puts_of changes) new)
+      good_changes position (change_versions position versions c) changes (good_change position versions c good (All-prefix HasGood (put_of c) (puts_of changes) new)) (All-rest HasGood (put_of c) (puts_of changes) new)
 
   -- and so have they after parts
   pub good_parts : (versions : Versions) (parts : List Part) → AllGood versions → AllByRecursion HasGood (flat_map puts_of_part parts) → AllGood (parts_versions versions parts)
   good_parts versions [] good new = good
   good_parts versions (part ∷ parts) good new =
       good_parts (part_versions versions part) parts
-      (good_changes part.position versions part.changes.items good (All-front HasGood (puts_of_part part) (flat_map puts_of_part parts) new)) (All-rest HasGood (puts_of_part part) (flat_map puts_of_part parts) new)
+      (good_changes part.position versions part.changes.items good (All-prefix HasGood (puts_of_part part) (flat_map puts_of_part parts) new)) (All-rest HasGood (puts_of_part part) (flat_map puts_of_part parts) new)
 
 -- ---- the contents after parts
 

@@ -6,7 +6,7 @@ use Rattle.model.specs.declared.group.Group.{Group}
 use Rattle.model.specs.declared.group.Part.{Part}
 use Rattle.model.specs.declared.group.Put.{Put}
 use Rattle.model.specs.declared.group.TheConstants.{MAX_PARTS}
-use Rattle.model.specs.Groups.{Contents, Versions, IsGroup, puts_of_part, part_versions, parts_versions, AreParts, NamesEnded, last_position, IsPlaced, IsUnused, AreAllApart, HasItsLines}
+use Rattle.model.specs.Group.{Contents, Versions, IsGroup, puts_of_part, part_versions, parts_versions, AreParts, NamesEnded, last_position, IsPlaced, IsUnused, AreAllApart, HasItsLines}
 
 -- ---- one part more
 

@@ -9,12 +9,12 @@ use Rattle.kv_types.specs.declared.change.Change.TheVariants as change
 use Rattle.model.specs.declared.group.Put.{Put}
 use Rattle.model.specs.declared.group.PlacedChange.{PlacedChange}
 use Rattle.model.specs.declared.group.PlacedChange.TheVariants.{Put as Put', Drop, DropKey, Clear}
-use Rattle.model.specs.Images.{lines_of_bytes}
-use Rattle.model.specs.Groups.{change_of, put_of, bytes_of_id, HasItsLines}
+use Rattle.model.specs.Image.{lines_of_bytes}
+use Rattle.model.specs.Group.{change_of, put_of, bytes_of_id, HasItsLines}
 use Rattle.extent_heap.specs.Room.{Room, IsFreeRun, TakesEntry, TakesExtent}
 use Rattle.extent_heap.proofs.Rooms.{TakesEntry-same, TakesExtent-same}
-use Rattle.mv_keyspace.specs.Tables.{puts_of}
-use Rattle.placing.specs.Places.{TakesPlace, TakesPlaces, HasRoomFor}
+use Rattle.mv_keyspace.specs.Table.{puts_of}
+use Rattle.placing.specs.Place.{TakesPlace, TakesPlaces, HasRoomFor}
 
 -- ---- one place
 
@@ -48,8 +48,8 @@ TakesPlaces-split old (put ∷ xs) ys new takes =
     (rest.0, (takes.0, takes.1, rest.1), rest.2)
 
 pub TakesPlaces-append : (old : Room) (xs ys : List Put) (between new : Room) → TakesPlaces old xs between → TakesPlaces between ys new → TakesPlaces old (xs ++ ys) new
-TakesPlaces-append old [] ys between new front rest = subst (λ room. TakesPlaces room ys new) front rest
-TakesPlaces-append old (put ∷ xs) ys between new front rest = (front.0, front.1, TakesPlaces-append front.0 xs ys between new front.2 rest)
+TakesPlaces-append old [] ys between new prefix rest = subst (λ room. TakesPlaces room ys new) prefix rest
+TakesPlaces-append old (put ∷ xs) ys between new prefix rest = (prefix.0, prefix.1, TakesPlaces-append prefix.0 xs ys between new prefix.2 rest)
 
 -- the same changes take the same places
 pub same_places : (old : Room) (p q : PlacedChange) (new new' : Room) → change_of p ≡ change_of q → TakesPlaces old (put_of p) new → TakesPlaces old (put_of q) new' → new ≡ new'
@@ -103,29 +103,29 @@ last_place old placed last new takes =
     (split.0, split.1, subst (TakesPlaces split.0 (put_of last)) (sym one.2) one.1)
 
 pub more_places : (old : Room) (placed : List PlacedChange) (between : Room) (next : PlacedChange) (new : Room) → TakesPlaces old (puts_of placed) between → TakesPlaces between (put_of next) new → TakesPlaces old (puts_of (placed ++ next ∷ [])) new
-more_places old placed between next new front one =
+more_places old placed between next new prefix one =
     let puts : puts_of (placed ++ next ∷ []) ≡ puts_of placed ++ (put_of next ++ []) = flat_map-append put_of placed (next ∷ []) in
-    subst (λ puts. TakesPlaces old puts new) (sym puts) (TakesPlaces-append old (puts_of placed) (put_of next ++ []) between new front (TakesPlaces-append between (put_of next) [] new new one refl))
+    subst (λ puts. TakesPlaces old puts new) (sym puts) (TakesPlaces-append old (puts_of placed) (put_of next ++ []) between new prefix (TakesPlaces-append between (put_of next) [] new new one refl))
 
 -- where the next change finds no place behind those before it, there is no room for all of them
 module _ (next : Change) (rest : List Change) where
-  no_room_from : (room : Room) (front : List PlacedChange) (between : Room) (placed : List PlacedChange) (left : Room) → TakesPlaces room (puts_of front) between
+  no_room_from : (room : Room) (prefix : List PlacedChange) (between : Room) (placed : List PlacedChange) (left : Room) → TakesPlaces room (puts_of prefix) between
       → ((p : PlacedChange) (after : Room) → change_of p ≡ next → ¬ TakesPlaces between (put_of p) after)
-      → map change_of placed ≡ map change_of front ++ next ∷ rest → ¬ TakesPlaces room (puts_of placed) left
+      → map change_of placed ≡ map change_of prefix ++ next ∷ rest → ¬ TakesPlaces room (puts_of placed) left
   no_room_from room [] between [] left places none e takes = cc
-  no_room_from room (q ∷ front) between [] left places none e takes = cc
+  no_room_from room (q ∷ prefix) between [] left places none e takes = cc
   no_room_from room [] between (p ∷ placed) left places none e takes =
       let same : change_of p ≡ next = cc in
       let first = TakesPlaces-split room (put_of p) (puts_of placed) left takes in
       none p first.0 same (subst (λ r. TakesPlaces r (put_of p) first.0) (sym places) first.1)
-  no_room_from room (q ∷ front) between (p ∷ placed) left places none e takes =
+  no_room_from room (q ∷ prefix) between (p ∷ placed) left places none e takes =
       let same : change_of p ≡ change_of q = cc in
-      let others : map change_of placed ≡ map change_of front ++ next ∷ rest = cc in
+      let others : map change_of placed ≡ map change_of prefix ++ next ∷ rest = cc in
       let first = TakesPlaces-split room (put_of p) (puts_of placed) left takes in
-      let first' = TakesPlaces-split room (put_of q) (puts_of front) between places in
+      let first' = TakesPlaces-split room (put_of q) (puts_of prefix) between places in
       let joined = same_places room p q first.0 first'.0 same first.1 first'.1 in
-      no_room_from first'.0 front between placed left first'.2 none others (subst (λ r. TakesPlaces r (puts_of placed) left) joined first.2)
+      no_room_from first'.0 prefix between placed left first'.2 none others (subst (λ r. TakesPlaces r (puts_of placed) left) joined first.2)
 
-  pub no_room : (room : Room) (front : List PlacedChange) (between : Room) → TakesPlaces room (puts_of front) between
-      → ((p : PlacedChange) (after : Room) → change_of p ≡ next → ¬ TakesPlaces between (put_of p) after) → ¬ HasRoomFor room (map change_of front ++ next ∷ rest)
-  no_room room front between places none has = no_room_from room front between has.placed has.left places none has.these has.places
+  pub no_room : (room : Room) (prefix : List PlacedChange) (between : Room) → TakesPlaces room (puts_of prefix) between
+      → ((p : PlacedChange) (after : Room) → change_of p ≡ next → ¬ TakesPlaces between (put_of p) after) → ¬ HasRoomFor room (map change_of prefix ++ next ∷ rest)
+  no_room room prefix between places none has = no_room_from room prefix between has.placed has.left places none has.these has.places

@@ -3,11 +3,11 @@ use Rattle.std.proofs.Common.{◌≡◌, ℕ, ◌+◌, ◌<◌, ◌≤◌, Bool,
 use Rattle.std.proofs.lemmas.Bool.{false≢true, false_from_ne_true}
 use Rattle.std.specs.List.{AllByRecursion}
 use Rattle.model.specs.declared.group.Put.{Put}
-use Rattle.model.specs.Groups.{AreApart, IsApartFrom, AreAllApart, HasItsLines, is_put_at}
+use Rattle.model.specs.Group.{AreApart, IsApartFrom, AreAllApart, HasItsLines, is_put_at}
 use Rattle.mv_keyspace.proofs.PartTables.{AreDistinct}
 use Rattle.extent_heap.specs.Room.{Room, is_free_line, is_free_entry, IsFreeRun}
 use Rattle.extent_heap.proofs.Rooms.{TakesEntry-gone, TakesEntry-free, TakesEntry-line, TakesExtent-gone, TakesExtent-free, TakesExtent-entry}
-use Rattle.placing.specs.Places.{TakesPlace, TakesPlaces}
+use Rattle.placing.specs.Place.{TakesPlace, TakesPlaces}
 use Rattle.placing.specs.Left.{HasNoFreeLine, IsTaken}
 use Rattle.placing.proofs.PlacesLemmas.{some_lines}
 
@@ -21,9 +21,9 @@ pub All-both : {X : Type 0} (P Q R : X → Type 0) → ((x : X) → P x → Q x 
 All-both P Q R f [] h k = tt
 All-both P Q R f (x ∷ xs) h k = (f x h.0 k.0, All-both P Q R f xs h.1 k.1)
 
-pub All-front : {X : Type 0} (P : X → Type 0) (xs ys : List X) → AllByRecursion P (xs ++ ys) → AllByRecursion P xs
-All-front P [] ys h = tt
-All-front P (x ∷ xs) ys h = (h.0, All-front P xs ys h.1)
+pub All-prefix : {X : Type 0} (P : X → Type 0) (xs ys : List X) → AllByRecursion P (xs ++ ys) → AllByRecursion P xs
+All-prefix P [] ys h = tt
+All-prefix P (x ∷ xs) ys h = (h.0, All-prefix P xs ys h.1)
 
 pub All-rest : {X : Type 0} (P : X → Type 0) (xs ys : List X) → AllByRecursion P (xs ++ ys) → AllByRecursion P ys
 All-rest P [] ys h = h

@@ -1,10 +1,10 @@
 -- What a heap has left, beside the contents of an image and beside a table.
 use Rattle.std.specs.Prelude.{◌≡◌, ℕ, ◌+◌, ◌<◌, ◌≤◌, false, None, Some, IsTrue}
 use Rattle.model.specs.declared.group.Put.{Put}
-use Rattle.model.specs.Images.{Version, entries_of_lines, first_extent_line}
-use Rattle.model.specs.Groups.{Contents, Versions}
+use Rattle.model.specs.Image.{Version, entries_of_lines, first_extent_line}
+use Rattle.model.specs.Group.{Contents, Versions}
 use Rattle.extent_heap.specs.Room.{Room, is_free_entry, is_free_line}
-use Rattle.mv_keyspace.specs.Tables.{Table, IsTable}
+use Rattle.mv_keyspace.specs.Table.{Table, IsTable}
 
 -- there are lines, and none of them is free
 pub record HasNoFreeLine (room : Room) (first lines : ℕ) : Type 0 where

@@ -1,3 +1,3 @@
-pub mod Places
+pub mod Place
 pub mod Left
 pub mod Performs

@@ -2,10 +2,10 @@
 use Rattle.std.specs.Prelude.{◌≡◌, ℕ, List}
 use Rattle.kv_types.specs.declared.change.Change.{Change}
 use Rattle.model.specs.declared.group.Part.{Part}
-use Rattle.model.specs.Groups.{changes_of_part, puts_of_part}
+use Rattle.model.specs.Group.{changes_of_part, puts_of_part}
 use Rattle.extent_heap.specs.Room.{Room}
-use Rattle.mv_keyspace.specs.Tables.{Table, place_all, AreEnded}
-use Rattle.placing.specs.Places.{TakesPlaces}
+use Rattle.mv_keyspace.specs.Table.{Table, place_all, AreEnded}
+use Rattle.placing.specs.Place.{TakesPlaces}
 
 -- The part is these changes, made at this position on a table: each put has its place from the heap in turn, and nothing else was taken.
 pub record Performs (old : Table) (room : Room) (position : ℕ) (changes : List Change) (part : Part) (new : Table) (left : Room) : Type 0 where

@@ -1,10 +1,10 @@
 //! The places of new versions: each put takes an entry and an extent from the heap, or none does.
 ghost use Rattle.std.specs.Prelude.{◌≡◌, ◌+◌, ◌⊎◌, ℕ, List, map, length, OnOk, OnErr, IfOk, IfErr, IsErrOf};
 ghost use Rattle.extent_heap.specs.Room.{Room};
-ghost use Rattle.mv_keyspace.specs.Tables.{puts_of};
-ghost use Rattle.model.specs.Groups.{change_of, put_of, bytes_of_id};
-ghost use Rattle.model.specs.Images.{lines_of_bytes};
-ghost use Rattle.placing.specs.Places.{TakesPlace, TakesPlaces, HasRoomFor};
+ghost use Rattle.mv_keyspace.specs.Table.{puts_of};
+ghost use Rattle.model.specs.Group.{change_of, put_of, bytes_of_id};
+ghost use Rattle.model.specs.Image.{lines_of_bytes};
+ghost use Rattle.placing.specs.Place.{TakesPlace, TakesPlaces, HasRoomFor};
 ghost use Rattle.model.specs.declared.group.Put.{Put};
 ghost use Rattle.model.specs.declared.group.PlacedChange.{PlacedChange};
 

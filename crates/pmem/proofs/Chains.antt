@@ -6,7 +6,7 @@ use Rattle.std.proofs.lemmas.Bool.{cond-true, cond-false, eq-eqb, eqb-true}
 use Rattle.std.proofs.lemmas.List.{length-set, append-nil}
 use Rattle.pmem.specs.declared.cells.Candidate.{Candidate}
 use Rattle.pmem.specs.Device.{Older, Word, MayBe, IsOlder, store_at}
-use Rattle.pmem.specs.Cells.{at, last_below, older_of, older_below, older_in, IsChained, HoldsIn, is_older, may_be}
+use Rattle.pmem.specs.Cell.{at, last_below, older_of, older_below, older_in, IsChained, HoldsIn, is_older, may_be}
 use Rattle.pmem.proofs.Words.{IsOlder-append_cases, MayBe-store_word}
 use Rattle.pmem.proofs.Staging.{same_or_other, unequal, store_at-same, store_at-other}
 

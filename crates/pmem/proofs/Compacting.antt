@@ -4,7 +4,7 @@ use Rattle.std.proofs.lemmas.List.{length-set, get_or_read_under, take_more_set,
 use Rattle.std.proofs.lemmas.List.Elements.{filter-append}
 use Rattle.pmem.specs.declared.cells.Candidate.{Candidate}
 use Rattle.pmem.specs.Device.{Older, Word, IsOlder, fenced}
-use Rattle.pmem.specs.Cells.{at, last_below, older_of, older_below, older_in, IsChained, HoldsIn}
+use Rattle.pmem.specs.Cell.{at, last_below, older_of, older_below, older_in, IsChained, HoldsIn}
 use Rattle.pmem.proofs.Staging.{same_or_other}
 use Rattle.pmem.proofs.Chains.{IsChained-push, older_in-push, is_older-IsOlder, MayBe-may_be}
 use Rattle.pmem.proofs.Walks.{last_below-found, below_or_past}
@@ -144,9 +144,9 @@ pub Compacting-keep : (pool pool' : List Candidate) (heads heads' : List (Option
 Compacting-keep pool pool' heads heads' i kept c next below line going is unpassed' next_is =
     let same : c ≡ at pool i = is ∙ going.ahead i (omega arith) in
     let linked : Candidate = record { word = c.word; value = c.value; passed = c.passed; next = next } in
-    let front : List Candidate = take kept pool' in
-    let kept_is : length front ≡ kept = length-take-le kept pool' (omega (arith, going.behind, going.size)) in
-    let grown : take (kept + 1) (set pool' kept linked) ≡ front ++ linked ∷ [] =
+    let prefix : List Candidate = take kept pool' in
+    let kept_is : length prefix ≡ kept = length-take-le kept pool' (omega (arith, going.behind, going.size)) in
+    let grown : take (kept + 1) (set pool' kept linked) ≡ prefix ++ linked ∷ [] =
     take_more_set pool' kept linked (omega (arith, going.behind, going.size)) in
     record {
       lines = length-set heads' (c.word / 8) (Some kept) ∙ going.lines;
@@ -154,11 +154,11 @@ Compacting-keep pool pool' heads heads' i kept c next below line going is unpass
       behind = omega (arith, going.behind);
       chained =
           subst (λ (p : List Candidate). IsChained (set heads' (c.word / 8) (Some kept)) p) (sym grown)
-          (subst (λ (k : ℕ). IsChained (set heads' (c.word / 8) (Some k)) (front ++ linked ∷ [])) kept_is
-          (IsChained-push heads' front linked going.chained line next_is));
+          (subst (λ (k : ℕ). IsChained (set heads' (c.word / 8) (Some k)) (prefix ++ linked ∷ [])) kept_is
+          (IsChained-push heads' prefix linked going.chained line next_is));
       older = λ word.
           ap (λ (p : List Candidate). older_in p word) grown
-          ∙ older_in-push front linked word
+          ∙ older_in-push prefix linked word
           ∙ ap (λ (os : List Older). os ++ older_of c word) (going.older word)
           ∙ ap (λ (os : List Older). filter unpassed (older_below (at pool) word i) ++ os) (sym (filter-unpassed c word unpassed'))
           ∙ sym (filter-next pool word i c same);

@@ -9,7 +9,7 @@ use Rattle.pmem.specs.declared.cells.Candidate.{Candidate}
 use Rattle.pmem.specs.Device.{Word}
 use Rattle.pmem.specs.Crash.{words_at}
 use Rattle.pmem.specs.History.{words_of, past_of}
-use Rattle.pmem.specs.Cells.{Holds, HoldsIn}
+use Rattle.pmem.specs.Cell.{Holds, HoldsIn}
 use Rattle.pmem.specs.Keep.{HoldsCopy, HoldsKept}
 
 -- at the moment that it is, and later, there are the words of now

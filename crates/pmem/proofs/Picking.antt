@@ -7,7 +7,7 @@ use Rattle.std.proofs.lemmas.List.{length-set, get_or_read_under, append-nil, ma
 use Rattle.pmem.specs.declared.cells.Candidate.{Candidate}
 use Rattle.pmem.specs.Device.{Older, candidates}
 use Rattle.pmem.specs.Crash.{picked, several_below, has_several}
-use Rattle.pmem.specs.Cells.{at, last_below, older_of, older_below, older_in, IsChained, held_in}
+use Rattle.pmem.specs.Cell.{at, last_below, older_of, older_below, older_in, IsChained, held_in}
 use Rattle.pmem.proofs.Staging.{same_or_other, unequal}
 use Rattle.pmem.proofs.Walks.{end_of, last_below-found, last_below-again, end_of-last_below, older_of-hit, older_of-miss, below_or_past}
 

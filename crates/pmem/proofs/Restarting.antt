@@ -8,7 +8,7 @@ use Rattle.pmem.specs.declared.history.History.{History}
 use Rattle.pmem.specs.Device.{Older, Word, State, MayBe, candidates}
 use Rattle.pmem.specs.Crash.{IsImage, words_at, words_to_crash, picked, several_below}
 use Rattle.pmem.specs.History.{words_of, past_of}
-use Rattle.pmem.specs.Cells.{Holds, held, older_in}
+use Rattle.pmem.specs.Cell.{Holds, held, older_in}
 use Rattle.pmem.specs.Keep.{HoldsKept, kept_moment, words_kept}
 use Rattle.pmem.proofs.Chains.{IsOlder-is_older, may_be-MayBe}
 use Rattle.pmem.proofs.Keeping.{words_at-now}

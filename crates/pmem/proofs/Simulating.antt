@@ -6,7 +6,7 @@ use Rattle.pmem.specs.declared.keep.Keep.{Keep}
 use Rattle.pmem.specs.declared.keep.Keep.TheVariants.{Unasked, Awaited, Kept, Forgotten}
 use Rattle.pmem.specs.declared.history.History.{History}
 use Rattle.pmem.specs.Device.{Word}
-use Rattle.pmem.specs.Cells.{Holds}
+use Rattle.pmem.specs.Cell.{Holds}
 use Rattle.pmem.specs.Keep.{HoldsKept, is_forgotten}
 use Rattle.pmem.proofs.Keeping.{HoldsIn-weaken}
 

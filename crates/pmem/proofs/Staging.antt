@@ -283,7 +283,7 @@ pub IsStored-append : (a b : List (ℕ × ℕ)) (word x : ℕ) → IsStored (a +
 IsStored-append [] b word x h = inr h
 IsStored-append (pair ∷ a) b word x (inl here) = inl (inl here)
 IsStored-append (pair ∷ a) b word x (inr later) =
-    elim (IsStored-append a b word x later) [ inl front ↦ inl (inr front) | inr back ↦ inr back ]
+    elim (IsStored-append a b word x later) [ inl prefix ↦ inl (inr prefix) | inr back ↦ inr back ]
 
 pub IsStored-append_left : (a b : List (ℕ × ℕ)) (word x : ℕ) → IsStored a word x → IsStored (a ++ b) word x
 IsStored-append_left [] b word x h = absurd h
@@ -298,7 +298,7 @@ pub IsLine-append : (a b : List ℕ) (line : ℕ) → IsLine (a ++ b) line → I
 IsLine-append [] b line h = inr h
 IsLine-append (l ∷ a) b line (inl here) = inl (inl here)
 IsLine-append (l ∷ a) b line (inr later) =
-    elim (IsLine-append a b line later) [ inl front ↦ inl (inr front) | inr back ↦ inr back ]
+    elim (IsLine-append a b line later) [ inl prefix ↦ inl (inr prefix) | inr back ↦ inr back ]
 
 pub IsLine-append_left : (a b : List ℕ) (line : ℕ) → IsLine a line → IsLine (a ++ b) line
 IsLine-append_left [] b line h = absurd h

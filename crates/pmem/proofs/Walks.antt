@@ -4,7 +4,7 @@ use Rattle.std.proofs.lemmas.Bool.{cond-true, cond-false, eq-eqb, ltb-true, ltb-
 use Rattle.std.proofs.lemmas.List.{length-set, map-append, get_or_read_under}
 use Rattle.pmem.specs.declared.cells.Candidate.{Candidate}
 use Rattle.pmem.specs.Device.{Older, Word, MayBe, IsOlder, flush_at}
-use Rattle.pmem.specs.Cells.{at, last_below, older_of, older_below, older_in, IsChained, HoldsIn}
+use Rattle.pmem.specs.Cell.{at, last_below, older_of, older_below, older_in, IsChained, HoldsIn}
 use Rattle.pmem.proofs.Words.{IsOlder-passed, flush_word-MayBe}
 use Rattle.pmem.proofs.Staging.{same_or_other, unequal, flush_at-same, flush_at-other, newest-flush_at}
 use Rattle.pmem.proofs.Chains.{last_below-same, is_older-IsOlder, IsOlder-is_older, may_be-MayBe, MayBe-may_be}

@@ -16,7 +16,7 @@ pub IsOlder-append_cases : (a b : List Older) (x : ℕ) → IsOlder (a ++ b) x �
 IsOlder-append_cases [] b x h = inr h
 IsOlder-append_cases (o ∷ a) b x (inl here) = inl (inl here)
 IsOlder-append_cases (o ∷ a) b x (inr there) =
-    elim (IsOlder-append_cases a b x there) [ inl front ↦ inl (inr front) | inr back ↦ inr back ]
+    elim (IsOlder-append_cases a b x there) [ inl prefix ↦ inl (inr prefix) | inr back ↦ inr back ]
 
 -- a store keeps each candidate
 pub MayBe-store_word : (x : ℕ) (word : Word) (y : ℕ) → MayBe word y → MayBe (store_word x word) y

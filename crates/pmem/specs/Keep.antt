@@ -6,7 +6,7 @@ use Rattle.pmem.specs.declared.history.History.{History}
 use Rattle.pmem.specs.Device.{Word}
 use Rattle.pmem.specs.Crash.{words_at}
 use Rattle.pmem.specs.History.{words_of, past_of}
-use Rattle.pmem.specs.Cells.{Holds}
+use Rattle.pmem.specs.Cell.{Holds}
 use Rattle.pmem.specs.declared.cells.Cells.{Cells}
 
 -- the moment that is kept or will be, counted from now

@@ -6,7 +6,7 @@ use Rattle.pmem.specs.declared.keep.Keep.{Keep}
 use Rattle.pmem.specs.declared.keep.Keep.TheVariants.{Unasked, Awaited, Kept, Forgotten}
 use Rattle.pmem.specs.declared.history.History.{History}
 use Rattle.pmem.specs.Device.{Older, Word}
-use Rattle.pmem.specs.Cells.{Holds}
+use Rattle.pmem.specs.Cell.{Holds}
 use Rattle.pmem.specs.Keep.{HoldsKept}
 
 abbrev older_code : Coded Older

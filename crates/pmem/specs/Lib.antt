@@ -1,4 +1,4 @@
-pub mod Cells
+pub mod Cell
 pub mod Crash
 pub mod Device
 pub mod History

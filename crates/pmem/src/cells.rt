@@ -1,6 +1,6 @@
 // The words of a simulated device: the newest value of each, and one pool of older candidates, chained by line.
 ghost use Rattle.std.specs.Prelude.{◌≡◌, ℕ, ◌+◌, ◌*◌, ◌^◌, ◌/◌, ◌<◌, ◌≤◌, Bool, true, false, vec_len, vec_capacity, OnOk, OnErr, IfOk, slice_index, slice_index_or, filter, not, map, length, ◌-◌, ◌%◌, ◌++◌, ◌∷◌, []};
-ghost use Rattle.pmem.specs.Cells.{IsChained, at, older_in, held_in};
+ghost use Rattle.pmem.specs.Cell.{IsChained, at, older_in, held_in};
 ghost use Rattle.pmem.specs.Crash.{picked};
 ghost use Rattle.pmem.specs.Device.{Word, store_at, flush_at, fenced, settled};
 
@@ -29,7 +29,7 @@ pub struct Cells {
 }
 
 impl Cells {
-    ghost use Rattle.pmem.specs.Cells.{Holds, held};
+    ghost use Rattle.pmem.specs.Cell.{Holds, held};
 
     /// Lines of zeros.
     pub fn new(alloc: Global, lines: usize) -> Result<Cells, AllocError>

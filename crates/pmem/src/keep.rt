@@ -1,6 +1,6 @@
 // The moment whose candidates the next crash picks from.
 ghost use Rattle.std.specs.Prelude.{◌≡◌, ◌⊎◌, ℕ, suc, true, ◌+◌, Some, Bool, ◌||◌, ◌∷◌, length, vec_len};
-ghost use Rattle.pmem.specs.Cells.{Holds};
+ghost use Rattle.pmem.specs.Cell.{Holds};
 ghost use Rattle.pmem.specs.History.{words_of, past_of};
 ghost use Rattle.pmem.specs.Keep.{kept_moment, words_kept, is_forgotten, HoldsKept};
 

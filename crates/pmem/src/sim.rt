@@ -1,6 +1,6 @@
 // A simulated device, which fails and crashes as it is told to.
 ghost use Rattle.std.specs.Prelude.{◌≡◌, ◌*◌, ◌^◌, ◌<◌, ◌-◌, min, vec_len, IfOk};
-ghost use Rattle.pmem.specs.Cells.{Holds};
+ghost use Rattle.pmem.specs.Cell.{Holds};
 ghost use Rattle.pmem.specs.Keep.{HoldsKept};
 ghost use Rattle.pmem.specs.Known.{Holds-prop, HoldsKept-prop};
 ghost use Rattle.pmem.specs.History.{words_of, failures_of};

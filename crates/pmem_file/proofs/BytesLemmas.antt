@@ -3,7 +3,7 @@ use Rattle.std.proofs.Common.{◌≡◌, ℕ, ◌+◌, ◌^◌, ◌<◌, ◌≤�
 use Rattle.std.proofs.lemmas.List.{get_or-drop, length-drop, drop-drop}
 use Rattle.std.proofs.lemmas.Nat.{from_le_bytes-to_le_bytes_8}
 use Rattle.std.specs.Int.{w64, from_le_bytes}
-use Rattle.pmem_file.specs.Bytes.{bytes_of, words_in}
+use Rattle.pmem_file.specs.Byte.{bytes_of, words_in}
 
 -- fewer than eight bytes are no word
 pub words_in-short : (bytes : List ℕ) → length bytes < 8 → words_in bytes ≡ []

@@ -4,9 +4,9 @@ use Rattle.std.proofs.lemmas.Bool.{eqb-true, eq-eqb, leb-true, ltb-true, le-leb,
 use Rattle.std.proofs.lemmas.List.{get_or-drop, get_or-take, get_or_past, length-take, length-drop}
 use Rattle.pmem.proofs.Walks.{below_or_past}
 use Rattle.pmem_file.specs.declared.run.TheConstants.{LINES_A_WRITE}
-use Rattle.pmem_file.specs.Bytes.{words_in}
-use Rattle.pmem_file.specs.Calls.{Call, Wrote, Measured, Synced, has_failed, reaches, brought, written, may_hold, Brings}
-use Rattle.pmem_file.specs.Lines.{has_line, runs_from, runs_of, run_bytes, with_writes, Fixes}
+use Rattle.pmem_file.specs.Byte.{words_in}
+use Rattle.pmem_file.specs.Call.{Call, Wrote, Measured, Synced, has_failed, reaches, brought, written, may_hold, Brings}
+use Rattle.pmem_file.specs.Line.{has_line, runs_from, runs_of, run_bytes, with_writes, Fixes}
 use Rattle.pmem_file.proofs.BytesLemmas.{words_in-bytes_of}
 use Rattle.pmem_file.proofs.LinesLemmas.{has_line-at}
 

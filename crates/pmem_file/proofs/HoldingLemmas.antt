@@ -2,13 +2,13 @@
 use Rattle.std.proofs.Common.{◌≡◌, ℕ, ◌/◌, ◌<◌, Bool, true, false, not, cond, ◌||◌, ◌==◌, List, [], ◌∷◌, ◌++◌, filter, length, get_or, set, refl, inl, inr, sym, subst, ap, ◌∙◌, get_or-set_same, get_or-set_other}
 use Rattle.std.proofs.lemmas.Bool.{eqb-true, eqb-false}
 use Rattle.pmem.specs.Device.{Older, Word, store_word, flush_word, fence_word, store_at, flush_at, fenced, settled}
-use Rattle.pmem.specs.Cells.{may_be}
+use Rattle.pmem.specs.Cell.{may_be}
 use Rattle.pmem.proofs.Words.{MayBe-store_word, flush_word-MayBe}
 use Rattle.pmem.proofs.Chains.{may_be-MayBe, MayBe-may_be}
 use Rattle.pmem.proofs.Staging.{same_or_other, store_at-same, store_at-other, flush_at-same, flush_at-other, newest-flush_at}
 use Rattle.pmem_file.specs.declared.notes.Notes.{Notes}
-use Rattle.pmem_file.specs.Calls.{Call, may_hold, Brings}
-use Rattle.pmem_file.specs.Lines.{has_line, Fixes}
+use Rattle.pmem_file.specs.Call.{Call, may_hold, Brings}
+use Rattle.pmem_file.specs.Line.{has_line, Fixes}
 use Rattle.pmem_file.specs.Noted.{is_noted}
 use Rattle.pmem_file.specs.Holding.{has_passed, Holds}
 use Rattle.pmem_file.proofs.CallsLemmas.{or_cases, or_left}

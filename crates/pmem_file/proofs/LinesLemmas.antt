@@ -6,7 +6,7 @@ use Rattle.std.specs.List.{sum_by}
 use Rattle.std.specs.List.Sorted.{IsPermutation}
 use Rattle.std.proofs.lemmas.List.Sorted.{sum_by-IsPermutation}
 use Rattle.std.proofs.lemmas.List.Sums.{sum_by-cons}
-use Rattle.pmem_file.specs.Lines.{has_line, one_if, marked}
+use Rattle.pmem_file.specs.Line.{has_line, one_if, marked}
 
 true_or : (a b : Bool) → b ≡ true → (a || b) ≡ true
 true_or true b e = refl

@@ -5,8 +5,8 @@ use Rattle.pmem_file.specs.declared.device.FilePmem.{FilePmem}
 use Rattle.pmem.specs.Device.{State, settled}
 use Rattle.pmem.specs.Device.Fences.{Unsure}
 use Rattle.pmem.specs.History.{words_of, past_of, failures_of}
-use Rattle.pmem_file.specs.Calls.{Call, Measured, Synced, read_of, calls_of}
-use Rattle.pmem_file.specs.Lines.{has_line, runs_of, with_writes}
+use Rattle.pmem_file.specs.Call.{Call, Measured, Synced, read_of, calls_of}
+use Rattle.pmem_file.specs.Line.{has_line, runs_of, with_writes}
 use Rattle.pmem_file.specs.Noted.{is_noted}
 
 -- Each fence may fail. The device takes no memory once it is open, so it is never starved of any

@@ -2,8 +2,8 @@
 use Rattle.std.specs.Prelude.{◌≡◌, ℕ, ◌/◌, Bool, true, false, ◌||◌, List, [], ◌∷◌, slice_index}
 use Rattle.pmem_file.specs.declared.notes.Notes.{Notes}
 use Rattle.pmem.specs.Device.{Older, Word}
-use Rattle.pmem.specs.Cells.{may_be}
-use Rattle.pmem_file.specs.Calls.{Call, may_hold}
+use Rattle.pmem.specs.Cell.{may_be}
+use Rattle.pmem_file.specs.Call.{Call, may_hold}
 use Rattle.pmem_file.specs.Noted.{is_noted}
 
 -- some older candidate was passed

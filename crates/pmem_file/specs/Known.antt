@@ -3,7 +3,7 @@ use Rattle.std.specs.Prelude.{ℕ, List}
 use Rattle.std.specs.Coded.{Coded-set, coded_ℕ, coded_bool}
 use Rattle.pmem_file.specs.declared.notes.Notes.{Notes}
 use Rattle.pmem.specs.Device.{Word}
-use Rattle.pmem_file.specs.Calls.{Call}
+use Rattle.pmem_file.specs.Call.{Call}
 use Rattle.pmem_file.specs.Holding.{Holds}
 
 pub Holds-prop : (copy : List ℕ) (notes : Notes) (read : List ℕ) (calls : List Call) (words : ℕ → Word) → IsProp (Holds copy notes read calls words)

@@ -1,7 +1,7 @@
-pub mod Bytes
-pub mod Calls
+pub mod Byte
+pub mod Call
 pub mod Device
 pub mod Holding
 pub mod Known
-pub mod Lines
+pub mod Line
 pub mod Noted

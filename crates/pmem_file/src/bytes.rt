@@ -1,6 +1,6 @@
 // Words to bytes and back.
 ghost use Rattle.std.specs.Prelude.{◌≡◌, ◌+◌, ◌*◌, ◌/◌, ◌++◌, ◌≤◌, length, vec_len, vec_capacity, OnOk};
-ghost use Rattle.pmem_file.specs.Bytes.{bytes_of, words_in};
+ghost use Rattle.pmem_file.specs.Byte.{bytes_of, words_in};
 
 use std::alloc::AllocError;
 

@@ -1,7 +1,7 @@
 // A device over a file.
 ghost use Rattle.std.specs.Prelude.{◌≡◌, ◌*◌, ◌^◌, ◌<◌, ◌≤◌, ◌-◌, min, vec_len, vec_capacity};
 ghost use Rattle.pmem.specs.History.{words_of, failures_of};
-ghost use Rattle.pmem_file.specs.Calls.{read_of, calls_of};
+ghost use Rattle.pmem_file.specs.Call.{read_of, calls_of};
 ghost use Rattle.pmem_file.specs.declared.run.TheConstants.{LINES_A_WRITE};
 ghost use Rattle.pmem_file.specs.Holding.{Holds};
 ghost use Rattle.pmem_file.specs.Known.{Holds-prop};
@@ -38,7 +38,7 @@ impl FilePmem {
     ghost use Rattle.std.specs.Prelude.{ℕ, ◌≡◌};
     ghost use Rattle.pmem.specs.Device.{moment};
     ghost use Rattle.pmem.specs.Crash.{MayLeave};
-    ghost use Rattle.pmem_file.specs.Calls.{IsFileImage};
+    ghost use Rattle.pmem_file.specs.Call.{IsFileImage};
     ghost use Rattle.pmem_file.specs.Device.{state_of, read_by, asked_by, IsFresh};
 
     /// A device over an open file that holds these words. The room is for the lines of so many words and for the bytes of one write.
@@ -72,7 +72,7 @@ impl FilePmem {
 impl Pmem for FilePmem {
     ghost use Rattle.std.specs.Prelude.{◌≡◌, ◌*◌, ◌<◌, ◌+◌, true, suc, OnOk, OnErr, IsErr, IsTrue};
     ghost use Rattle.pmem.specs.Device.{Steps, store_at, flush_at, fenced, fences_after, must_fail, may_fail};
-    ghost use Rattle.pmem_file.specs.Calls.{has_failed};
+    ghost use Rattle.pmem_file.specs.Call.{has_failed};
     ghost use Rattle.pmem_file.specs.Device.{state_of, asked_by, Persists, countable};
 
     ghost state = { state_of };

@@ -1,6 +1,6 @@
 // What was asked of a file, for contracts alone.
 ghost use Rattle.std.specs.Prelude.{◌≡◌, [], ◌∷◌};
-ghost use Rattle.pmem_file.specs.Calls.{read_of, calls_of, Wrote, Measured, Synced};
+ghost use Rattle.pmem_file.specs.Call.{read_of, calls_of, Wrote, Measured, Synced};
 
 use std::snapshot::Snapshot;
 

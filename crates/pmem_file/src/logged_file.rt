@@ -1,7 +1,7 @@
 // A file with the list of what was asked of it.
 ghost use Rattle.std.specs.Prelude.{◌≡◌, ℕ, ◌+◌, ◌*◌, ◌^◌, ◌<◌, ◌≤◌, [], ◌∷◌, true, false, not, length, vec_capacity};
-ghost use Rattle.pmem_file.specs.Calls.{read_of, calls_of, has_failed, Brings, Wrote, Measured, Synced};
-ghost use Rattle.pmem_file.specs.Lines.{has_line, runs_of, run_bytes, with_writes, Fixes};
+ghost use Rattle.pmem_file.specs.Call.{read_of, calls_of, has_failed, Brings, Wrote, Measured, Synced};
+ghost use Rattle.pmem_file.specs.Line.{has_line, runs_of, run_bytes, with_writes, Fixes};
 
 use crate::bytes::encode;
 use crate::file_calls::FileCalls;

@@ -1,6 +1,6 @@
 // The lines that were flushed since the last fence that succeeded.
 ghost use Rattle.std.specs.Prelude.{◌≡◌, ℕ, ◌<◌, ◌≤◌, ◌||◌, ◌==◌, true, false, vec_len, vec_capacity, slice_index_or, IfOk};
-ghost use Rattle.pmem_file.specs.Lines.{has_line, marked};
+ghost use Rattle.pmem_file.specs.Line.{has_line, marked};
 
 use std::alloc::{AllocError, Global};
 

@@ -1,7 +1,7 @@
 //! A new standby that takes one frame.
 ghost use Rattle.std.specs.Prelude.{◌≡◌, ◌<◌, ◌≤◌, ◌↔◌, ℕ, false, [], IsTrue, IfOk};
 ghost use Rattle.extent_heap.specs.Room.{is_free_line, is_free_entry};
-ghost use Rattle.model.specs.Images.{entries_of_lines, first_extent_line};
+ghost use Rattle.model.specs.Image.{entries_of_lines, first_extent_line};
 ghost use Rattle.wbl_engine.specs.Contents.{IsDurable, IsNew};
 
 use crate::answers::refused;

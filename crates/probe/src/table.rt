@@ -1,6 +1,6 @@
 //! The keyspace that a node keeps in memory: three changes on an empty one.
 ghost use Rattle.std.specs.Prelude.{◌≡◌, [], IfOk};
-ghost use Rattle.model.specs.Groups.{put_of};
+ghost use Rattle.model.specs.Group.{put_of};
 
 use crate::answers::{add_number, done, hexed_or_none, refused};
 use crate::cause::Cause;

@@ -93,7 +93,7 @@ fn call_laws_of_model() {
     model::list_grows();
     model::refused_calls_change_nothing();
     model::calls_see_their_own_session();
-    model::cut_is_the_longest_beginning();
+    model::cut_is_the_longest_prefix();
     model::keyspace_of_a_cut_is_stable();
     model::changes_lead_from_position_to_position();
     model::lists_leave_keyspaces();

@@ -9,21 +9,21 @@ use Rattle.kv_types.specs.declared.item.ProtocolFault.TheVariants.{ExpectedArray
 use Rattle.kv_types.specs.declared.refusal.Refusal.{Refusal}
 use Rattle.kv_types.specs.declared.refusal.Refusal.TheVariants as refusal
 use Rattle.kv_types.specs.declared.reply.Reply.{Reply, Simple, Error, Int, Bulk, NullBulk, Array', NullArray}
-use Rattle.kv_types.specs.Changes.{changes_size}
-use Rattle.kv_types.specs.Faults.{fault_message}
-use Rattle.kv_types.specs.Keyspaces.{Keyspace, play_all, value_at}
+use Rattle.kv_types.specs.Change.{changes_size}
+use Rattle.kv_types.specs.Fault.{fault_message}
+use Rattle.kv_types.specs.Keyspace.{Keyspace, play_all, value_at}
 use Rattle.kv_types.specs.declared.record_id.RecordId.TheVariants.{Str}
 use Rattle.model.specs.declared.group.PlacedChange.TheVariants as placed
 use Rattle.model.specs.declared.call.TheConstants.{MAX_CHANGE_TEXT_BYTES}
-use Rattle.model.specs.Calls.{MayStand, is_put, writes, unless_error, changes_of, is_nonempty, memory_reply, full_reply, too_large_reply}
-use Rattle.model.specs.Commands.{Command, Get, Set, Misuse, UnknownName, WrongNumberOfWords, LongKey, misuse_message, outcome_of, outcome_of_reading, read_command, bulk_or_null, does, closes}
-use Rattle.mv_keyspace.specs.Tables.{records}
+use Rattle.model.specs.Call.{MayStand, is_put, writes, unless_error, changes_of, is_nonempty, memory_reply, full_reply, too_large_reply}
+use Rattle.model.specs.Command.{Command, Get, Set, Misuse, UnknownName, WrongNumberOfWords, LongKey, misuse_message, outcome_of, outcome_of_reading, read_command, bulk_or_null, does, closes}
+use Rattle.mv_keyspace.specs.Table.{records}
 use Rattle.mv_keyspace.proofs.TableLemmas.{records-place_all}
 use Rattle.extent_heap.specs.Room.{Room}
-use Rattle.placing.specs.Places.{HasRoomFor}
+use Rattle.placing.specs.Place.{HasRoomFor}
 use Rattle.redis_core.specs.Sequencing.{Sequencing, state_of}
 use Rattle.redis_core.specs.Serving.{outcome_at, Serves, IsTooFull, refusal_reply, reply_of}
-use Rattle.redis_core.specs.Turns.{call_of, AddsPart, Moves, Answers}
+use Rattle.redis_core.specs.Turn.{call_of, AddsPart, Moves, Answers}
 
 -- ---- what a command answers and what it changes
 

@@ -6,19 +6,19 @@ use Rattle.model.specs.declared.group.Group.{Group}
 use Rattle.model.specs.declared.group.Part.{Part}
 use Rattle.model.specs.declared.group.Put.{Put}
 use Rattle.model.specs.declared.group.TheConstants.{MAX_PARTS}
-use Rattle.model.specs.Groups.{Contents, IsGroup, after_group, last_position, puts_of_part, parts_versions, AreParts, IsPlaced, IsUnused, AreAllApart, HasItsLines}
+use Rattle.model.specs.Group.{Contents, IsGroup, after_group, last_position, puts_of_part, parts_versions, AreParts, IsPlaced, IsUnused, AreAllApart, HasItsLines}
 use Rattle.model.proofs.GroupsLemmas.{parts_versions-none}
 use Rattle.extent_heap.specs.Room.{Room}
-use Rattle.mv_keyspace.specs.Tables.{Table, IsTable, AreEnded, place_all}
+use Rattle.mv_keyspace.specs.Table.{Table, IsTable, AreEnded, place_all}
 use Rattle.mv_keyspace.proofs.VersionTables.{AreEmpty}
 use Rattle.mv_keyspace.proofs.PartTables.{AreDistinct, IsTable-changes, names-ended}
 use Rattle.placing.specs.Left.{IsTaken, IsLeftOf}
-use Rattle.placing.specs.Places.{TakesPlaces}
+use Rattle.placing.specs.Place.{TakesPlaces}
 use Rattle.placing.proofs.TakenLemmas.{All-map, All-append, IsFree, taken_within, places_within, places_free, places_taken, places_fitting, places_apart, AreAllApart-append, not_put_at, AreDistinct-from_apart}
 use Rattle.placing.proofs.LeftLemmas.{placed_of_free, unused_of_free, left_within, after_parts, left-after_parts}
 use Rattle.placing.proofs.PartsLemmas.{parts_versions-append, last_position-append, AreParts-append, puts_of_parts-append}
-use Rattle.redis_core.specs.Sequencing.{Sequencing, puts_of_parts, StandsFor, Underlies, HandsOut, starts}
-use Rattle.redis_core.specs.Turns.{Moves}
+use Rattle.redis_core.specs.Sequencing.{Sequencing, puts_of_parts, Continues, Underlies, HandsOut, starts}
+use Rattle.redis_core.specs.Turn.{Moves}
 
 -- the entries of new puts hold nothing, also after the parts that wait
 empty_of_free : (contents : Contents) (room : Room) (waiting : List Part) (put : Put) → IsLeftOf contents room → AllByRecursion (IsTaken room) (puts_of_parts waiting) → IsFree room put
@@ -28,7 +28,7 @@ empty_of_free contents room waiting put left taken free =
 
 -- ---- a part begins to wait
 
-module _ (s : Sequencing) (contents : Contents) (stands : StandsFor s contents) (part : Part) (room : Room) (takes : TakesPlaces s.room (puts_of_part part) room) where
+module _ (s : Sequencing) (contents : Contents) (stands : Continues s contents) (part : Part) (room : Room) (takes : TakesPlaces s.room (puts_of_part part) room) where
   new_free : AllByRecursion (IsFree s.room) (puts_of_part part)
   new_free = places_free s.room (puts_of_part part) room takes
 
@@ -38,9 +38,9 @@ module _ (s : Sequencing) (contents : Contents) (stands : StandsFor s contents) 
   new_distinct : AreDistinct (puts_of_part part)
   new_distinct = AreDistinct-from_apart (puts_of_part part) (places_apart s.room (puts_of_part part) room takes)
 
-  pub StandsFor-part : (closed : List Bool) → part.position ≡ s.position + 1 → AreEnded part.position s.table part.changes.items part.ended.items
-      → StandsFor (record { table = place_all part.position s.table part.changes.items; room = room; position = part.position; before = s.before; waiting = s.waiting ++ part ∷ []; closed = closed }) contents
-  StandsFor-part closed next ended =
+  pub Continues-part : (closed : List Bool) → part.position ≡ s.position + 1 → AreEnded part.position s.table part.changes.items part.ended.items
+      → Continues (record { table = place_all part.position s.table part.changes.items; room = room; position = part.position; before = s.before; waiting = s.waiting ++ part ∷ []; closed = closed }) contents
+  Continues-part closed next ended =
       let old = puts_of_parts s.waiting in
       let new = puts_of_part part in
       let puts = puts_of_parts-append s.waiting part in
@@ -63,8 +63,8 @@ module _ (s : Sequencing) (contents : Contents) (stands : StandsFor s contents) 
       }
 
 -- the seats tell nothing of the contents
-pub StandsFor-closed : (s : Sequencing) (closed : List Bool) (contents : Contents) → StandsFor s contents → StandsFor (record s { closed = closed }) contents
-StandsFor-closed s closed contents stands = record {
+pub Continues-closed : (s : Sequencing) (closed : List Bool) (contents : Contents) → Continues s contents → Continues (record s { closed = closed }) contents
+Continues-closed s closed contents stands = record {
   before = stands.before;
   last = stands.last;
   parts = stands.parts;
@@ -78,8 +78,8 @@ StandsFor-closed s closed contents stands = record {
 }
 
 -- a new sequencer stands for the contents that its tables are of
-pub StandsFor-starts : (table : Table) (room : Room) (position : ℕ) (closed : List Bool) (contents : Contents) → Underlies contents table room position → StandsFor (starts table room position closed) contents
-StandsFor-starts table room position closed contents under = record {
+pub Continues-starts : (table : Table) (room : Room) (position : ℕ) (closed : List Bool) (contents : Contents) → Underlies contents table room position → Continues (starts table room position closed) contents
+Continues-starts table room position closed contents under = record {
   before = under.position_is;
   last = refl;
   parts = tt;
@@ -95,8 +95,8 @@ StandsFor-starts table room position closed contents under = record {
 -- ---- all parts leave
 
 -- what is handed out is what a commit asks for, and the sequencer stands for what the commit makes of the contents
-pub StandsFor-group : (old : Sequencing) (group : Group) (new : Sequencing) → HandsOut old group new → (contents : Contents) → StandsFor old contents → IsGroup contents group × StandsFor new (after_group contents group)
-StandsFor-group old group new hands contents stands =
+pub Continues-group : (old : Sequencing) (group : Group) (new : Sequencing) → HandsOut old group new → (contents : Contents) → Continues old contents → IsGroup contents group × Continues new (after_group contents group)
+Continues-group old group new hands contents stands =
     let parts = old.waiting in
     let is : (P : List Part → Type 0) → P parts → P group.parts.items = λ P h. subst P (sym hands.all) h in
     let group_is : IsGroup contents group = record {
@@ -109,7 +109,7 @@ StandsFor-group old group new hands contents stands =
       unused = is (λ items. AllByRecursion (IsUnused contents.versions contents.is_free) (puts_of_parts items)) stands.unused;
       apart = is (λ items. AreAllApart (puts_of_parts items)) stands.apart;
     } in
-    let later : StandsFor (record old { before = old.position; waiting = [] }) (after_parts contents parts) = record {
+    let later : Continues (record old { before = old.position; waiting = [] }) (after_parts contents parts) = record {
       before = sym stands.last ∙ ap (λ first. last_position first parts) stands.before;
       last = refl;
       parts = tt;
@@ -121,18 +121,18 @@ StandsFor-group old group new hands contents stands =
       left = left-after_parts contents old.room parts stands.left stands.taken;
       table = stands.table;
     } in
-    (group_is, subst (λ s. StandsFor s (after_group contents group)) (sym hands.after) (is (λ items. StandsFor (record old { before = old.position; waiting = [] }) (after_parts contents items)) later))
+    (group_is, subst (λ s. Continues s (after_group contents group)) (sym hands.after) (is (λ items. Continues (record old { before = old.position; waiting = [] }) (after_parts contents items)) later))
 
 -- whatever a call moved, the sequencer goes on standing for the contents
-pub StandsFor-moves : (changes : List Change) (old new : Sequencing) → Moves changes old new → new.before ≡ old.before → (contents : Contents) → StandsFor old contents → StandsFor new contents
-StandsFor-moves [] old new moves before contents stands =
-    subst (λ s. StandsFor s contents)
+pub Continues-moves : (changes : List Change) (old new : Sequencing) → Moves changes old new → new.before ≡ old.before → (contents : Contents) → Continues old contents → Continues new contents
+Continues-moves [] old new moves before contents stands =
+    subst (λ s. Continues s contents)
     (λ i. record { table = sym moves.table i; room = sym moves.room i; position = sym moves.position i; before = sym before i; waiting = sym moves.waiting i; closed = new.closed })
-    (StandsFor-closed old new.closed contents stands)
-StandsFor-moves (change ∷ changes) old new moves before contents stands =
+    (Continues-closed old new.closed contents stands)
+Continues-moves (change ∷ changes) old new moves before contents stands =
     let part = moves.0 in
     let adds = moves.1 in
     let performs = adds.performs in
-    subst (λ s. StandsFor s contents)
+    subst (λ s. Continues s contents)
     (λ i. record { table = sym performs.table_is i; room = new.room; position = sym adds.position i; before = sym before i; waiting = sym adds.waiting i; closed = new.closed })
-    (StandsFor-part old contents stands part new.room performs.places new.closed performs.position_is performs.ended)
+    (Continues-part old contents stands part new.room performs.places new.closed performs.position_is performs.ended)

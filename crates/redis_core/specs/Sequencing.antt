@@ -5,10 +5,10 @@ use Rattle.model.specs.declared.group.Group.{Group}
 use Rattle.model.specs.declared.group.TheConstants.{MAX_PARTS}
 use Rattle.model.specs.declared.group.Part.{Part}
 use Rattle.model.specs.declared.group.Put.{Put}
-use Rattle.model.specs.States.{State, idle_state}
-use Rattle.model.specs.Groups.{Contents, AreAllApart, AreParts, HasItsLines, IsPlaced, IsUnused, last_position, parts_versions, puts_of_part}
+use Rattle.model.specs.State.{State, idle_state}
+use Rattle.model.specs.Group.{Contents, AreAllApart, AreParts, HasItsLines, IsPlaced, IsUnused, last_position, parts_versions, puts_of_part}
 use Rattle.extent_heap.specs.Room.{Room}
-use Rattle.mv_keyspace.specs.Tables.{Table, IsTable, records}
+use Rattle.mv_keyspace.specs.Table.{Table, IsTable, records}
 use Rattle.placing.specs.Left.{IsTaken, IsLeftOf}
 
 pub record Sequencing : Type 0 where
@@ -37,7 +37,7 @@ puts_of_parts = flat_map puts_of_part
 
 -- The sequencer is ahead of an engine with these contents by the parts that wait, and by nothing else: what commits will ask of these parts
 -- holds, and the table is that of the versions after them.
-pub record StandsFor (s : Sequencing) (contents : Contents) : Type 0 where
+pub record Continues (s : Sequencing) (contents : Contents) : Type 0 where
   pub before : s.before ≡ contents.current.position
   pub last : last_position s.before s.waiting ≡ s.position
   pub parts : AreParts s.before contents.versions s.waiting

@@ -4,14 +4,14 @@ use Rattle.kv_types.specs.declared.item.Item.{Item}
 use Rattle.kv_types.specs.declared.refusal.Refusal.{Refusal}
 use Rattle.kv_types.specs.declared.refusal.Refusal.TheVariants as refusal
 use Rattle.kv_types.specs.declared.reply.Reply.{Reply}
-use Rattle.kv_types.specs.Changes.{changes_size}
+use Rattle.kv_types.specs.Change.{changes_size}
 use Rattle.model.specs.declared.call.TheConstants.{MAX_CHANGE_TEXT_BYTES}
-use Rattle.model.specs.Calls.{MayStand, changes_of, full_reply, memory_reply}
-use Rattle.model.specs.Commands.{Outcome, outcome_of}
-use Rattle.mv_keyspace.specs.Tables.{records}
-use Rattle.placing.specs.Places.{HasRoomFor}
+use Rattle.model.specs.Call.{MayStand, changes_of, full_reply, memory_reply}
+use Rattle.model.specs.Command.{Outcome, outcome_of}
+use Rattle.mv_keyspace.specs.Table.{records}
+use Rattle.placing.specs.Place.{HasRoomFor}
 use Rattle.redis_core.specs.Sequencing.{Sequencing, state_of}
-use Rattle.redis_core.specs.Turns.{Moves, call_of}
+use Rattle.redis_core.specs.Turn.{Moves, call_of}
 
 -- what the item asks for
 abbrev pub outcome_at : Sequencing → Item → Outcome

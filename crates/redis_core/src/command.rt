@@ -3,8 +3,8 @@ ghost use Rattle.std.specs.Prelude.{◌≡◌, ◌≤◌, List, ℕ, length, map
 ghost use Rattle.std.specs.List.{AllByRecursion};
 ghost use Rattle.std.specs.Char.{to_ascii_lowercase};
 ghost use Rattle.kv_types.specs.declared.limits.TheConstants.{MAX_VALUE_BYTES};
-ghost use Rattle.model.specs.Commands as meaning;
-ghost use Rattle.redis_core.specs.Readings.{Fits, reading_of};
+ghost use Rattle.model.specs.Command as meaning;
+ghost use Rattle.redis_core.specs.Reading.{Fits, reading_of};
 
 use bytes::Bytes;
 use kv_types::{MAX_KEY_BYTES, MAX_VALUE_BYTES};

@@ -1,9 +1,9 @@
 //! The meaning of an item as code: what it answers, and what it changes.
 ghost use Rattle.std.specs.Prelude.{◌≡◌, ◌≤◌, [], ◌++◌, length, codes, IfOk};
 ghost use Rattle.kv_types.specs.declared.limits.TheConstants.{MAX_KEY_BYTES, MAX_VALUE_BYTES};
-ghost use Rattle.mv_keyspace.specs.Tables.{records};
-ghost use Rattle.model.specs.Commands as meaning;
-ghost use Rattle.redis_core.specs.Readings.{Fits, IsOutcome, command_of, misuse_of};
+ghost use Rattle.mv_keyspace.specs.Table.{records};
+ghost use Rattle.model.specs.Command as meaning;
+ghost use Rattle.redis_core.specs.Reading.{Fits, IsOutcome, command_of, misuse_of};
 
 use crate::command::{Command, Misuse, read_command};
 use bytes::Bytes;

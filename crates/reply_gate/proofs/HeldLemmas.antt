@@ -1,13 +1,13 @@
 -- Lemmas on the replies that a gate holds.
 use Rattle.std.proofs.Common.{◌≡◌, ℕ, ◌+◌, ◌-◌, ◌≤◌, Bool, true, false, List, [], ◌∷◌, ◌++◌, length, take, drop, cond, refl, sym, ap, ◌∙◌, arith, length-append, length-drop}
 use Rattle.reply_gate.specs.declared.held_text.HeldText.{HeldText}
-use Rattle.reply_gate.specs.Gates.{held_bytes, covered_bytes, uncovered_rest, is_covered}
+use Rattle.reply_gate.specs.Gate.{held_bytes, covered_bytes, uncovered_rest, is_covered}
 
 pub held_bytes-append : (xs ys : List HeldText) → held_bytes (xs ++ ys) ≡ held_bytes xs + held_bytes ys
 held_bytes-append [] ys = omega arith
 held_bytes-append (x ∷ xs) ys = omega (arith, held_bytes-append xs ys)
 
--- the bytes of the covered front and those of the rest are together all
+-- the bytes of the covered prefix and those of the rest are together all
 pub held_bytes-split : (local remote : ℕ) (xs : List HeldText) → covered_bytes local remote xs + held_bytes (uncovered_rest local remote xs) ≡ held_bytes xs
 held_bytes-split local remote [] = refl
 held_bytes-split local remote (x ∷ xs) =

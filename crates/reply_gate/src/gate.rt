@@ -1,7 +1,7 @@
 //! The gate of one connection.
 ghost use Rattle.std.specs.Prelude.{◌≡◌, ◌+◌, ◌≤◌, [], ◌∷◌, ◌++◌, length, take, drop, IfOk, OnOk, OnErr};
-ghost use Rattle.kv_types.specs.Replies.{text_of};
-ghost use Rattle.reply_gate.specs.Gates.{covered_bytes, uncovered_rest, held_bytes, is_first_covered};
+ghost use Rattle.kv_types.specs.Reply.{text_of};
+ghost use Rattle.reply_gate.specs.Gate.{covered_bytes, uncovered_rest, held_bytes, is_first_covered};
 
 use crate::held_text::{HeldText, Seen};
 use bytes::{Buf, BytesMut};
@@ -15,16 +15,16 @@ use std::marker::Model;
 /// positions and the lengths of the replies that are held.
 #[derive(Drop)]
 pub struct Gate {
-    // what was let out, and behind it the text of the held replies
+    // what was released, and behind it the text of the held replies
     text: BytesMut,
-    // how much of it was let out
+    // how much of it was released
     pending: usize,
     held: VecDeque<HeldText>,
 }
 
 impl Model for Gate {
     ghost use Rattle.std.specs.Prelude.{◌≡◌, ◌≤◌, length, take, drop};
-    ghost use Rattle.reply_gate.specs.Gates.{Held, held_bytes};
+    ghost use Rattle.reply_gate.specs.Gate.{Held, held_bytes};
 
     ghost Value = { Held };
 
@@ -72,7 +72,7 @@ impl Gate {
         }
     }
 
-    /// Lets out exactly the longest front of replies that are covered.
+    /// Releases exactly the longest prefix of the replies that are covered.
     pub fn release(&mut self, seen: &Seen)
         ensures pending { self.new.pending
             ≡ self.old.pending ++ take (covered_bytes seen.now.local seen.now.remote self.old.replies) self.old.waiting }
@@ -102,7 +102,7 @@ impl Gate {
     }
 }
 
-/// Takes the longest front of replies that are covered, and counts their bytes. All of them have at most `most`.
+/// Takes the longest prefix of the replies that are covered, and counts their bytes. All of them have at most `most`.
 fn take_covered(held: &mut VecDeque<HeldText>, seen: &Seen, most: usize) -> usize
     requires { held_bytes held.old.items ≤ most }
     ensures within { result ≤ most }

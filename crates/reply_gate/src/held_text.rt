@@ -18,7 +18,7 @@ pub struct HeldText {
 
 impl HeldText {
     ghost use Rattle.std.specs.Prelude.{◌≡◌};
-    ghost use Rattle.reply_gate.specs.Gates.{is_covered};
+    ghost use Rattle.reply_gate.specs.Gate.{is_covered};
 
     /// Whether both nodes hold what the reply speaks of.
     pub fn is_covered(&self, seen: &Seen) -> bool

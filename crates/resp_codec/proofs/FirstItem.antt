@@ -6,7 +6,7 @@ use Rattle.kv_types.specs.declared.limits.Limits.{Limits}
 use Rattle.kv_types.specs.declared.limits.TheConstants.{SERVED_LIMITS, FULL_LIMITS}
 use Rattle.kv_types.specs.declared.item.ProtocolFault.{ProtocolFault}
 use Rattle.kv_types.specs.declared.item.Item.TheVariants.{Request, Fault}
-use Rattle.kv_types.specs.Words.{AreWords}
+use Rattle.kv_types.specs.Word.{AreWords}
 use Rattle.kv_types.specs.Reading as reading
 use Rattle.kv_types.specs.Reading.{request_at, words_at, items_at}
 use Rattle.kv_types.proofs.GrammarRests.{IsEndOf, length-IsEndOf, request_at-leaves}
@@ -19,26 +19,26 @@ served_numbers = record { words = lit< tt; word_bytes = lit< tt }
 
 -- the bytes before the rest ask for nothing
 pub record IsPassedOver (bytes rest : List ℕ) : Type 0 where
-  pub front : List ℕ
-  pub joined : bytes ≡ front ++ rest
+  pub prefix : List ℕ
+  pub joined : bytes ≡ prefix ++ rest
   pub same : (more : List ℕ) → items_at SERVED_LIMITS (bytes ++ more) ≡ items_at SERVED_LIMITS (rest ++ more)
 
 pub IsPassedOver-none : (bytes : List ℕ) → IsPassedOver bytes bytes
-IsPassedOver-none bytes = record { front = []; joined = refl; same = λ more. refl }
+IsPassedOver-none bytes = record { prefix = []; joined = refl; same = λ more. refl }
 
 -- the words of a request that is there whole, and where it ends
-IsEndOf-whole : (limits : Limits) (bytes rest : List ℕ) (count : ℕ) (inside : List ℕ) → IsWhole limits bytes count inside rest → (front : List ℕ) × (bytes ≡ front ++ rest) × (length rest < length bytes)
+IsEndOf-whole : (limits : Limits) (bytes rest : List ℕ) (count : ℕ) (inside : List ℕ) → IsWhole limits bytes count inside rest → (prefix : List ℕ) × (bytes ≡ prefix ++ rest) × (length rest < length bytes)
 IsEndOf-whole limits [] rest count inside w = let e = w.request in absurd (cc)
 IsEndOf-whole limits (byte ∷ bytes) rest count inside w =
     let end : IsEndOf bytes rest = rw w.request at (request_at-leaves limits byte bytes) in
-    (byte ∷ end.front, ap (λ x. byte ∷ x) end.joined, omega (arith, length-IsEndOf end))
+    (byte ∷ end.prefix, ap (λ x. byte ∷ x) end.joined, omega (arith, length-IsEndOf end))
 
 pub length-whole : (limits : Limits) (bytes rest : List ℕ) (count : ℕ) (inside : List ℕ) → IsWhole limits bytes count inside rest → length rest < length bytes
 length-whole limits bytes rest count inside w = (IsEndOf-whole limits bytes rest count inside w).2
 
-IsPassedOver-behind : (bytes rest after : List ℕ) → IsPassedOver bytes rest → (front : List ℕ) → rest ≡ front ++ after → ((more : List ℕ) → items_at SERVED_LIMITS (rest ++ more) ≡ items_at SERVED_LIMITS (after ++ more)) → IsPassedOver bytes after
-IsPassedOver-behind bytes rest after p front e same =
-    record { front = p.front ++ front; joined = p.joined ∙ ap (λ x. p.front ++ x) e ∙ sym (append_assoc p.front front after); same = λ more. p.same more ∙ same more }
+IsPassedOver-behind : (bytes rest after : List ℕ) → IsPassedOver bytes rest → (prefix : List ℕ) → rest ≡ prefix ++ after → ((more : List ℕ) → items_at SERVED_LIMITS (rest ++ more) ≡ items_at SERVED_LIMITS (after ++ more)) → IsPassedOver bytes after
+IsPassedOver-behind bytes rest after p prefix e same =
+    record { prefix = p.prefix ++ prefix; joined = p.joined ∙ ap (λ x. p.prefix ++ x) e ∙ sym (append_assoc p.prefix prefix after); same = λ more. p.same more ∙ same more }
 
 no_words : (words : List (List ℕ)) → length words ≤ 0 → words ≡ []
 no_words [] h = refl
@@ -67,12 +67,12 @@ AreWords-whole rest count inside after copied w positive same =
     let within = taken.0 in
     rw (same w.words after w.counted) (record { named = omega (arith, read.count_is); within = record { count = omega (arith, within.count); lengths = raised w.words within.lengths } })
 
-request_given : (words : List (List ℕ)) → 0 < length words → (bytes rest after : List ℕ) → IsPassedOver bytes rest → (front : List ℕ) → rest ≡ front ++ after → request_at SERVED_LIMITS rest ≡ Ok (words, after) → IsFirst bytes (Some (Request words)) after
-request_given [] h bytes rest after p front joined e = absurd (omega arith)
-request_given (name ∷ words) h bytes rest after p front joined e =
+request_given : (words : List (List ℕ)) → 0 < length words → (bytes rest after : List ℕ) → IsPassedOver bytes rest → (prefix : List ℕ) → rest ≡ prefix ++ after → request_at SERVED_LIMITS rest ≡ Ok (words, after) → IsFirst bytes (Some (Request words)) after
+request_given [] h bytes rest after p prefix joined e = absurd (omega arith)
+request_given (name ∷ words) h bytes rest after p prefix joined e =
     record {
-      front = p.front ++ front;
-      joined = p.joined ∙ ap (λ x. p.front ++ x) joined ∙ sym (append_assoc p.front front after);
+      prefix = p.prefix ++ prefix;
+      joined = p.joined ∙ ap (λ x. p.prefix ++ x) joined ∙ sym (append_assoc p.prefix prefix after);
       given = λ more. p.same more ∙ items_at-read SERVED_LIMITS rest more (name ∷ words) after e;
       none = λ none. absurd (cc);
     }
@@ -87,8 +87,8 @@ IsFirst-whole bytes rest count inside after copied p w positive same =
 
 pub IsFirst-short : (bytes rest : List ℕ) → IsPassedOver bytes rest → request_at SERVED_LIMITS rest ≡ Err reading.Short → IsFirst bytes None rest
 IsFirst-short bytes rest p e =
-    record { front = p.front; joined = p.joined; given = p.same; none = λ none. items_at-short SERVED_LIMITS rest e }
+    record { prefix = p.prefix; joined = p.joined; given = p.same; none = λ none. items_at-short SERVED_LIMITS rest e }
 
 pub IsFirst-broken : (bytes rest : List ℕ) (fault : ProtocolFault) → IsPassedOver bytes rest → request_at SERVED_LIMITS rest ≡ Err (reading.Broken fault) → IsFirst bytes (Some (Fault fault)) rest
 IsFirst-broken bytes rest fault p e =
-    record { front = p.front; joined = p.joined; given = λ more. p.same more ∙ items_at-broken SERVED_LIMITS rest more fault e; none = λ none. absurd (cc) }
+    record { prefix = p.prefix; joined = p.joined; given = λ more. p.same more ∙ items_at-broken SERVED_LIMITS rest more fault e; none = λ none. absurd (cc) }

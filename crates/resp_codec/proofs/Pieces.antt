@@ -4,7 +4,7 @@ use Rattle.std.proofs.lemmas.List.{append_assoc, append-nil}
 use Rattle.std.specs.Prelude.{option_to_list}
 use Rattle.kv_types.specs.declared.item.Item.{Item}
 use Rattle.kv_types.specs.declared.limits.TheConstants.{SERVED_LIMITS}
-use Rattle.kv_types.specs.Requests.{AsksFor}
+use Rattle.kv_types.specs.Request.{AsksFor}
 use Rattle.kv_types.specs.Reading.{items_at}
 use Rattle.kv_types.proofs.GrammarAsks.{AsksFor-items_at}
 use Rattle.resp_codec.specs.Parsing.{fed, ahead, Reaches, begun, took, gave}

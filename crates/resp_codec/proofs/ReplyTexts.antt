@@ -5,8 +5,8 @@ use mathlib.Core.Former.{Count}
 use Rattle.kv_types.specs.declared.reply.Reply.{Reply, Array, Array', Row_of-Reply, end_of-Reply, more_of-Reply, items-the_row-Reply, items_hidden-the_row-Reply-0}
 use Rattle.std.proofs.lemmas.List.{append_assoc, length-append}
 use Rattle.std.specs.Fmt.{decimal}
-use Rattle.kv_types.specs.Requests.{line_end, number_line}
-use Rattle.kv_types.specs.Replies.{row_length, text_of, texts_of}
+use Rattle.kv_types.specs.Request.{line_end, number_line}
+use Rattle.kv_types.specs.Reply.{row_length, text_of, texts_of}
 
 abbrev row_of : Reply → (n : Count) × Row_of-Reply n
 row_of (Array' _ row) = (_, row)

@@ -23,10 +23,10 @@ abbrev pub skipped : {A : Type 0} → Result (Read A) reading.Stop → Result (L
 skipped read = read >>= λ x. Ok x.1
 
 -- words that were read, and the others
-abbrev pub with_front : List (List ℕ) → Result (Read (List (List ℕ))) reading.Stop → Result (Read (List (List ℕ))) reading.Stop
-with_front words read = read >>= λ others. Ok (words ++ others.0, others.1)
+abbrev pub with_prefix : List (List ℕ) → Result (Read (List (List ℕ))) reading.Stop → Result (Read (List (List ℕ))) reading.Stop
+with_prefix words read = read >>= λ others. Ok (words ++ others.0, others.1)
 
--- the request at the front of the bytes has so many words; they begin at inside, and rest follows them
+-- the request at the prefix of the bytes has so many words; they begin at inside, and rest follows them
 pub record IsWhole (limits : Limits) (bytes : List ℕ) (count : ℕ) (inside rest : List ℕ) : Type 0 where
   pub words : List (List ℕ)
   pub request : request_at limits bytes ≡ Ok (words, rest)
@@ -40,7 +40,7 @@ left_behind (Some (Fault fault)) rest = None
 
 -- the first item of the bytes, if there is one, and the rest behind it
 pub record IsFirst (bytes : List ℕ) (item : Option Item) (rest : List ℕ) : Type 0 where
-  pub front : List ℕ
-  pub joined : bytes ≡ front ++ rest
+  pub prefix : List ℕ
+  pub joined : bytes ≡ prefix ++ rest
   pub given : (more : List ℕ) → ahead (fed (Some bytes) more) ≡ option_to_list item ++ ahead (fed (left_behind item rest) more)
   pub none : item ≡ None → ahead (Some rest) ≡ []

@@ -1,7 +1,7 @@
 //! What a parser gives over all its calls.
 ghost use Rattle.std.specs.Prelude.{◌≡◌, ℕ, List, [], ◌++◌, Option};
 ghost use Rattle.kv_types.specs.declared.item.Item.{Item};
-ghost use Rattle.kv_types.specs.Requests.{AsksFor};
+ghost use Rattle.kv_types.specs.Request.{AsksFor};
 ghost use Rattle.resp_codec.specs.Parsing.{ahead, Reaches};
 
 use kv_types::SERVED_LIMITS;

@@ -37,7 +37,7 @@ impl Parser {
         }
     }
 
-    /// Takes the next piece, of any bytes. After a fault it is passed over. Refused with 14 for want of memory, and then nothing of it is taken.
+    /// Takes the next piece, of any bytes. After a fault it is passed over. Refused with 14 when out of memory, and then nothing of it is taken.
     pub fn feed(&mut self, piece: Bytes) -> Result<(), Refusal>
         ensures ok { OnOk result (self.new ≡ fed self.old piece) }
         ensures err { OnErr result (self.new ≡ self.old) }
@@ -50,7 +50,7 @@ impl Parser {
     }
 
     /// The next item, or `None` where what was fed holds no more whole request. `*0` asks for nothing and is passed over. After a fault
-    /// there are no more items. Refused with 14 for want of memory, and then nothing changed and the call may be made again.
+    /// there are no more items. Refused with 14 when out of memory, and then nothing changed and the call may be made again.
     pub fn next(&mut self) -> Result<Option<Item>, Refusal>
         // Whatever comes later, the item given is the first of those ahead, and the others are ahead still.
         ensures given { IfOk result (λ item. Advances self.old item self.new) }

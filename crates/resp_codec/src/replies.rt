@@ -1,8 +1,8 @@
 //! Replies as bytes.
 ghost use Rattle.std.specs.Prelude.{◌≡◌, ◌+◌, ◌^◌, ◌<◌, ◌≤◌, [], ◌∷◌, ◌++◌, length, OnOk, OnErr, IsOk};
 ghost use Rattle.std.specs.Option.{SomeIff};
-ghost use Rattle.kv_types.specs.Requests.{number_line, bulk};
-ghost use Rattle.kv_types.specs.Replies.{text_of};
+ghost use Rattle.kv_types.specs.Request.{number_line, bulk};
+ghost use Rattle.kv_types.specs.Reply.{text_of};
 ghost use Rattle.resp_codec.specs.Puts.{Puts};
 
 use bytes::BufMut;

@@ -5,17 +5,17 @@ use Rattle.kv_types.specs.declared.limits.TheConstants.{SERVED_LIMITS}
 use Rattle.kv_types.specs.Reading.{items_at}
 use Rattle.kv_types.proofs.GrammarItems.{items_at-append}
 use Rattle.model.specs.declared.call.Call.{Call}
-use Rattle.model.specs.Calls.{IsPrefix, replies_to}
+use Rattle.model.specs.Call.{IsPrefix, replies_to}
 use Rattle.model.proofs.PrefixLemmas.{IsPrefix-itself}
 use Rattle.model.proofs.ServesLemmas.{Serves-asked}
 use Rattle.machine.specs.declared.event.Event.{Event}
 use Rattle.machine.specs.declared.event.Event.TheVariants.{Enter}
-use Rattle.machine.specs.Events.{World, is_running, is_open, Run, start}
-use Rattle.machine.specs.Promises.{IsPromised, fed_to}
+use Rattle.machine.specs.Event.{World, is_running, is_open, Run, start}
+use Rattle.machine.specs.Promise.{IsPromised, fed_to}
 use Rattle.world.specs.Headline.{KeepsItsWord}
 use Rattle.world.specs.declared.trace.Ended.{Ended}
-use Rattle.server.specs.Agendas.{given, alone, IsAgenda}
-use Rattle.server.specs.Answers.{IsAnswer}
+use Rattle.server.specs.Schedule.{given, alone, IsSchedule}
+use Rattle.server.specs.Answer.{IsAnswer}
 use Rattle.server.proofs.FeedingLemmas.{IsServed, feeds-open, feeds-none}
 
 -- more bytes ask for more items
@@ -26,40 +26,40 @@ asked-grows {fed} a = record {
 }
 
 -- the connection that enters first is open from then on
-fed-agenda : (input : List ℕ) (rest : List Event) (done : List Bool) (worlds : List World) → ((c : ℕ) → given c rest ≡ alone input c) → Run start (Enter ∷ rest) done worlds
+fed-schedule : (input : List ℕ) (rest : List Event) (done : List Bool) (worlds : List World) → ((c : ℕ) → given c rest ≡ alone input c) → Run start (Enter ∷ rest) done worlds
     → (c : ℕ) → IsPrefix (fed_to c (Enter ∷ rest) done) (alone input c)
-fed-agenda input rest [] worlds feeds run c = absurd run
-fed-agenda input rest (did ∷ done) [] feeds run c = absurd run
-fed-agenda input rest (did ∷ done) (new ∷ worlds) feeds run zero =
+fed-schedule input rest [] worlds feeds run c = absurd run
+fed-schedule input rest (did ∷ done) [] feeds run c = absurd run
+fed-schedule input rest (did ∷ done) (new ∷ worlds) feeds run zero =
     let entered = run.0.happens run.0.done in
     let served : IsServed new 0 = (ap (λ (w : World). is_running w.primary.life) entered, ap (λ (w : World). is_open w 0) entered) in
     subst (λ whole. IsPrefix (fed_to 0 rest done) whole) (feeds 0) (feeds-open new rest done worlds 0 run.1 served)
-fed-agenda input rest (did ∷ done) (new ∷ worlds) feeds run (suc c) =
+fed-schedule input rest (did ∷ done) (new ∷ worlds) feeds run (suc c) =
     subst (λ fed. IsPrefix fed []) (sym (feeds-none (suc c) rest done (feeds (suc c)))) (IsPrefix-itself [])
 
--- of an agenda, what is fed to each connection begins what it sent
-fed-begins : (input : List ℕ) (events : List Event) (done : List Bool) (worlds : List World) → IsAgenda input events → Run start events done worlds → (c : ℕ) → IsPrefix (fed_to c events done) (alone input c)
-fed-begins input events done worlds agenda run c =
-    subst (λ (all : List Event). IsPrefix (fed_to c all done) (alone input c)) (sym agenda.starts)
-    (fed-agenda input agenda.rest done worlds agenda.feeds (subst (λ (all : List Event). Run start all done worlds) agenda.starts run) c)
+-- of a schedule, what is fed to each connection begins what it sent
+fed-begins : (input : List ℕ) (events : List Event) (done : List Bool) (worlds : List World) → IsSchedule input events → Run start events done worlds → (c : ℕ) → IsPrefix (fed_to c events done) (alone input c)
+fed-begins input events done worlds schedule run c =
+    subst (λ (all : List Event). IsPrefix (fed_to c all done) (alone input c)) (sym schedule.starts)
+    (fed-schedule input schedule.rest done worlds schedule.feeds (subst (λ (all : List Event). Run start all done worlds) schedule.starts run) c)
 
 pub answer-promised : (input : List ℕ) (events : List Event) (done : List Bool) (calls : List Call) (released : ℕ → List ℕ) (primary standby : ℕ) (answer : List ℕ)
-    → IsAgenda input events → IsPromised events done calls released primary standby → answer ≡ released 0 → IsAnswer input answer
-answer-promised input events done calls released primary standby answer agenda promised same = record {
+    → IsSchedule input events → IsPromised events done calls released primary standby → answer ≡ released 0 → IsAnswer input answer
+answer-promised input events done calls released primary standby answer schedule promised same = record {
   calls = calls;
   legal = promised.legal;
   serves =
       Serves-asked (λ c. items_at SERVED_LIMITS (fed_to c events done)) (λ c. items_at SERVED_LIMITS (alone input c)) calls
-      (λ c. asked-grows (fed-begins input events done promised.worlds agenda promised.run c)) promised.serves;
+      (λ c. asked-grows (fed-begins input events done promised.worlds schedule promised.run c)) promised.serves;
   begins = subst (λ (bytes : List ℕ). IsPrefix bytes (replies_to 0 calls)) (sym same) (promised.begins 0);
 }
 
--- A run over an agenda that went to its end: what it released to the first connection is an answer.
-pub answer-kept : {A R : Type 0} (bytes : A → List ℕ) (result : Result A R) (input : List ℕ) (agenda events : List Event) (ended : Option Ended) (done : List Bool) (calls : List Call) (released : List (List ℕ))
-    (primary standby primary' standby' : State) → IsAgenda input agenda → events ≡ agenda → KeepsItsWord events ended done calls released primary standby primary' standby'
+-- A run over a schedule that went to its end: what it released to the first connection is an answer.
+pub answer-kept : {A R : Type 0} (bytes : A → List ℕ) (result : Result A R) (input : List ℕ) (schedule events : List Event) (ended : Option Ended) (done : List Bool) (calls : List Call) (released : List (List ℕ))
+    (primary standby primary' standby' : State) → IsSchedule input schedule → events ≡ schedule → KeepsItsWord events ended done calls released primary standby primary' standby'
     → IfOk result (λ _. ended ≡ None) → IfOk result (λ answer. bytes answer ≡ slice_index_or released 0 []) → IfOk result (λ answer. IsAnswer input (bytes answer))
-answer-kept bytes (Ok answer) input agenda events ended done calls released primary standby primary' standby' is_agenda same kept whole is_first =
+answer-kept bytes (Ok answer) input schedule events ended done calls released primary standby primary' standby' is_schedule same kept whole is_first =
     let at_end : KeepsItsWord events None done calls released primary standby primary' standby' =
     subst (λ (how : Option Ended). KeepsItsWord events how done calls released primary standby primary' standby') whole kept in
-    answer-promised input events done calls _ _ _ (bytes answer) (subst (IsAgenda input) (sym same) is_agenda) at_end.kept.promised is_first
-answer-kept bytes (Err refusal) input agenda events ended done calls released primary standby primary' standby' is_agenda same kept whole is_first = tt
+    answer-promised input events done calls _ _ _ (bytes answer) (subst (IsSchedule input) (sym same) is_schedule) at_end.kept.promised is_first
+answer-kept bytes (Err refusal) input schedule events ended done calls released primary standby primary' standby' is_schedule same kept whole is_first = tt

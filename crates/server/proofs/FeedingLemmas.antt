@@ -1,15 +1,15 @@
--- What is fed to an open connection is a beginning of what the events have for it: once it is closed, no feed does its step.
+-- What is fed to an open connection is a prefix of what the events have for it: once it is closed, no feed does its step.
 use Rattle.std.proofs.Common.{◌≡◌, ℕ, zero, suc, ◌<◌, Bool, true, false, not, ◌&&◌, cond, nat_eq, List, [], ◌∷◌, ◌++◌, length, refl, sym, ap, subst, ◌∙◌, append-nil, arith, eqb-true, ◌⊎◌, inl, inr}
 use Rattle.machine.specs.declared.event.Event.{Event}
 use Rattle.machine.specs.declared.event.Event.TheVariants.{Enter, Feed, Offer, Turn, CloseGroup, Commit, RaiseLocal, Hand, OpenLink, Send, Deliver, Apply, AckDelivered, RaiseRemote, Hold, Read, Release, Write}
-use Rattle.machine.specs.Events.{Inbound, Outbound, Connection, World, new_connection, is_running, get_connection, connection_of, is_open, with_inbound, with_outbound, on_inbound, on_outbound, is_closed_by, is_enabled, with_call, fed_with, offered_next, taken_first, held_first, having_read, let_out, written, Happens, Step, Run}
-use Rattle.machine.specs.Promises.{fed_by, fed_to}
+use Rattle.machine.specs.Event.{Inbound, Outbound, Connection, World, new_connection, is_running, get_connection, connection_of, is_open, with_inbound, with_outbound, on_inbound, on_outbound, is_closed_by, is_enabled, with_call, fed_with, offered_next, taken_first, held_first, having_read, having_released, written, Happens, Step, Run}
+use Rattle.machine.specs.Promise.{fed_by, fed_to}
 use Rattle.machine.proofs.ConnectionLemmas.{open-lt, same-changed}
 use Rattle.machine.proofs.FedLemmas.{fed-step}
 use Rattle.machine.proofs.SoundEvents.{both, enabled-may}
-use Rattle.model.specs.Calls.{IsPrefix}
-use Rattle.model.proofs.PrefixLemmas.{IsPrefix-none, IsPrefix-same_front}
-use Rattle.server.specs.Agendas.{given}
+use Rattle.model.specs.Call.{IsPrefix}
+use Rattle.model.proofs.PrefixLemmas.{IsPrefix-none, IsPrefix-same_prefix}
+use Rattle.server.specs.Schedule.{given}
 
 -- ---- a connection that is open stays so
 
@@ -50,7 +50,7 @@ open-happens w (AckDelivered a) new d h is_there = ap (λ x. is_open x d) h ∙ 
 open-happens w RaiseRemote new d h is_there = ap (λ x. is_open x d) h ∙ is_there
 open-happens w (Hold c) new d h is_there = ap (λ x. is_open x d) h ∙ open-outbound w c d held_first ∙ is_there
 open-happens w (Read c mark) new d h is_there = ap (λ x. is_open x d) h ∙ open-outbound w c d (having_read mark w) ∙ is_there
-open-happens w (Release c) new d h is_there = ap (λ x. is_open x d) h ∙ open-outbound w c d let_out ∙ is_there
+open-happens w (Release c) new d h is_there = ap (λ x. is_open x d) h ∙ open-outbound w c d having_released ∙ is_there
 open-happens w (Write c n) new d h is_there = ap (λ x. is_open x d) h ∙ open-outbound w c d (written n) ∙ is_there
 
 abbrev runs_in : World → Bool
@@ -139,7 +139,7 @@ feeds-open w (event ∷ events) (did ∷ done) (new ∷ worlds) d run served =
     elim (open-by w event did d run.0.done served) [
       | inl all ↦
           subst (λ piece. IsPrefix (piece ++ fed_to d events done) (fed_by d event true ++ given d events)) (sym all)
-          (IsPrefix-same_front (fed_by d event true) (feeds-open new events done worlds d run.1 (served-step w event did new d run.0 served)))
+          (IsPrefix-same_prefix (fed_by d event true) (feeds-open new events done worlds d run.1 (served-step w event did new d run.0 served)))
       | inr closed ↦
           subst (λ fed. IsPrefix fed (fed_by d event true ++ given d events)) (sym (closed-from w (event ∷ events) (did ∷ done) (new ∷ worlds) d run closed.1)) (IsPrefix-none _)
     ]

@@ -1,4 +1,4 @@
 pub mod FeedingLemmas
-pub mod AgendaLemmas
+pub mod ScheduleLemmas
 pub mod AnswerLemmas
 pub mod ServingLemmas

@@ -5,17 +5,17 @@ use Rattle.std.specs.List.{concat}
 use Rattle.std.specs.Io.KnownBytes.{Appends, Consumes, IsAtEnd, Keeps}
 use Rattle.std.proofs.KnownBytes.{Appends-trans}
 use Rattle.std.proofs.lemmas.List.{take_rest}
-use Rattle.model.specs.Calls.{IsPrefix}
+use Rattle.model.specs.Call.{IsPrefix}
 use Rattle.model.proofs.PrefixLemmas.{IsPrefix-trans}
-use Rattle.server.specs.Answers.{AppendsFront, IsAnswer, IsEarly, IsServed, IsServedUpTo}
+use Rattle.server.specs.Answer.{AppendsPrefix, IsAnswer, IsEarly, IsServed, IsServedUpTo}
 use Rattle.server.specs.declared.serve.ServeError.{ServeError}
 use Rattle.server.specs.declared.serve.ServeError.TheVariants.{Read, Refused, Write}
 
-consumes-then : (a b c : Option (List ℕ)) (front back : List ℕ) → Consumes a b front → Consumes b c back → Consumes a c (front ++ back)
-consumes-then None b c front back p q = tt
-consumes-then (Some xs) None c front back p q = absurd p
-consumes-then (Some xs) (Some ys) None front back p q = absurd q
-consumes-then (Some xs) (Some ys) (Some zs) front back p q = p ∙ ap (λ rest. front ++ rest) q ∙ sym (append_assoc front back zs)
+consumes-then : (a b c : Option (List ℕ)) (prefix back : List ℕ) → Consumes a b prefix → Consumes b c back → Consumes a c (prefix ++ back)
+consumes-then None b c prefix back p q = tt
+consumes-then (Some xs) None c prefix back p q = absurd p
+consumes-then (Some xs) (Some ys) None prefix back p q = absurd q
+consumes-then (Some xs) (Some ys) (Some zs) prefix back p q = p ∙ ap (λ rest. prefix ++ rest) q ∙ sym (append_assoc prefix back zs)
 
 pub consumes-kept : (a b c : Option (List ℕ)) (bytes : List ℕ) → Consumes a b bytes → Keeps b c → Consumes a c bytes
 consumes-kept None b c bytes p q = tt
@@ -58,15 +58,15 @@ early-ended (Read error) input before early = keeps-same before
 early-ended (Refused refusal) input before early = keeps-same before
 early-ended (Write error) input before early = absurd early
 
--- a beginning of an answer is an answer
-front-answers : (input answer front : List ℕ) → IsPrefix front answer → IsAnswer input answer → IsAnswer input front
-front-answers input answer front begins answers =
+-- a prefix of an answer is an answer
+prefix-answers : (input answer prefix : List ℕ) → IsPrefix prefix answer → IsAnswer input answer → IsAnswer input prefix
+prefix-answers input answer prefix begins answers =
     record { calls = answers.calls; legal = answers.legal; serves = answers.serves; begins = IsPrefix-trans begins answers.begins }
 
-pub served-front : (input rest before after : Option (List ℕ)) (bytes answer : List ℕ) → Consumes input rest bytes → IsAtEnd rest → IsAnswer bytes answer
-    → AppendsFront before after answer → IsServed input before after
-served-front input rest before after bytes answer p end answers written =
-    served-whole input rest before after bytes written.0 p end (front-answers bytes answer written.0 written.1 answers) written.2
+pub served-prefix : (input rest before after : Option (List ℕ)) (bytes answer : List ℕ) → Consumes input rest bytes → IsAtEnd rest → IsAnswer bytes answer
+    → AppendsPrefix before after answer → IsServed input before after
+served-prefix input rest before after bytes answer p end answers written =
+    served-whole input rest before after bytes written.0 p end (prefix-answers bytes answer written.0 written.1 answers) written.2
 
 -- ---- bytes that are written in pieces
 
@@ -95,8 +95,8 @@ written-more {bytes} {rest} n has more = record {
 }
 
 -- some of the bytes from the first on were written, or all
-pub written-front : {bytes rest : List ℕ} {before after : Option (List ℕ)} → HasWritten bytes rest before after → AppendsFront before after bytes
-written-front {rest = rest} has = (has.done, record { rest = rest; joined = sym has.split }, has.written)
+pub written-prefix : {bytes rest : List ℕ} {before after : Option (List ℕ)} → HasWritten bytes rest before after → AppendsPrefix before after bytes
+written-prefix {rest = rest} has = (has.done, record { rest = rest; joined = sym has.split }, has.written)
 
 pub written-whole : {bytes rest : List ℕ} {before after : Option (List ℕ)} → HasWritten bytes rest before after → rest ≡ [] → Appends before after bytes
 written-whole {before = before} {after = after} has none =

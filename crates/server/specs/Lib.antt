@@ -1,2 +1,2 @@
-pub mod Agendas
-pub mod Answers
+pub mod Schedule
+pub mod Answer

@@ -1,9 +1,9 @@
 //! What a pair of new nodes answers to one connection.
 ghost use Rattle.std.specs.Prelude.{◌≡◌, [], map, None, IfOk, slice_index_or};
 ghost use Rattle.std.specs.List.{concat};
-ghost use Rattle.server.specs.Answers.{IsAnswer};
+ghost use Rattle.server.specs.Answer.{IsAnswer};
 
-use crate::agenda::{IMAGE_LINES, agenda};
+use crate::schedule::{IMAGE_LINES, schedule};
 use bytes::Bytes;
 use kv_types::Refusal;
 use pmem::SimPmem;
@@ -16,7 +16,7 @@ use world::{Ended, Trace, run};
 pub fn answer(alloc: Global, pieces: Vec<Bytes>) -> Result<Vec<u8>, Refusal>
     ensures { IfOk result (λ answer. IsAnswer (concat pieces.items) answer.items) }
 {
-    let events = agenda(alloc, pieces)?;
+    let events = schedule(alloc, pieces)?;
     let primary = SimPmem::new(alloc, IMAGE_LINES)?;
     let standby = SimPmem::new(alloc, IMAGE_LINES)?;
     let devices = vec![in alloc; primary, standby]?;

@@ -1,8 +1,8 @@
 //! The key-value server over standard input and output: one connection's requests in, its released replies out.
 #![tactic(auto)]
 
-mod agenda;
 mod answer;
+mod schedule;
 mod serve;
 
 use crate::serve::{ServeError, serve};

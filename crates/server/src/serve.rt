@@ -2,7 +2,7 @@
 ghost use Rattle.std.specs.Prelude.{IfErr, IfOk, OnErr, OnOk};
 ghost use Rattle.std.specs.List.{concat};
 ghost use Rattle.std.specs.Io.KnownBytes.{Appends, Consumes, IsAtEnd};
-ghost use Rattle.server.specs.Answers.{AppendsFront, IsEarly, IsServed, IsServedUpTo};
+ghost use Rattle.server.specs.Answer.{AppendsPrefix, IsEarly, IsServed, IsServedUpTo};
 
 use crate::answer::answer;
 use bytes::Bytes;
@@ -119,7 +119,7 @@ fn read_pieces<R: Read>(alloc: Global, reader: &mut R) -> Result<Vec<Bytes>, Ser
 /// Writes the replies, and has them out. After an `Err` some of them from the first on were written, or all.
 fn write_replies<W: Write>(writer: &mut W, replies: &[u8]) -> io::Result<()>
     ensures whole { OnOk result (Appends (W.contents writer.old) (W.contents writer.new) replies.now) }
-    ensures front { OnErr result (AppendsFront (W.contents writer.old) (W.contents writer.new) replies.now) }
+    ensures prefix { OnErr result (AppendsPrefix (W.contents writer.old) (W.contents writer.new) replies.now) }
 {
     write_bytes(writer, replies)?;
     writer.flush()?;
@@ -129,7 +129,7 @@ fn write_replies<W: Write>(writer: &mut W, replies: &[u8]) -> io::Result<()>
 /// Writes the bytes. After an `Err` some of them from the first on were written.
 fn write_bytes<W: Write>(writer: &mut W, bytes: &[u8]) -> io::Result<()>
     ensures whole { OnOk result (Appends (W.contents writer.old) (W.contents writer.new) bytes.now) }
-    ensures front { OnErr result (AppendsFront (W.contents writer.old) (W.contents writer.new) bytes.now) }
+    ensures prefix { OnErr result (AppendsPrefix (W.contents writer.old) (W.contents writer.new) bytes.now) }
 {
     let mut rest = bytes;
     for _write in 0..u64::MAX {

@@ -1,7 +1,6 @@
 //! Plays a list of events over a pair of simulated nodes, and prints what came of it.
 #![tactic(auto)]
 
-mod agenda;
 mod cause;
 mod copies;
 mod error;
@@ -15,6 +14,7 @@ mod options;
 mod play;
 mod quoted;
 mod report;
+mod schedule;
 mod script;
 mod spelling;
 

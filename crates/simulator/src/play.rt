@@ -17,7 +17,7 @@ pub fn play(
     script: &Script,
 ) -> Result<Trace<SimPmem>, AllocError> {
     let devices = new_devices(alloc, options, script.failures.as_slice())?;
-    let mut trace = run(alloc, devices, script.agenda.events());
+    let mut trace = run(alloc, devices, script.schedule.events());
     crash_devices(alloc, &mut trace.devices, script.crashes.as_slice())?;
     Ok(trace)
 }

@@ -22,7 +22,7 @@ pub fn report<W: Write>(
     script: &Script,
     trace: &Trace<SimPmem>,
 ) -> Result<(), SimulatorError> {
-    let lines = script.agenda.lines();
+    let lines = script.schedule.lines();
     write_events(out, lines, trace.done.as_slice())?;
     write_calls(alloc, out, trace.calls.as_slice())?;
     if options.plain {

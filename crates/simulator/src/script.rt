@@ -1,11 +1,11 @@
 //! What is to be played: failures of fences, events, and crashes.
-use crate::agenda::Agenda;
 use crate::cause::{Cause, LineError};
 use crate::error::SimulatorError;
 use crate::event_words::read_event;
 use crate::line_words::LineWords;
 use crate::node::Node;
 use crate::number::read_number;
+use crate::schedule::Schedule;
 use std::alloc::Global;
 
 /// A fence that fails.
@@ -29,7 +29,7 @@ pub struct Crash {
 pub struct Script {
     /// Before the first event.
     pub failures: Vec<Failure>,
-    pub agenda: Agenda,
+    pub schedule: Schedule,
     /// After the last event.
     pub crashes: Vec<Crash>,
 }
@@ -38,7 +38,7 @@ pub struct Script {
 pub fn read_script(alloc: Global, text: &[u8]) -> Result<Script, SimulatorError> {
     let mut script = Script {
         failures: Vec::new(alloc),
-        agenda: Agenda::new(alloc),
+        schedule: Schedule::new(alloc),
         crashes: Vec::new(alloc),
     };
     let mut number: u64 = 0;
@@ -83,14 +83,14 @@ fn add_events(
     if !script.crashes.is_empty() {
         return Err(LineError::Bad(Cause::EventAfterCrash));
     }
-    script.agenda.add(&event, times, number)
+    script.schedule.add(&event, times, number)
 }
 
 fn add_failure(script: &mut Script, words: &mut LineWords<'_>) -> Result<(), LineError> {
     let node = words.node()?;
     let fence = words.number()?;
     words.end()?;
-    if !script.agenda.events().is_empty() {
+    if !script.schedule.events().is_empty() {
         return Err(LineError::Bad(Cause::FailAfterEvent));
     }
     script.failures.push(Failure { node, fence })?;

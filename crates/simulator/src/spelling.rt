@@ -1,6 +1,6 @@
 //! Requests as bytes.
 ghost use Rattle.std.specs.Prelude.{◌≡◌, ◌∷◌, ◌++◌, flat_map, IfOk, OnOk};
-ghost use Rattle.kv_types.specs.Requests.{spelling, number_line, bulk};
+ghost use Rattle.kv_types.specs.Request.{spelling, number_line, bulk};
 
 use bytes::Bytes;
 use itoa::Buffer;

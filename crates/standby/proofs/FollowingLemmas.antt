@@ -1,7 +1,7 @@
 -- A standby that has taken a frame whole goes on following, and its engine was asked for a lawful commit.
 use Rattle.std.proofs.Common.{◌≡◌, ℕ, ◌<◌, ◌≤◌, ◌⊎◌, inl, inr, List, [], ◌∷◌, map, None, refl, sym, ap, subst, ◌∙◌}
 use Rattle.std.specs.List.{AllByRecursion}
-use Rattle.kv_types.specs.Keyspaces.{play_all}
+use Rattle.kv_types.specs.Keyspace.{play_all}
 use Rattle.kv_types.specs.declared.record_id.RecordId.{RecordId}
 use Rattle.pmem.specs.Device.{State}
 use Rattle.pmem.specs.Runs.{LeavesOnly}
@@ -10,16 +10,16 @@ use Rattle.model.specs.declared.group.Group.{Group}
 use Rattle.model.specs.declared.group.Part.{Part}
 use Rattle.model.specs.declared.group.Put.{Put}
 use Rattle.model.specs.declared.record.Record.{Record}
-use Rattle.model.specs.Images.{Image, IsMapOf, entries_of_lines, first_extent_line}
-use Rattle.model.specs.Groups.{Contents, Versions, IsGroup, after_group, change_of, puts_of_part, parts_versions, last_position, IsPlaced, IsUnused, AreAllApart}
+use Rattle.model.specs.Image.{Image, IsMapOf, entries_of_lines, first_extent_line}
+use Rattle.model.specs.Group.{Contents, Versions, IsGroup, after_group, change_of, puts_of_part, parts_versions, last_position, IsPlaced, IsUnused, AreAllApart}
 use Rattle.model.proofs.GroupsLemmas.{IsConsistent-after_group}
 use Rattle.extent_heap.specs.Room.{Room}
-use Rattle.mv_keyspace.specs.Tables.{Cell, Table, IsCellOf, IsTable, AreEnded, place_all, records}
+use Rattle.mv_keyspace.specs.Table.{Cell, Table, IsCellOf, IsTable, AreEnded, place_all, records}
 use Rattle.mv_keyspace.proofs.TableLemmas.{records-place_all}
 use Rattle.mv_keyspace.proofs.VersionTables.{AreEmpty}
 use Rattle.mv_keyspace.proofs.PartTables.{AreDistinct, IsTable-changes, names-ended, map-from_table}
 use Rattle.placing.specs.Left.{IsTaken, IsLeftOf}
-use Rattle.placing.specs.Places.{TakesPlaces}
+use Rattle.placing.specs.Place.{TakesPlaces}
 use Rattle.placing.proofs.TakenLemmas.{All-map, IsFree, IsWithin, places_within, places_free, places_taken, places_fitting, places_apart, AreDistinct-from_apart}
 use Rattle.placing.proofs.LeftLemmas.{placed_of_free, unused_of_free, left_within, after_parts, left-after}
 use Rattle.placing.proofs.PartsLemmas.{IsGroup-alone}

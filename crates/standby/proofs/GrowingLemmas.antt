@@ -5,15 +5,15 @@ use Rattle.model.specs.declared.group.Group.{Group}
 use Rattle.model.specs.declared.group.Part.{Part}
 use Rattle.model.specs.declared.group.Put.{Put}
 use Rattle.model.specs.declared.group.TheConstants.{MAX_PARTS}
-use Rattle.model.specs.Groups.{Contents, Versions, IsGroup, puts_of_part, parts_versions, AreParts, last_position, IsPlaced, IsUnused}
+use Rattle.model.specs.Group.{Contents, Versions, IsGroup, puts_of_part, parts_versions, AreParts, last_position, IsPlaced, IsUnused}
 use Rattle.model.proofs.GroupsLemmas.{parts_versions-none}
 use Rattle.extent_heap.specs.Room.{Room, is_free_entry}
-use Rattle.mv_keyspace.specs.Tables.{Table, IsTable, AreEnded, place_all}
+use Rattle.mv_keyspace.specs.Table.{Table, IsTable, AreEnded, place_all}
 use Rattle.mv_keyspace.proofs.VersionTables.{AreEmpty}
 use Rattle.mv_keyspace.proofs.PartTables.{AreDistinct, IsTable-changes, names-ended, table-none}
 use Rattle.model.specs.declared.record.Role.{Role}
 use Rattle.wbl_engine.specs.Contents.{IsNew}
-use Rattle.placing.specs.Places.{TakesPlaces}
+use Rattle.placing.specs.Place.{TakesPlaces}
 use Rattle.placing.specs.Left.{IsBeside, IsLeftOf}
 use Rattle.placing.proofs.PlacesLemmas.{TakesPlaces-append}
 use Rattle.placing.proofs.LeftLemmas.{placed_of_free, unused_of_free}

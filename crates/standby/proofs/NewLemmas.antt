@@ -1,12 +1,12 @@
 -- New images, and the tables and heaps that follow them.
 use Rattle.std.proofs.Common.{◌≡◌, ℕ, ◌<◌, ◌≤◌, ◌↔◌, [], IsTrue, None, ap, sym, subst, ◌∙◌}
 use Rattle.std.proofs.lemmas.Option.{none-some}
-use Rattle.model.specs.Images.{entries_of_lines, first_extent_line}
-use Rattle.model.specs.Groups.{Contents, IsConsistent}
+use Rattle.model.specs.Image.{entries_of_lines, first_extent_line}
+use Rattle.model.specs.Group.{Contents, IsConsistent}
 use Rattle.model.specs.declared.record.Record.{Record}
 use Rattle.model.specs.declared.record.Role.{Role}
 use Rattle.extent_heap.specs.Room.{Room, is_free_entry, is_free_line}
-use Rattle.mv_keyspace.specs.Tables.{Table, IsTable}
+use Rattle.mv_keyspace.specs.Table.{Table, IsTable}
 use Rattle.mv_keyspace.proofs.PartTables.{table-none}
 use Rattle.wbl_engine.specs.Contents.{IsNew, Same}
 use Rattle.placing.specs.Left.{IsLeftOf}

@@ -1,12 +1,12 @@
 -- What a standby holds, and what a frame does to it.
 use Rattle.std.specs.Prelude.{◌≡◌, ℕ, ◌+◌, ◌<◌, ◌≤◌, ◌⊎◌}
-use Rattle.kv_types.specs.Keyspaces.{play_all}
+use Rattle.kv_types.specs.Keyspace.{play_all}
 use Rattle.extent_heap.specs.Room.{Room}
 use Rattle.model.specs.declared.image.TheConstants.{COUNTER_LIMIT, STAMP_WINDOW}
 use Rattle.model.specs.declared.record.Record.{Record}
-use Rattle.model.specs.Images.{Image, IsMapOf, entries_of_lines}
-use Rattle.model.specs.Groups.{Contents, IsConsistent}
-use Rattle.mv_keyspace.specs.Tables.{Table, IsTable, records}
+use Rattle.model.specs.Image.{Image, IsMapOf, entries_of_lines}
+use Rattle.model.specs.Group.{Contents, IsConsistent}
+use Rattle.mv_keyspace.specs.Table.{Table, IsTable, records}
 use Rattle.placing.specs.Left.{IsLeftOf}
 use Rattle.wbl_engine.specs.Contents.{Keeps}
 use Rattle.standby.specs.declared.frame.Frame.{Frame}

@@ -2,7 +2,7 @@
 ghost use Rattle.std.specs.Prelude.{◌≡◌, ◌⊎◌, OnErr, IfOk, IfErr, IsErrOf};
 ghost use Rattle.placing.specs.Left.{IsBeside};
 ghost use Rattle.placing.specs.Performs.{Performs};
-ghost use Rattle.placing.specs.Places.{HasRoomFor};
+ghost use Rattle.placing.specs.Place.{HasRoomFor};
 
 use crate::frame::Frame;
 use extent_heap::ExtentHeap;

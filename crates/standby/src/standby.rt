@@ -2,7 +2,7 @@
 ghost use Rattle.std.specs.Prelude.{◌≡◌, ◌≢◌, ◌⊎◌, ◌↔◌, ◌<◌, ◌≤◌, false, true, Ok, Err, IsTrue, IfOk, IfErr, OnOk, OnErr, IsErrOf};
 ghost use Rattle.kv_types.specs.declared.refusal.Refusal.TheVariants.{WrongEpoch, PositionGap, Full, Memory, Fault, Exhausted};
 ghost use Rattle.pmem.specs.Runs.{LeavesOnly};
-ghost use Rattle.placing.specs.Places.{HasRoomFor};
+ghost use Rattle.placing.specs.Place.{HasRoomFor};
 ghost use Rattle.wbl_engine.specs.Contents.{IsDurable, Same};
 ghost use Rattle.standby.specs.Following.{Follows, IsNext, HasTaken, WouldExhaust, IsBeforeOrWhole};
 

@@ -1,8 +1,8 @@
 //! A commit of as many parts as a group may have, to a simulated device. Names and values are written as numbers.
 ghost use Rattle.std.specs.Prelude.{◌≡◌, ℕ, ◌<◌, ◌≤◌, ◌↔◌, [], IsTrue, IfOk};
 ghost use Rattle.extent_heap.specs.Room.{is_free_line, is_free_entry};
-ghost use Rattle.model.specs.Groups.{Contents, IsGroup};
-ghost use Rattle.model.specs.Images.{entries_of_lines, first_extent_line};
+ghost use Rattle.model.specs.Group.{Contents, IsGroup};
+ghost use Rattle.model.specs.Image.{entries_of_lines, first_extent_line};
 ghost use Rattle.wbl_engine.specs.Contents.{IsNew};
 
 use crate::Frame;

@@ -9,11 +9,11 @@ use Rattle.pmem.proofs.Staging.{written-cases, written-outside, written-stored, 
 use Rattle.model.specs.declared.record.Record.{Record}
 use Rattle.model.specs.declared.group.Group.{Group}
 use Rattle.model.specs.declared.group.Put.{Put}
-use Rattle.model.specs.Images.{Image, entry_word, entries_of_lines, first_extent_line, counts}
-use Rattle.model.specs.Groups.{Versions, IsGroup, IsPlaced, AreAllApart, is_put_at, next_record, parts_versions}
+use Rattle.model.specs.Image.{Image, entry_word, entries_of_lines, first_extent_line, counts}
+use Rattle.model.specs.Group.{Versions, IsGroup, IsPlaced, AreAllApart, is_put_at, next_record, parts_versions}
 use Rattle.wbl_engine.specs.AtRest.{contents_of, IsAtRest, IsInExtent, Matters}
-use Rattle.wbl_engine.specs.Entries.{IsStorable, entry_words}
-use Rattle.wbl_engine.specs.Stages.{puts_of_parts, parts_pairs, parts_lines}
+use Rattle.wbl_engine.specs.Entry.{IsStorable, entry_words}
+use Rattle.wbl_engine.specs.Stage.{puts_of_parts, parts_pairs, parts_lines}
 use Rattle.wbl_engine.proofs.Beginning.{rest_fits, group_stored, group_staging}
 use Rattle.wbl_engine.proofs.CountLemmas.{with_cp, counts-later}
 use Rattle.wbl_engine.proofs.Covering.{IsStoredPut, parts_covered, parts_stored_put, extent_stored, entry_stored, among_same}

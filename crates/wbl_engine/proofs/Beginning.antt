@@ -10,11 +10,11 @@ use Rattle.model.specs.declared.record.Record.{Record}
 use Rattle.model.specs.declared.group.Group.{Group}
 use Rattle.model.specs.declared.group.Part.{Part}
 use Rattle.model.specs.declared.group.Put.{Put}
-use Rattle.model.specs.Images.{Image, entry_word, entries_of_lines, version_at, counts}
-use Rattle.model.specs.Groups.{Contents, Versions, IsGroup, IsUnused, IsConsistent}
+use Rattle.model.specs.Image.{Image, entry_word, entries_of_lines, version_at, counts}
+use Rattle.model.specs.Group.{Contents, Versions, IsGroup, IsUnused, IsConsistent}
 use Rattle.wbl_engine.specs.AtRest.{contents_of, IsSound, IsWhole, IsAtRest}
-use Rattle.wbl_engine.specs.Entries.{IsStorable}
-use Rattle.wbl_engine.specs.Stages.{puts_of_parts, parts_pairs}
+use Rattle.wbl_engine.specs.Entry.{IsStorable}
+use Rattle.wbl_engine.specs.Stage.{puts_of_parts, parts_pairs}
 use Rattle.wbl_engine.proofs.CountLemmas.{counts-zero, counts-above}
 use Rattle.wbl_engine.proofs.PartEffects.{IsAmong}
 use Rattle.wbl_engine.proofs.PartSteps.{Fits, IsReady, AreStored}

@@ -7,13 +7,13 @@ use Rattle.pmem.specs.Runs.{LeavesOnly, Staged, StageFailed}
 use Rattle.model.specs.declared.record.Record.{Record}
 use Rattle.model.specs.declared.group.Group.{Group}
 use Rattle.model.specs.declared.group.Part.{Part}
-use Rattle.model.specs.Images.{Image}
-use Rattle.model.specs.Groups.{Contents, IsGroup, next_record, after_group}
+use Rattle.model.specs.Image.{Image}
+use Rattle.model.specs.Group.{Contents, IsGroup, next_record, after_group}
 use Rattle.wbl_engine.specs.AtRest.{contents_of, IsSound, IsAtRest}
 use Rattle.wbl_engine.specs.Contents.{Keeps, Same}
-use Rattle.wbl_engine.specs.Entries.{IsStorable}
-use Rattle.wbl_engine.specs.Records.{IsRecorded, IsRecordFault, IsSucceeded, IsEitherRecord}
-use Rattle.wbl_engine.specs.Stages.{puts_of_parts, parts_pairs, parts_lines}
+use Rattle.wbl_engine.specs.Entry.{IsStorable}
+use Rattle.wbl_engine.specs.Record.{IsRecorded, IsRecordFault, IsSucceeded, IsEitherRecord}
+use Rattle.wbl_engine.specs.Stage.{puts_of_parts, parts_pairs, parts_lines}
 use Rattle.wbl_engine.proofs.Committing.{IsBeforeOrAfter, stage_moments, commit_moments, stage_succeeded}
 use Rattle.wbl_engine.proofs.Ending.{commit_rest, commit_same, fault_same, recorded_made, stage_made, contents_moved}
 

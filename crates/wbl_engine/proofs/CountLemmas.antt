@@ -4,7 +4,7 @@ use Rattle.std.specs.Prelude.{nat_lt, nat_le}
 use Rattle.std.specs.List.{list_any}
 use Rattle.std.proofs.lemmas.Bool.{lt-ltb, le-leb, lt-leb, and_left, and_right, and_from, and_parts, leb-true, ltb-true}
 use Rattle.model.specs.declared.record.Record.{Record}
-use Rattle.model.specs.Images.{counts, is_in_gap}
+use Rattle.model.specs.Image.{counts, is_in_gap}
 
 -- the record with another last stamp
 abbrev pub with_cp : Record → ℕ → Record

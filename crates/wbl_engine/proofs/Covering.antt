@@ -6,10 +6,10 @@ use Rattle.pmem.specs.Runs.{pairs_from, lines_from, IsStored, IsLine}
 use Rattle.pmem.proofs.Staging.{IsStored-append, IsStored-append_left, IsStored-append_right, IsLine-append_left, IsLine-append_right, IsLine-lines_from, pairs_from-IsStored}
 use Rattle.model.specs.declared.group.Part.{Part}
 use Rattle.model.specs.declared.group.Put.{Put}
-use Rattle.model.specs.Images.{entry_word}
-use Rattle.model.specs.Groups.{IsApartFrom, AreAllApart, puts_of_part}
-use Rattle.wbl_engine.specs.Entries.{version_bytes, entry_words, extent_words, put_pairs, put_lines}
-use Rattle.wbl_engine.specs.Stages.{puts_of_parts, puts_pairs, end_pairs, part_pairs, parts_pairs, puts_lines, end_lines, part_lines, parts_lines}
+use Rattle.model.specs.Image.{entry_word}
+use Rattle.model.specs.Group.{IsApartFrom, AreAllApart, puts_of_part}
+use Rattle.wbl_engine.specs.Entry.{version_bytes, entry_words, extent_words, put_pairs, put_lines}
+use Rattle.wbl_engine.specs.Stage.{puts_of_parts, puts_pairs, end_pairs, part_pairs, parts_pairs, puts_lines, end_lines, part_lines, parts_lines}
 use Rattle.wbl_engine.proofs.Packing.{length-packed}
 use Rattle.wbl_engine.proofs.PartEffects.{IsAmong}
 use Rattle.wbl_engine.proofs.PutPairs.{IsOfEntry, IsOfExtent, IsNamed, put_pairs-where, end_pairs-where, among-all}
@@ -78,7 +78,7 @@ among_either : (a b : List Put) (put : Put) → IsAmong put (a ++ b) → IsAmong
 among_either [] b put among = inr among
 among_either (first ∷ a) b put (inl here) = inl (inl here)
 among_either (first ∷ a) b put (inr later) =
-    elim (among_either a b put later) [ inl front ↦ inl (inr front) | inr back ↦ inr back ]
+    elim (among_either a b put later) [ inl prefix ↦ inl (inr prefix) | inr back ↦ inr back ]
 
 pub parts_stored_put : (stamp : ℕ) (parts : List Part) (put : Put) → IsAmong put (puts_of_parts parts) → IsStoredPut (parts_pairs stamp parts) put
 parts_stored_put stamp [] put among = absurd among

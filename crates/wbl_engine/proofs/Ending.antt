@@ -10,13 +10,13 @@ use Rattle.pmem.proofs.Staging.{written-cases, written-outside}
 use Rattle.model.specs.declared.record.Record.{Record}
 use Rattle.model.specs.declared.group.Group.{Group}
 use Rattle.model.specs.declared.group.Put.{Put}
-use Rattle.model.specs.Images.{Image, HasSuperblock, HasRecord, root_word, entry_word, entry_bytes, entries_of_lines, first_extent_line, version_at, counts}
-use Rattle.model.specs.Groups.{Contents, Versions, IsGroup, IsPlaced, is_put_at, next_record, after_group, parts_versions}
+use Rattle.model.specs.Image.{Image, HasSuperblock, HasRecord, root_word, entry_word, entry_bytes, entries_of_lines, first_extent_line, version_at, counts}
+use Rattle.model.specs.Group.{Contents, Versions, IsGroup, IsPlaced, is_put_at, next_record, after_group, parts_versions}
 use Rattle.wbl_engine.specs.AtRest.{contents_of, IsSound, IsWhole, IsInPlace, IsAtRest, IsInExtent, Matters}
 use Rattle.wbl_engine.specs.Contents.{Same}
-use Rattle.wbl_engine.specs.Entries.{IsStorable, entry_words}
-use Rattle.wbl_engine.specs.Records.{IsRecordWord, IsRecorded}
-use Rattle.wbl_engine.specs.Stages.{puts_of_parts, parts_pairs, parts_lines}
+use Rattle.wbl_engine.specs.Entry.{IsStorable, entry_words}
+use Rattle.wbl_engine.specs.Record.{IsRecordWord, IsRecorded}
+use Rattle.wbl_engine.specs.Stage.{puts_of_parts, parts_pairs, parts_lines}
 use Rattle.wbl_engine.proofs.AfterStage.{after_fits, stage_certain, kept_word}
 use Rattle.wbl_engine.proofs.Beginning.{versions-within, versions-beyond, rest_fits, group_staging}
 use Rattle.wbl_engine.proofs.Committing.{at_rest_staging, no_record_word}

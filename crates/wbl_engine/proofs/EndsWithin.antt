@@ -7,15 +7,15 @@ use Rattle.pmem.specs.Device.{State}
 use Rattle.model.specs.declared.record.Record.{Record}
 use Rattle.model.specs.declared.group.Group.{Group}
 use Rattle.model.specs.declared.group.Part.{Part}
-use Rattle.model.specs.Images.{entries_of_lines}
-use Rattle.model.specs.Groups.{Versions, IsGroup, IsPlaced, AreParts, is_put_at, is_live_version, puts_of_part, part_versions}
+use Rattle.model.specs.Image.{entries_of_lines}
+use Rattle.model.specs.Group.{Versions, IsGroup, IsPlaced, AreParts, is_put_at, is_live_version, puts_of_part, part_versions}
 use Rattle.wbl_engine.specs.AtRest.{contents_of, IsAtRest}
-use Rattle.wbl_engine.specs.Stages.{puts_of_parts, AreEndsWithin}
+use Rattle.wbl_engine.specs.Stage.{puts_of_parts, AreEndsWithin}
 use Rattle.wbl_engine.proofs.Beginning.{versions-beyond}
 use Rattle.wbl_engine.proofs.PartEffects.{is_put_at-among}
 use Rattle.wbl_engine.proofs.PartWords.{named-contains}
 use Rattle.wbl_engine.proofs.PutPairs.{IsNamed, among-all}
-use Rattle.wbl_engine.proofs.StoredBy.{live_then, live_front}
+use Rattle.wbl_engine.proofs.StoredBy.{live_then, live_prefix}
 
 each_named : (P : ℕ → Type 0) (ended : List EntryNo) → ((i : ℕ) → IsNamed i ended → P i) → AllByRecursion (λ (entry : EntryNo). P entry.0) ended
 each_named P [] each = tt
@@ -29,7 +29,7 @@ each_ended P [] before versions each follow = tt
 each_ended P (part ∷ parts) before versions each follow = (
   each_named P part.ended.items
       (λ i named.
-      each i (live_front versions part (puts_of_parts parts) i ((follow.1 i).0 (named-contains i part.ended.items named)).0)),
+      each i (live_prefix versions part (puts_of_parts parts) i ((follow.1 i).0 (named-contains i part.ended.items named)).0)),
   each_ended P parts part.position (part_versions versions part)
       (λ i live. each i (live_then versions part (puts_of_parts parts) i live)) follow.2,
 )

@@ -10,7 +10,7 @@ use Rattle.pmem.proofs.Staging.{written-outside, stored_or_outside, same_or_othe
 use Rattle.model.specs.declared.image.TheConstants.{MIN_LINES, MAX_LINES, COUNTER_LIMIT}
 use Rattle.model.specs.declared.record.Record.{Record}
 use Rattle.model.specs.declared.record.Role.{Role}
-use Rattle.model.specs.Images.{Image, HasSuperblock, HasRecord, magic_number, root_word, entry_word, entries_of_lines, first_extent_line, record_words, version_at, counts}
+use Rattle.model.specs.Image.{Image, HasSuperblock, HasRecord, magic_number, root_word, entry_word, entries_of_lines, first_extent_line, record_words, version_at, counts}
 use Rattle.wbl_engine.specs.AtRest.{contents_of, IsSound, IsWhole, IsAtRest, Matters}
 use Rattle.wbl_engine.specs.Contents.{Keeps, IsNew}
 use Rattle.wbl_engine.specs.Formatting.{first_record, superblock_words, new_contents, new_pairs, IsFormatting}

@@ -7,7 +7,7 @@ use Rattle.pmem.proofs.Staging.{length-pairs_from, get_or-pairs_from}
 use Rattle.model.specs.declared.layout.TheConstants.{LAYOUT}
 use Rattle.model.specs.declared.record.Record.{Record}
 use Rattle.model.specs.declared.record.Role.{Role}
-use Rattle.model.specs.Images.{entries_of_lines, first_extent_line, record_words}
+use Rattle.model.specs.Image.{entries_of_lines, first_extent_line, record_words}
 use Rattle.wbl_engine.specs.Formatting.{first_record, superblock_words, slot_words, slot_0, slot_1, behind_slots, rest_words, run_pairs, new_pairs}
 use Rattle.wbl_engine.proofs.LayoutRuns.{Runs-more_stores}
 use Rattle.wbl_engine.proofs.NewImage.{zeros, length-zeros, get_or-zeros}

@@ -8,10 +8,10 @@ use Rattle.model.specs.declared.record.Record.{Record}
 use Rattle.model.specs.declared.group.Group.{Group}
 use Rattle.model.specs.declared.group.Part.{Part}
 use Rattle.model.specs.declared.group.Put.{Put}
-use Rattle.model.specs.Images.{Image, Version, entry_word, entries_of_lines}
-use Rattle.model.specs.Groups.{Versions, IsPlaced, HasItsLines, AreApart, IsApartFrom, AreAllApart, AreParts, NamesEnded, is_put_at, puts_of_part, part_versions, parts_versions, version_of_put}
-use Rattle.wbl_engine.specs.Entries.{IsStorable}
-use Rattle.wbl_engine.specs.Stages.{part_pairs, parts_pairs, puts_of_parts}
+use Rattle.model.specs.Image.{Image, Version, entry_word, entries_of_lines}
+use Rattle.model.specs.Group.{Versions, IsPlaced, HasItsLines, AreApart, IsApartFrom, AreAllApart, AreParts, NamesEnded, is_put_at, puts_of_part, part_versions, parts_versions, version_of_put}
+use Rattle.wbl_engine.specs.Entry.{IsStorable}
+use Rattle.wbl_engine.specs.Stage.{part_pairs, parts_pairs, puts_of_parts}
 use Rattle.wbl_engine.proofs.CountLemmas.{with_cp}
 use Rattle.wbl_engine.proofs.PartEffects.{IsAmong, end_if, end_if_begun, changes_kept, changes_made, is_put_at-among}
 use Rattle.wbl_engine.proofs.PartWords.{part_word-kept}
@@ -20,17 +20,17 @@ use Rattle.wbl_engine.proofs.PutPairs.{among-all}
 
 -- lists one after another
 
-all-front : (P : Put → Type 0) (a b : List Put) → AllByRecursion P (a ++ b) → AllByRecursion P a
-all-front P [] b all = tt
-all-front P (put ∷ a) b all = (all.0, all-front P a b all.1)
+all-prefix : (P : Put → Type 0) (a b : List Put) → AllByRecursion P (a ++ b) → AllByRecursion P a
+all-prefix P [] b all = tt
+all-prefix P (put ∷ a) b all = (all.0, all-prefix P a b all.1)
 
 all-back : (P : Put → Type 0) (a b : List Put) → AllByRecursion P (a ++ b) → AllByRecursion P b
 all-back P [] b all = all
 all-back P (put ∷ a) b all = all-back P a b all.1
 
-apart-front : (a b : List Put) → AreAllApart (a ++ b) → AreAllApart a
-apart-front [] b apart = tt
-apart-front (put ∷ a) b apart = (all-front (IsApartFrom put) a b apart.0, apart-front a b apart.1)
+apart-prefix : (a b : List Put) → AreAllApart (a ++ b) → AreAllApart a
+apart-prefix [] b apart = tt
+apart-prefix (put ∷ a) b apart = (all-prefix (IsApartFrom put) a b apart.0, apart-prefix a b apart.1)
 
 apart-back : (a b : List Put) → AreAllApart (a ++ b) → AreAllApart b
 apart-back [] b apart = apart
@@ -43,10 +43,10 @@ apart-across (first ∷ a) b apart put other (inl here) there =
     subst (λ (p : Put). IsApartFrom p other) (sym here) (among-all (IsApartFrom first) b other there (all-back (IsApartFrom first) a b apart.0))
 apart-across (first ∷ a) b apart put other (inr later) there = apart-across a b apart.1 put other later there
 
-pub among-front : (a b : List Put) (put : Put) → IsAmong put a → IsAmong put (a ++ b)
-among-front [] b put among = absurd among
-among-front (first ∷ a) b put (inl here) = inl here
-among-front (first ∷ a) b put (inr later) = inr (among-front a b put later)
+pub among-prefix : (a b : List Put) (put : Put) → IsAmong put a → IsAmong put (a ++ b)
+among-prefix [] b put among = absurd among
+among-prefix (first ∷ a) b put (inl here) = inl here
+among-prefix (first ∷ a) b put (inr later) = inr (among-prefix a b put later)
 
 pub among-back : (a b : List Put) (put : Put) → IsAmong put b → IsAmong put (a ++ b)
 among-back [] b put among = among
@@ -74,11 +74,11 @@ part_stored lines versions image part parts stored =
     let a : List Put = puts_of_part part in
     let b : List Put = puts_of_parts parts in
     record {
-      placed = all-front (IsPlaced lines) a b stored.placed;
-      fitting = all-front HasItsLines a b stored.fitting;
-      storable = all-front IsStorable a b stored.storable;
-      ready = all-front (IsReady versions image) a b stored.ready;
-      apart = apart-front a b stored.apart;
+      placed = all-prefix (IsPlaced lines) a b stored.placed;
+      fitting = all-prefix HasItsLines a b stored.fitting;
+      storable = all-prefix IsStorable a b stored.storable;
+      ready = all-prefix (IsReady versions image) a b stored.ready;
+      apart = apart-prefix a b stored.apart;
     }
 
 -- a put of a later part has still its place
@@ -94,13 +94,13 @@ still_ready lines stamp versions image part parts stored put among =
     none-from put.entry.0 a (λ other there e. (apart-across a b stored.apart other put there among).entries (sym e)) in
     record {
       free =
-          part_word-kept lines stamp part image put.entry.0 0 placed.entry (omega arith) (omega arith) none (all-front (IsPlaced lines) a b stored.placed)
+          part_word-kept lines stamp part image put.entry.0 0 placed.entry (omega arith) (omega arith) none (all-prefix (IsPlaced lines) a b stored.placed)
           ∙ was.free;
       lines = λ i version is.
           elim (cases_Bool (is_put_at i a)) [
             | inl there ↦
                 let at = is_put_at-among i a there in
-                let made = changes_made part.position versions part.changes.items at.0 at.1 (apart-front a b stored.apart) in
+                let made = changes_made part.position versions part.changes.items at.0 at.1 (apart-prefix a b stored.apart) in
                 let same : Some version ≡ Some (end_if made.test (version_of_put part.position at.0)) =
                 sym is ∙ ap (part_versions versions part) at.2 ∙ made.is in
                 let version_is : version ≡ end_if made.test (version_of_put part.position at.0) = cc in

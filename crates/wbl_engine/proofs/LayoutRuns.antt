@@ -7,9 +7,9 @@ use Rattle.pmem.specs.Runs.{Runs, stores, flushes, pairs_from, lines_from}
 use Rattle.pmem.proofs.Chaining.{Runs-stores, Runs-flushes}
 use Rattle.pmem.proofs.Staging.{stores-append, flushes-append, get_or-pairs_from, length-pairs_from}
 use Rattle.model.specs.declared.group.Put.{Put}
-use Rattle.model.specs.Images.{entry_word}
-use Rattle.model.specs.Groups.{bytes_of_id}
-use Rattle.wbl_engine.specs.Entries.{word_of_bytes, packed, name_bytes, version_bytes, entry_words, put_pairs}
+use Rattle.model.specs.Image.{entry_word}
+use Rattle.model.specs.Group.{bytes_of_id}
+use Rattle.wbl_engine.specs.Entry.{word_of_bytes, packed, name_bytes, version_bytes, entry_words, put_pairs}
 use Rattle.wbl_engine.proofs.Packing.{length-packed, get_or-packed}
 use Rattle.wbl_engine.proofs.ReadBack.{length-name_bytes}
 

@@ -4,7 +4,7 @@ use Rattle.std.specs.Prelude.{replicate}
 use Rattle.pmem.specs.Runs.{pairs_from, IsStored, IsOutside, IsLine, lines_from, written}
 use Rattle.pmem.proofs.Staging.{IsStored-append, IsStored-append_left, IsStored-append_right, IsStored-pairs_from, pairs_from-IsStored, written-stored, IsLine-lines_from}
 use Rattle.model.specs.declared.record.Role.{Role}
-use Rattle.model.specs.Images.{Image, entry_word, entries_of_lines, record_words}
+use Rattle.model.specs.Image.{Image, entry_word, entries_of_lines, record_words}
 use Rattle.wbl_engine.specs.Formatting.{first_record, superblock_words, run_pairs, new_pairs}
 use Rattle.wbl_engine.proofs.RecordWords.{length-record_words}
 
@@ -42,8 +42,8 @@ run_word super slot first rest word x runs stored =
     let c : List (ℕ × ℕ) = pairs_from 32 first in
     let d : List (ℕ × ℕ) = pairs_from 56 rest in
     elim (IsStored-append (a ++ b ++ c) d word x stored) [
-      | inl front ↦
-          elim (IsStored-append (a ++ b) c word x front) [
+      | inl prefix ↦
+          elim (IsStored-append (a ++ b) c word x prefix) [
             | inl early ↦
                 elim (IsStored-append a b word x early) [
                   | inl in_a ↦

@@ -4,8 +4,8 @@ use Rattle.std.proofs.Math.Seq.{drop-cons}
 use Rattle.std.proofs.lemmas.Nat.{le_bytes_8}
 use Rattle.std.specs.List.{flat_map}
 use Rattle.std.specs.Int.{w64, to_le_bytes, from_le_bytes}
-use Rattle.model.specs.Images.{Image, words_from, bytes_at}
-use Rattle.wbl_engine.specs.Entries.{word_of_bytes, packed}
+use Rattle.model.specs.Image.{Image, words_from, bytes_at}
+use Rattle.wbl_engine.specs.Entry.{word_of_bytes, packed}
 
 -- so many bytes from one on, with zeros past their end
 abbrev pub bytes_from : List ℕ → ℕ → ℕ → List ℕ
@@ -76,7 +76,7 @@ flat_map-packed : (bytes : List ℕ) (at count : ℕ) → ((i : ℕ) → get_or 
 flat_map-packed bytes at zero small = let e : 0 ≡ 8 * 0 = omega arith in ap (bytes_from bytes at) e
 flat_map-packed bytes at (suc count) small =
     let e : 8 + 8 * count ≡ 8 * suc count = omega arith in
-    ap (λ (front : List ℕ). front ++ flat_map (to_le_bytes w64) (packed bytes (at + 8) count))
+    ap (λ (prefix : List ℕ). prefix ++ flat_map (to_le_bytes w64) (packed bytes (at + 8) count))
     (to_le_bytes-word_of_bytes bytes at small ∙ sym (bytes_from-eight bytes at))
     ∙ ap (λ (rest : List ℕ). bytes_from bytes at 8 ++ rest) (flat_map-packed bytes (at + 8) count small)
     ∙ bytes_from-append bytes at 8 (8 * count) ∙ ap (bytes_from bytes at) e
@@ -85,7 +85,7 @@ drop_to_end : (bytes : List ℕ) → drop (length bytes) bytes ≡ []
 drop_to_end [] = refl
 drop_to_end (b ∷ bytes) = drop_to_end bytes
 
--- the front of the bytes
+-- the prefix of the bytes
 take-bytes_from : (bytes : List ℕ) (at count room : ℕ) → at + count ≡ length bytes → count ≤ room → take count (bytes_from bytes at room) ≡ drop at bytes
 take-bytes_from bytes at zero room e fits =
     let all : at ≡ length bytes = omega arith in

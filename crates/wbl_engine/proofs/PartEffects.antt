@@ -8,8 +8,8 @@ use Rattle.kv_types.specs.declared.change.Change.{Change}
 use Rattle.model.specs.declared.group.Put.{Put}
 use Rattle.model.specs.declared.group.PlacedChange.{PlacedChange}
 use Rattle.model.specs.declared.group.PlacedChange.TheVariants as placed
-use Rattle.model.specs.Images.{Version}
-use Rattle.model.specs.Groups.{Versions, change_of, put_of, ends_record, ended_by, ended_where_begun, version_of_put, with_puts, change_versions, changes_versions, AreApart, IsApartFrom, AreAllApart, is_put_at}
+use Rattle.model.specs.Image.{Version}
+use Rattle.model.specs.Group.{Versions, change_of, put_of, ends_record, ended_by, ended_where_begun, version_of_put, with_puts, change_versions, changes_versions, AreApart, IsApartFrom, AreAllApart, is_put_at}
 
 -- the version, ended where the test says so
 abbrev pub end_if : Bool → Version → Version

@@ -6,11 +6,11 @@ use Rattle.pmem.specs.Runs.{written}
 use Rattle.model.specs.declared.record.Record.{Record}
 use Rattle.model.specs.declared.group.Part.{Part}
 use Rattle.model.specs.declared.group.Put.{Put}
-use Rattle.model.specs.Images.{Image, Version, entry_word, entry_bytes, entries_of_lines, first_extent_line, version_at, version_in, counts, is_in_gap}
-use Rattle.model.specs.Groups.{Versions, IsPlaced, HasItsLines, AreApart, IsApartFrom, AreAllApart, NamesEnded, is_put_at, is_live_version, is_ended_version, puts_of_part, part_versions, version_of_put}
+use Rattle.model.specs.Image.{Image, Version, entry_word, entry_bytes, entries_of_lines, first_extent_line, version_at, version_in, counts, is_in_gap}
+use Rattle.model.specs.Group.{Versions, IsPlaced, HasItsLines, AreApart, IsApartFrom, AreAllApart, NamesEnded, is_put_at, is_live_version, is_ended_version, puts_of_part, part_versions, version_of_put}
 use Rattle.wbl_engine.specs.AtRest.{IsInPlace}
-use Rattle.wbl_engine.specs.Entries.{version_bytes, IsStorable}
-use Rattle.wbl_engine.specs.Stages.{part_pairs}
+use Rattle.wbl_engine.specs.Entry.{version_bytes, IsStorable}
+use Rattle.wbl_engine.specs.Stage.{part_pairs}
 use Rattle.wbl_engine.proofs.CountLemmas.{with_cp, counts-zero, counts-above, counts-below, counts-later, counts-new}
 use Rattle.wbl_engine.proofs.PartEffects.{IsAmong, IsKeptOrEnded, IsMade, end_if, end_if_begun, changes_kept, changes_made, is_put_at-among, among-is_put_at}
 use Rattle.wbl_engine.proofs.PartWords.{named_or_not, contains-named, named-contains, part_word-end_of_put, part_word-named, part_words-put, part_word-kept, part_word-kept_end, part_word-behind}

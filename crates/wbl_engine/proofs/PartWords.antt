@@ -7,10 +7,10 @@ use Rattle.pmem.specs.Runs.{IsOutside, written}
 use Rattle.pmem.proofs.Staging.{written-append, written-outside, same_or_other}
 use Rattle.model.specs.declared.group.Part.{Part}
 use Rattle.model.specs.declared.group.Put.{Put}
-use Rattle.model.specs.Images.{Image, entry_word, entries_of_lines, first_extent_line}
-use Rattle.model.specs.Groups.{IsPlaced, AreAllApart, is_put_at, puts_of_part}
-use Rattle.wbl_engine.specs.Entries.{word_of_bytes, version_bytes, entry_words}
-use Rattle.wbl_engine.specs.Stages.{puts_pairs, end_pairs, part_pairs}
+use Rattle.model.specs.Image.{Image, entry_word, entries_of_lines, first_extent_line}
+use Rattle.model.specs.Group.{IsPlaced, AreAllApart, is_put_at, puts_of_part}
+use Rattle.wbl_engine.specs.Entry.{word_of_bytes, version_bytes, entry_words}
+use Rattle.wbl_engine.specs.Stage.{puts_pairs, end_pairs, part_pairs}
 use Rattle.wbl_engine.proofs.PartEffects.{IsAmong, among-is_put_at}
 use Rattle.wbl_engine.proofs.PutPairs.{IsOfEntry, IsOfExtent, IsNamed, among-all, puts_pairs-outside, puts_pairs-entry, puts_pairs-extent, end_pairs-named, end_pairs-outside}
 use Rattle.wbl_engine.proofs.ReadBack.{HasPut}

@@ -5,10 +5,10 @@ use Rattle.kv_types.specs.declared.place.EntryNo.{EntryNo}
 use Rattle.pmem.specs.Runs.{pairs_from, IsStored, IsOutside, written}
 use Rattle.pmem.proofs.Staging.{IsStored-append, IsStored-pairs_from, pairs_from-outside, written-append, written-outside, written-pairs_from, written-stored}
 use Rattle.model.specs.declared.group.Put.{Put}
-use Rattle.model.specs.Images.{Image, entry_word, entries_of_lines, first_extent_line}
-use Rattle.model.specs.Groups.{IsPlaced, AreApart, IsApartFrom, AreAllApart}
-use Rattle.wbl_engine.specs.Entries.{word_of_bytes, packed, version_bytes, entry_words, extent_words, put_pairs}
-use Rattle.wbl_engine.specs.Stages.{puts_pairs, end_pairs}
+use Rattle.model.specs.Image.{Image, entry_word, entries_of_lines, first_extent_line}
+use Rattle.model.specs.Group.{IsPlaced, AreApart, IsApartFrom, AreAllApart}
+use Rattle.wbl_engine.specs.Entry.{word_of_bytes, packed, version_bytes, entry_words, extent_words, put_pairs}
+use Rattle.wbl_engine.specs.Stage.{puts_pairs, end_pairs}
 use Rattle.wbl_engine.proofs.Packing.{length-packed, get_or-packed}
 use Rattle.wbl_engine.proofs.PartEffects.{IsAmong}
 

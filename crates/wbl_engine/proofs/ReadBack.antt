@@ -4,11 +4,11 @@ use Rattle.std.proofs.Math.Seq.{take-append_seam, drop-append_seam}
 use Rattle.std.proofs.lemmas.Bool.{cond_both, eqb-true}
 use Rattle.kv_types.specs.declared.record_id.RecordId.{RecordId}
 use Rattle.kv_types.specs.declared.record_id.RecordId.TheVariants.{Str, Field}
-use Rattle.kv_types.specs.Keyspaces.{key_of}
+use Rattle.kv_types.specs.Keyspace.{key_of}
 use Rattle.model.specs.declared.group.Put.{Put}
-use Rattle.model.specs.Images.{Image, Version, id_of, entry_word, entry_bytes, bytes_at, lines_of_bytes}
-use Rattle.model.specs.Groups.{bytes_of_id, HasItsLines, version_of_put}
-use Rattle.wbl_engine.specs.Entries.{word_of_bytes, name_bytes, version_bytes, kind_number, lengths_word, entry_words, IsStorable}
+use Rattle.model.specs.Image.{Image, Version, id_of, entry_word, entry_bytes, bytes_at, lines_of_bytes}
+use Rattle.model.specs.Group.{bytes_of_id, HasItsLines, version_of_put}
+use Rattle.wbl_engine.specs.Entry.{word_of_bytes, name_bytes, version_bytes, kind_number, lengths_word, entry_words, IsStorable}
 use Rattle.wbl_engine.proofs.Packing.{bytes_at-packed}
 use Rattle.wbl_engine.proofs.PartEffects.{end_if}
 use Rattle.wbl_engine.proofs.VersionLemmas.{version_of, version_in_entry}

@@ -9,9 +9,9 @@ use Rattle.pmem.proofs.Leaving.{LeavesOnly-then, LeavesOnly-weaken}
 use Rattle.pmem.proofs.Staging.{IsStored-pairs_from, pairs_from-outside, written-pairs_from, written-outside, IsLine-lines_from, stored_or_outside, same_or_other}
 use Rattle.model.specs.declared.record.Record.{Record}
 use Rattle.model.specs.declared.layout.TheConstants.{LAYOUT}
-use Rattle.model.specs.Layouts.{first_word}
-use Rattle.model.specs.Images.{Image, HasRecord, root_word, record_word, record_words, slot_line}
-use Rattle.wbl_engine.specs.Records.{IsRecordWord, body_pairs, body_lines, root_pairs, IsRecorded, IsRecordFault, IsSucceeded, IsEitherRecord}
+use Rattle.model.specs.Layout.{first_word}
+use Rattle.model.specs.Image.{Image, HasRecord, root_word, record_word, record_words, slot_line}
+use Rattle.wbl_engine.specs.Record.{IsRecordWord, body_pairs, body_lines, root_pairs, IsRecorded, IsRecordFault, IsSucceeded, IsEitherRecord}
 use Rattle.wbl_engine.proofs.Mixing.{IsMixed, mixed}
 use Rattle.wbl_engine.proofs.RecordWords.{length-record_words, HasWords-at, HasRecord-same}
 

@@ -3,7 +3,7 @@ use Rattle.std.proofs.Common.{◌≡◌, ℕ, zero, suc, ◌+◌, ◌-◌, ◌*�
 use Rattle.std.proofs.Math.ListN.{length-replicate}
 use Rattle.model.specs.declared.record.Gap.{Gap}
 use Rattle.model.specs.declared.record.Record.{Record}
-use Rattle.model.specs.Images.{Image, HasWords, HasRecord, gaps_words, record_word, record_words, role_number, root_word}
+use Rattle.model.specs.Image.{Image, HasWords, HasRecord, gaps_words, record_word, record_words, role_number, root_word}
 
 -- no gap
 abbrev pub no_gap : Gap

@@ -6,8 +6,8 @@ use Rattle.pmem.specs.Runs.{IsStored, IsPartlyStored}
 use Rattle.model.specs.declared.record.Record.{Record}
 use Rattle.model.specs.declared.group.Group.{Group}
 use Rattle.model.specs.declared.group.Put.{Put}
-use Rattle.model.specs.Images.{Image, HasSuperblock, HasRecord, root_word, record_word, entry_word, entries_of_lines, version_at}
-use Rattle.model.specs.Groups.{Contents, Versions}
+use Rattle.model.specs.Image.{Image, HasSuperblock, HasRecord, root_word, record_word, entry_word, entries_of_lines, version_at}
+use Rattle.model.specs.Group.{Contents, Versions}
 use Rattle.wbl_engine.specs.AtRest.{contents_of, IsSound, IsWhole, IsAtRest, Matters}
 use Rattle.wbl_engine.specs.Contents.{Keeps}
 use Rattle.wbl_engine.proofs.Beginning.{versions-within}

@@ -5,10 +5,10 @@ use Rattle.std.proofs.lemmas.Bool.{cond-true, cond-false, cases_Bool, cases_lt, 
 use Rattle.pmem.specs.Runs.{IsStored}
 use Rattle.model.specs.declared.record.Record.{Record}
 use Rattle.model.specs.declared.group.Put.{Put}
-use Rattle.model.specs.Images.{Image, Version, entry_word, entry_bytes, entries_of_lines, first_extent_line, version_at, version_in, counts}
-use Rattle.model.specs.Groups.{Versions, IsPlaced, AreApart, is_put_at, is_live_version}
+use Rattle.model.specs.Image.{Image, Version, entry_word, entry_bytes, entries_of_lines, first_extent_line, version_at, version_in, counts}
+use Rattle.model.specs.Group.{Versions, IsPlaced, AreApart, is_put_at, is_live_version}
 use Rattle.wbl_engine.specs.AtRest.{Matters, IsInExtent, IsInPlace}
-use Rattle.wbl_engine.specs.Entries.{entry_words}
+use Rattle.wbl_engine.specs.Entry.{entry_words}
 use Rattle.wbl_engine.proofs.CountLemmas.{counts-zero, counts-above, counts-below}
 use Rattle.wbl_engine.proofs.PartEffects.{IsAmong, is_put_at-among}
 use Rattle.wbl_engine.proofs.PartSteps.{Fits, IsReady, AreStored}

@@ -10,10 +10,10 @@ use Rattle.model.specs.declared.group.Part.{Part}
 use Rattle.model.specs.declared.group.PlacedChange.{PlacedChange}
 use Rattle.model.specs.declared.group.PlacedChange.TheVariants as placed
 use Rattle.model.specs.declared.group.Put.{Put}
-use Rattle.model.specs.Images.{entry_word}
-use Rattle.model.specs.Groups.{put_of, puts_of_part}
-use Rattle.wbl_engine.specs.Entries.{put_pairs, put_lines}
-use Rattle.wbl_engine.specs.Stages.{puts_of_changes, puts_of_parts, puts_pairs, end_pairs, part_pairs, parts_pairs, puts_lines, end_lines, part_lines, parts_lines}
+use Rattle.model.specs.Image.{entry_word}
+use Rattle.model.specs.Group.{put_of, puts_of_part}
+use Rattle.wbl_engine.specs.Entry.{put_pairs, put_lines}
+use Rattle.wbl_engine.specs.Stage.{puts_of_changes, puts_of_parts, puts_pairs, end_pairs, part_pairs, parts_pairs, puts_lines, end_lines, part_lines, parts_lines}
 use Rattle.wbl_engine.proofs.LayoutRuns.{Runs-more_stores, Runs-more_flushes}
 
 -- a change that puts nothing
@@ -34,9 +34,9 @@ all_at P [] i d below all = absurd (omega arith)
 all_at P (y ∷ xs) zero d below all = all.0
 all_at P (y ∷ xs) (suc i) d below all = all_at P xs i d (omega arith) all.1
 
-all-front : {Y : Type 0} (P : Y → Type 0) (a b : List Y) → AllByRecursion P (a ++ b) → AllByRecursion P a
-all-front P [] b all = tt
-all-front P (y ∷ a) b all = (all.0, all-front P a b all.1)
+all-prefix : {Y : Type 0} (P : Y → Type 0) (a b : List Y) → AllByRecursion P (a ++ b) → AllByRecursion P a
+all-prefix P [] b all = tt
+all-prefix P (y ∷ a) b all = (all.0, all-prefix P a b all.1)
 
 all-back : {Y : Type 0} (P : Y → Type 0) (a b : List Y) → AllByRecursion P (a ++ b) → AllByRecursion P b
 all-back P [] b all = all
@@ -50,7 +50,7 @@ all-both P (y ∷ a) b first second = (first.0, all-both P a b first.1 second)
 pub all_of_item : {X Y : Type 0} (P : Y → Type 0) (f : X → List Y) (xs : List X) (i : ℕ) (x : X) → i < length xs → x ≡ get_or xs i x
     → AllByRecursion P (flat_map f xs) → AllByRecursion P (f x)
 all_of_item P f [] i x below is all = absurd (omega arith)
-all_of_item P f (y ∷ xs) zero x below is all = subst (λ z. AllByRecursion P (f z)) (sym is) (all-front P (f y) (flat_map f xs) all)
+all_of_item P f (y ∷ xs) zero x below is all = subst (λ z. AllByRecursion P (f z)) (sym is) (all-prefix P (f y) (flat_map f xs) all)
 all_of_item P f (y ∷ xs) (suc i) x below is all = all_of_item P f xs i x (omega arith) is (all-back P (f y) (flat_map f xs) all)
 
 -- one element more
@@ -64,19 +64,19 @@ flat_map-item f xs i x below is =
 
 pub all_more : {X Y : Type 0} (P : Y → Type 0) (f : X → List Y) (xs : List X) (i : ℕ) (x : X) → i < length xs → x ≡ get_or xs i x
     → AllByRecursion P (flat_map f (take i xs)) → AllByRecursion P (f x) → AllByRecursion P (flat_map f (take (i + 1) xs))
-all_more P f xs i x below is front one =
-    subst (AllByRecursion P) (sym (flat_map-item f xs i x below is)) (all-both P (flat_map f (take i xs)) (f x) front one)
+all_more P f xs i x below is prefix one =
+    subst (AllByRecursion P) (sym (flat_map-item f xs i x below is)) (all-both P (flat_map f (take i xs)) (f x) prefix one)
 
 -- runs that store as far as a loop has come
-stores_more : {a b c : State} (now front one : List (ℕ × ℕ)) → now ≡ front ++ one → Runs a b (stores front a.words) → Runs b c (stores one b.words)
+stores_more : {a b c : State} (now prefix one : List (ℕ × ℕ)) → now ≡ prefix ++ one → Runs a b (stores prefix a.words) → Runs b c (stores one b.words)
     → Runs a c (stores now a.words)
-stores_more {a} {b} {c} now front one is run more =
-    subst (λ (pairs : List (ℕ × ℕ)). Runs a c (stores pairs a.words)) (sym is) (Runs-more_stores front one run more)
+stores_more {a} {b} {c} now prefix one is run more =
+    subst (λ (pairs : List (ℕ × ℕ)). Runs a c (stores pairs a.words)) (sym is) (Runs-more_stores prefix one run more)
 
-flushes_more : {a b c : State} (now front one : List ℕ) → now ≡ front ++ one → Runs a b (flushes front a.words) → Runs b c (flushes one b.words)
+flushes_more : {a b c : State} (now prefix one : List ℕ) → now ≡ prefix ++ one → Runs a b (flushes prefix a.words) → Runs b c (flushes one b.words)
     → Runs a c (flushes now a.words)
-flushes_more {a} {b} {c} now front one is run more =
-    subst (λ (lines : List ℕ). Runs a c (flushes lines a.words)) (sym is) (Runs-more_flushes front one run more)
+flushes_more {a} {b} {c} now prefix one is run more =
+    subst (λ (lines : List ℕ). Runs a c (flushes lines a.words)) (sym is) (Runs-more_flushes prefix one run more)
 
 -- the loop over changes
 pub changes_stored : {a b c : State} (stamp position : ℕ) (changes : List PlacedChange) (i : ℕ) (change : PlacedChange) → i < length changes

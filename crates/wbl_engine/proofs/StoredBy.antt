@@ -6,14 +6,14 @@ use Rattle.pmem.specs.Runs.{IsStored}
 use Rattle.pmem.proofs.Staging.{IsStored-append}
 use Rattle.model.specs.declared.group.Part.{Part}
 use Rattle.model.specs.declared.group.Put.{Put}
-use Rattle.model.specs.Images.{Version, entry_word}
-use Rattle.model.specs.Groups.{Versions, AreAllApart, AreParts, NamesEnded, is_put_at, is_live_version, puts_of_part, part_versions}
-use Rattle.wbl_engine.specs.Entries.{entry_words, put_pairs}
-use Rattle.wbl_engine.specs.Stages.{puts_pairs, end_pairs, part_pairs, parts_pairs, puts_of_parts}
+use Rattle.model.specs.Image.{Version, entry_word}
+use Rattle.model.specs.Group.{Versions, AreAllApart, AreParts, NamesEnded, is_put_at, is_live_version, puts_of_part, part_versions}
+use Rattle.wbl_engine.specs.Entry.{entry_words, put_pairs}
+use Rattle.wbl_engine.specs.Stage.{puts_pairs, end_pairs, part_pairs, parts_pairs, puts_of_parts}
 use Rattle.wbl_engine.proofs.PartEffects.{IsAmong, end_if, end_if_begun, IsKeptOrEnded, changes_kept, is_put_at-among, among-is_put_at}
 use Rattle.wbl_engine.proofs.PartWords.{named-contains}
 use Rattle.wbl_engine.proofs.PutPairs.{IsOfEntry, IsOfExtent, IsNamed, put_pairs-where, end_pairs-where}
-use Rattle.wbl_engine.proofs.GroupSteps.{among-front, among-back}
+use Rattle.wbl_engine.proofs.GroupSteps.{among-prefix, among-back}
 
 pub record ByExtent (puts : List Put) (word : ℕ) : Type 0 where
   pub put : Put
@@ -78,10 +78,10 @@ puts_by versions stamp count position (put ∷ puts) word x some stored =
           ]
     ]
 
-is_put_at-front : (i : ℕ) (a b : List Put) → is_put_at i a ≡ true → is_put_at i (a ++ b) ≡ true
-is_put_at-front i a b put =
+is_put_at-prefix : (i : ℕ) (a b : List Put) → is_put_at i a ≡ true → is_put_at i (a ++ b) ≡ true
+is_put_at-prefix i a b put =
     let at = is_put_at-among i a put in
-    ap (λ (n : ℕ). is_put_at n (a ++ b)) at.2 ∙ among-is_put_at at.0 (a ++ b) (among-front a b at.0 at.1)
+    ap (λ (n : ℕ). is_put_at n (a ++ b)) at.2 ∙ among-is_put_at at.0 (a ++ b) (among-prefix a b at.0 at.1)
 
 is_put_at-back : (i : ℕ) (a b : List Put) → is_put_at i b ≡ true → is_put_at i (a ++ b) ≡ true
 is_put_at-back i a b put =
@@ -105,7 +105,7 @@ live_then versions part rest i live =
       | inl now ↦
           elim (cases_Bool (is_put_at i (puts_of_part part))) [
             | inl put ↦
-                or_right (is_live_version (versions i)) (is_put_at i (puts_of_part part ++ rest)) (is_put_at-front i (puts_of_part part) rest put)
+                or_right (is_live_version (versions i)) (is_put_at i (puts_of_part part ++ rest)) (is_put_at-prefix i (puts_of_part part) rest put)
             | inr none ↦
                 let kept = changes_kept part.position versions part.changes.items i none in
                 or_left (is_live_version (versions i)) (is_put_at i (puts_of_part part ++ rest))
@@ -115,13 +115,13 @@ live_then versions part rest i live =
           or_right (is_live_version (versions i)) (is_put_at i (puts_of_part part ++ rest)) (is_put_at-back i (puts_of_part part) rest later)
     ]
 
-pub live_front : (versions : Versions) (part : Part) (rest : List Put) (i : ℕ)
+pub live_prefix : (versions : Versions) (part : Part) (rest : List Put) (i : ℕ)
     → IsTrue (is_live_version (versions i) || is_put_at i (puts_of_part part))
     → IsTrue (is_live_version (versions i) || is_put_at i (puts_of_part part ++ rest))
-live_front versions part rest i live =
+live_prefix versions part rest i live =
     elim (or_cases (is_live_version (versions i)) (is_put_at i (puts_of_part part)) live) [
       | inl now ↦ or_left (is_live_version (versions i)) (is_put_at i (puts_of_part part ++ rest)) now
-      | inr put ↦ or_right (is_live_version (versions i)) (is_put_at i (puts_of_part part ++ rest)) (is_put_at-front i (puts_of_part part) rest put)
+      | inr put ↦ or_right (is_live_version (versions i)) (is_put_at i (puts_of_part part ++ rest)) (is_put_at-prefix i (puts_of_part part) rest put)
     ]
 
 -- a store of one part
@@ -132,11 +132,11 @@ part_by versions stamp count part rest word x some names stored =
     elim (IsStored-append (puts_pairs stamp part.position a) (end_pairs stamp part.ended.items) word x stored) [
       | inl put ↦
           elim (puts_by versions stamp count part.position a word x some put) [
-            | inl extent ↦ inl (record { put = extent.put; among = among-front a rest extent.put extent.among; of = extent.of })
+            | inl extent ↦ inl (record { put = extent.put; among = among-prefix a rest extent.put extent.among; of = extent.of })
             | inr entry ↦
                 inr (inl (record {
                   put = entry.put;
-                  among = among-front a rest entry.put entry.among;
+                  among = among-prefix a rest entry.put entry.among;
                   begin = entry.begin;
                   position = entry.position;
                   of = entry.of;
@@ -152,7 +152,7 @@ part_by versions stamp count part rest word x some names stored =
             word_is = at.2;
             low = omega (arith, at.3);
             high = omega (arith, at.3);
-            live = live_front versions part rest at.0 ((names at.0).0 (named-contains at.0 part.ended.items at.1)).0;
+            live = live_prefix versions part rest at.0 ((names at.0).0 (named-contains at.0 part.ended.items at.1)).0;
           }))
     ]
 

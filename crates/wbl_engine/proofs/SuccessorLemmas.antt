@@ -1,7 +1,7 @@
 -- The position of the last part.
 use Rattle.std.proofs.Common.{◌≡◌, ℕ, zero, suc, ◌+◌, ◌-◌, ◌<◌, List, [], ◌∷◌, length, get_or, refl, sym, ap, ◌∙◌, arith}
 use Rattle.model.specs.declared.group.Part.{Part}
-use Rattle.model.specs.Groups.{last_position}
+use Rattle.model.specs.Group.{last_position}
 
 pub last_position-get : (before : ℕ) (parts : List Part) (d : Part) → 0 < length parts
     → last_position before parts ≡ (get_or parts (length parts - 1) d).position

@@ -5,7 +5,7 @@ use Rattle.std.specs.Int.{w64, to_le_bytes}
 use Rattle.std.specs.Prelude.{nat_lt, nat_le}
 use Rattle.kv_types.specs.declared.record_id.RecordId.{RecordId}
 use Rattle.model.specs.declared.record.Record.{Record}
-use Rattle.model.specs.Images.{Image, Version, words_from, bytes_at, id_of, entry_word, entry_bytes, version_in, version_at, counts, is_in_gap}
+use Rattle.model.specs.Image.{Image, Version, words_from, bytes_at, id_of, entry_word, entry_bytes, version_in, version_at, counts, is_in_gap}
 
 words_from-same : (base image : Image) (first count : ℕ) → ((j : ℕ) → j < count → image (first + j) ≡ base (first + j))
     → words_from image first count ≡ words_from base first count

@@ -7,9 +7,9 @@ use Rattle.pmem.specs.Crash.{IsImage, image_of}
 use Rattle.model.specs.declared.image.TheConstants.{MIN_LINES, MAX_LINES, COUNTER_LIMIT, STAMP_WINDOW}
 use Rattle.model.specs.declared.layout.TheConstants.{LAYOUT, LINE_BYTES}
 use Rattle.model.specs.declared.record.Record.{Record}
-use Rattle.model.specs.Layouts.{first_word}
-use Rattle.model.specs.Images.{Image, HasSuperblock, HasWords, HasRecord, root_word, entries_of_lines, first_extent_line, entry_word, entry_bytes, version_at, counts, is_in_gap}
-use Rattle.model.specs.Groups.{Contents}
+use Rattle.model.specs.Layout.{first_word}
+use Rattle.model.specs.Image.{Image, HasSuperblock, HasWords, HasRecord, root_word, entries_of_lines, first_extent_line, entry_word, entry_bytes, version_at, counts, is_in_gap}
+use Rattle.model.specs.Group.{Contents}
 
 -- what an engine with this record holds over this device. Begins above the record's last stamp are of no version: a commit that failed left them.
 abbrev pub contents_of : Record → State → Contents
@@ -50,7 +50,7 @@ pub record IsInExtent (image : Image) (i word : ℕ) : Type 0 where
   pub low : first_word (image (entry_word i 3)) ≤ word
   pub high : word < first_word (image (entry_word i 3) + image (entry_word i 4))
 
--- The map depends on this word: it is of the superblock's front, of the directory, or of the extent of an entry whose begin counts.
+-- The map depends on this word: it is of the superblock's prefix, of the directory, or of the extent of an entry whose begin counts.
 abbrev pub Matters : Record → ℕ → Image → ℕ → Type 0
 Matters r lines image word =
     (word < root_word)

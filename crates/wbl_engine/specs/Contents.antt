@@ -7,8 +7,8 @@ use Rattle.model.specs.declared.image.TheConstants.{COUNTER_LIMIT, STAMP_WINDOW}
 use Rattle.model.specs.declared.record.Record.{Record}
 use Rattle.model.specs.declared.record.TheConstants.{FIRST_EPOCH}
 use Rattle.model.specs.declared.record.Role.{Role}
-use Rattle.model.specs.Images.{Image, HasSuperblock, HasRecord, entries_of_lines, entry_word, version_at}
-use Rattle.model.specs.Groups.{Contents, next_record}
+use Rattle.model.specs.Image.{Image, HasSuperblock, HasRecord, entries_of_lines, entry_word, version_at}
+use Rattle.model.specs.Group.{Contents, next_record}
 
 -- The image holds these contents: its record is the current one, and each entry holds the version that it should. Every stamp in it is below
 -- the limit of the record.

@@ -8,9 +8,9 @@ use Rattle.model.specs.declared.layout.TheConstants.{LAYOUT}
 use Rattle.model.specs.declared.record.Record.{Record}
 use Rattle.model.specs.declared.record.TheConstants.{FIRST_EPOCH}
 use Rattle.model.specs.declared.record.Role.{Role}
-use Rattle.model.specs.Layouts.{first_word}
-use Rattle.model.specs.Images.{Image, magic_number, entries_of_lines, record_words}
-use Rattle.model.specs.Groups.{Contents}
+use Rattle.model.specs.Layout.{first_word}
+use Rattle.model.specs.Image.{Image, magic_number, entries_of_lines, record_words}
+use Rattle.model.specs.Group.{Contents}
 use Rattle.wbl_engine.specs.Contents.{Keeps}
 
 -- the record of a new image

@@ -1,6 +1,6 @@
 pub mod AtRest
 pub mod Contents
-pub mod Entries
+pub mod Entry
 pub mod Formatting
-pub mod Records
-pub mod Stages
+pub mod Record
+pub mod Stage

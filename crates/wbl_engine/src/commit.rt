@@ -1,7 +1,7 @@
 //! A group is stored, and then the record that makes it count.
 ghost use Rattle.std.specs.Prelude.{◌≡◌, ◌⊎◌, ◌<◌, OnOk, OnErr};
 ghost use Rattle.pmem.specs.Runs.{LeavesOnly};
-ghost use Rattle.model.specs.Groups.{IsGroup, next_record, after_group};
+ghost use Rattle.model.specs.Group.{IsGroup, next_record, after_group};
 ghost use Rattle.wbl_engine.specs.AtRest.{IsAtRest, IsSound, contents_of};
 ghost use Rattle.wbl_engine.specs.Contents.{Keeps, Same};
 

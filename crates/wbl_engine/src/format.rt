@@ -2,7 +2,7 @@
 ghost use Rattle.std.specs.Prelude.{◌≡◌, ◌+◌, ◌*◌, ◌<◌, ◌≤◌, replicate, OnOk, OnErr};
 ghost use Rattle.pmem.specs.Runs.{LeavesOnly, Runs, Staged, StageFailed, stores, pairs_from, lines_from};
 ghost use Rattle.model.specs.declared.image.TheConstants.{MIN_LINES, MAX_LINES};
-ghost use Rattle.model.specs.Images.{entries_of_lines, first_extent_line};
+ghost use Rattle.model.specs.Image.{entries_of_lines, first_extent_line};
 ghost use Rattle.wbl_engine.specs.AtRest.{IsAtRest};
 ghost use Rattle.wbl_engine.specs.Formatting.{first_record, new_pairs, IsFormatting};
 

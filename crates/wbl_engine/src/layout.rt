@@ -1,11 +1,11 @@
 //! Versions in an image: an entry of the directory, and an extent with the bytes of key, field and value.
 ghost use Rattle.std.specs.Prelude.{◌≡◌, ℕ, ◌+◌, ◌*◌, ◌^◌, ◌<◌, ◌≤◌, ◌++◌, length, slice_index};
 ghost use Rattle.pmem.specs.Runs.{Runs, stores, flushes, pairs_from};
-ghost use Rattle.kv_types.specs.Keyspaces.{key_of};
-ghost use Rattle.model.specs.Layouts.{first_word};
-ghost use Rattle.model.specs.Images.{entry_word, lines_of_bytes};
-ghost use Rattle.model.specs.Groups.{IsPlaced, HasItsLines, bytes_of_id};
-ghost use Rattle.wbl_engine.specs.Entries.{word_of_bytes, packed, name_bytes, kind_number, lengths_word, put_pairs, put_lines, IsStorable};
+ghost use Rattle.kv_types.specs.Keyspace.{key_of};
+ghost use Rattle.model.specs.Layout.{first_word};
+ghost use Rattle.model.specs.Image.{entry_word, lines_of_bytes};
+ghost use Rattle.model.specs.Group.{IsPlaced, HasItsLines, bytes_of_id};
+ghost use Rattle.wbl_engine.specs.Entry.{word_of_bytes, packed, name_bytes, kind_number, lengths_word, put_pairs, put_lines, IsStorable};
 
 use kv_types::{EntryNo, Extent, RecordId, Value};
 use model::{FIELD_LENGTH_UNIT, LAYOUT, LINE_BYTES, LINE_WORDS, Put, WORD_BYTES};

@@ -3,9 +3,9 @@ ghost use Rattle.std.specs.Prelude.{◌≡◌, ◌+◌, ◌*◌, ◌≤◌, leng
 ghost use Rattle.pmem.specs.Device.{State};
 ghost use Rattle.pmem.specs.Runs.{LeavesOnly, Staged, StageFailed, pairs_from, lines_from};
 ghost use Rattle.model.specs.declared.record.Record.{Record};
-ghost use Rattle.model.specs.Layouts.{first_word};
-ghost use Rattle.model.specs.Images.{record_words, role_number};
-ghost use Rattle.wbl_engine.specs.Records.{IsRecorded, IsRecordFault, IsSucceeded, IsEitherRecord};
+ghost use Rattle.model.specs.Layout.{first_word};
+ghost use Rattle.model.specs.Image.{record_words, role_number};
+ghost use Rattle.wbl_engine.specs.Record.{IsRecorded, IsRecordFault, IsSucceeded, IsEitherRecord};
 
 use arrayvec::ArrayVec;
 use model::{Gap, LAYOUT, LINE_WORDS, MAX_GAPS, Record, Role};

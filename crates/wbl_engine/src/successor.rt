@@ -1,7 +1,7 @@
 //! The record after a group.
 ghost use Rattle.std.specs.Prelude.{◌≡◌, ◌⊎◌, ◌≤◌, length, IfSome, IfNone};
 ghost use Rattle.model.specs.declared.group.TheConstants.{MAX_PARTS};
-ghost use Rattle.model.specs.Groups.{next_record, last_position};
+ghost use Rattle.model.specs.Group.{next_record, last_position};
 ghost use Rattle.wbl_engine.specs.AtRest.{IsSound};
 
 use arrayvec::ArrayVec;

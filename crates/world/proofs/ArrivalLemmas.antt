@@ -4,15 +4,15 @@ use Rattle.std.proofs.lemmas.List.{map-append}
 use Rattle.std.proofs.lemmas.Option.{slice_get_within, get_or_from_slice_get}
 use Rattle.std.proofs.lemmas.Bool.{lt-ltb, le-ltb}
 use Rattle.model.specs.declared.call.Call.{Call}
-use Rattle.model.specs.Calls.{is_nonempty}
+use Rattle.model.specs.Call.{is_nonempty}
 use Rattle.model.specs.Standing.{Holder}
-use Rattle.machine.specs.Events.{World, Frame as Sent, Acknowledgement, delivered, option_items, with_standby, with_acknowledged, without_first}
+use Rattle.machine.specs.Event.{World, Frame as Sent, Acknowledgement, delivered, option_items, with_standby, with_acknowledged, without_first}
 use Rattle.standby.specs.declared.frame.Ack.{Ack}
 use Rattle.standby.specs.declared.frame.Frame.{Frame}
 use Rattle.world.specs.declared.arrivals.Arrivals.{Arrivals}
 use Rattle.world.specs.Going.{Goes}
-use Rattle.world.specs.Links.{IsFrameOf, IsFrameAt, AreFramesAt}
-use Rattle.world.specs.Standbys.{Node, ArrivalsStand, AppliesFirst, told_by}
+use Rattle.world.specs.Link.{IsFrameOf, IsFrameAt, AreFramesAt}
+use Rattle.world.specs.Standby.{Node, ArrivalsRefine, AppliesFirst, told_by}
 use Rattle.world.proofs.LinkLemmas.{AreFramesAt-grows, AreFramesAt-frames}
 use Rattle.world.proofs.StandbyLemmas.{Took}
 
@@ -51,9 +51,9 @@ at_index epoch calls frames (first ∷ places) (span ∷ spans) (suc i) place ar
 
 pub delivers : (epoch : ℕ) (frames : List Frame) (w : World) (sent : List ℕ) (i place : ℕ) (old new : Arrivals) → slice_get sent i ≡ Some place
     → new.delivered.items ≡ old.delivered.items ++ place ∷ [] → new.acknowledgements.items ≡ old.acknowledgements.items
-    → ArrivalsStand epoch w.primary.calls frames old w.standby.waiting w.wire.acknowledgements → AreFramesAt epoch w.primary.calls frames sent w.wire.frames
-    → Goes (nat_lt i (length w.wire.frames)) true (ArrivalsStand epoch w.primary.calls frames new (delivered (option_items (slice_get w.wire.frames i)) w.standby).waiting w.wire.acknowledgements)
-    (ArrivalsStand epoch w.primary.calls frames new w.standby.waiting w.wire.acknowledgements)
+    → ArrivalsRefine epoch w.primary.calls frames old w.standby.waiting w.wire.acknowledgements → AreFramesAt epoch w.primary.calls frames sent w.wire.frames
+    → Goes (nat_lt i (length w.wire.frames)) true (ArrivalsRefine epoch w.primary.calls frames new (delivered (option_items (slice_get w.wire.frames i)) w.standby).waiting w.wire.acknowledgements)
+    (ArrivalsRefine epoch w.primary.calls frames new w.standby.waiting w.wire.acknowledgements)
 delivers epoch frames w sent i place old new e items acks stands are =
     let of = at_index epoch w.primary.calls frames sent w.wire.frames i place are e in
     record {
@@ -68,9 +68,9 @@ delivers epoch frames w sent i place old new e items acks stands are =
     }
 
 pub delivers_none : (epoch : ℕ) (frames : List Frame) (w : World) (sent : List ℕ) (i : ℕ) (arrivals : Arrivals) → length sent ≤ i
-    → ArrivalsStand epoch w.primary.calls frames arrivals w.standby.waiting w.wire.acknowledgements → AreFramesAt epoch w.primary.calls frames sent w.wire.frames
-    → Goes (nat_lt i (length w.wire.frames)) false (ArrivalsStand epoch w.primary.calls frames arrivals (delivered (option_items (slice_get w.wire.frames i)) w.standby).waiting w.wire.acknowledgements)
-    (ArrivalsStand epoch w.primary.calls frames arrivals w.standby.waiting w.wire.acknowledgements)
+    → ArrivalsRefine epoch w.primary.calls frames arrivals w.standby.waiting w.wire.acknowledgements → AreFramesAt epoch w.primary.calls frames sent w.wire.frames
+    → Goes (nat_lt i (length w.wire.frames)) false (ArrivalsRefine epoch w.primary.calls frames arrivals (delivered (option_items (slice_get w.wire.frames i)) w.standby).waiting w.wire.acknowledgements)
+    (ArrivalsRefine epoch w.primary.calls frames arrivals w.standby.waiting w.wire.acknowledgements)
 delivers_none epoch frames w sent i arrivals past stands are =
     let within : length w.wire.frames ≤ i = omega (arith, past, length-places epoch w.primary.calls frames sent w.wire.frames are) in
     record {
@@ -102,14 +102,14 @@ starts_with [] place some e = absurd (omega arith)
 starts_with (first ∷ rest) place some e = ap (λ p. p ∷ rest) (sym e)
 
 pub first-frame : (epoch : ℕ) (frames : List Frame) (w : World) (arrivals : Arrivals) (place : ℕ) (frame : Frame) → 0 < length arrivals.delivered.items → place ≡ get_or arrivals.delivered.items 0 place
-    → frame ≡ get_or frames place frame → ArrivalsStand epoch w.primary.calls frames arrivals w.standby.waiting w.wire.acknowledgements → FirstFrame epoch w.primary.calls frames frame (drop 1 arrivals.delivered.items) w.standby.waiting
+    → frame ≡ get_or frames place frame → ArrivalsRefine epoch w.primary.calls frames arrivals w.standby.waiting w.wire.acknowledgements → FirstFrame epoch w.primary.calls frames frame (drop 1 arrivals.delivered.items) w.standby.waiting
 first-frame epoch frames w arrivals place frame some e found stands =
     first_of epoch w.primary.calls frames frame place (drop 1 arrivals.delivered.items) w.standby.waiting found
     (subst (λ places. AreFramesAt epoch w.primary.calls frames places w.standby.waiting) (starts_with arrivals.delivered.items place some e) stands.delivered)
 
 -- the place of a frame that came is one of those that were made
 pub place_within : (epoch : ℕ) (frames : List Frame) (w : World) (arrivals : Arrivals) (place : ℕ) → 0 < length arrivals.delivered.items → place ≡ get_or arrivals.delivered.items 0 place
-    → ArrivalsStand epoch w.primary.calls frames arrivals w.standby.waiting w.wire.acknowledgements → place < length frames
+    → ArrivalsRefine epoch w.primary.calls frames arrivals w.standby.waiting w.wire.acknowledgements → place < length frames
 place_within epoch frames w arrivals place some e stands =
     first_within w.standby.waiting (subst (λ places. AreFramesAt epoch w.primary.calls frames places w.standby.waiting) (starts_with arrivals.delivered.items place some e) stands.delivered)
   where
@@ -120,7 +120,7 @@ place_within epoch frames w arrivals place some e stands =
 -- the standby took the first frame
 pub applies : (holder : Holder) (epoch : ℕ) (frames : List Frame) (w : World) (frame : Frame) (acks : List Ack) (old new : Arrivals) (before after : Node)
     → new.delivered.items ≡ drop 1 old.delivered.items → new.acknowledgements.items ≡ old.acknowledgements.items ++ acks
-    → ArrivalsStand epoch w.primary.calls frames old w.standby.waiting w.wire.acknowledgements → (first : FirstFrame epoch w.primary.calls frames frame (drop 1 old.delivered.items) w.standby.waiting)
+    → ArrivalsRefine epoch w.primary.calls frames old w.standby.waiting w.wire.acknowledgements → (first : FirstFrame epoch w.primary.calls frames frame (drop 1 old.delivered.items) w.standby.waiting)
     → Took holder epoch w.primary.calls first.span (without_first w.standby) (map told_by acks) before after → AppliesFirst holder epoch frames w true new before after
 applies holder epoch frames w frame acks old new before after items told stands first took =
     record {
@@ -141,12 +141,12 @@ applies holder epoch frames w frame acks old new before after items told stands 
 
 -- ---- the list of calls, and the frames that were made, grow
 
-pub ArrivalsStand-grows : (epoch : ℕ) (calls more : List Call) (frames : List Frame) (code : Arrivals) (waiting : List Sent) (told : List Acknowledgement) → ArrivalsStand epoch calls frames code waiting told
-    → ArrivalsStand epoch (calls ++ more) frames code waiting told
-ArrivalsStand-grows epoch calls more frames code waiting told stands =
+pub ArrivalsRefine-grows : (epoch : ℕ) (calls more : List Call) (frames : List Frame) (code : Arrivals) (waiting : List Sent) (told : List Acknowledgement) → ArrivalsRefine epoch calls frames code waiting told
+    → ArrivalsRefine epoch (calls ++ more) frames code waiting told
+ArrivalsRefine-grows epoch calls more frames code waiting told stands =
     record { delivered = AreFramesAt-grows epoch calls more frames code.delivered.items waiting stands.delivered; acknowledged = stands.acknowledged }
 
-pub ArrivalsStand-frames : (epoch : ℕ) (calls : List Call) (frames more : List Frame) (code : Arrivals) (waiting : List Sent) (told : List Acknowledgement) → ArrivalsStand epoch calls frames code waiting told
-    → ArrivalsStand epoch calls (frames ++ more) code waiting told
-ArrivalsStand-frames epoch calls frames more code waiting told stands =
+pub ArrivalsRefine-frames : (epoch : ℕ) (calls : List Call) (frames more : List Frame) (code : Arrivals) (waiting : List Sent) (told : List Acknowledgement) → ArrivalsRefine epoch calls frames code waiting told
+    → ArrivalsRefine epoch calls (frames ++ more) code waiting told
+ArrivalsRefine-frames epoch calls frames more code waiting told stands =
     record { delivered = AreFramesAt-frames epoch calls frames more code.delivered.items waiting stands.delivered; acknowledged = stands.acknowledged }

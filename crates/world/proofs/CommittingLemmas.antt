@@ -9,23 +9,23 @@ use Rattle.pmem.specs.Runs.{LeavesOnly}
 use Rattle.pmem.proofs.Leaving.{LeavesOnly-weaken}
 use Rattle.model.specs.declared.call.Call.{Call}
 use Rattle.model.specs.declared.group.Group.{Group}
-use Rattle.model.specs.Calls.{is_nonempty}
-use Rattle.model.specs.Images.{Image}
+use Rattle.model.specs.Call.{is_nonempty}
+use Rattle.model.specs.Image.{Image}
 use Rattle.model.specs.declared.group.Part.{Part}
 use Rattle.model.specs.declared.image.TheConstants.{COUNTER_LIMIT, STAMP_WINDOW}
-use Rattle.model.specs.Groups.{AreParts, Contents, IsGroup, Versions, after_group, last_position, part_versions}
+use Rattle.model.specs.Group.{AreParts, Contents, IsGroup, Versions, after_group, last_position, part_versions}
 use Rattle.model.specs.Standing.{Holder}
 use Rattle.wbl_engine.specs.Contents.{Exhausts, Keeps, IsDurable, Same}
 use Rattle.pipes.specs.Waiting.{Waiting}
 use Rattle.machine.specs.declared.event.TheConstants.{PIPE_ITEMS}
 use Rattle.machine.specs.declared.event.Event.TheVariants.{Commit, Hand}
-use Rattle.machine.specs.Events.{Committer as Machine, Stage as MachineStage, Span, World, committed_first, handed, has_room, may_happen, is_ready, is_shown, ready_again}
-use Rattle.machine.specs.Worlds as machine_stage
+use Rattle.machine.specs.Event.{Committer as Machine, Stage as MachineStage, Span, World, committed_first, handed, has_room, may_happen, is_ready, is_shown, ready_again}
+use Rattle.machine.specs.World as machine_stage
 use Rattle.machine.specs.Sound.{HasRoomFor, IsChain, Sound}
-use Rattle.world.specs.Causes.{IsAtLimit, EndsBy}
-use Rattle.world.specs.Committings.{AreContentsAt, AreGroups, CommittingStands, EngineStands, StageStands, StandsAtEither, NearOnly, next_primary}
+use Rattle.world.specs.Cause.{IsAtLimit, EndsBy}
+use Rattle.world.specs.Committing.{AreContentsAt, AreGroups, CommittingRefines, EngineStands, StageRefines, StandsAtEither, NearOnly, next_primary}
 use Rattle.world.specs.Going.{Goes}
-use Rattle.world.specs.GroupSpans.{AreGroupsOf, IsGroupOf}
+use Rattle.world.specs.GroupSpan.{AreGroupsOf, IsGroupOf}
 use Rattle.world.specs.declared.committing.Stage.{Stage}
 use Rattle.world.specs.declared.committing.Stage.TheVariants.{Ready, Durable, Shown}
 use Rattle.world.specs.declared.committing.Committing.{Committing}
@@ -34,21 +34,21 @@ use Rattle.world.proofs.GroupSpanLemmas.{AreGroupsOf-grows, IsGroupOf-grows, len
 
 -- ---- while the list grows
 
-StageStands-grows : (calls more : List Call) (code : Stage) (machine : MachineStage) → StageStands calls code machine → StageStands (calls ++ more) code machine
-StageStands-grows calls more Ready machine_stage.Ready stands = tt
-StageStands-grows calls more Ready (machine_stage.Durable span) stands = absurd stands
-StageStands-grows calls more Ready (machine_stage.Shown span) stands = absurd stands
-StageStands-grows calls more (Durable group) machine_stage.Ready stands = absurd stands
-StageStands-grows calls more (Durable group) (machine_stage.Durable span) stands = IsGroupOf-grows calls more group span stands
-StageStands-grows calls more (Durable group) (machine_stage.Shown span) stands = absurd stands
-StageStands-grows calls more (Shown group) machine_stage.Ready stands = absurd stands
-StageStands-grows calls more (Shown group) (machine_stage.Durable span) stands = absurd stands
-StageStands-grows calls more (Shown group) (machine_stage.Shown span) stands = IsGroupOf-grows calls more group span stands
+StageRefines-grows : (calls more : List Call) (code : Stage) (machine : MachineStage) → StageRefines calls code machine → StageRefines (calls ++ more) code machine
+StageRefines-grows calls more Ready machine_stage.Ready stands = tt
+StageRefines-grows calls more Ready (machine_stage.Durable span) stands = absurd stands
+StageRefines-grows calls more Ready (machine_stage.Shown span) stands = absurd stands
+StageRefines-grows calls more (Durable group) machine_stage.Ready stands = absurd stands
+StageRefines-grows calls more (Durable group) (machine_stage.Durable span) stands = IsGroupOf-grows calls more group span stands
+StageRefines-grows calls more (Durable group) (machine_stage.Shown span) stands = absurd stands
+StageRefines-grows calls more (Shown group) machine_stage.Ready stands = absurd stands
+StageRefines-grows calls more (Shown group) (machine_stage.Durable span) stands = absurd stands
+StageRefines-grows calls more (Shown group) (machine_stage.Shown span) stands = IsGroupOf-grows calls more group span stands
 
-pub CommittingStands-grows : (calls more : List Call) (code : Committing) (machine : Machine) → CommittingStands calls code machine → CommittingStands (calls ++ more) code machine
-CommittingStands-grows calls more code machine stands = record {
+pub CommittingRefines-grows : (calls more : List Call) (code : Committing) (machine : Machine) → CommittingRefines calls code machine → CommittingRefines (calls ++ more) code machine
+CommittingRefines-grows calls more code machine stands = record {
   groups = AreGroupsOf-grows calls more code.waiting.items machine.waiting stands.groups;
-  stage_is = StageStands-grows calls more code.stage machine.stage stands.stage_is;
+  stage_is = StageRefines-grows calls more code.stage machine.stage stands.stage_is;
   local_is = stands.local_is;
 }
 
@@ -82,7 +82,7 @@ first-lawful contents groups group rest are waits = let P : List Group → Type 
 
 -- ---- the stage
 
-ready-ready : (calls : List Call) (machine : MachineStage) → StageStands calls Ready machine → machine ≡ machine_stage.Ready
+ready-ready : (calls : List Call) (machine : MachineStage) → StageRefines calls Ready machine → machine ≡ machine_stage.Ready
 ready-ready calls machine_stage.Ready stands = refl
 ready-ready calls (machine_stage.Durable span) stands = absurd stands
 ready-ready calls (machine_stage.Shown span) stands = absurd stands
@@ -130,10 +130,10 @@ commit-full w link full are =
 
 -- the first group that waits may be committed
 pub may-commit : (w : World) (code : Committing) (group : Group) (rest : List Group) (link : List Group) → code.stage ≡ Ready → length link < PIPE_ITEMS → code.waiting.items ≡ group ∷ rest
-    → CommittingStands w.primary.calls code w.primary.committer → AreGroupsOf w.primary.calls link w.primary.link.waiting → may_happen w Commit ≡ true
+    → CommittingRefines w.primary.calls code w.primary.committer → AreGroupsOf w.primary.calls link w.primary.link.waiting → may_happen w Commit ≡ true
 may-commit w code group rest link ready room waits stands are =
     let first = first-group w.primary.calls group rest w.primary.committer.waiting (subst (λ groups. AreGroupsOf w.primary.calls groups w.primary.committer.waiting) waits stands.groups) in
-    let is_ready_now : w.primary.committer.stage ≡ machine_stage.Ready = ready-ready w.primary.calls w.primary.committer.stage (subst (λ stage. StageStands w.primary.calls stage w.primary.committer.stage) ready stands.stage_is) in
+    let is_ready_now : w.primary.committer.stage ≡ machine_stage.Ready = ready-ready w.primary.calls w.primary.committer.stage (subst (λ stage. StageRefines w.primary.calls stage w.primary.committer.stage) ready stands.stage_is) in
     sym (all_three (is_ready w.primary.committer.stage) (is_nonempty w.primary.committer.waiting) (has_room w.primary.link.waiting)
     (ap is_ready is_ready_now) (ap is_nonempty first.all) (has_room-groups w.primary.calls link w.primary.link.waiting are ∙ lt-ltb (length link) PIPE_ITEMS room))
 
@@ -141,23 +141,23 @@ may-commit w code group rest link ready room waits stands are =
 pub commit-goes : (holder : Holder) (w : World) (old new : Committing) (group : Group) (link : List Group) (device device' : State) (contents contents' : Contents) (is_faulted is_faulted' : Bool)
     → old.stage ≡ Ready → length link < PIPE_ITEMS → old.waiting.items ≡ group ∷ new.waiting.items → new.stage ≡ Durable group → new.local ≡ old.local
     → IsGroup contents group → Same (after_group contents group) contents' → IsDurable device' contents' → is_faulted' ≡ false
-    → CommittingStands w.primary.calls old w.primary.committer → EngineStands holder w.primary.calls w.primary.committer.position device contents is_faulted → AreGroupsOf w.primary.calls link w.primary.link.waiting
+    → CommittingRefines w.primary.calls old w.primary.committer → EngineStands holder w.primary.calls w.primary.committer.position device contents is_faulted → AreGroupsOf w.primary.calls link w.primary.link.waiting
     → Goes (may_happen w Commit) true
-    (CommittingStands w.primary.calls new (committed_first w.primary.committer.waiting w.primary.committer) × EngineStands holder w.primary.calls (committed_first w.primary.committer.waiting w.primary.committer).position device' contents' is_faulted')
-    (CommittingStands w.primary.calls new w.primary.committer × EngineStands holder w.primary.calls w.primary.committer.position device' contents' is_faulted')
+    (CommittingRefines w.primary.calls new (committed_first w.primary.committer.waiting w.primary.committer) × EngineStands holder w.primary.calls (committed_first w.primary.committer.waiting w.primary.committer).position device' contents' is_faulted')
+    (CommittingRefines w.primary.calls new w.primary.committer × EngineStands holder w.primary.calls w.primary.committer.position device' contents' is_faulted')
 commit-goes holder w old new group link device device' contents contents' is_faulted is_faulted' ready room waits durable local lawful moved leaves sound stands engine are =
     let calls = w.primary.calls in
     let next = next-group holder calls w.primary.committer.position contents group new.waiting.items w.primary.committer.waiting engine.contents_at lawful
     (subst (λ groups. AreGroupsOf calls groups w.primary.committer.waiting) waits stands.groups) in
     let span = next.firsts.first in
-    let is_ready_now : w.primary.committer.stage ≡ machine_stage.Ready = ready-ready calls w.primary.committer.stage (subst (λ stage. StageStands calls stage w.primary.committer.stage) ready stands.stage_is) in
+    let is_ready_now : w.primary.committer.stage ≡ machine_stage.Ready = ready-ready calls w.primary.committer.stage (subst (λ stage. StageRefines calls stage w.primary.committer.stage) ready stands.stage_is) in
     record {
       done = all_three (is_ready w.primary.committer.stage) (is_nonempty w.primary.committer.waiting) (has_room w.primary.link.waiting)
           (ap is_ready is_ready_now) (ap is_nonempty next.firsts.all) (has_room-groups calls link w.primary.link.waiting are ∙ lt-ltb (length link) PIPE_ITEMS room);
-      goes = λ did. subst (λ spans. CommittingStands calls new (committed_first spans w.primary.committer) × EngineStands holder calls (committed_first spans w.primary.committer).position device' contents' is_faulted') (sym next.firsts.all) (
+      goes = λ did. subst (λ spans. CommittingRefines calls new (committed_first spans w.primary.committer) × EngineStands holder calls (committed_first spans w.primary.committer).position device' contents' is_faulted') (sym next.firsts.all) (
         record {
           groups = next.firsts.are;
-          stage_is = subst (λ stage. StageStands calls stage (machine_stage.Durable span)) (sym durable) next.firsts.is;
+          stage_is = subst (λ stage. StageRefines calls stage (machine_stage.Durable span)) (sym durable) next.firsts.is;
           local_is = local ∙ stands.local_is;
         },
         record {
@@ -173,7 +173,7 @@ commit-goes holder w old new group link device device' contents contents' is_fau
 pub commit-moments : (holder : Holder) (w : World) (code : Committing) (group : Group) (rest : List Group) (device device' : State) (contents : Contents) (is_faulted : Bool)
     → code.waiting.items ≡ group ∷ rest → IsGroup contents group
     → (is_faulted ≡ false → LeavesOnly device device' (λ image. Keeps contents image ⊎ Keeps (after_group contents group) image))
-    → Sound w → CommittingStands w.primary.calls code w.primary.committer → EngineStands holder w.primary.calls w.primary.committer.position device contents is_faulted
+    → Sound w → CommittingRefines w.primary.calls code w.primary.committer → EngineStands holder w.primary.calls w.primary.committer.position device contents is_faulted
     → NearOnly holder w.primary.calls w.primary.committer.position (next_primary w) device device'
 commit-moments holder w code group rest device device' contents is_faulted waits lawful moments sound stands engine =
     LeavesOnly-weaken (StandsAtEither holder w.primary.calls w.primary.committer.position (next_primary w)) (λ image. either image) (moments engine.sound)
@@ -196,7 +196,7 @@ parts-rise before versions (part ∷ parts) are = omega (arith, are.0, parts-ris
 
 -- a commit that would take a counter to the limit: a group takes a stamp a part, and its positions rise by one a part at least
 pub commit-limit : (holder : Holder) (w : World) (code : Committing) (group : Group) (rest : List Group) (device : State) (contents : Contents) (is_faulted : Bool) → code.waiting.items ≡ group ∷ rest → IsGroup contents group
-    → Exhausts contents group → CommittingStands w.primary.calls code w.primary.committer → EngineStands holder w.primary.calls w.primary.committer.position device contents is_faulted
+    → Exhausts contents group → CommittingRefines w.primary.calls code w.primary.committer → EngineStands holder w.primary.calls w.primary.committer.position device contents is_faulted
     → (image : Image) → IsImage device.words image → IsAtLimit (next_primary w - w.primary.committer.position) image
 commit-limit holder w code group rest device contents is_faulted waits lawful exhausts stands engine image is =
     let position = w.primary.committer.position in
@@ -224,7 +224,7 @@ pub commit-ends : (holder : Holder) (w : World) (code : Committing) (group : Gro
     → code.waiting.items ≡ group ∷ rest → IsGroup contents group → IfErr result (λ r. (r ≡ Fault) ⊎ (r ≡ Exhausted))
     → (IsErrOf result Fault → (is_faulted ≡ true) ⊎ (device.failures < device'.failures)) → (IsErrOf result Exhausted → Exhausts contents group × (device' ≡ device))
     → (is_faulted ≡ false → LeavesOnly device device' (λ image. Keeps contents image ⊎ Keeps (after_group contents group) image))
-    → Sound w → CommittingStands w.primary.calls code w.primary.committer → EngineStands holder w.primary.calls w.primary.committer.position device contents is_faulted
+    → Sound w → CommittingRefines w.primary.calls code w.primary.committer → EngineStands holder w.primary.calls w.primary.committer.position device contents is_faulted
     → EndsBy refusal Commit (λ last _. last holder w.primary.calls w.primary.committer.position (next_primary w) device device')
 commit-ends holder w code group rest device device' contents is_faulted result refusal is waits lawful causes fault exhausted moments sound stands engine =
     by (subst (λ (r : Result ℕ Refusal). IfErr r (λ e. (e ≡ Fault) ⊎ (e ≡ Exhausted))) is causes)
@@ -254,7 +254,7 @@ record ShowsSpan (calls : List Call) (group : Group) (machine : MachineStage) : 
   pub shows : machine ≡ machine_stage.Shown span
   pub is : IsGroupOf calls group span
 
-shows-span : (calls : List Call) (group : Group) (machine : MachineStage) → StageStands calls (Shown group) machine → ShowsSpan calls group machine
+shows-span : (calls : List Call) (group : Group) (machine : MachineStage) → StageRefines calls (Shown group) machine → ShowsSpan calls group machine
 shows-span calls group machine_stage.Ready stands = absurd stands
 shows-span calls group (machine_stage.Durable span) stands = absurd stands
 shows-span calls group (machine_stage.Shown span) stands = record { span = span; shows = refl; is = stands }
@@ -267,13 +267,13 @@ offered-last (Err back) old new group room last full few = absurd (omega (arith,
 
 -- the group in hand goes to the link, which has room for it
 pub hand-goes : (w : World) (old new : Committing) (group : Group) (link link' : List Group) → old.stage ≡ Shown group → new.waiting ≡ old.waiting → new.stage ≡ Ready → new.local ≡ old.local
-    → (length link < PIPE_ITEMS → link' ≡ link ++ group ∷ []) → Sound w → CommittingStands w.primary.calls old w.primary.committer → AreGroupsOf w.primary.calls link w.primary.link.waiting
+    → (length link < PIPE_ITEMS → link' ≡ link ++ group ∷ []) → Sound w → CommittingRefines w.primary.calls old w.primary.committer → AreGroupsOf w.primary.calls link w.primary.link.waiting
     → Goes (may_happen w Hand) true
-    (CommittingStands w.primary.calls new (ready_again w.primary.committer) × AreGroupsOf w.primary.calls link' (w.primary.link.waiting ++ handed w.primary.committer.stage))
-    (CommittingStands w.primary.calls new w.primary.committer × AreGroupsOf w.primary.calls link' w.primary.link.waiting)
+    (CommittingRefines w.primary.calls new (ready_again w.primary.committer) × AreGroupsOf w.primary.calls link' (w.primary.link.waiting ++ handed w.primary.committer.stage))
+    (CommittingRefines w.primary.calls new w.primary.committer × AreGroupsOf w.primary.calls link' w.primary.link.waiting)
 hand-goes w old new group link link' shown waiting ready local last sound stands are =
     let calls = w.primary.calls in
-    let shows = shows-span calls group w.primary.committer.stage (subst (λ stage. StageStands calls stage w.primary.committer.stage) shown stands.stage_is) in
+    let shows = shows-span calls group w.primary.committer.stage (subst (λ stage. StageRefines calls stage w.primary.committer.stage) shown stands.stage_is) in
     let room : length w.primary.link.waiting < PIPE_ITEMS = subst (λ stage. HasRoomFor stage w.primary.link.waiting) shows.shows sound.link.few in
     let offered : link' ≡ link ++ group ∷ [] = last (omega (arith, room, length-groups calls link w.primary.link.waiting are)) in
     record {
@@ -281,7 +281,7 @@ hand-goes w old new group link link' shown waiting ready local last sound stands
       goes = λ did. (
         record {
           groups = subst (λ (pipe : Waiting Group). AreGroupsOf calls pipe.items w.primary.committer.waiting) (sym waiting) stands.groups;
-          stage_is = subst (λ stage. StageStands calls stage machine_stage.Ready) (sym ready) tt;
+          stage_is = subst (λ stage. StageRefines calls stage machine_stage.Ready) (sym ready) tt;
           local_is = local ∙ stands.local_is;
         },
         subst (λ stage. AreGroupsOf calls link' (w.primary.link.waiting ++ handed stage)) (sym shows.shows)

@@ -1,22 +1,22 @@
 -- An engine over the list of calls: what its contents say of images, and how they stay and move with the list.
 use Rattle.std.proofs.Common.{◌≡◌, ◌⊎◌, ℕ, ◌+◌, ◌-◌, ◌≤◌, Bool, List, ◌++◌, inl, inr, refl, sym, ap, subst, ◌∙◌, arith}
-use Rattle.kv_types.specs.Keyspaces.{play_all}
+use Rattle.kv_types.specs.Keyspace.{play_all}
 use Rattle.pmem.specs.Device.{State}
 use Rattle.pmem.proofs.Leaving.{none_leaves, LeavesOnly-weaken}
 use Rattle.model.specs.declared.call.Call.{Call}
 use Rattle.model.specs.declared.group.Group.{Group}
-use Rattle.model.specs.Calls.{keyspace_after, cut_at, position_of}
-use Rattle.model.specs.Images.{Image, IsMapOf, Holds, entries_of_lines}
-use Rattle.model.specs.Groups.{Contents, IsGroup, after_group, changes_of_group, last_position}
+use Rattle.model.specs.Call.{keyspace_after, cut_at, position_of}
+use Rattle.model.specs.Image.{Image, IsMapOf, Holds, entries_of_lines}
+use Rattle.model.specs.Group.{Contents, IsGroup, after_group, changes_of_group, last_position}
 use Rattle.model.specs.Standing.{Holder, StandsAt}
 use Rattle.model.proofs.CallsLemmas.{keyspace_after-cut_at-append}
 use Rattle.model.proofs.GroupsLemmas.{IsMapOf-after_group, IsConsistent-after_group}
 use Rattle.model.proofs.PositionsLemmas.{keyspace_after-cut_at-since}
 use Rattle.model.proofs.StandingLemmas.{Holds-versions}
 use Rattle.wbl_engine.specs.Contents.{Keeps}
-use Rattle.machine.specs.Events.{Span}
-use Rattle.world.specs.GroupSpans.{IsGroupOf}
-use Rattle.world.specs.Committings.{AreContentsAt, EngineStands, Moves, Rests, Stands, StandsAtEither, NearOnly}
+use Rattle.machine.specs.Event.{Span}
+use Rattle.world.specs.GroupSpan.{IsGroupOf}
+use Rattle.world.specs.Committing.{AreContentsAt, EngineStands, Moves, Rests, Stands, StandsAtEither, NearOnly}
 
 -- ---- what a crash leaves
 
@@ -72,7 +72,7 @@ EngineStands-grows holder calls more p device contents is_faulted le stands = re
 
 -- ---- a group further
 
--- contents at the beginning of a group's span are, after the group, at its end
+-- contents at the start of a group's span are, after the group, at its end
 pub AreContentsAt-after_group : (holder : Holder) (calls : List Call) (contents : Contents) (group : Group) (span : Span) → AreContentsAt holder calls span.before contents → IsGroup contents group
     → IsGroupOf calls group span → AreContentsAt holder calls span.after (after_group contents group)
 AreContentsAt-after_group holder calls contents group span are lawful is =

@@ -1,7 +1,7 @@
 -- New images, and the tables and heaps with which they begin.
 use Rattle.std.proofs.Common.{◌≡◌, ℕ, zero, suc, ◌<◌, ◌⊎◌, Bool, false, List, [], replicate, slice_index_or, refl, sym, ap, subst, ◌∙◌, true≢false, inl, inr}
-use Rattle.model.specs.Images.{entries_of_lines}
-use Rattle.model.specs.Groups.{Contents}
+use Rattle.model.specs.Image.{entries_of_lines}
+use Rattle.model.specs.Group.{Contents}
 use Rattle.model.specs.declared.group.Group.{Group}
 use Rattle.model.specs.declared.record.Role.{Role}
 use Rattle.model.specs.declared.record.TheConstants.{FIRST_EPOCH}
@@ -10,21 +10,21 @@ use Rattle.model.specs.Standing.{Holder, new_holder}
 use Rattle.pmem.specs.Device.{State}
 use Rattle.pmem.proofs.Leaving.{none_leaves}
 use Rattle.extent_heap.specs.Room.{Room}
-use Rattle.mv_keyspace.specs.Tables.{Table, records}
+use Rattle.mv_keyspace.specs.Table.{Table, records}
 use Rattle.wbl_engine.specs.Contents.{IsNew, IsDurable}
 use Rattle.wbl_engine.specs.Formatting.{IsFormatting}
-use Rattle.redis_core.specs.Sequencing.{Sequencing, StandsFor, Underlies, starts}
+use Rattle.redis_core.specs.Sequencing.{Sequencing, Continues, Underlies, starts}
 use Rattle.standby.proofs.NewLemmas.{HasAll, new-table, left-new, new-consistent, follows-new}
-use Rattle.machine.specs.Events.{start}
+use Rattle.machine.specs.Event.{start}
 use Rattle.machine.proofs.RunLemmas.{sound-start}
 use Rattle.kv_types.specs.declared.refusal.Refusal.{Refusal}
 use Rattle.kv_types.specs.declared.refusal.Refusal.TheVariants.{Fault, WrongSize}
-use Rattle.world.specs.Causes.{IsWrongSize, UnformedBy}
-use Rattle.world.specs.Committings.{FormattingOnly, CommittingStands, EngineStands, Leads}
-use Rattle.world.specs.Links.{LinkStands}
-use Rattle.world.specs.Sessions.{SessionsStand, SequencerStands}
-use Rattle.world.specs.Standbys.{Node, StandbyStands, ArrivalsStand}
-use Rattle.world.specs.Pairs.{Pair, PairStands}
+use Rattle.world.specs.Cause.{IsWrongSize, UnformedBy}
+use Rattle.world.specs.Committing.{FormattingOnly, CommittingRefines, EngineStands, Leads}
+use Rattle.world.specs.Link.{LinkRefines}
+use Rattle.world.specs.Session.{SessionsRefine, SequencerRefines}
+use Rattle.world.specs.Standby.{Node, StandbyStands, ArrivalsRefine}
+use Rattle.world.specs.Pair.{Pair, PairRefines}
 
 -- ---- the sequencer
 
@@ -33,9 +33,9 @@ none_closed zero c = refl
 none_closed (suc n) zero = refl
 none_closed (suc n) (suc c) = none_closed n c
 
-pub sequencer-starts : (n : ℕ) (s : Sequencing) (table : Table) (room : Room) → table ≡ [] → s ≡ starts table room 0 (replicate n false) → SequencerStands [] 0 s
+pub sequencer-starts : (n : ℕ) (s : Sequencing) (table : Table) (room : Room) → table ≡ [] → s ≡ starts table room 0 (replicate n false) → SequencerRefines [] 0 s
 sequencer-starts n s table room empty same =
-    subst (SequencerStands [] 0) (sym same)
+    subst (SequencerRefines [] 0) (sym same)
     (record {
       table = ap records empty;
       position = refl;
@@ -95,10 +95,10 @@ new-own lines lines' role contents same new =
       is_free = new.is_free;
     })
 
-pub pair-starts : (first second : Holder) (pair : Pair) → SessionsStand pair.sessions [] [] → SequencerStands [] 0 pair.sequencer
-    → CommittingStands [] pair.committing start.primary.committer → pair.committing.waiting.items ≡ [] → EngineStands first [] 0 pair.device pair.contents pair.is_faulted
-    → StandsFor pair.sequencer pair.contents → LinkStands [] pair.link start.primary.link [] → pair.link.epoch ≡ FIRST_EPOCH → pair.link.frames.items ≡ []
-    → ((epoch : ℕ) → ArrivalsStand epoch [] [] pair.arrivals [] []) → StandbyStands second pair.link.epoch [] 0 pair.standby → PairStands first second pair start
+pub pair-starts : (first second : Holder) (pair : Pair) → SessionsRefine pair.sessions [] [] → SequencerRefines [] 0 pair.sequencer
+    → CommittingRefines [] pair.committing start.primary.committer → pair.committing.waiting.items ≡ [] → EngineStands first [] 0 pair.device pair.contents pair.is_faulted
+    → Continues pair.sequencer pair.contents → LinkRefines [] pair.link start.primary.link [] → pair.link.epoch ≡ FIRST_EPOCH → pair.link.frames.items ≡ []
+    → ((epoch : ℕ) → ArrivalsRefine epoch [] [] pair.arrivals [] []) → StandbyStands second pair.link.epoch [] 0 pair.standby → PairRefines first second pair start
 pair-starts first second pair sessions sequencer committing none engine ahead link epoch no_frame arrivals standby =
     record {
       sound = sound-start;
@@ -110,7 +110,7 @@ pair-starts first second pair sessions sequencer committing none engine ahead li
         leads = subst (λ (groups : List Group). Leads pair.contents groups pair.sequencer) (sym none) (record { groups_are = tt; stands = ahead });
         epoch = epoch;
         link = link;
-        arrivals = subst (λ frames. ArrivalsStand pair.link.epoch [] frames pair.arrivals [] []) (sym no_frame) (arrivals pair.link.epoch);
+        arrivals = subst (λ frames. ArrivalsRefine pair.link.epoch [] frames pair.arrivals [] []) (sym no_frame) (arrivals pair.link.epoch);
         standby = standby;
       };
     }

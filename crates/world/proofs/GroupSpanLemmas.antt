@@ -2,12 +2,12 @@
 use Rattle.std.proofs.Common.{◌≡◌, ℕ, ◌+◌, ◌-◌, ◌≤◌, List, [], ◌∷◌, ◌++◌, length, suc, refl, sym, ap, ◌∙◌, arith}
 use Rattle.model.specs.declared.call.Call.{Call}
 use Rattle.model.specs.declared.group.Group.{Group}
-use Rattle.model.specs.Calls.{position_of}
-use Rattle.model.specs.Positions.{changes_since}
+use Rattle.model.specs.Call.{position_of}
+use Rattle.model.specs.Position.{changes_since}
 use Rattle.model.proofs.CallsLemmas.{position_of_grows}
 use Rattle.model.proofs.PositionsLemmas.{changes_since-append}
-use Rattle.machine.specs.Events.{Span}
-use Rattle.world.specs.GroupSpans.{IsWithin, IsGroupOf, AreGroupsOf}
+use Rattle.machine.specs.Event.{Span}
+use Rattle.world.specs.GroupSpan.{IsWithin, IsGroupOf, AreGroupsOf}
 
 pub IsWithin-grows : (calls more : List Call) (span : Span) → IsWithin calls span → IsWithin (calls ++ more) span
 IsWithin-grows calls more span is = record { rising = is.rising; within = omega (arith, is.within, position_of_grows calls more) }

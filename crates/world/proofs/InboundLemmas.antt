@@ -8,16 +8,16 @@ use Rattle.kv_types.specs.declared.item.Item.{Item}
 use Rattle.kv_types.specs.declared.item.Item.TheVariants.{Request}
 use Rattle.kv_types.specs.declared.limits.Limits.{Limits}
 use Rattle.kv_types.specs.declared.limits.TheConstants.{SERVED_LIMITS}
-use Rattle.kv_types.specs.Requests.{item_of}
+use Rattle.kv_types.specs.Request.{item_of}
 use Rattle.kv_types.specs.Reading.{items_at, items_within, items_from, Read, Stop, Short, Broken, request_at}
-use Rattle.model.specs.Commands.{closes}
-use Rattle.model.specs.Calls.{up_to_closing}
+use Rattle.model.specs.Command.{closes}
+use Rattle.model.specs.Call.{up_to_closing}
 use Rattle.model.proofs.ServesLemmas.{up_to_closing-open}
 use Rattle.machine.specs.declared.event.TheConstants.{PIPE_ITEMS}
-use Rattle.machine.specs.Events.{Inbound as Machine, asked, fed_with, has_room, no_connection}
+use Rattle.machine.specs.Event.{Inbound as Machine, asked, fed_with, has_room, no_connection}
 use Rattle.resp_codec.specs.Parsing.{fed, ahead}
 use Rattle.world.specs.declared.inbound.Inbound.{Inbound}
-use Rattle.world.specs.Inbounds.{InboundStands}
+use Rattle.world.specs.Inbound.{InboundRefines}
 
 -- ---- a fault is the last item
 
@@ -48,7 +48,7 @@ up_to_closing-ahead (Some unread) = up_to_closing-items_at SERVED_LIMITS unread
 
 -- ---- a new connection
 
-pub new-stands : (code : Inbound) → code.parser ≡ Some [] → code.is_closed ≡ false → code.asked.items ≡ [] → code.waiting.items ≡ [] → InboundStands code no_connection.inbound
+pub new-stands : (code : Inbound) → code.parser ≡ Some [] → code.is_closed ≡ false → code.asked.items ≡ [] → code.waiting.items ≡ [] → InboundRefines code no_connection.inbound
 new-stands code parser is_closed asked_none waiting_none =
     let nothing : items_at SERVED_LIMITS [] ≡ [] = items_at-nothing SERVED_LIMITS in
     record {
@@ -81,9 +81,9 @@ length-take-all zero xs e = omega arith
 length-take-all (suc n) [] e = absurd (omega arith)
 length-take-all (suc n) (x ∷ xs) e = omega (arith, length-take-all n xs (omega arith))
 
-pub fed-stands : (old new : Inbound) (machine : Machine) (piece : List ℕ) (parser : Option (List ℕ)) → InboundStands old machine → old.is_closed ≡ false → parser ≡ fed old.parser piece
+pub fed-stands : (old new : Inbound) (machine : Machine) (piece : List ℕ) (parser : Option (List ℕ)) → InboundRefines old machine → old.is_closed ≡ false → parser ≡ fed old.parser piece
     → new.asked.items ≡ old.asked.items ++ ahead parser → ahead new.parser ≡ [] → ((more : List ℕ) → ahead (fed parser more) ≡ ahead parser ++ ahead (fed new.parser more))
-    → new.is_closed ≡ list_any closes (ahead parser) → new.waiting.items ≡ old.waiting.items → InboundStands new (fed_with piece machine)
+    → new.is_closed ≡ list_any closes (ahead parser) → new.waiting.items ≡ old.waiting.items → InboundRefines new (fed_with piece machine)
 fed-stands old new machine piece parser stands is_open took more_asked drained later is_closed same =
     let items = items_at SERVED_LIMITS machine.fed in
     let open_before : list_any closes items ≡ false = sym stands.closed ∙ is_open in
@@ -112,7 +112,7 @@ fed-stands old new machine piece parser stands is_open took more_asked drained l
     }
 
 -- an item that was asked for and does not wait may be offered, where there is room
-pub may-offer : (code : Inbound) (machine : Machine) → InboundStands code machine → length code.waiting.items < length code.asked.items → length code.waiting.items < PIPE_ITEMS
+pub may-offer : (code : Inbound) (machine : Machine) → InboundRefines code machine → length code.waiting.items < length code.asked.items → length code.waiting.items < PIPE_ITEMS
     → (nat_lt machine.offered (length (asked machine.fed)) && has_room machine.waiting) ≡ true
 may-offer code machine stands some room =
     let count : length (asked machine.fed) - stands.run ≡ length code.asked.items = sym (length-drop stands.run (asked machine.fed)) ∙ ap length stands.kept in

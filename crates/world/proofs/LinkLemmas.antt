@@ -12,20 +12,20 @@ use Rattle.kv_types.specs.declared.change.Change.{Change}
 use Rattle.model.specs.declared.group.Group.{Group}
 use Rattle.model.specs.declared.group.Part.{Part}
 use Rattle.model.specs.declared.call.Call.{Call}
-use Rattle.kv_types.specs.Keyspaces.{play_all}
-use Rattle.model.specs.Calls.{cut_at, is_nonempty, keyspace_after}
+use Rattle.kv_types.specs.Keyspace.{play_all}
+use Rattle.model.specs.Call.{cut_at, is_nonempty, keyspace_after}
 use Rattle.model.proofs.CallsLemmas.{keyspace_after-cut_at-append}
 use Rattle.model.proofs.PositionsLemmas.{keyspace_after-cut_at-since}
-use Rattle.model.specs.Groups.{changes_of_part, changes_of_group, last_position}
+use Rattle.model.specs.Group.{changes_of_part, changes_of_group, last_position}
 use Rattle.machine.specs.declared.event.TheConstants.{KEPT_GROUPS}
 use Rattle.machine.specs.Sound.{IsChain}
-use Rattle.machine.specs.Events.{Link as Machine, Span, Frame as Sent, above, sent_next, sent_waiting, next_to_send, framed}
+use Rattle.machine.specs.Event.{Link as Machine, Span, Frame as Sent, above, sent_next, sent_waiting, next_to_send, framed}
 use Rattle.pipes.specs.Waiting.{Waiting}
 use Rattle.standby.specs.declared.frame.Frame.{Frame}
 use Rattle.world.specs.declared.link.Link.{Link}
 use Rattle.world.specs.Going.{Goes}
-use Rattle.world.specs.GroupSpans.{IsGroupOf, AreGroupsOf}
-use Rattle.world.specs.Links.{IsFrameOf, AreFramesOf, IsFrameAt, AreFramesAt, LinkStands, DropsKnown}
+use Rattle.world.specs.GroupSpan.{IsGroupOf, AreGroupsOf}
+use Rattle.world.specs.Link.{IsFrameOf, AreFramesOf, IsFrameAt, AreFramesAt, LinkRefines, DropsKnown}
 use Rattle.world.proofs.GroupSpanLemmas.{IsWithin-grows, changes_of_span-grow, AreGroupsOf-grows}
 
 -- ---- the list of calls grows
@@ -55,8 +55,8 @@ AreFramesAt-grows epoch calls more frames (place ∷ places) [] are = absurd are
 AreFramesAt-grows epoch calls more frames (place ∷ places) (span ∷ spans) are =
     (record { frame = are.0.frame; stands = are.0.stands; epoch_is = are.0.epoch_is; has = IsFrameOf-grows epoch calls more are.0.frame span.span are.0.has }, AreFramesAt-grows epoch calls more frames places spans are.1)
 
-pub LinkStands-grows : (calls more : List Call) (code : Link) (machine : Machine) (sent : List Sent) → LinkStands calls code machine sent → LinkStands (calls ++ more) code machine sent
-LinkStands-grows calls more code machine sent stands = record {
+pub LinkRefines-grows : (calls more : List Call) (code : Link) (machine : Machine) (sent : List Sent) → LinkRefines calls code machine sent → LinkRefines (calls ++ more) code machine sent
+LinkRefines-grows calls more code machine sent stands = record {
   waiting = AreGroupsOf-grows calls more code.waiting.items machine.waiting stands.waiting;
   spans = stands.spans;
   frames = AreFramesOf-grows code.epoch calls more code.frames.items stands.spans stands.frames;
@@ -194,9 +194,9 @@ above-from epoch calls frames spans from position place start to are drops chain
     subst (λ p. position < p) at.has.after (drops.above at.frame (ap (slice_get frames) (sym there) ∙ at.stands)))
     ∙ drop-drop k from spans ∙ ap (λ n. drop n spans) there)
 
-pub chain-behind : (from : ℕ) (front behind : List Span) (to : ℕ) → IsChain from (front ++ behind) to → (middle : ℕ) × IsChain middle behind to
+pub chain-behind : (from : ℕ) (prefix behind : List Span) (to : ℕ) → IsChain from (prefix ++ behind) to → (middle : ℕ) × IsChain middle behind to
 chain-behind from [] behind to chain = (from, chain)
-chain-behind from (group ∷ front) behind to chain = chain-behind group.after front behind to chain.2
+chain-behind from (group ∷ prefix) behind to chain = chain-behind group.after prefix behind to chain.2
 
 -- ---- sending
 
@@ -281,7 +281,7 @@ with_frame waiting frames sent again known code =
 abbrev with_sent : Vec ℕ Global → ℕ → ℕ → Link → Link
 with_sent sent again known code = with_frame code.waiting code.frames sent again known code
 
-module _ (calls : List Call) (code : Link) (machine : Machine) (sent_frames : List Sent) (stands : LinkStands calls code machine sent_frames) where
+module _ (calls : List Call) (code : Link) (machine : Machine) (sent_frames : List Sent) (stands : LinkRefines calls code machine sent_frames) where
   -- the frames that were sent after a step
   abbrev more_sent_frames : List Sent
   more_sent_frames = sent_frames ++ framed code.epoch (next_to_send machine)
@@ -311,14 +311,14 @@ module _ (calls : List Call) (code : Link) (machine : Machine) (sent_frames : Li
       ∙ lt-ltb (length machine.kept) KEPT_GROUPS (omega (arith, count_kept))
 
   pub sends-again : (sent : Vec ℕ Global) (again known : ℕ) → code.again < length code.frames.items → sent.items ≡ code.sent.items ++ code.again ∷ [] → again ≡ code.again + 1 → known ≡ code.known
-      → Goes (can_send machine) true (LinkStands calls (with_sent sent again known code) (sent_next machine.again machine) more_sent_frames) (LinkStands calls (with_sent sent again known code) machine sent_frames)
+      → Goes (can_send machine) true (LinkRefines calls (with_sent sent again known code) (sent_next machine.again machine) more_sent_frames) (LinkRefines calls (with_sent sent again known code) machine sent_frames)
   sends-again sent again known lt more next same =
       let frames = code.frames.items in
       let first = next_at code.epoch calls frames stands.spans code.again stands.frames lt in
       let all : machine.again ≡ first.span ∷ first.rest = sym stands.again ∙ first.here in
       record {
         done = sym (may-send-again lt);
-        goes = λ did. subst (λ gs. LinkStands calls (with_sent sent again known code) (sent_next gs machine) (sent_frames ++ framed code.epoch (take 1 (gs ++ machine.waiting)))) (sym all) (record {
+        goes = λ did. subst (λ gs. LinkRefines calls (with_sent sent again known code) (sent_next gs machine) (sent_frames ++ framed code.epoch (take 1 (gs ++ machine.waiting)))) (sym all) (record {
           waiting = stands.waiting;
           spans = stands.spans;
           frames = stands.frames;
@@ -336,7 +336,7 @@ module _ (calls : List Call) (code : Link) (machine : Machine) (sent_frames : Li
 
   -- the link keeps all groups that it may
   pub sends-none_full : length code.frames.items ≤ code.again → KEPT_GROUPS ≤ length code.frames.items - code.kept
-      → Goes (can_send machine) false (LinkStands calls code (sent_next machine.again machine) more_sent_frames) (LinkStands calls code machine sent_frames)
+      → Goes (can_send machine) false (LinkRefines calls code (sent_next machine.again machine) more_sent_frames) (LinkRefines calls code machine sent_frames)
   sends-none_full le full =
       record {
         done = sym (ap₂ (λ (gs : List Span) b. is_nonempty gs || (is_nonempty machine.waiting && b)) (nothing_again le) (le-ltb (length machine.kept) KEPT_GROUPS (omega (arith, count_kept)))
@@ -346,8 +346,8 @@ module _ (calls : List Call) (code : Link) (machine : Machine) (sent_frames : Li
       }
 
   pub sends-none : (waiting : Waiting Group) → length code.frames.items ≤ code.again → code.waiting.items ≡ [] → waiting.items ≡ []
-      → Goes (can_send machine) false (LinkStands calls (with_frame waiting code.frames code.sent code.again code.known code) (sent_next machine.again machine) more_sent_frames)
-      (LinkStands calls (with_frame waiting code.frames code.sent code.again code.known code) machine sent_frames)
+      → Goes (can_send machine) false (LinkRefines calls (with_frame waiting code.frames code.sent code.again code.known code) (sent_next machine.again machine) more_sent_frames)
+      (LinkRefines calls (with_frame waiting code.frames code.sent code.again code.known code) machine sent_frames)
   sends-none waiting le none none' =
       let nothing : machine.waiting ≡ [] = no_group calls machine.waiting (subst (λ groups. AreGroupsOf calls groups machine.waiting) none stands.waiting) in
       record {
@@ -370,8 +370,8 @@ module _ (calls : List Call) (code : Link) (machine : Machine) (sent_frames : Li
   pub sends-first : (group : Group) (frame : Frame) (waiting : Waiting Group) (frames : Vec Frame Global) (sent : Vec ℕ Global) (place again known : ℕ)
       → length code.frames.items ≤ code.again → length code.frames.items - code.kept < KEPT_GROUPS → code.waiting.items ≡ group ∷ waiting.items → IsFrameOfGroup code.epoch group frame
       → frames.items ≡ code.frames.items ++ frame ∷ [] → sent.items ≡ code.sent.items ++ place ∷ [] → place ≡ length code.frames.items → again ≡ length frames.items → known ≡ code.known
-      → Goes (can_send machine) true (LinkStands calls (with_frame waiting frames sent again known code) (sent_next machine.again machine) more_sent_frames)
-      (LinkStands calls (with_frame waiting frames sent again known code) machine sent_frames)
+      → Goes (can_send machine) true (LinkRefines calls (with_frame waiting frames sent again known code) (sent_next machine.again machine) more_sent_frames)
+      (LinkRefines calls (with_frame waiting frames sent again known code) machine sent_frames)
   sends-first group frame waiting frames sent place again known le room first of more_frames more_sent last all_sent same =
       let taken = takes_group calls group waiting.items machine.waiting (subst (λ groups. AreGroupsOf calls groups machine.waiting) first stands.waiting) in
       let is : IsFrameOf code.epoch calls frame taken.span = frame_of_group code.epoch calls group frame taken.span of taken.is in
@@ -384,7 +384,7 @@ module _ (calls : List Call) (code : Link) (machine : Machine) (sent_frames : Li
       let places : AreFramesAt code.epoch calls frames.items code.sent.items sent_frames =
       subst (λ fs. AreFramesAt code.epoch calls fs code.sent.items sent_frames) (sym more_frames) (AreFramesAt-frames code.epoch calls code.frames.items (frame ∷ []) code.sent.items sent_frames stands.sent) in
       let new = with_frame waiting frames sent again known code in
-      let now : LinkStands calls new (sent_waiting (taken.span ∷ taken.rest) machine) (sent_frames ++ one ∷ []) = record {
+      let now : LinkRefines calls new (sent_waiting (taken.span ∷ taken.rest) machine) (sent_frames ++ one ∷ []) = record {
         waiting = taken.are;
         spans = spans;
         frames = subst (λ fs. AreFramesOf code.epoch calls fs spans) (sym more_frames) (frames-append code.epoch calls code.frames.items stands.spans frame taken.span stands.frames is);
@@ -399,7 +399,7 @@ module _ (calls : List Call) (code : Link) (machine : Machine) (sent_frames : Li
       } in
       record {
         done = sym (may-send-first group waiting le room first);
-        goes = λ did. subst (λ gs. LinkStands calls new (sent_next gs machine) (sent_frames ++ framed code.epoch (take 1 (gs ++ machine.waiting)))) (sym (nothing_again le))
-            (subst (λ gs. LinkStands calls new (sent_waiting gs machine) (sent_frames ++ framed code.epoch (take 1 gs))) (sym taken.all) now);
+        goes = λ did. subst (λ gs. LinkRefines calls new (sent_next gs machine) (sent_frames ++ framed code.epoch (take 1 (gs ++ machine.waiting)))) (sym (nothing_again le))
+            (subst (λ gs. LinkRefines calls new (sent_waiting gs machine) (sent_frames ++ framed code.epoch (take 1 gs))) (sym taken.all) now);
         stays = λ did. cc;
       }

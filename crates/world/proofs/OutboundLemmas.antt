@@ -2,15 +2,15 @@
 use Rattle.std.proofs.Common.{◌≡◌, ◌≢◌, ℕ, ◌+◌, ◌++◌, ◌&&◌, Bool, true, false, cond, nat_le, List, [], ◌∷◌, length, take, drop, refl, sym, ap, ap₂, subst, ◌∙◌, append_assoc, append-nil, arith, length-append}
 use Rattle.std.proofs.lemmas.List.{take_at, drop_at}
 use Rattle.kv_types.specs.declared.reply.Held.{Held}
-use Rattle.kv_types.specs.Replies.{text_of}
+use Rattle.kv_types.specs.Reply.{text_of}
 use Rattle.model.specs.declared.call.Call.{Call}
-use Rattle.model.specs.Calls.{is_nonempty}
-use Rattle.machine.specs.Events.{Outbound as Machine, is_covered, covered_front, uncovered_rest, texts_of, held_first, let_out}
+use Rattle.model.specs.Call.{is_nonempty}
+use Rattle.machine.specs.Event.{Outbound as Machine, is_covered, covered_prefix, uncovered_rest, texts_of, held_first, having_released}
 use Rattle.reply_gate.specs.declared.held_text.HeldText.{HeldText}
-use Rattle.reply_gate.specs.Gates.{Held as Gate, is_first_covered, covered_bytes}
-use Rattle.reply_gate.specs.Gates.{is_covered as is_text_covered, uncovered_rest as uncovered_texts}
+use Rattle.reply_gate.specs.Gate.{Held as Gate, is_first_covered, covered_bytes}
+use Rattle.reply_gate.specs.Gate.{is_covered as is_text_covered, uncovered_rest as uncovered_texts}
 use Rattle.world.specs.declared.outbound.Made.{Made}
-use Rattle.world.specs.Outbounds.{IsMade, AreMade, IsHeld, AreHeld, GateStands}
+use Rattle.world.specs.Outbound.{IsMade, AreMade, IsHeld, AreHeld, GateRefines}
 
 texts_of-append : (xs ys : List Held) → texts_of (xs ++ ys) ≡ texts_of xs ++ texts_of ys
 texts_of-append [] ys = refl
@@ -21,34 +21,34 @@ texts_of-append (x ∷ xs) ys = ap (λ text. text_of x.reply ++ text) (texts_of-
 covered_alike : (local remote : ℕ) (text : HeldText) (held : Held) → IsHeld text held → is_text_covered local remote text ≡ is_covered local remote held
 covered_alike local remote text held is = ap (λ p. nat_le p local && nat_le p remote) is.position
 
-pub first_covered : (local remote : ℕ) (texts : List HeldText) (helds : List Held) → AreHeld texts helds → is_first_covered local remote texts ≡ is_nonempty (covered_front local remote helds)
+pub first_covered : (local remote : ℕ) (texts : List HeldText) (helds : List Held) → AreHeld texts helds → is_first_covered local remote texts ≡ is_nonempty (covered_prefix local remote helds)
 first_covered local remote [] [] are = refl
 first_covered local remote [] (held ∷ helds) are = absurd are
 first_covered local remote (text ∷ texts) [] are = absurd are
 first_covered local remote (text ∷ texts) (held ∷ helds) are =
     covered_alike local remote text held are.0 ∙ chosen (is_covered local remote held)
   where
-    chosen : (b : Bool) → b ≡ is_nonempty (cond b (held ∷ covered_front local remote helds) [])
+    chosen : (b : Bool) → b ≡ is_nonempty (cond b (held ∷ covered_prefix local remote helds) [])
     chosen true = refl
     chosen false = refl
 
-pub covered_length : (local remote : ℕ) (texts : List HeldText) (helds : List Held) → AreHeld texts helds → covered_bytes local remote texts ≡ length (texts_of (covered_front local remote helds))
+pub covered_length : (local remote : ℕ) (texts : List HeldText) (helds : List Held) → AreHeld texts helds → covered_bytes local remote texts ≡ length (texts_of (covered_prefix local remote helds))
 covered_length local remote [] [] are = refl
 covered_length local remote [] (held ∷ helds) are = absurd are
 covered_length local remote (text ∷ texts) [] are = absurd are
 covered_length local remote (text ∷ texts) (held ∷ helds) are =
     let later = covered_length local remote texts helds are.1 in
     ap (λ b. cond b (text.bytes + covered_bytes local remote texts) 0) (covered_alike local remote text held are.0)
-    ∙ elim (is_covered local remote held) as (λ b. cond b (text.bytes + covered_bytes local remote texts) 0 ≡ length (texts_of (cond b (held ∷ covered_front local remote helds) []))) [
-      | true ↦ omega (arith, are.0.bytes, later, length-append (text_of held.reply) (texts_of (covered_front local remote helds)))
+    ∙ elim (is_covered local remote held) as (λ b. cond b (text.bytes + covered_bytes local remote texts) 0 ≡ length (texts_of (cond b (held ∷ covered_prefix local remote helds) []))) [
+      | true ↦ omega (arith, are.0.bytes, later, length-append (text_of held.reply) (texts_of (covered_prefix local remote helds)))
       | false ↦ refl
     ]
 
-pub texts-split : (local remote : ℕ) (helds : List Held) → texts_of helds ≡ texts_of (covered_front local remote helds) ++ texts_of (uncovered_rest local remote helds)
+pub texts-split : (local remote : ℕ) (helds : List Held) → texts_of helds ≡ texts_of (covered_prefix local remote helds) ++ texts_of (uncovered_rest local remote helds)
 texts-split local remote [] = refl
 texts-split local remote (held ∷ helds) =
-    elim (is_covered local remote held) as (λ b. text_of held.reply ++ texts_of helds ≡ texts_of (cond b (held ∷ covered_front local remote helds) []) ++ texts_of (cond b (uncovered_rest local remote helds) (held ∷ helds))) [
-      | true ↦ ap (λ text. text_of held.reply ++ text) (texts-split local remote helds) ∙ sym (append_assoc (text_of held.reply) (texts_of (covered_front local remote helds)) (texts_of (uncovered_rest local remote helds)))
+    elim (is_covered local remote held) as (λ b. text_of held.reply ++ texts_of helds ≡ texts_of (cond b (held ∷ covered_prefix local remote helds) []) ++ texts_of (cond b (uncovered_rest local remote helds) (held ∷ helds))) [
+      | true ↦ ap (λ text. text_of held.reply ++ text) (texts-split local remote helds) ∙ sym (append_assoc (text_of held.reply) (texts_of (covered_prefix local remote helds)) (texts_of (uncovered_rest local remote helds)))
       | false ↦ refl
     ]
 
@@ -65,20 +65,20 @@ rest_held local remote (text ∷ texts) (held ∷ helds) are =
       | false ↦ are
     ])
 
-pub gate-lets_out : (old new : Gate) (machine : Machine) → GateStands old machine
+pub gate-lets_out : (old new : Gate) (machine : Machine) → GateRefines old machine
     → new.pending ≡ old.pending ++ take (covered_bytes machine.local machine.remote old.replies) old.waiting
     → new.waiting ≡ drop (covered_bytes machine.local machine.remote old.replies) old.waiting
     → new.replies ≡ uncovered_texts machine.local machine.remote old.replies
-    → GateStands new (let_out machine)
+    → GateRefines new (having_released machine)
 gate-lets_out old new machine stands pending waiting replies =
-    let front = texts_of (covered_front machine.local machine.remote machine.held) in
+    let prefix = texts_of (covered_prefix machine.local machine.remote machine.held) in
     let rest = texts_of (uncovered_rest machine.local machine.remote machine.held) in
-    let split : old.waiting ≡ front ++ rest = stands.waiting ∙ texts-split machine.local machine.remote machine.held in
-    let count : covered_bytes machine.local machine.remote old.replies ≡ length front = covered_length machine.local machine.remote old.replies machine.held stands.held in
+    let split : old.waiting ≡ prefix ++ rest = stands.waiting ∙ texts-split machine.local machine.remote machine.held in
+    let count : covered_bytes machine.local machine.remote old.replies ≡ length prefix = covered_length machine.local machine.remote old.replies machine.held stands.held in
     record {
-      pending = pending ∙ ap₂ (λ xs n. xs ++ take n old.waiting) stands.pending count ∙ ap (λ xs. machine.pending ++ take (length front) xs) split
-          ∙ ap (λ xs. machine.pending ++ xs) (take_at front rest (length front) refl);
-      waiting = waiting ∙ ap (λ n. drop n old.waiting) count ∙ ap (drop (length front)) split ∙ drop_at front rest (length front) refl;
+      pending = pending ∙ ap₂ (λ xs n. xs ++ take n old.waiting) stands.pending count ∙ ap (λ xs. machine.pending ++ take (length prefix) xs) split
+          ∙ ap (λ xs. machine.pending ++ xs) (take_at prefix rest (length prefix) refl);
+      waiting = waiting ∙ ap (λ n. drop n old.waiting) count ∙ ap (drop (length prefix)) split ∙ drop_at prefix rest (length prefix) refl;
       held = subst (λ texts. AreHeld texts (uncovered_rest machine.local machine.remote machine.held)) (sym replies) (rest_held machine.local machine.remote old.replies machine.held stands.held);
     }
 
@@ -106,9 +106,9 @@ pub none-made : (calls : List Call) (helds : List Held) → AreMade calls [] hel
 none-made calls [] are = refl
 none-made calls (held ∷ helds) are = absurd are
 
-pub gate-holds : (old new : Gate) (machine : Machine) (made : Made) (call : Call) (held : Held) → GateStands old machine → held.reply ≡ call.reply → held.position ≡ made.position
+pub gate-holds : (old new : Gate) (machine : Machine) (made : Made) (call : Call) (held : Held) → GateRefines old machine → held.reply ≡ call.reply → held.position ≡ made.position
     → new.waiting ≡ old.waiting ++ text_of call.reply → new.replies ≡ old.replies ++ record { position = made.position; bytes = length (text_of call.reply) } ∷ [] → new.pending ≡ old.pending
-    → take 1 machine.made ≡ held ∷ [] → GateStands new (held_first machine)
+    → take 1 machine.made ≡ held ∷ [] → GateRefines new (held_first machine)
 gate-holds old new machine made call held stands reply position waiting replies pending first =
     let text : HeldText = record { position = made.position; bytes = length (text_of call.reply) } in
     let is : IsHeld text held = record { position = sym position; bytes = ap (λ r. length (text_of r)) (sym reply) } in

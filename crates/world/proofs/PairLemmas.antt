@@ -9,28 +9,28 @@ use Rattle.kv_types.specs.declared.refusal.Refusal.TheVariants.{Memory, Fault, E
 use Rattle.pipes.specs.Waiting.{Waiting}
 use Rattle.model.specs.declared.call.Call.{Call}
 use Rattle.model.specs.declared.group.Group.{Group}
-use Rattle.model.specs.Calls.{is_nonempty, position_of}
-use Rattle.model.specs.Groups.{Contents}
+use Rattle.model.specs.Call.{is_nonempty, position_of}
+use Rattle.model.specs.Group.{Contents}
 use Rattle.model.specs.Standing.{Holder}
-use Rattle.redis_core.specs.Sequencing.{Sequencing, StandsFor}
+use Rattle.redis_core.specs.Sequencing.{Sequencing, Continues}
 use Rattle.standby.specs.declared.frame.Frame.{Frame}
 use Rattle.standby.specs.declared.frame.Ack.{Ack}
 use Rattle.machine.specs.declared.event.Event.{Event}
 use Rattle.machine.specs.declared.event.Event.TheVariants as events
-use Rattle.machine.specs.Events.{Connection, World, Committer as MachineCommitter, Link as MachineLink, Standby as MachineStandby, Frame as Sent, Acknowledgement, Span, Happens, Step, Turns, may_happen, is_enabled, called, opened_link, acknowledgement_of, next_to_send, framed, sent, sent_next, closed_group, committed_first, raised_local, ready_again, handed, handed_to, delivered, option_items, knowing, told, with_connections, with_link, with_standby, with_committer, with_sent, with_acknowledged}
+use Rattle.machine.specs.Event.{Connection, World, Committer as MachineCommitter, Link as MachineLink, Standby as MachineStandby, Frame as Sent, Acknowledgement, Span, Happens, Step, Turns, may_happen, is_enabled, called, opened_link, acknowledgement_of, next_to_send, framed, sent, sent_next, closed_group, committed_first, raised_local, ready_again, handed, handed_to, delivered, option_items, knowing, told, with_connections, with_link, with_standby, with_committer, with_sent, with_acknowledged}
 use Rattle.std.proofs.lemmas.List.Elements.{All-head}
 use Rattle.machine.specs.Sound.{IsToldWithin, Sound}
 use Rattle.machine.proofs.StandbyLemmas.{all-at}
 use Rattle.machine.proofs.GroupLemmas.{chain-le}
 use Rattle.machine.proofs.SoundEvents.{sound-step, enabled-is}
 use Rattle.world.specs.Going.{Goes}
-use Rattle.world.specs.GroupSpans.{AreGroupsOf}
-use Rattle.world.specs.Causes.{Stretch, Breaks, RestsAtLimit, EndsBy, asks_memory, Resting}
-use Rattle.world.specs.Committings.{EngineStands, Leads, LeadsOn, NearOnly, Moves, Rests, CommittingStands, next_primary, next_standby}
-use Rattle.world.specs.Links.{LinkStands, KeepsFrames, AreFramesAt}
-use Rattle.world.specs.Sessions.{SessionsStand, SequencerStands, AddsOne, TakesTurn, TellsTheSame}
-use Rattle.world.specs.Standbys.{Node, StandbyStands, ArrivalsStand, AppliesFirst, told_by}
-use Rattle.world.specs.Pairs.{Pair, PartsStand, PairStands, IsCut, MovesBoth, Steps, Does}
+use Rattle.world.specs.GroupSpan.{AreGroupsOf}
+use Rattle.world.specs.Cause.{Stretch, Breaks, RestsAtLimit, EndsBy, asks_memory, Resting}
+use Rattle.world.specs.Committing.{EngineStands, Leads, LeadsOn, NearOnly, Moves, Rests, CommittingRefines, next_primary, next_standby}
+use Rattle.world.specs.Link.{LinkRefines, KeepsFrames, AreFramesAt}
+use Rattle.world.specs.Session.{SessionsRefine, SequencerRefines, AddsOne, TakesTurn, TellsTheSame}
+use Rattle.world.specs.Standby.{Node, StandbyStands, ArrivalsRefine, AppliesFirst, told_by}
+use Rattle.world.specs.Pair.{Pair, PartsRefine, PairRefines, IsCut, MovesBoth, Steps, Does}
 use Rattle.world.specs.declared.arrivals.Arrivals.{Arrivals}
 use Rattle.world.specs.declared.connection.Connection.{Connection as Connection'}
 use Rattle.world.specs.declared.committing.Committing.{Committing}
@@ -38,10 +38,10 @@ use Rattle.world.specs.declared.link.Link.{Link}
 use Rattle.world.specs.declared.sessions.Sessions.{Sessions}
 use Rattle.world.proofs.SessionLemmas.{length-connections, released-told}
 use Rattle.world.proofs.EngineLemmas.{Stands-engine, moves-same, rests-same, EngineStands-grows}
-use Rattle.world.proofs.CommittingLemmas.{CommittingStands-grows}
-use Rattle.world.proofs.LinkLemmas.{LinkStands-grows}
+use Rattle.world.proofs.CommittingLemmas.{CommittingRefines-grows}
+use Rattle.world.proofs.LinkLemmas.{LinkRefines-grows}
 use Rattle.world.proofs.StandbyLemmas.{StandbyStands-grows}
-use Rattle.world.proofs.ArrivalLemmas.{ArrivalsStand-grows, ArrivalsStand-frames, length-places}
+use Rattle.world.proofs.ArrivalLemmas.{ArrivalsRefine-grows, ArrivalsRefine-frames, length-places}
 
 -- ---- steps
 
@@ -49,7 +49,7 @@ pub goes-map : {A B C D : Type 0} {enabled did : Bool} → Goes enabled did A B 
 goes-map goes moved stayed = record { done = goes.done; goes = λ did. moved (goes.goes did); stays = λ did. stayed (goes.stays did) }
 
 -- neither device was touched
-untouched : (first second : Holder) (old new : Pair) (w w' : World) → new.device ≡ old.device → new.standby.device ≡ old.standby.device → PartsStand first second new w' → MovesBoth first second old new w w'
+untouched : (first second : Holder) (old new : Pair) (w w' : World) → new.device ≡ old.device → new.standby.device ≡ old.standby.device → PartsRefine first second new w' → MovesBoth first second old new w w'
 untouched first second old new w w' device device' parts =
     record {
       primary = moves-same first w'.primary.calls w.primary.committer.position w'.primary.committer.position old.device new.device device (Stands-engine _ _ _ _ _ _ parts.engine);
@@ -58,7 +58,7 @@ untouched first second old new w w' device device' parts =
 
 -- an event that touches no device
 pub goes-steps : (first second : Holder) (w w' : World) (event : Event) (did : Bool) (old new : Pair) → new.device ≡ old.device → new.standby.device ≡ old.standby.device → Sound w → Happens w event w'
-    → Goes (may_happen w event) did (PartsStand first second new w') (PartsStand first second new w) → Steps first second w event did old new
+    → Goes (may_happen w event) did (PartsRefine first second new w') (PartsRefine first second new w) → Steps first second w event did old new
 goes-steps first second w w' event true old new device device' sound happens goes =
     let step : Step w event true w' = record { done = goes.done ∙ sym (enabled-is w event sound); happens = λ did. happens; stands = λ did. absurd (true≢false did) } in
     record {
@@ -77,10 +77,10 @@ goes-steps first second w w' event false old new device device' sound happens go
 
 -- ---- cuts
 
-rests-primary : (first second : Holder) (old : Pair) (w : World) → PairStands first second old w → Rests first w.primary.calls w.primary.committer.position old.device old.device
+rests-primary : (first second : Holder) (old : Pair) (w : World) → PairRefines first second old w → Rests first w.primary.calls w.primary.committer.position old.device old.device
 rests-primary first second old w stands = rests-same first w.primary.calls w.primary.committer.position old.device old.device refl (Stands-engine _ _ _ _ _ _ stands.parts.engine)
 
-rests-standby : (first second : Holder) (old : Pair) (w : World) → PairStands first second old w → Rests second w.primary.calls w.standby.position old.standby.device old.standby.device
+rests-standby : (first second : Holder) (old : Pair) (w : World) → PairRefines first second old w → Rests second w.primary.calls w.standby.position old.standby.device old.standby.device
 rests-standby first second old w stands =
     rests-same second w.primary.calls w.standby.position old.standby.device old.standby.device refl (Stands-engine _ _ _ _ _ _ stands.parts.standby.engine)
 
@@ -90,7 +90,7 @@ Led first second old new w first_last second_last =
     first_last first w.primary.calls w.primary.committer.position (next_primary w) old.device new.device
     × second_last second w.primary.calls w.standby.position (next_standby w) old.standby.device new.standby.device
 
-pub cut-for : (first second : Holder) (event : Event) (refusal : Refusal) (old new : Pair) (w : World) → PairStands first second old w → TellsTheSame old.sessions new.sessions
+pub cut-for : (first second : Holder) (event : Event) (refusal : Refusal) (old new : Pair) (w : World) → PairRefines first second old w → TellsTheSame old.sessions new.sessions
     → may_happen w event ≡ true → EndsBy refusal event (Led first second old new w) → IsCut first second event refusal old new w
 cut-for first second event refusal old new w stands same enabled cause =
     let sessions = stands.parts.sessions in
@@ -112,7 +112,7 @@ cut-for first second event refusal old new w stands same enabled cause =
 
 -- memory was refused, and neither device was touched
 pub cut-same : (first second : Holder) (event : Event) (refusal : Refusal) (old new : Pair) (w : World) → asks_memory event ≡ true → refusal ≡ Memory → new.device ≡ old.device
-    → new.standby.device ≡ old.standby.device → TellsTheSame old.sessions new.sessions → may_happen w event ≡ true → PairStands first second old w
+    → new.standby.device ≡ old.standby.device → TellsTheSame old.sessions new.sessions → may_happen w event ≡ true → PairRefines first second old w
     → IsCut first second event refusal old new w
 cut-same first second event refusal old new w asks memory device device' same enabled stands =
     cut-for first second event refusal old new w stands same enabled
@@ -136,8 +136,8 @@ none-added old new same = subst (AddsOne old) (sym same) (record { one = omega a
 abbrev pub with_sessions : Sessions → Pair → Pair
 with_sessions sessions pair = record pair { sessions = sessions }
 
-sessions-parts : (first second : Holder) (old : Pair) (sessions : Sessions) (connections : List Connection) (w : World) → PartsStand first second old w
-    → SessionsStand sessions connections w.primary.calls → PartsStand first second (with_sessions sessions old) (with_connections connections w)
+sessions-parts : (first second : Holder) (old : Pair) (sessions : Sessions) (connections : List Connection) (w : World) → PartsRefine first second old w
+    → SessionsRefine sessions connections w.primary.calls → PartsRefine first second (with_sessions sessions old) (with_connections connections w)
 sessions-parts first second old sessions connections w parts stand =
     record {
       sessions = stand;
@@ -154,12 +154,12 @@ sessions-parts first second old sessions connections w parts stand =
 -- what the sessions did, of each world that they stood for
 abbrev pub SessionsGo : Event → (World → List Connection) → Bool → Sessions → Sessions → Type 0
 SessionsGo event change did old new =
-    (w : World) → SessionsStand old w.primary.connections w.primary.calls
-    → Goes (may_happen w event) did (SessionsStand new (change w) w.primary.calls) (SessionsStand new w.primary.connections w.primary.calls)
+    (w : World) → SessionsRefine old w.primary.connections w.primary.calls
+    → Goes (may_happen w event) did (SessionsRefine new (change w) w.primary.calls) (SessionsRefine new w.primary.connections w.primary.calls)
 
 sessions-steps : (event : Event) (change : World → List Connection) → ((w : World) → Happens w event (with_connections (change w) w))
     → (old : Pair) (sessions : Sessions) (did : Bool) → SessionsGo event change did old.sessions sessions
-    → (first second : Holder) (w : World) → PairStands first second old w → Steps first second w event did old (with_sessions sessions old)
+    → (first second : Holder) (w : World) → PairRefines first second old w → Steps first second w event did old (with_sessions sessions old)
 sessions-steps event change happens old sessions did go first second w stands =
     goes-steps first second w (with_connections (change w) w) event did old (with_sessions sessions old) refl refl stands.sound (happens w)
     (goes-map (go w stands.parts.sessions)
@@ -169,7 +169,7 @@ sessions-steps event change happens old sessions did go first second w stands =
 pub sessions-do : (event : Event) (change : World → List Connection) → ((w : World) → Happens w event (with_connections (change w) w)) → asks_memory event ≡ true
     → (old : Pair) (sessions : Sessions) (result : Result Bool Refusal) → IfOk result (λ did. SessionsGo event change did old.sessions sessions)
     → OnErr result (TellsTheSame old.sessions sessions) → IfErr result (λ refusal. refusal ≡ Memory)
-    → OnErr result ((w : World) → SessionsStand old.sessions w.primary.connections w.primary.calls → may_happen w event ≡ true)
+    → OnErr result ((w : World) → SessionsRefine old.sessions w.primary.connections w.primary.calls → may_happen w event ≡ true)
     → sessions.calls ≡ old.sessions.calls → Does old event result (with_sessions sessions old)
 sessions-do event change happens asks old sessions (Ok did) go same memory enabled calls =
     record { steps = sessions-steps event change happens old sessions did go; cut = tt; calls = none-added _ _ calls }
@@ -191,8 +191,8 @@ sessions-did event change happens old sessions did go calls =
 -- a read needs the marks, which are the machine's
 pub read-does : (event : Event) (change : World → List Connection) → ((w : World) → Happens w event (with_connections (change w) w))
     → (old : Pair) (sessions : Sessions) (did : Bool)
-    → ((w : World) → SessionsStand old.sessions w.primary.connections w.primary.calls → old.committing.local ≡ w.primary.committer.local → old.link.remote ≡ w.primary.link.remote
-    → Goes (may_happen w event) did (SessionsStand sessions (change w) w.primary.calls) (SessionsStand sessions w.primary.connections w.primary.calls))
+    → ((w : World) → SessionsRefine old.sessions w.primary.connections w.primary.calls → old.committing.local ≡ w.primary.committer.local → old.link.remote ≡ w.primary.link.remote
+    → Goes (may_happen w event) did (SessionsRefine sessions (change w) w.primary.calls) (SessionsRefine sessions w.primary.connections w.primary.calls))
     → sessions.calls ≡ old.sessions.calls → Does old event (Ok did) (with_sessions sessions old)
 read-does event change happens old sessions did go calls =
     record {
@@ -216,35 +216,35 @@ standby-within w s = omega (arith, s.standby.behind, chain-le _ _ _ s.link.waiti
 abbrev pub with_turn : Sessions → Sequencing → Pair → Pair
 with_turn sessions sequencer pair = record pair { sessions = sessions; sequencer = sequencer }
 
-called-parts : (first second : Holder) (old : Pair) (sessions : Sessions) (sequencer : Sequencing) (w : World) (c : ℕ) (call : Call) → PairStands first second old w
-    → SessionsStand sessions (called c call w).primary.connections (w.primary.calls ++ call ∷ []) → SequencerStands (w.primary.calls ++ call ∷ []) w.primary.committer.closed sequencer
-    → ((contents : Contents) → StandsFor old.sequencer contents → StandsFor sequencer contents)
-    → PartsStand first second (with_turn sessions sequencer old) (called c call w)
+called-parts : (first second : Holder) (old : Pair) (sessions : Sessions) (sequencer : Sequencing) (w : World) (c : ℕ) (call : Call) → PairRefines first second old w
+    → SessionsRefine sessions (called c call w).primary.connections (w.primary.calls ++ call ∷ []) → SequencerRefines (w.primary.calls ++ call ∷ []) w.primary.committer.closed sequencer
+    → ((contents : Contents) → Continues old.sequencer contents → Continues sequencer contents)
+    → PartsRefine first second (with_turn sessions sequencer old) (called c call w)
 called-parts first second old sessions sequencer w c call stands sessions_stand sequencer_stands goes_on =
     let parts = stands.parts in
     record {
       sessions = sessions_stand;
       sequencer = sequencer_stands;
-      committing = CommittingStands-grows w.primary.calls (call ∷ []) old.committing w.primary.committer parts.committing;
+      committing = CommittingRefines-grows w.primary.calls (call ∷ []) old.committing w.primary.committer parts.committing;
       engine = EngineStands-grows first w.primary.calls (call ∷ []) w.primary.committer.position old.device old.contents old.is_faulted (primary-within w stands.sound) parts.engine;
       leads = record { groups_are = parts.leads.groups_are; stands = goes_on _ parts.leads.stands };
       epoch = parts.epoch;
-      link = LinkStands-grows w.primary.calls (call ∷ []) old.link w.primary.link w.wire.frames parts.link;
-      arrivals = ArrivalsStand-grows old.link.epoch w.primary.calls (call ∷ []) old.link.frames.items old.arrivals w.standby.waiting w.wire.acknowledgements parts.arrivals;
+      link = LinkRefines-grows w.primary.calls (call ∷ []) old.link w.primary.link w.wire.frames parts.link;
+      arrivals = ArrivalsRefine-grows old.link.epoch w.primary.calls (call ∷ []) old.link.frames.items old.arrivals w.standby.waiting w.wire.acknowledgements parts.arrivals;
       standby = StandbyStands-grows second old.link.epoch w.primary.calls (call ∷ []) w.standby.position old.standby (standby-within w stands.sound) parts.standby;
     }
 
-turn-steps : (first second : Holder) (old : Pair) (sessions : Sessions) (sequencer : Sequencing) (w : World) (c : ℕ) (did : Bool) → PairStands first second old w
-    → TakesTurn w c did sessions old.sequencer sequencer → ((contents : Contents) → StandsFor old.sequencer contents → StandsFor sequencer contents)
+turn-steps : (first second : Holder) (old : Pair) (sessions : Sessions) (sequencer : Sequencing) (w : World) (c : ℕ) (did : Bool) → PairRefines first second old w
+    → TakesTurn w c did sessions old.sequencer sequencer → ((contents : Contents) → Continues old.sequencer contents → Continues sequencer contents)
     → Steps first second w (events.Turn c) did old (with_turn sessions sequencer old)
 turn-steps first second old sessions sequencer w c true stands takes goes_on =
     let moved = takes.goes refl in
     let turns : Turns w c moved.0 = moved.1 in
     let w' = called c turns.call w in
-    let parts : PartsStand first second (with_turn sessions sequencer old) w' =
+    let parts : PartsRefine first second (with_turn sessions sequencer old) w' =
     called-parts first second old sessions sequencer w c turns.call stands
-    (subst (λ (x : World). SessionsStand sessions x.primary.connections x.primary.calls) turns.now moved.2)
-    (subst (λ (x : World). SequencerStands x.primary.calls x.primary.committer.closed sequencer) turns.now moved.3) goes_on in
+    (subst (λ (x : World). SessionsRefine sessions x.primary.connections x.primary.calls) turns.now moved.2)
+    (subst (λ (x : World). SequencerRefines x.primary.calls x.primary.committer.closed sequencer) turns.now moved.3) goes_on in
     let step : Step w (events.Turn c) true w' = record { done = takes.done ∙ sym (enabled-is w (events.Turn c) stands.sound); happens = λ did. subst (Turns w c) turns.now turns; stands = λ did. absurd (true≢false did) } in
     record {
       world = w';
@@ -258,10 +258,10 @@ turn-steps first second old sessions sequencer w c true stands takes goes_on =
 turn-steps first second old sessions sequencer w c false stands takes goes_on =
     let stayed = takes.stays refl in
     let before = stands.parts in
-    let parts : PartsStand first second (with_turn sessions sequencer old) w =
+    let parts : PartsRefine first second (with_turn sessions sequencer old) w =
     record {
       sessions = stayed.0;
-      sequencer = subst (SequencerStands w.primary.calls w.primary.committer.closed) (sym stayed.1) before.sequencer;
+      sequencer = subst (SequencerRefines w.primary.calls w.primary.committer.closed) (sym stayed.1) before.sequencer;
       committing = before.committing;
       engine = before.engine;
       leads = record { groups_are = before.leads.groups_are; stands = goes_on _ before.leads.stands };
@@ -278,9 +278,9 @@ turn-steps first second old sessions sequencer w c false stands takes goes_on =
     }
 
 pub turn-does : (old : Pair) (sessions : Sessions) (sequencer : Sequencing) (c : ℕ) (did : Bool)
-    → ((w : World) → Sound w → SessionsStand old.sessions w.primary.connections w.primary.calls → SequencerStands w.primary.calls w.primary.committer.closed old.sequencer
+    → ((w : World) → Sound w → SessionsRefine old.sessions w.primary.connections w.primary.calls → SequencerRefines w.primary.calls w.primary.committer.closed old.sequencer
     → TakesTurn w c did sessions old.sequencer sequencer)
-    → ((contents : Contents) → StandsFor old.sequencer contents → StandsFor sequencer contents)
+    → ((contents : Contents) → Continues old.sequencer contents → Continues sequencer contents)
     → AddsOne old.sessions.calls sessions.calls → Does old (events.Turn c) (Ok did) (with_turn sessions sequencer old)
 turn-does old sessions sequencer c did takes goes_on calls =
     record {
@@ -295,13 +295,13 @@ abbrev pub with_group : Committing → Sequencing → Pair → Pair
 with_group committing sequencer pair = record pair { committing = committing; sequencer = sequencer }
 
 pub close-does : (old : Pair) (committing : Committing) (sequencer : Sequencing) (result : Result Bool Refusal)
-    → IfOk result (λ did. (w : World) → CommittingStands w.primary.calls old.committing w.primary.committer → SequencerStands w.primary.calls w.primary.committer.closed old.sequencer
+    → IfOk result (λ did. (w : World) → CommittingRefines w.primary.calls old.committing w.primary.committer → SequencerRefines w.primary.calls w.primary.committer.closed old.sequencer
     → Goes (may_happen w events.CloseGroup) did
-    (CommittingStands w.primary.calls committing (closed_group (position_of w.primary.calls) w.primary.committer) × SequencerStands w.primary.calls (position_of w.primary.calls) sequencer)
-    (CommittingStands w.primary.calls committing w.primary.committer × SequencerStands w.primary.calls w.primary.committer.closed sequencer))
+    (CommittingRefines w.primary.calls committing (closed_group (position_of w.primary.calls) w.primary.committer) × SequencerRefines w.primary.calls (position_of w.primary.calls) sequencer)
+    (CommittingRefines w.primary.calls committing w.primary.committer × SequencerRefines w.primary.calls w.primary.committer.closed sequencer))
     → ((contents : Contents) → Leads contents old.committing.waiting.items old.sequencer → Leads contents committing.waiting.items sequencer)
     → IfErr result (λ refusal. refusal ≡ Memory)
-    → OnErr result ((w : World) → CommittingStands w.primary.calls old.committing w.primary.committer → SequencerStands w.primary.calls w.primary.committer.closed old.sequencer → may_happen w events.CloseGroup ≡ true)
+    → OnErr result ((w : World) → CommittingRefines w.primary.calls old.committing w.primary.committer → SequencerRefines w.primary.calls w.primary.committer.closed old.sequencer → may_happen w events.CloseGroup ≡ true)
     → Does old events.CloseGroup result (with_group committing sequencer old)
 close-does old committing sequencer (Err refusal) go leads memory enabled =
     record {
@@ -349,12 +349,12 @@ with_engine committing device contents is_faulted pair =
     record pair { committing = committing; device = device; contents = contents; is_faulted = is_faulted }
 
 leads_on : (old : Contents) (groups : List Group) (new : Contents) (rest : List Group) (sequencer : Sequencing) → LeadsOn old groups new rest → Leads old groups sequencer → Leads new rest sequencer
-leads_on old groups new rest sequencer on leads = record { groups_are = on.groups_are; stands = subst (StandsFor sequencer) (sym on.same) leads.stands }
+leads_on old groups new rest sequencer on leads = record { groups_are = on.groups_are; stands = subst (Continues sequencer) (sym on.same) leads.stands }
 
 commit-steps : (first second : Holder) (w : World) (did : Bool) (old new : Pair) → new.standby.device ≡ old.standby.device → Sound w
     → (did ≡ false → new.device ≡ old.device) → new.device.failures ≡ old.device.failures → NearOnly first w.primary.calls w.primary.committer.position (next_primary w) old.device new.device
     → Goes (may_happen w events.Commit) did
-    (PartsStand first second new (with_committer (committed_first w.primary.committer.waiting w.primary.committer) w)) (PartsStand first second new w)
+    (PartsRefine first second new (with_committer (committed_first w.primary.committer.waiting w.primary.committer) w)) (PartsRefine first second new w)
     → Steps first second w events.Commit did old new
 commit-steps first second w true old new device' sound still failures only goes =
     let committer = committed_first w.primary.committer.waiting w.primary.committer in
@@ -381,17 +381,17 @@ ends-commit Exhausted P Q both ends = both RestsAtLimit ends
 ends-commit refusal P Q both ends = absurd ends
 
 pub commit-does : (old : Pair) (committing : Committing) (device : State) (contents : Contents) (is_faulted : Bool) (result : Result Bool Refusal)
-    → IfOk result (λ did. (holder : Holder) (w : World) → CommittingStands w.primary.calls old.committing w.primary.committer
+    → IfOk result (λ did. (holder : Holder) (w : World) → CommittingRefines w.primary.calls old.committing w.primary.committer
     → EngineStands holder w.primary.calls w.primary.committer.position old.device old.contents old.is_faulted → AreGroupsOf w.primary.calls old.link.waiting.items w.primary.link.waiting
     → Goes (may_happen w events.Commit) did
-    (CommittingStands w.primary.calls committing (committed_first w.primary.committer.waiting w.primary.committer)
+    (CommittingRefines w.primary.calls committing (committed_first w.primary.committer.waiting w.primary.committer)
     × EngineStands holder w.primary.calls (committed_first w.primary.committer.waiting w.primary.committer).position device contents is_faulted)
-    (CommittingStands w.primary.calls committing w.primary.committer × EngineStands holder w.primary.calls w.primary.committer.position device contents is_faulted))
+    (CommittingRefines w.primary.calls committing w.primary.committer × EngineStands holder w.primary.calls w.primary.committer.position device contents is_faulted))
     → IfOk result (λ _. LeadsOn old.contents old.committing.waiting.items contents committing.waiting.items)
     → IfOk result (λ did. did ≡ false → device ≡ old.device) → OnOk result (device.failures ≡ old.device.failures)
-    → ((holder : Holder) (w : World) → Sound w → CommittingStands w.primary.calls old.committing w.primary.committer
+    → ((holder : Holder) (w : World) → Sound w → CommittingRefines w.primary.calls old.committing w.primary.committer
     → EngineStands holder w.primary.calls w.primary.committer.position old.device old.contents old.is_faulted → NearOnly holder w.primary.calls w.primary.committer.position (next_primary w) old.device device)
-    → IfErr result (λ refusal. (holder : Holder) (w : World) → Sound w → CommittingStands w.primary.calls old.committing w.primary.committer
+    → IfErr result (λ refusal. (holder : Holder) (w : World) → Sound w → CommittingRefines w.primary.calls old.committing w.primary.committer
     → EngineStands holder w.primary.calls w.primary.committer.position old.device old.contents old.is_faulted → AreGroupsOf w.primary.calls old.link.waiting.items w.primary.link.waiting
     → (may_happen w events.Commit ≡ true) × EndsBy refusal events.Commit (λ last _. last holder w.primary.calls w.primary.committer.position (next_primary w) old.device device))
     → Does old events.Commit result (with_engine committing device contents is_faulted old)
@@ -423,14 +423,14 @@ commit-does old committing device contents is_faulted (Ok did) go leads still fa
     same_closed [] w = refl
     same_closed (group ∷ groups) w = refl
 
-    committed-parts : (first second : Holder) (w : World) (committer : MachineCommitter) → PartsStand first second old w
-        → CommittingStands w.primary.calls committing committer → EngineStands first w.primary.calls committer.position device contents is_faulted
+    committed-parts : (first second : Holder) (w : World) (committer : MachineCommitter) → PartsRefine first second old w
+        → CommittingRefines w.primary.calls committing committer → EngineStands first w.primary.calls committer.position device contents is_faulted
         → committer.closed ≡ w.primary.committer.closed
-        → PartsStand first second (with_engine committing device contents is_faulted old) (with_committer committer w)
+        → PartsRefine first second (with_engine committing device contents is_faulted old) (with_committer committer w)
     committed-parts first second w committer parts committing_stands engine_stands closed =
         record {
           sessions = parts.sessions;
-          sequencer = subst (λ n. SequencerStands w.primary.calls n old.sequencer) (sym closed) parts.sequencer;
+          sequencer = subst (λ n. SequencerRefines w.primary.calls n old.sequencer) (sym closed) parts.sequencer;
           committing = committing_stands;
           engine = engine_stands;
           leads = leads_on old.contents old.committing.waiting.items contents committing.waiting.items old.sequencer leads parts.leads;
@@ -443,13 +443,13 @@ commit-does old committing device contents is_faulted (Ok did) go leads still fa
 abbrev pub with_committing : Committing → Pair → Pair
 with_committing committing pair = record pair { committing = committing }
 
-shown-parts : (first second : Holder) (old : Pair) (committing : Committing) (w : World) (committer : MachineCommitter) → PartsStand first second old w → committing.waiting ≡ old.committing.waiting
-    → CommittingStands w.primary.calls committing committer → committer.closed ≡ w.primary.committer.closed → committer.position ≡ w.primary.committer.position
-    → PartsStand first second (with_committing committing old) (with_committer committer w)
+shown-parts : (first second : Holder) (old : Pair) (committing : Committing) (w : World) (committer : MachineCommitter) → PartsRefine first second old w → committing.waiting ≡ old.committing.waiting
+    → CommittingRefines w.primary.calls committing committer → committer.closed ≡ w.primary.committer.closed → committer.position ≡ w.primary.committer.position
+    → PartsRefine first second (with_committing committing old) (with_committer committer w)
 shown-parts first second old committing w committer parts waiting committing_stands closed position =
     record {
       sessions = parts.sessions;
-      sequencer = subst (λ n. SequencerStands w.primary.calls n old.sequencer) (sym closed) parts.sequencer;
+      sequencer = subst (λ n. SequencerRefines w.primary.calls n old.sequencer) (sym closed) parts.sequencer;
       committing = committing_stands;
       engine = subst (λ p. EngineStands first w.primary.calls p old.device old.contents old.is_faulted) (sym position) parts.engine;
       leads = subst (λ (waits : Waiting Group). Leads old.contents waits.items old.sequencer) (sym waiting) parts.leads;
@@ -460,8 +460,8 @@ shown-parts first second old committing w committer parts waiting committing_sta
     }
 
 pub raise-does : (old : Pair) (committing : Committing) (did : Bool)
-    → ((w : World) → CommittingStands w.primary.calls old.committing w.primary.committer → old.contents.current.position ≡ w.primary.committer.position
-    → Goes (may_happen w events.RaiseLocal) did (CommittingStands w.primary.calls committing (raised_local w.primary.committer)) (CommittingStands w.primary.calls committing w.primary.committer))
+    → ((w : World) → CommittingRefines w.primary.calls old.committing w.primary.committer → old.contents.current.position ≡ w.primary.committer.position
+    → Goes (may_happen w events.RaiseLocal) did (CommittingRefines w.primary.calls committing (raised_local w.primary.committer)) (CommittingRefines w.primary.calls committing w.primary.committer))
     → committing.waiting ≡ old.committing.waiting → Does old events.RaiseLocal (Ok did) (with_committing committing old)
 raise-does old committing did go waiting =
     record {
@@ -482,10 +482,10 @@ abbrev pub with_handed : Committing → Link → Pair → Pair
 with_handed committing link pair = record pair { committing = committing; link = link }
 
 pub hand-does : (old : Pair) (committing : Committing) (waiting : Waiting Group) (did : Bool)
-    → ((w : World) → Sound w → CommittingStands w.primary.calls old.committing w.primary.committer → AreGroupsOf w.primary.calls old.link.waiting.items w.primary.link.waiting
+    → ((w : World) → Sound w → CommittingRefines w.primary.calls old.committing w.primary.committer → AreGroupsOf w.primary.calls old.link.waiting.items w.primary.link.waiting
     → Goes (may_happen w events.Hand) did
-    (CommittingStands w.primary.calls committing (ready_again w.primary.committer) × AreGroupsOf w.primary.calls waiting.items (w.primary.link.waiting ++ handed w.primary.committer.stage))
-    (CommittingStands w.primary.calls committing w.primary.committer × AreGroupsOf w.primary.calls waiting.items w.primary.link.waiting))
+    (CommittingRefines w.primary.calls committing (ready_again w.primary.committer) × AreGroupsOf w.primary.calls waiting.items (w.primary.link.waiting ++ handed w.primary.committer.stage))
+    (CommittingRefines w.primary.calls committing w.primary.committer × AreGroupsOf w.primary.calls waiting.items w.primary.link.waiting))
     → committing.waiting ≡ old.committing.waiting → Does old events.Hand (Ok did) (with_handed committing (record old.link { waiting = waiting }) old)
 hand-does old committing waiting did go same =
     record {
@@ -524,10 +524,10 @@ hand-does old committing waiting did go same =
       calls = none-added _ _ refl;
     }
   where
-    waits : (link : MachineLink) (w : World) → LinkStands w.primary.calls old.link w.primary.link w.wire.frames → record w.primary.link { waiting = link.waiting } ≡ link → AreGroupsOf w.primary.calls waiting.items link.waiting
-        → LinkStands w.primary.calls (record old.link { waiting = waiting }) link w.wire.frames
+    waits : (link : MachineLink) (w : World) → LinkRefines w.primary.calls old.link w.primary.link w.wire.frames → record w.primary.link { waiting = link.waiting } ≡ link → AreGroupsOf w.primary.calls waiting.items link.waiting
+        → LinkRefines w.primary.calls (record old.link { waiting = waiting }) link w.wire.frames
     waits link w stands same_rest groups =
-        subst (λ (l : MachineLink). LinkStands w.primary.calls (record old.link { waiting = waiting }) l w.wire.frames) same_rest
+        subst (λ (l : MachineLink). LinkRefines w.primary.calls (record old.link { waiting = waiting }) l w.wire.frames) same_rest
         (record {
           waiting = groups;
           spans = stands.spans;
@@ -544,9 +544,9 @@ hand-does old committing waiting did go same =
 abbrev pub with_frames : Link → Pair → Pair
 with_frames link pair = record pair { link = link }
 
-link-parts : (first second : Holder) (old : Pair) (link : Link) (w : World) (machine : MachineLink) (frames : List Sent) → PartsStand first second old w → KeepsFrames old.link link
-    → LinkStands w.primary.calls link machine frames
-    → PartsStand first second (with_frames link old) (record w { primary = record w.primary { link = machine }; wire = record w.wire { frames = frames } })
+link-parts : (first second : Holder) (old : Pair) (link : Link) (w : World) (machine : MachineLink) (frames : List Sent) → PartsRefine first second old w → KeepsFrames old.link link
+    → LinkRefines w.primary.calls link machine frames
+    → PartsRefine first second (with_frames link old) (record w { primary = record w.primary { link = machine }; wire = record w.wire { frames = frames } })
 link-parts first second old link w machine frames parts keeps link_stands =
     let waiting = w.standby.waiting in
     let told = w.wire.acknowledgements in
@@ -558,23 +558,23 @@ link-parts first second old link w machine frames parts keeps link_stands =
       leads = parts.leads;
       epoch = keeps.epoch ∙ parts.epoch;
       link = link_stands;
-      arrivals = subst (λ e. ArrivalsStand e w.primary.calls link.frames.items old.arrivals waiting told) (sym keeps.epoch)
-          (subst (λ all. ArrivalsStand old.link.epoch w.primary.calls all old.arrivals waiting told) keeps.frames.joined
-          (ArrivalsStand-frames old.link.epoch w.primary.calls old.link.frames.items keeps.frames.rest old.arrivals waiting told parts.arrivals));
+      arrivals = subst (λ e. ArrivalsRefine e w.primary.calls link.frames.items old.arrivals waiting told) (sym keeps.epoch)
+          (subst (λ all. ArrivalsRefine old.link.epoch w.primary.calls all old.arrivals waiting told) keeps.frames.joined
+          (ArrivalsRefine-frames old.link.epoch w.primary.calls old.link.frames.items keeps.frames.rest old.arrivals waiting told parts.arrivals));
       standby = subst (λ e. StandbyStands second e w.primary.calls w.standby.position old.standby) (sym keeps.epoch) parts.standby;
     }
 
 -- what the link did, of each sound world that it stood for
 abbrev pub LinkGoes : Event → (World → MachineLink) → (World → List Sent) → Bool → Link → Link → Type 0
 LinkGoes event change sends did old new =
-    (w : World) → Sound w → LinkStands w.primary.calls old w.primary.link w.wire.frames
-    → Goes (may_happen w event) did (LinkStands w.primary.calls new (change w) (sends w)) (LinkStands w.primary.calls new w.primary.link w.wire.frames)
+    (w : World) → Sound w → LinkRefines w.primary.calls old w.primary.link w.wire.frames
+    → Goes (may_happen w event) did (LinkRefines w.primary.calls new (change w) (sends w)) (LinkRefines w.primary.calls new w.primary.link w.wire.frames)
 
 link-steps : (event : Event) (change : World → MachineLink) (sends : World → List Sent)
     → (old : Pair) (link : Link) (did : Bool)
     → ((w : World) → old.link.epoch ≡ w.primary.epoch → Happens w event (record w { primary = record w.primary { link = change w }; wire = record w.wire { frames = sends w } }))
     → LinkGoes event change sends did old.link link → KeepsFrames old.link link
-    → (first second : Holder) (w : World) → PairStands first second old w → Steps first second w event did old (with_frames link old)
+    → (first second : Holder) (w : World) → PairRefines first second old w → Steps first second w event did old (with_frames link old)
 link-steps event change sends old link did happens go keeps first second w stands =
     goes-steps first second w (record w { primary = record w.primary { link = change w }; wire = record w.wire { frames = sends w } }) event did old (with_frames link old) refl refl stands.sound (happens w stands.parts.epoch)
     (goes-map (go w stands.sound stands.parts.link)
@@ -589,7 +589,7 @@ link-does event change happens old link did go keeps =
 pub send-does : (old : Pair) (link : Link) (result : Result Bool Refusal)
     → IfOk result (λ did. LinkGoes events.Send (λ w. sent_next w.primary.link.again w.primary.link) (λ w. w.wire.frames ++ framed old.link.epoch (next_to_send w.primary.link)) did old.link link)
     → OnOk result (KeepsFrames old.link link) → IfErr result (λ refusal. refusal ≡ Memory)
-    → OnErr result ((w : World) → LinkStands w.primary.calls old.link w.primary.link w.wire.frames → may_happen w events.Send ≡ true) → Does old events.Send result (with_frames link old)
+    → OnErr result ((w : World) → LinkRefines w.primary.calls old.link w.primary.link w.wire.frames → may_happen w events.Send ≡ true) → Does old events.Send result (with_frames link old)
 send-does old link (Ok did) go keeps memory enabled =
     record {
       steps = link-steps events.Send (λ w. sent_next w.primary.link.again w.primary.link) (λ w. w.wire.frames ++ framed old.link.epoch (next_to_send w.primary.link)) old link did
@@ -613,9 +613,9 @@ with_arrivals arrivals pair = record pair { arrivals = arrivals }
 abbrev pub with_opened : Arrivals → Link → Pair → Pair
 with_opened arrivals link pair = record pair { arrivals = arrivals; link = link }
 
-arrivals-parts : (first second : Holder) (old : Pair) (arrivals : Arrivals) (w : World) (machine : MachineStandby) (told : List Acknowledgement) → PartsStand first second old w → machine.position ≡ w.standby.position
-    → ArrivalsStand old.link.epoch w.primary.calls old.link.frames.items arrivals machine.waiting told
-    → PartsStand first second (with_arrivals arrivals old) (record w { standby = machine; wire = record w.wire { acknowledgements = told } })
+arrivals-parts : (first second : Holder) (old : Pair) (arrivals : Arrivals) (w : World) (machine : MachineStandby) (told : List Acknowledgement) → PartsRefine first second old w → machine.position ≡ w.standby.position
+    → ArrivalsRefine old.link.epoch w.primary.calls old.link.frames.items arrivals machine.waiting told
+    → PartsRefine first second (with_arrivals arrivals old) (record w { standby = machine; wire = record w.wire { acknowledgements = told } })
 arrivals-parts first second old arrivals w machine told parts position arrivals_stand =
     record {
       sessions = parts.sessions;
@@ -630,17 +630,17 @@ arrivals-parts first second old arrivals w machine told parts position arrivals_
     }
 
 -- the epoch of the standby's node is the machine's
-own-epoch : (first second : Holder) (old : Pair) (w : World) → PairStands first second old w → old.standby.epoch ≡ w.standby.epoch
+own-epoch : (first second : Holder) (old : Pair) (w : World) → PairRefines first second old w → old.standby.epoch ≡ w.standby.epoch
 own-epoch first second old w stands = stands.parts.standby.epoch_is ∙ stands.parts.epoch ∙ sym stands.sound.standby.epoch_is
 
 -- the standby told its position
 abbrev pub Acknowledges : Ack → Arrivals → Arrivals → Type 0
 Acknowledges ack old new =
-    (epoch : ℕ) (frames : List Frame) (w : World) → ArrivalsStand epoch w.primary.calls frames old w.standby.waiting w.wire.acknowledgements → told_by ack ≡ acknowledgement_of w.standby
-    → ArrivalsStand epoch w.primary.calls frames new w.standby.waiting (w.wire.acknowledgements ++ acknowledgement_of w.standby ∷ [])
+    (epoch : ℕ) (frames : List Frame) (w : World) → ArrivalsRefine epoch w.primary.calls frames old w.standby.waiting w.wire.acknowledgements → told_by ack ≡ acknowledgement_of w.standby
+    → ArrivalsRefine epoch w.primary.calls frames new w.standby.waiting (w.wire.acknowledgements ++ acknowledgement_of w.standby ∷ [])
 
 pub open-does : (old : Pair) (arrivals : Arrivals) (link : Link) (ack : Ack) → ack ≡ record { epoch = old.standby.epoch; position = old.standby.contents.current.position } → Acknowledges ack old.arrivals arrivals
-    → ((w : World) → LinkStands w.primary.calls old.link w.primary.link w.wire.frames → LinkStands w.primary.calls link (opened_link w.primary.link) w.wire.frames) → KeepsFrames old.link link
+    → ((w : World) → LinkRefines w.primary.calls old.link w.primary.link w.wire.frames → LinkRefines w.primary.calls link (opened_link w.primary.link) w.wire.frames) → KeepsFrames old.link link
     → Does old events.OpenLink (Ok true) (with_opened arrivals link old)
 open-does old arrivals link ack is acknowledges opens keeps =
     record {
@@ -651,7 +651,7 @@ open-does old arrivals link ack is acknowledges opens keeps =
           let own : told_by ack ≡ acknowledgement_of w.standby = ap₂ (λ e p. record { epoch = e; position = p }) epoch position in
           let told = acknowledges old.link.epoch old.link.frames.items w parts.arrivals own in
           let w' = with_acknowledged (acknowledgement_of w.standby ∷ []) w in
-          let heard : PartsStand first second (with_arrivals arrivals old) w' = arrivals-parts first second old arrivals w w.standby (w.wire.acknowledgements ++ acknowledgement_of w.standby ∷ []) parts refl told in
+          let heard : PartsRefine first second (with_arrivals arrivals old) w' = arrivals-parts first second old arrivals w w.standby (w.wire.acknowledgements ++ acknowledgement_of w.standby ∷ []) parts refl told in
           let moved = link-parts first second (with_arrivals arrivals old) link w' (opened_link w.primary.link) w.wire.frames heard keeps (opens w parts.link) in
           goes-steps first second w (with_link (opened_link w.primary.link) w') events.OpenLink true old (with_opened arrivals link old) refl refl stands.sound refl
           (record { done = refl; goes = λ did. moved; stays = λ did. absurd (true≢false did) });
@@ -670,11 +670,11 @@ open-cut old arrivals result refusal is memory =
     })
 
 pub deliver-does : (old : Pair) (arrivals : Arrivals) (sent : List ℕ) (frame : ℕ) (result : Result Bool Refusal) → sent ≡ old.link.sent.items
-    → IfOk result (λ did. (epoch : ℕ) (frames : List Frame) (w : World) → ArrivalsStand epoch w.primary.calls frames old.arrivals w.standby.waiting w.wire.acknowledgements
+    → IfOk result (λ did. (epoch : ℕ) (frames : List Frame) (w : World) → ArrivalsRefine epoch w.primary.calls frames old.arrivals w.standby.waiting w.wire.acknowledgements
     → AreFramesAt epoch w.primary.calls frames sent w.wire.frames
     → Goes (may_happen w (events.Deliver frame)) did
-    (ArrivalsStand epoch w.primary.calls frames arrivals (delivered (option_items (slice_get w.wire.frames frame)) w.standby).waiting w.wire.acknowledgements)
-    (ArrivalsStand epoch w.primary.calls frames arrivals w.standby.waiting w.wire.acknowledgements))
+    (ArrivalsRefine epoch w.primary.calls frames arrivals (delivered (option_items (slice_get w.wire.frames frame)) w.standby).waiting w.wire.acknowledgements)
+    (ArrivalsRefine epoch w.primary.calls frames arrivals w.standby.waiting w.wire.acknowledgements))
     → IfErr result (λ refusal. refusal ≡ Memory) → OnErr result (frame < length sent) → Does old (events.Deliver frame) result (with_arrivals arrivals old)
 deliver-does old arrivals sent frame (Ok did) same go memory some =
     record {
@@ -702,7 +702,7 @@ deliver-does old arrivals sent frame (Err refusal) same go memory some =
 abbrev pub with_node : Arrivals → Node → Pair → Pair
 with_node arrivals node pair = record pair { arrivals = arrivals; standby = node }
 
-apply-steps : (first second : Holder) (old : Pair) (arrivals : Arrivals) (node : Node) (w : World) (did : Bool) → PairStands first second old w
+apply-steps : (first second : Holder) (old : Pair) (arrivals : Arrivals) (node : Node) (w : World) (did : Bool) → PairRefines first second old w
     → AppliesFirst second old.link.epoch old.link.frames.items w did arrivals old.standby node → Steps first second w events.Apply did old (with_node arrivals node old)
 apply-steps first second old arrivals node w true stands applies =
     let parts = stands.parts in
@@ -724,7 +724,7 @@ apply-steps first second old arrivals node w true stands applies =
           leads = parts.leads;
           epoch = parts.epoch;
           link = parts.link;
-          arrivals = subst (λ (x : World). ArrivalsStand old.link.epoch w.primary.calls old.link.frames.items arrivals x.standby.waiting x.wire.acknowledgements) applied.now moved.2;
+          arrivals = subst (λ (x : World). ArrivalsRefine old.link.epoch w.primary.calls old.link.frames.items arrivals x.standby.waiting x.wire.acknowledgements) applied.now moved.2;
           standby = subst (λ (x : World). StandbyStands second old.link.epoch w.primary.calls x.standby.position node) applied.now moved.3;
         };
       };
@@ -736,7 +736,7 @@ apply-steps first second old arrivals node w true stands applies =
 apply-steps first second old arrivals node w false stands applies =
     let before = stands.parts in
     let stayed = applies.stays refl in
-    let parts : PartsStand first second (with_node arrivals node old) w =
+    let parts : PartsRefine first second (with_node arrivals node old) w =
     record {
       sessions = before.sessions;
       sequencer = before.sequencer;
@@ -763,31 +763,31 @@ ends-apply Exhausted P Q both ends = both RestsAtLimit ends
 ends-apply refusal P Q both ends = absurd ends
 
 pub apply-does : (old : Pair) (arrivals : Arrivals) (node : Node) (frames : List Frame) (result : Result Bool Refusal) → frames ≡ old.link.frames.items
-    → IfOk result (λ did. (holder : Holder) (w : World) → Sound w → old.standby.epoch ≡ w.standby.epoch → ArrivalsStand old.standby.epoch w.primary.calls frames old.arrivals w.standby.waiting w.wire.acknowledgements
+    → IfOk result (λ did. (holder : Holder) (w : World) → Sound w → old.standby.epoch ≡ w.standby.epoch → ArrivalsRefine old.standby.epoch w.primary.calls frames old.arrivals w.standby.waiting w.wire.acknowledgements
     → StandbyStands holder old.standby.epoch w.primary.calls w.standby.position old.standby
     → AppliesFirst holder old.standby.epoch frames w did arrivals old.standby node)
-    → ((holder : Holder) (w : World) → Sound w → old.standby.epoch ≡ w.standby.epoch → ArrivalsStand old.standby.epoch w.primary.calls frames old.arrivals w.standby.waiting w.wire.acknowledgements
+    → ((holder : Holder) (w : World) → Sound w → old.standby.epoch ≡ w.standby.epoch → ArrivalsRefine old.standby.epoch w.primary.calls frames old.arrivals w.standby.waiting w.wire.acknowledgements
     → StandbyStands holder old.standby.epoch w.primary.calls w.standby.position old.standby → NearOnly holder w.primary.calls w.standby.position (next_standby w) old.standby.device node.device)
-    → IfErr result (λ refusal. (holder : Holder) (w : World) → Sound w → old.standby.epoch ≡ w.standby.epoch → ArrivalsStand old.standby.epoch w.primary.calls frames old.arrivals w.standby.waiting w.wire.acknowledgements
+    → IfErr result (λ refusal. (holder : Holder) (w : World) → Sound w → old.standby.epoch ≡ w.standby.epoch → ArrivalsRefine old.standby.epoch w.primary.calls frames old.arrivals w.standby.waiting w.wire.acknowledgements
     → StandbyStands holder old.standby.epoch w.primary.calls w.standby.position old.standby
     → (may_happen w events.Apply ≡ true) × EndsBy refusal events.Apply (λ _ last. last holder w.primary.calls w.standby.position (next_standby w) old.standby.device node.device))
     → Does old events.Apply result (with_node arrivals node old)
 apply-does old arrivals node frames result same applies only cuts = go result applies cuts
   where
-    arrive : (first second : Holder) (w : World) → PairStands first second old w → ArrivalsStand old.standby.epoch w.primary.calls frames old.arrivals w.standby.waiting w.wire.acknowledgements
+    arrive : (first second : Holder) (w : World) → PairRefines first second old w → ArrivalsRefine old.standby.epoch w.primary.calls frames old.arrivals w.standby.waiting w.wire.acknowledgements
     arrive first second w stands =
-        subst (λ e. ArrivalsStand e w.primary.calls frames old.arrivals w.standby.waiting w.wire.acknowledgements) (sym stands.parts.standby.epoch_is)
-        (subst (λ (all : List Frame). ArrivalsStand old.link.epoch w.primary.calls all old.arrivals w.standby.waiting w.wire.acknowledgements) (sym same) stands.parts.arrivals)
+        subst (λ e. ArrivalsRefine e w.primary.calls frames old.arrivals w.standby.waiting w.wire.acknowledgements) (sym stands.parts.standby.epoch_is)
+        (subst (λ (all : List Frame). ArrivalsRefine old.link.epoch w.primary.calls all old.arrivals w.standby.waiting w.wire.acknowledgements) (sym same) stands.parts.arrivals)
 
-    stand : (first second : Holder) (w : World) → PairStands first second old w → StandbyStands second old.standby.epoch w.primary.calls w.standby.position old.standby
+    stand : (first second : Holder) (w : World) → PairRefines first second old w → StandbyStands second old.standby.epoch w.primary.calls w.standby.position old.standby
     stand first second w stands =
         subst (λ e. StandbyStands second e w.primary.calls w.standby.position old.standby) (sym stands.parts.standby.epoch_is) stands.parts.standby
 
     go : (result : Result Bool Refusal)
-        → IfOk result (λ did. (holder : Holder) (w : World) → Sound w → old.standby.epoch ≡ w.standby.epoch → ArrivalsStand old.standby.epoch w.primary.calls frames old.arrivals w.standby.waiting w.wire.acknowledgements
+        → IfOk result (λ did. (holder : Holder) (w : World) → Sound w → old.standby.epoch ≡ w.standby.epoch → ArrivalsRefine old.standby.epoch w.primary.calls frames old.arrivals w.standby.waiting w.wire.acknowledgements
         → StandbyStands holder old.standby.epoch w.primary.calls w.standby.position old.standby
         → AppliesFirst holder old.standby.epoch frames w did arrivals old.standby node)
-        → IfErr result (λ refusal. (holder : Holder) (w : World) → Sound w → old.standby.epoch ≡ w.standby.epoch → ArrivalsStand old.standby.epoch w.primary.calls frames old.arrivals w.standby.waiting w.wire.acknowledgements
+        → IfErr result (λ refusal. (holder : Holder) (w : World) → Sound w → old.standby.epoch ≡ w.standby.epoch → ArrivalsRefine old.standby.epoch w.primary.calls frames old.arrivals w.standby.waiting w.wire.acknowledgements
         → StandbyStands holder old.standby.epoch w.primary.calls w.standby.position old.standby
         → (may_happen w events.Apply ≡ true) × EndsBy refusal events.Apply (λ _ last. last holder w.primary.calls w.standby.position (next_standby w) old.standby.device node.device))
         → Does old events.Apply result (with_node arrivals node old)
@@ -821,7 +821,7 @@ found-there xs ys n x same within is =
     subst (λ (all : List Ack). slice_get all n ≡ Some x) same (slice_get-get_or xs n x (ltb-true n (length xs) (sym within)) ∙ ap Some (sym is))
 
 pub ack-does : (old : Pair) (n : ℕ) (ack : Ack) (link : Link) → slice_get old.arrivals.acknowledgements.items n ≡ Some ack
-    → ((w : World) → Sound w → LinkStands w.primary.calls old.link w.primary.link w.wire.frames → LinkStands w.primary.calls link (knowing ack.position w.primary.link) w.wire.frames) → KeepsFrames old.link link
+    → ((w : World) → Sound w → LinkRefines w.primary.calls old.link w.primary.link w.wire.frames → LinkRefines w.primary.calls link (knowing ack.position w.primary.link) w.wire.frames) → KeepsFrames old.link link
     → Does old (events.AckDelivered n) (Ok true) (with_frames link old)
 ack-does old n ack link stands_there knows keeps =
     record {
@@ -837,7 +837,7 @@ ack-does old n ack link stands_there knows keeps =
           (record {
             done = sym (lt-ltb n (length w.wire.acknowledgements) (slice_get_within w.wire.acknowledgements n (told_by ack) there));
             goes = λ did. link-parts first second old link w (told w.primary.epoch (slice_get w.wire.acknowledgements n) w.primary.link) w.wire.frames parts keeps
-                (subst (λ (l : MachineLink). LinkStands w.primary.calls link l w.wire.frames) (sym knows_now) (knows w stands.sound parts.link));
+                (subst (λ (l : MachineLink). LinkRefines w.primary.calls link l w.wire.frames) (sym knows_now) (knows w stands.sound parts.link));
             stays = λ did. absurd (true≢false did);
           });
       cut = tt;

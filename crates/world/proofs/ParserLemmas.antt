@@ -7,7 +7,7 @@ use Rattle.std.specs.List.{list_any}
 use Rattle.kv_types.specs.declared.item.Item.{Item}
 use Rattle.kv_types.specs.declared.limits.TheConstants.{SERVED_LIMITS}
 use Rattle.kv_types.specs.Reading.{items_at}
-use Rattle.model.specs.Commands.{closes}
+use Rattle.model.specs.Command.{closes}
 use Rattle.resp_codec.specs.Parsing.{fed, ahead}
 
 abbrev pub Gives : Option (List ℕ) → Option Item → Option (List ℕ) → Type 0

@@ -6,29 +6,29 @@ use Rattle.kv_types.specs.declared.refusal.Refusal.TheVariants.{Memory, Fault, E
 use Rattle.pmem.proofs.Leaving.{LeavesOnly-then, LeavesOnly-weaken}
 use Rattle.model.specs.declared.call.Call.{Call}
 use Rattle.model.specs.declared.record.Role.TheVariants.{Primary, Standby}
-use Rattle.model.specs.Calls.{IsPrefix, position_of}
-use Rattle.model.specs.Images.{Image}
+use Rattle.model.specs.Call.{IsPrefix, position_of}
+use Rattle.model.specs.Image.{Image}
 use Rattle.model.specs.Standing.{Holder, new_holder, StandsAt}
 use Rattle.model.proofs.StandingLemmas.{StandsAt-append}
 use Rattle.machine.specs.declared.event.Event.{Event}
 use Rattle.machine.specs.declared.event.Event.TheVariants.{Commit, Apply}
 use Rattle.machine.specs.declared.event.TheConstants.{SEATS}
-use Rattle.machine.specs.Events.{Run, World, Span, Frame as Sent, Committer, committed_first, start, last_world}
-use Rattle.machine.specs.Laws.{Grows}
-use Rattle.machine.specs.Promises.{HasMarks, IsPromised, IsReleased, Tells, released_in}
+use Rattle.machine.specs.Event.{Run, World, Span, Frame as Sent, Committer, committed_first, start, last_world}
+use Rattle.machine.specs.Law.{Grows}
+use Rattle.machine.specs.Promise.{HasMarks, IsPromised, IsReleased, Tells, released_in}
 use Rattle.machine.specs.Sound.{IsChain, IsFrameWithin, Sound}
 use Rattle.std.proofs.lemmas.List.Elements.{All-head}
 use Rattle.machine.proofs.GrowLemmas.{grows-step, grows-from}
 use Rattle.machine.proofs.PromiseLemmas.{promised-told, released-covered}
 use Rattle.machine.proofs.RunLemmas.{run-push, last_world-push, some-last, sound-start, sound-run}
 use Rattle.machine.proofs.SoundEvents.{sound-step}
-use Rattle.world.specs.Causes.{Stretch, UnformedBy, Breaks, RestsAtLimit, EndsBy, Resting}
-use Rattle.world.specs.Committings.{StandsAtEither, NearOnly, FromOnly, Moves, Rests, FormattingOnly, next_primary, next_from, next_standby}
+use Rattle.world.specs.Cause.{Stretch, UnformedBy, Breaks, RestsAtLimit, EndsBy, Resting}
+use Rattle.world.specs.Committing.{StandsAtEither, NearOnly, FromOnly, Moves, Rests, FormattingOnly, next_primary, next_from, next_standby}
 use Rattle.world.specs.declared.trace.Ended.{Ended}
 use Rattle.world.specs.declared.trace.Ended.TheVariants.{AtFormatting, AtEvent}
 use Rattle.world.specs.Headline.{AnyWorld, Enables, primary_position, standby_position, AreMoments, IsKept, KeepsItsWord, PlaysOn, AreMoves, Reaches, StandsAfter, IsCutAfter, Plays}
-use Rattle.world.specs.Pairs.{Pair, PairStands, HasWorld, IsCut, Steps}
-use Rattle.world.specs.Sessions.{released_of}
+use Rattle.world.specs.Pair.{Pair, PairRefines, HasWorld, IsCut, Steps}
+use Rattle.world.specs.Session.{released_of}
 use Rattle.world.proofs.EngineLemmas.{Stands-engine, rests-same}
 use Rattle.world.proofs.PairLemmas.{primary-within, standby-within}
 use Rattle.world.proofs.SessionLemmas.{length-connections, released-told}
@@ -44,7 +44,7 @@ moves-push position holder w (next ∷ worlds) w' old new new' are moves = (are.
 pub reaches-world : (first second : Holder) (began : Pair) (events : List Event) (done : List Bool) (pair : Pair) → StandsAfter first second began events done pair → HasWorld pair
 reaches-world first second began events done pair after = record { first = first; second = second; world = last_world start after.reaches.worlds; stands = after.stands }
 
-pub reaches-start : (first second : Holder) (done : List Bool) (pair : Pair) → done ≡ [] → PairStands first second pair start → StandsAfter first second pair [] done pair
+pub reaches-start : (first second : Holder) (done : List Bool) (pair : Pair) → done ≡ [] → PairRefines first second pair start → StandsAfter first second pair [] done pair
 reaches-start first second done pair none stands =
     record {
       reaches = record { worlds = []; run = subst (λ (d : List Bool). Run start [] d []) (sym none) tt; primary_moves = refl; standby_moves = refl };
@@ -52,7 +52,7 @@ reaches-start first second done pair none stands =
     }
 
 pub reaches-next : (first second : Holder) (began : Pair) (events : List Event) (done done' : List Bool) (pair pair' : Pair) (event : Event) (did : Bool) → done' ≡ done ++ did ∷ []
-    → ((first second : Holder) (w : World) → PairStands first second pair w → Steps first second w event did pair pair')
+    → ((first second : Holder) (w : World) → PairRefines first second pair w → Steps first second w event did pair pair')
     → StandsAfter first second began events done pair → StandsAfter first second began (events ++ event ∷ []) done' pair'
 reaches-next first second began events done done' pair pair' event did more steps after =
     let reaches = after.reaches in
@@ -66,11 +66,11 @@ reaches-next first second began events done done' pair pair' event did more step
         primary_moves = moves-push primary_position first start reaches.worlds next.world began.device pair.device pair'.device reaches.primary_moves next.moves.primary;
         standby_moves = moves-push standby_position second start reaches.worlds next.world began.standby.device pair.standby.device pair'.standby.device reaches.standby_moves next.moves.standby;
       };
-      stands = subst (PairStands first second pair') (sym (last_world-push start reaches.worlds next.world)) next.stands;
+      stands = subst (PairRefines first second pair') (sym (last_world-push start reaches.worlds next.world)) next.stands;
     }
 
 pub reaches-cut : (first second : Holder) (began : Pair) (events : List Event) (event : Event) (refusal : Refusal) (done : List Bool) (pair pair' : Pair)
-    → ((first second : Holder) (w : World) → PairStands first second pair w → IsCut first second event refusal pair pair' w)
+    → ((first second : Holder) (w : World) → PairRefines first second pair w → IsCut first second event refusal pair pair' w)
     → StandsAfter first second began events done pair → IsCutAfter first second began events event refusal done pair'
 reaches-cut first second began events event refusal done pair pair' cuts after =
     record { before = pair; reaches = after.reaches; cut = cuts first second (last_world start after.reaches.worlds) after.stands }
@@ -91,7 +91,7 @@ few-played first second began events (Some (AtEvent place refusal)) done pair pl
 record IsOfNode (position next : World → ℕ) : Type 0 where
   rises : (old new : World) → Grows old new → position old ≤ position new
   within : (w : World) → Sound w → position w ≤ position_of w.primary.calls
-  holds : (w : World) → Sound w → (front : List Call) (call : Call) → IsReleased w.primary.calls (released_in w) front call → position_of (front ++ call ∷ []) ≤ position w
+  holds : (w : World) → Sound w → (prefix : List Call) (call : Call) → IsReleased w.primary.calls (released_in w) prefix call → position_of (prefix ++ call ∷ []) ≤ position w
   onward : (w : World) → Sound w → position w ≤ next w
 
 next_of_groups : (from to : ℕ) (groups : List Span) (committer : Committer) → IsChain from groups to → committer.position ≡ from → from ≤ (committed_first groups committer).position
@@ -112,7 +112,7 @@ of_primary =
     record {
       rises = λ old new grows. grows.primary_position;
       within = primary-within;
-      holds = λ w s front call released. omega (arith, (released-covered w s front call released).0, s.committer.mark);
+      holds = λ w s prefix call released. omega (arith, (released-covered w s prefix call released).0, s.committer.mark);
       onward = λ w s. next_of_groups w.primary.committer.position w.primary.committer.closed w.primary.committer.waiting w.primary.committer s.committer.waiting refl;
     }
 
@@ -121,7 +121,7 @@ of_standby =
     record {
       rises = λ old new grows. grows.standby_position;
       within = standby-within;
-      holds = λ w s front call released. omega (arith, (released-covered w s front call released).1, s.link.remote, s.standby.known);
+      holds = λ w s prefix call released. omega (arith, (released-covered w s prefix call released).1, s.link.remote, s.standby.known);
       onward = λ w s. next_of_frames w.primary.epoch s.sent w.standby.position w.standby.waiting s.standby.frames;
     }
 
@@ -175,7 +175,7 @@ moments-from : (last : Stretch) (position next : World → ℕ) (holder : Holder
 moments-from last position next holder calls node from w [] [] [] old reached new run sound told are ends =
     let all : last holder calls (position w) (next w) old new = subst (λ (d : State). last holder calls (position w) (next w) d new) (sym are) ends in
     let onward = from (position w) (next w) old new (node.onward w sound) all in
-    record { from = onward; moments = (λ front call released. from-lower holder calls _ (position w) old new (node.holds w sound front call released) onward, all) }
+    record { from = onward; moments = (λ prefix call released. from-lower holder calls _ (position w) old new (node.holds w sound prefix call released) onward, all) }
 moments-from last position next holder calls node from w (event ∷ events) (did ∷ done) (w' ∷ worlds) old reached new run sound told are ends =
     let sound' = sound-step w event did w' run.0 sound in
     let rises = node.rises w w' (grows-step w event did w' run.0 sound) in
@@ -187,7 +187,7 @@ moments-from last position next holder calls node from w (event ∷ events) (did
     LeavesOnly-then (moves-from holder calls (position w) (position w') old are.0 rises moves) (from-lower holder calls (position w) (position w') are.0 new rises rest.from) in
     record {
       from = onward;
-      moments = (are.0, λ front call released. from-lower holder calls _ (position w) old new (node.holds w sound front call released) onward, moves, rest.moments);
+      moments = (are.0, λ prefix call released. from-lower holder calls _ (position w) old new (node.holds w sound prefix call released) onward, moves, rest.moments);
     }
 moments-from last position next holder calls node from w events done worlds old reached new run sound told are ends = absurd run
 
@@ -206,12 +206,12 @@ promised-by events done worlds calls released primary standby run tells =
         legal = promised.legal;
         serves = promised.serves;
         begins = promised.begins;
-        covered = λ front call out.
-            let in_last : IsReleased w.primary.calls (released_in w) front call =
+        covered = λ prefix call out.
+            let in_last : IsReleased w.primary.calls (released_in w) prefix call =
             record { rest = out.rest; stands = sym tells.list ∙ out.stands; written = omega (arith, out.written, ap length (tells.bytes call.connection)) } in
-            let marks = released-covered w (sound-run events done worlds run) front call in_last in
-            some-last (HasMarks front call) start worlds
-            (record { made = record { rest = in_last.rest; joined = append_assoc front (call ∷ []) in_last.rest ∙ sym in_last.stands }; local = marks.0; remote = marks.1 });
+            let marks = released-covered w (sound-run events done worlds run) prefix call in_last in
+            some-last (HasMarks prefix call) start worlds
+            (record { made = record { rest = in_last.rest; joined = append_assoc prefix (call ∷ []) in_last.rest ∙ sym in_last.stands }; local = marks.0; remote = marks.1 });
         held = promised.held;
         behind = promised.behind;
         within = promised.within;

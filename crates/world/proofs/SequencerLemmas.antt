@@ -7,31 +7,31 @@ use Rattle.std.specs.List.{flat_map, list_any}
 use Rattle.kv_types.specs.declared.change.Change.{Change}
 use Rattle.kv_types.specs.declared.item.Item.{Item}
 use Rattle.kv_types.specs.declared.reply.Reply.{Reply}
-use Rattle.kv_types.specs.Keyspaces.{play_all}
+use Rattle.kv_types.specs.Keyspace.{play_all}
 use Rattle.kv_types.specs.declared.refusal.Refusal.{Refusal}
 use Rattle.kv_types.specs.declared.refusal.Refusal.TheVariants.{Memory, PipeFull}
 use Rattle.model.specs.declared.call.Call.{Call}
 use Rattle.model.specs.declared.group.Group.{Group}
 use Rattle.model.specs.declared.group.Part.{Part}
-use Rattle.model.specs.Calls.{AreAlike, changes_of, is_changing, is_nonempty, items_of, position_of, state_after, up_to_closing}
-use Rattle.model.specs.Commands.{closes}
-use Rattle.model.specs.Groups.{Contents, IsGroup, after_group, changes_of_part, last_position}
-use Rattle.model.specs.Positions.{changes_at, changes_since}
+use Rattle.model.specs.Call.{AreAlike, changes_of, is_changing, is_nonempty, items_of, position_of, state_after, up_to_closing}
+use Rattle.model.specs.Command.{closes}
+use Rattle.model.specs.Group.{Contents, IsGroup, after_group, changes_of_part, last_position}
+use Rattle.model.specs.Position.{changes_at, changes_since}
 use Rattle.model.proofs.CallsLemmas.{changes_of-alike, keyspace_after-push, position_of-push, sessions_idle}
 use Rattle.model.proofs.PositionsLemmas.{changes_at-append, changes_at-push}
 use Rattle.model.proofs.ServesLemmas.{items_of-push_own, items_of-push_other}
-use Rattle.redis_core.specs.Sequencing.{HandsOut, Sequencing, StandsFor, state_of}
-use Rattle.redis_core.specs.Turns.{Answers, Moves, call_of}
+use Rattle.redis_core.specs.Sequencing.{HandsOut, Sequencing, Continues, state_of}
+use Rattle.redis_core.specs.Turn.{Answers, Moves, call_of}
 use Rattle.machine.specs.declared.event.Event.TheVariants.{CloseGroup}
 use Rattle.machine.specs.declared.event.TheConstants.{PIPE_ITEMS}
-use Rattle.machine.specs.Events.{Span, World, closed_group, has_room, may_happen, open_changes}
+use Rattle.machine.specs.Event.{Span, World, closed_group, has_room, may_happen, open_changes}
 use Rattle.machine.proofs.SoundEvents.{both}
 use Rattle.world.specs.declared.committing.Committing.{Committing}
 use Rattle.world.specs.declared.committing.Stage.{Stage}
-use Rattle.world.specs.Committings.{AreGroups, CommittingStands, Leads, StageStands, after_groups}
+use Rattle.world.specs.Committing.{AreGroups, CommittingRefines, Leads, StageRefines, after_groups}
 use Rattle.world.specs.Going.{Goes}
-use Rattle.world.specs.GroupSpans.{AreGroupsOf, IsGroupOf}
-use Rattle.world.specs.Sessions.{AreOpen, SequencerStands}
+use Rattle.world.specs.GroupSpan.{AreGroupsOf, IsGroupOf}
+use Rattle.world.specs.Session.{AreOpen, SequencerRefines}
 use Rattle.world.proofs.GroupSpanLemmas.{length-groups}
 
 -- ---- the parts that wait
@@ -129,11 +129,11 @@ seats-stand closed calls call stands d h =
 -- ---- a turn
 
 -- what the sequencer answers is a call that was made at the state after the list
-pub alike-state : (calls : List Call) (closed : ℕ) (s : Sequencing) (call : Call) → SequencerStands calls closed s → AreAlike (state_of s) call (state_after calls) call
+pub alike-state : (calls : List Call) (closed : ℕ) (s : Sequencing) (call : Call) → SequencerRefines calls closed s → AreAlike (state_of s) call (state_after calls) call
 alike-state calls closed s call stands = record { keyspace = stands.table; session = sym (sessions_idle calls call.connection); item = refl; reply = refl }
 
-pub sequencer-answered : (calls : List Call) (closed : ℕ) (old new : Sequencing) (c : ℕ) (item : Item) (reply : Reply) → SequencerStands calls closed old → Answers old c item reply new
-    → SequencerStands (calls ++ call_of c item reply ∷ []) closed new
+pub sequencer-answered : (calls : List Call) (closed : ℕ) (old new : Sequencing) (c : ℕ) (item : Item) (reply : Reply) → SequencerRefines calls closed old → Answers old c item reply new
+    → SequencerRefines (calls ++ call_of c item reply ∷ []) closed new
 sequencer-answered calls closed old new c item reply stands answers =
     let call = call_of c item reply in
     let changes : changes_of (state_of old) call ≡ changes_of (state_after calls) call = changes_of-alike (state_of old) (state_after calls) call call (alike-state calls closed old call stands) in
@@ -163,9 +163,9 @@ last-open calls from (part ∷ parts) are =
     ap (λ n. last_position n parts) are.0 ∙ rest ∙ omega arith
 
 -- all parts leave
-pub sequencer-handed : (calls : List Call) (closed : ℕ) (old new : Sequencing) (group : Group) → SequencerStands calls closed old → HandsOut old group new → SequencerStands calls (position_of calls) new
+pub sequencer-handed : (calls : List Call) (closed : ℕ) (old new : Sequencing) (group : Group) → SequencerRefines calls closed old → HandsOut old group new → SequencerRefines calls (position_of calls) new
 sequencer-handed calls closed old new group stands hands =
-    subst (SequencerStands calls (position_of calls)) (sym hands.after) (record {
+    subst (SequencerRefines calls (position_of calls)) (sym hands.after) (record {
       table = stands.table;
       position = stands.position;
       before = stands.position;
@@ -175,7 +175,7 @@ sequencer-handed calls closed old new group stands hands =
     })
 
 -- and they are the group of all positions behind those that were closed
-pub IsGroupOf-handed : (calls : List Call) (closed : ℕ) (old new : Sequencing) (group : Group) → SequencerStands calls closed old → HandsOut old group new
+pub IsGroupOf-handed : (calls : List Call) (closed : ℕ) (old new : Sequencing) (group : Group) → SequencerRefines calls closed old → HandsOut old group new
     → IsGroupOf calls group (record { before = closed; after = position_of calls })
 IsGroupOf-handed calls closed old new group stands hands =
     let count : position_of calls - closed ≡ length old.waiting = omega (arith, stands.count) in
@@ -202,12 +202,12 @@ after_groups-push contents (first ∷ groups) group = after_groups-push (after_g
 
 -- what is to be committed leads to the sequencer still
 pub Leads-push : (contents : Contents) (groups groups' : List Group) (group : Group) (old new : Sequencing) → Leads contents groups old → groups' ≡ groups ++ group ∷ []
-    → ((before : Contents) → StandsFor old before → IsGroup before group × StandsFor new (after_group before group)) → Leads contents groups' new
+    → ((before : Contents) → Continues old before → IsGroup before group × Continues new (after_group before group)) → Leads contents groups' new
 Leads-push contents groups groups' group old new leads pushed closes_group =
     let closed = closes_group (after_groups contents groups) leads.stands in
     subst (λ (xs : List Group). Leads contents xs new) (sym pushed) (record {
       groups_are = AreGroups-push contents groups group leads.groups_are closed.0;
-      stands = subst (StandsFor new) (sym (after_groups-push contents groups group)) closed.1;
+      stands = subst (Continues new) (sym (after_groups-push contents groups group)) closed.1;
     })
 
 -- ---- where a group may be closed
@@ -221,9 +221,9 @@ some-parts [] some = absurd (some refl)
 some-parts (part ∷ parts) some = omega arith
 
 -- no part waits, or there is no room
-pub closes-nothing : (w : World) (code : Committing) (s : Sequencing) (moved : Type 0) → CommittingStands w.primary.calls code w.primary.committer → SequencerStands w.primary.calls w.primary.committer.closed s
+pub closes-nothing : (w : World) (code : Committing) (s : Sequencing) (moved : Type 0) → CommittingRefines w.primary.calls code w.primary.committer → SequencerRefines w.primary.calls w.primary.committer.closed s
     → (s.waiting ≢ [] → length code.waiting.items < PIPE_ITEMS → ⊥)
-    → Goes (may_happen w CloseGroup) false moved (CommittingStands w.primary.calls code w.primary.committer × SequencerStands w.primary.calls w.primary.committer.closed s)
+    → Goes (may_happen w CloseGroup) false moved (CommittingRefines w.primary.calls code w.primary.committer × SequencerRefines w.primary.calls w.primary.committer.closed s)
 closes-nothing w code s moved stands sequencer never = record {
   done = sym (false_from_ne_true (may_happen w CloseGroup) (λ e.
       let parts = both (nat_lt 0 (open_changes w)) (has_room w.primary.committer.waiting) e in
@@ -235,13 +235,13 @@ closes-nothing w code s moved stands sequencer never = record {
 }
 
 -- changes that wait may be closed, where there is room for their group
-pub may-close : (w : World) (code : Committing) (s : Sequencing) → CommittingStands w.primary.calls code w.primary.committer → SequencerStands w.primary.calls w.primary.committer.closed s
+pub may-close : (w : World) (code : Committing) (s : Sequencing) → CommittingRefines w.primary.calls code w.primary.committer → SequencerRefines w.primary.calls w.primary.committer.closed s
     → s.waiting ≢ [] → length code.waiting.items < PIPE_ITEMS → may_happen w CloseGroup ≡ true
 may-close w code s stands sequencer some room =
     and_from (nat_lt 0 (open_changes w)) (has_room w.primary.committer.waiting) (lt-ltb 0 (open_changes w) (omega (arith, some-parts s.waiting some, sequencer.count)))
     (lt-ltb (length w.primary.committer.waiting) PIPE_ITEMS (omega (arith, room, length-groups w.primary.calls code.waiting.items w.primary.committer.waiting stands.groups)))
 
--- a group that has room was refused for want of memory alone
+-- a group that has room was refused only when out of memory
 pub only-memory : (waiting : ℕ) (result : Result (Unit {0}) Refusal) (refusal : Refusal) → result ≡ Err refusal → IfErr result (λ r. (r ≡ PipeFull) ⊎ (r ≡ Memory))
     → (IsErrOf result PipeFull → PIPE_ITEMS - waiting ≡ 0) → waiting < PIPE_ITEMS → refusal ≡ Memory
 only-memory waiting result refusal is causes full few = by (subst (λ (r : Result (Unit {0}) Refusal). IfErr r (λ e. (e ≡ PipeFull) ⊎ (e ≡ Memory))) is causes)
@@ -250,16 +250,16 @@ only-memory waiting result refusal is causes full few = by (subst (λ (r : Resul
     by (inl pipe) = absurd (omega (arith, full (is ∙ ap Err pipe), few))
     by (inr memory) = memory
 
-pub closes-one : (w : World) (old new : Committing) (s s' : Sequencing) (group : Group) (stayed : Type 0) → CommittingStands w.primary.calls old w.primary.committer → SequencerStands w.primary.calls w.primary.committer.closed s
+pub closes-one : (w : World) (old new : Committing) (s s' : Sequencing) (group : Group) (stayed : Type 0) → CommittingRefines w.primary.calls old w.primary.committer → SequencerRefines w.primary.calls w.primary.committer.closed s
     → s.waiting ≢ [] → length old.waiting.items < PIPE_ITEMS → HandsOut s group s' → new.waiting.items ≡ old.waiting.items ++ group ∷ [] → new.stage ≡ old.stage → new.local ≡ old.local
-    → Goes (may_happen w CloseGroup) true (CommittingStands w.primary.calls new (closed_group (position_of w.primary.calls) w.primary.committer) × SequencerStands w.primary.calls (position_of w.primary.calls) s') stayed
+    → Goes (may_happen w CloseGroup) true (CommittingRefines w.primary.calls new (closed_group (position_of w.primary.calls) w.primary.committer) × SequencerRefines w.primary.calls (position_of w.primary.calls) s') stayed
 closes-one w old new s s' group stayed stands sequencer some room hands pushed stage_same local_same = record {
   done = sym (may-close w old s stands sequencer some room);
   goes = λ did. (
     record {
       groups = subst (λ (groups : List Group). AreGroupsOf w.primary.calls groups (closed_group (position_of w.primary.calls) w.primary.committer).waiting) (sym pushed)
           (AreGroupsOf-push w.primary.calls old.waiting.items w.primary.committer.waiting group _ stands.groups (IsGroupOf-handed w.primary.calls w.primary.committer.closed s s' group sequencer hands));
-      stage_is = subst (λ (stage : Stage). StageStands w.primary.calls stage w.primary.committer.stage) (sym stage_same) stands.stage_is;
+      stage_is = subst (λ (stage : Stage). StageRefines w.primary.calls stage w.primary.committer.stage) (sym stage_same) stands.stage_is;
       local_is = local_same ∙ stands.local_is;
     },
     sequencer-handed w.primary.calls w.primary.committer.closed s s' group sequencer hands,

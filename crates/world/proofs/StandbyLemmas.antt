@@ -3,31 +3,31 @@ use Rattle.std.proofs.Common.{◌≡◌, ◌≢◌, ℕ, ◌+◌, ◌-◌, ◌<�
 use Rattle.std.proofs.lemmas.Bool.{cases_lt, cases_eq}
 use Rattle.kv_types.specs.declared.refusal.Refusal.{Refusal}
 use Rattle.kv_types.specs.declared.refusal.Refusal.TheVariants.{WrongEpoch, PositionGap, Full, Memory, Fault, Exhausted}
-use Rattle.kv_types.specs.Keyspaces.{play_all}
+use Rattle.kv_types.specs.Keyspace.{play_all}
 use Rattle.pmem.specs.Device.{State}
 use Rattle.pmem.specs.Crash.{IsImage}
 use Rattle.pmem.specs.Runs.{LeavesOnly}
 use Rattle.pmem.proofs.Leaving.{LeavesOnly-weaken}
 use Rattle.model.specs.declared.call.Call.{Call}
 use Rattle.model.specs.declared.image.TheConstants.{COUNTER_LIMIT, STAMP_WINDOW}
-use Rattle.model.specs.Calls.{keyspace_after, cut_at, position_of}
-use Rattle.model.specs.Images.{Image, IsMapOf, entries_of_lines}
-use Rattle.model.specs.Groups.{Contents}
+use Rattle.model.specs.Call.{keyspace_after, cut_at, position_of}
+use Rattle.model.specs.Image.{Image, IsMapOf, entries_of_lines}
+use Rattle.model.specs.Group.{Contents}
 use Rattle.model.specs.Standing.{Holder, StandsAt}
 use Rattle.model.proofs.CallsLemmas.{keyspace_after-cut_at-append}
 use Rattle.model.proofs.PositionsLemmas.{keyspace_after-cut_at-since}
-use Rattle.mv_keyspace.specs.Tables.{records}
+use Rattle.mv_keyspace.specs.Table.{records}
 use Rattle.mv_keyspace.proofs.PartTables.{map-from_table}
 use Rattle.wbl_engine.specs.Contents.{IsDurable, Keeps}
 use Rattle.machine.specs.declared.event.Event.TheVariants.{Apply}
-use Rattle.machine.specs.Events.{Standby as Machine, Span, Frame as Sent, Acknowledgement, Takes, acknowledgement_of, moved_to}
+use Rattle.machine.specs.Event.{Standby as Machine, Span, Frame as Sent, Acknowledgement, Takes, acknowledgement_of, moved_to}
 use Rattle.standby.specs.declared.frame.Ack.{Ack}
 use Rattle.standby.specs.declared.frame.Frame.{Frame}
 use Rattle.standby.specs.Following.{Follows, IsNext, HasTaken, IsWhole, IsBeforeOrWhole, WouldExhaust}
-use Rattle.world.specs.Causes.{IsAtLimit, EndsBy}
-use Rattle.world.specs.Committings.{AreContentsAt, Moves, Rests, StandsAtEither, NearOnly, next_from}
-use Rattle.world.specs.Links.{IsFrameOf}
-use Rattle.world.specs.Standbys.{Node, StandbyStands, told_by}
+use Rattle.world.specs.Cause.{IsAtLimit, EndsBy}
+use Rattle.world.specs.Committing.{AreContentsAt, Moves, Rests, StandsAtEither, NearOnly, next_from}
+use Rattle.world.specs.Link.{IsFrameOf}
+use Rattle.world.specs.Standby.{Node, StandbyStands, told_by}
 use Rattle.world.proofs.EngineLemmas.{Stands-engine, keeps-stands, moves-same, near-still, rests-same, EngineStands-grows}
 
 -- nothing happened to the standby

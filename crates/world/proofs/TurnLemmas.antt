@@ -8,27 +8,27 @@ use Rattle.kv_types.specs.declared.limits.TheConstants.{SERVED_LIMITS}
 use Rattle.kv_types.specs.Reading.{items_at}
 use Rattle.model.specs.declared.call.Call.{Call}
 use Rattle.model.specs.declared.group.TheConstants.{MAX_PARTS}
-use Rattle.model.specs.Calls.{is_nonempty, items_of, position_of, state_after}
-use Rattle.model.specs.Commands.{closes}
+use Rattle.model.specs.Call.{is_nonempty, items_of, position_of, state_after}
+use Rattle.model.specs.Command.{closes}
 use Rattle.model.proofs.CallsLemmas.{MayReply-alike}
 use Rattle.machine.specs.declared.event.Event.TheVariants.{Turn}
 use Rattle.machine.specs.declared.event.TheConstants.{PIPE_ITEMS, OPEN_CHANGES}
-use Rattle.machine.specs.Events.{Inbound as MachineInbound, Outbound as MachineOutbound, Connection as MachineConnection, World, asked, called, changed_at, connection_of, get_connection, has_room, may_happen, is_open, open_changes, taken_first, with_inbound, with_made, with_outbound}
+use Rattle.machine.specs.Event.{Inbound as MachineInbound, Outbound as MachineOutbound, Connection as MachineConnection, World, asked, called, changed_at, connection_of, get_connection, has_room, may_happen, is_open, open_changes, taken_first, with_inbound, with_made, with_outbound}
 use Rattle.machine.specs.Sound.{Sound}
 use Rattle.machine.proofs.ConnectionLemmas.{open-lt, length-changed_at}
 use Rattle.machine.proofs.SoundEvents.{four}
 use Rattle.redis_core.specs.Sequencing.{Sequencing, is_closed, state_of}
-use Rattle.redis_core.specs.Turns.{Answers, call_of}
+use Rattle.redis_core.specs.Turn.{Answers, call_of}
 use Rattle.world.specs.declared.connection.Connection.{Connection}
 use Rattle.world.specs.declared.inbound.Inbound.{Inbound}
 use Rattle.world.specs.declared.outbound.Made.{Made}
 use Rattle.world.specs.declared.outbound.Outbound.{Outbound}
 use Rattle.world.specs.declared.sessions.Sessions.{Sessions}
-use Rattle.world.specs.Inbounds.{HasParsed, InboundStands}
-use Rattle.world.specs.Outbounds.{IsMade, AreMade, GateStands, OutboundStands}
+use Rattle.world.specs.Inbound.{HasParsed, InboundRefines}
+use Rattle.world.specs.Outbound.{IsMade, AreMade, GateRefines, OutboundRefines}
 use Rattle.world.specs.Running.{Runs}
-use Rattle.world.specs.Sessions.{ConnectionStands, ConnectionsStand, SeatsStand, SessionsStand, SequencerStands, TakesTurn}
-use Rattle.world.proofs.SessionLemmas.{AreMade-grows, ConnectionsStand-grows, length-connections}
+use Rattle.world.specs.Session.{ConnectionRefines, ConnectionsRefine, SeatsRefine, SessionsRefine, SequencerRefines, TakesTurn}
+use Rattle.world.proofs.SessionLemmas.{AreMade-grows, ConnectionsRefine-grows, length-connections}
 use Rattle.world.proofs.SequencerLemmas.{alike-state, open-before, sequencer-answered}
 
 -- ---- the list of calls grows
@@ -39,35 +39,35 @@ slice_get-last (first ∷ calls) call = slice_get-last calls call
 
 -- ---- one of the connections
 
-stands-at : (calls : List Call) (n : ℕ) (codes : List Connection) (machines : List MachineConnection) (c : ℕ) (code : Connection) → ConnectionsStand calls n codes machines
-    → c < length codes → code ≡ slice_index_or codes c code → (k : ℕ) → k ≡ n + c → ConnectionStands calls k code (get_connection machines c)
+stands-at : (calls : List Call) (n : ℕ) (codes : List Connection) (machines : List MachineConnection) (c : ℕ) (code : Connection) → ConnectionsRefine calls n codes machines
+    → c < length codes → code ≡ slice_index_or codes c code → (k : ℕ) → k ≡ n + c → ConnectionRefines calls k code (get_connection machines c)
 stands-at calls n [] machines c code stand lt is k e = absurd (omega arith)
 stands-at calls n (first ∷ codes) [] c code stand lt is k e = absurd stand
 stands-at calls n (first ∷ codes) (machine ∷ machines) zero code stand lt is k e =
     let same : n ≡ k = omega arith in
-    subst (λ m. ConnectionStands calls m code machine) same (subst (λ (x : Connection). ConnectionStands calls n x machine) (sym is) stand.0)
+    subst (λ m. ConnectionRefines calls m code machine) same (subst (λ (x : Connection). ConnectionRefines calls n x machine) (sym is) stand.0)
 stands-at calls n (first ∷ codes) (machine ∷ machines) (suc c) code stand lt is k e = stands-at calls (suc n) codes machines c code stand.1 (omega arith) is k (omega arith)
 
 -- another connection in its place, which stands for the same
-stand-replaced : (calls : List Call) (n : ℕ) (codes : List Connection) (machines : List MachineConnection) (c : ℕ) (code : Connection) → ConnectionsStand calls n codes machines
-    → ConnectionStands calls (n + c) code (get_connection machines c) → ConnectionsStand calls n (slice_set codes c code) machines
+stand-replaced : (calls : List Call) (n : ℕ) (codes : List Connection) (machines : List MachineConnection) (c : ℕ) (code : Connection) → ConnectionsRefine calls n codes machines
+    → ConnectionRefines calls (n + c) code (get_connection machines c) → ConnectionsRefine calls n (slice_set codes c code) machines
 stand-replaced calls n [] machines c code stand at = stand
 stand-replaced calls n (first ∷ codes) [] c code stand at = absurd stand
-stand-replaced calls n (first ∷ codes) (machine ∷ machines) zero code stand at = (subst (λ m. ConnectionStands calls m code machine) (add-zero n) at, stand.1)
+stand-replaced calls n (first ∷ codes) (machine ∷ machines) zero code stand at = (subst (λ m. ConnectionRefines calls m code machine) (add-zero n) at, stand.1)
 stand-replaced calls n (first ∷ codes) (machine ∷ machines) (suc c) code stand at =
     let same : n + suc c ≡ suc n + c = omega arith in
-    (stand.0, stand-replaced calls (suc n) codes machines c code stand.1 (subst (λ m. ConnectionStands calls m code (get_connection machines c)) same at))
+    (stand.0, stand-replaced calls (suc n) codes machines c code stand.1 (subst (λ m. ConnectionRefines calls m code (get_connection machines c)) same at))
 
 -- it is changed twice
-stand-changed : (calls : List Call) (n : ℕ) (codes : List Connection) (machines : List MachineConnection) (c : ℕ) (code : Connection) (first second : MachineConnection → MachineConnection) → ConnectionsStand calls n codes machines
-    → ConnectionStands calls (n + c) code (second (first (get_connection machines c))) → ConnectionsStand calls n (slice_set codes c code) (changed_at c second (changed_at c first machines))
+stand-changed : (calls : List Call) (n : ℕ) (codes : List Connection) (machines : List MachineConnection) (c : ℕ) (code : Connection) (first second : MachineConnection → MachineConnection) → ConnectionsRefine calls n codes machines
+    → ConnectionRefines calls (n + c) code (second (first (get_connection machines c))) → ConnectionsRefine calls n (slice_set codes c code) (changed_at c second (changed_at c first machines))
 stand-changed calls n [] [] c code first second stand at = tt
 stand-changed calls n [] (machine ∷ machines) c code first second stand at = absurd stand
 stand-changed calls n (old ∷ codes) [] c code first second stand at = absurd stand
-stand-changed calls n (old ∷ codes) (machine ∷ machines) zero code first second stand at = (subst (λ m. ConnectionStands calls m code (second (first machine))) (add-zero n) at, stand.1)
+stand-changed calls n (old ∷ codes) (machine ∷ machines) zero code first second stand at = (subst (λ m. ConnectionRefines calls m code (second (first machine))) (add-zero n) at, stand.1)
 stand-changed calls n (old ∷ codes) (machine ∷ machines) (suc c) code first second stand at =
     let same : n + suc c ≡ suc n + c = omega arith in
-    (stand.0, stand-changed calls (suc n) codes machines c code first second stand.1 (subst (λ m. ConnectionStands calls m code (second (first (get_connection machines c)))) same at))
+    (stand.0, stand-changed calls (suc n) codes machines c code first second stand.1 (subst (λ m. ConnectionRefines calls m code (second (first (get_connection machines c)))) same at))
 
 -- ---- what a turn takes
 
@@ -81,7 +81,7 @@ asked-first (a ∷ asked_items) (w ∷ waiting) rest item first is =
     ap (λ x. x ∷ asked_items) (head ∙ same)
 
 -- the first of the items asked for is the first that waits
-pub first-asked : (code : Inbound) (machine : MachineInbound) (item : Item) (rest : List Item) → InboundStands code machine → code.waiting.items ≡ item ∷ rest → code.asked.items ≡ item ∷ drop 1 code.asked.items
+pub first-asked : (code : Inbound) (machine : MachineInbound) (item : Item) (rest : List Item) → InboundRefines code machine → code.waiting.items ≡ item ∷ rest → code.asked.items ≡ item ∷ drop 1 code.asked.items
 first-asked code machine item rest stands is = asked-first code.asked.items machine.waiting rest item stands.first (sym stands.waits ∙ is)
 
 drop-more : (n : ℕ) (xs ys : List Item) (x : Item) → drop n xs ≡ x ∷ ys → drop (suc n) xs ≡ ys
@@ -99,8 +99,8 @@ drop-within (suc n) (y ∷ xs) ys x e = omega (arith, drop-within n xs ys x e)
 take-rest : (xs ys : List Item) (x : Item) → take (length (x ∷ ys)) (x ∷ xs) ≡ x ∷ ys → take (length ys) xs ≡ ys
 take-rest xs ys x e = cc
 
-inbound-taken : (old new : Inbound) (machine : MachineInbound) (item : Item) (rest others : List Item) → InboundStands old machine → old.waiting.items ≡ item ∷ rest → old.asked.items ≡ item ∷ others
-    → new.parser ≡ old.parser → new.is_closed ≡ old.is_closed → new.asked.items ≡ others → new.waiting.items ≡ rest → InboundStands new (taken_first machine)
+inbound-taken : (old new : Inbound) (machine : MachineInbound) (item : Item) (rest others : List Item) → InboundRefines old machine → old.waiting.items ≡ item ∷ rest → old.asked.items ≡ item ∷ others
+    → new.parser ≡ old.parser → new.is_closed ≡ old.is_closed → new.asked.items ≡ others → new.waiting.items ≡ rest → InboundRefines new (taken_first machine)
 inbound-taken old new machine item rest others stands is asks parser is_closed asked_now waiting_now =
     let waits : machine.waiting ≡ item ∷ rest = sym stands.waits ∙ is in
     let left : drop 1 machine.waiting ≡ rest = ap (drop 1) waits in
@@ -123,13 +123,13 @@ AreMade-push calls [] (h ∷ helds) made held are is = absurd are
 AreMade-push calls (m ∷ mades) [] made held are is = absurd are
 AreMade-push calls (m ∷ mades) (h ∷ helds) made held are is = (are.0, AreMade-push calls mades helds made held are.1 is)
 
-outbound-made : (calls : List Call) (call : Call) (position : ℕ) (old new : Outbound) (machine : MachineOutbound) → OutboundStands calls old machine → position ≡ position_of (calls ++ call ∷ [])
+outbound-made : (calls : List Call) (call : Call) (position : ℕ) (old new : Outbound) (machine : MachineOutbound) → OutboundRefines calls old machine → position ≡ position_of (calls ++ call ∷ [])
     → new.made.items ≡ old.made.items ++ record { call = length calls; position = position } ∷ [] → new.gate ≡ old.gate → new.released ≡ old.released → new.seen ≡ old.seen
-    → OutboundStands (calls ++ call ∷ []) new (with_made (record { reply = call.reply; position = position_of (calls ++ call ∷ []) }) machine)
+    → OutboundRefines (calls ++ call ∷ []) new (with_made (record { reply = call.reply; position = position_of (calls ++ call ∷ []) }) machine)
 outbound-made calls call position old new machine stands at made gate released seen =
     let calls' = calls ++ call ∷ [] in
     let held : Held = record { reply = call.reply; position = position_of calls' } in
-    let same : GateStands new.gate machine = subst (λ g. GateStands g machine) (sym gate) stands.gate in
+    let same : GateRefines new.gate machine = subst (λ g. GateRefines g machine) (sym gate) stands.gate in
     let is : IsMade calls' (record { call = length calls; position = position }) held = record { call = call; stands = slice_get-last calls call; reply = refl; position = sym at } in
     record {
       made = subst (λ (mades : List Made). AreMade calls' mades (machine.made ++ held ∷ [])) (sym made)
@@ -155,7 +155,7 @@ length-made calls [] (held ∷ helds) are = absurd are
 length-made calls (made ∷ mades) [] are = absurd are
 length-made calls (made ∷ mades) (held ∷ helds) are = ap suc (length-made calls mades helds are.1)
 
-open-while-waiting : (w : World) (c : ℕ) (s : Sequencing) → Sound w → SequencerStands w.primary.calls w.primary.committer.closed s → is_nonempty (connection_of w c).inbound.waiting ≡ true → is_closed s c ≡ false
+open-while-waiting : (w : World) (c : ℕ) (s : Sequencing) → Sound w → SequencerRefines w.primary.calls w.primary.committer.closed s → is_nonempty (connection_of w c).inbound.waiting ≡ true → is_closed s c ≡ false
 open-while-waiting w c s sound stands waits =
     let inbound = (connection_of w c).inbound in
     false_from_ne_true (is_closed s c) (λ closed. both_ways (list_any closes (items_of c w.primary.calls)) (none inbound.waiting waits (sound.inbound c).order) (stands.seats c closed))
@@ -168,7 +168,7 @@ is_nonempty-some : {X : Type 0} (xs : List X) → is_nonempty xs ≡ true → xs
 is_nonempty-some [] e = λ h. cc
 is_nonempty-some (x ∷ xs) e = λ h. cc
 
-enabled-runs : (w : World) (c : ℕ) (code : Connection) (s : Sequencing) → Sound w → SequencerStands w.primary.calls w.primary.committer.closed s → ConnectionStands w.primary.calls c code (connection_of w c)
+enabled-runs : (w : World) (c : ℕ) (code : Connection) (s : Sequencing) → Sound w → SequencerRefines w.primary.calls w.primary.committer.closed s → ConnectionRefines w.primary.calls c code (connection_of w c)
     → may_happen w (Turn c) ≡ true → MayRun code s
 enabled-runs w c code s sound stands connection e =
     let machine = connection_of w c in
@@ -185,7 +185,7 @@ enabled-open w c e =
     let machine = connection_of w c in
     open-lt w.primary.connections c (four (is_open w c) (is_nonempty machine.inbound.waiting) (has_room machine.outbound.made) (nat_lt (open_changes w) OPEN_CHANGES) e).0
 
-runs-enabled : (w : World) (c : ℕ) (code : Connection) (s : Sequencing) → SequencerStands w.primary.calls w.primary.committer.closed s → ConnectionStands w.primary.calls c code (connection_of w c)
+runs-enabled : (w : World) (c : ℕ) (code : Connection) (s : Sequencing) → SequencerRefines w.primary.calls w.primary.committer.closed s → ConnectionRefines w.primary.calls c code (connection_of w c)
     → c < length w.primary.connections → code.inbound.waiting.items ≢ [] → length code.outbound.made.items < PIPE_ITEMS → length s.waiting < MAX_PARTS → may_happen w (Turn c) ≡ true
 runs-enabled w c code s stands connection lt waits room few =
     let machine = connection_of w c in
@@ -207,7 +207,7 @@ none-wait (item ∷ items) e = absurd (omega (arith, eqb-true (suc (length items
 -- ---- no turn
 
 -- nothing changed where it is not enabled
-pub no-turn : (w : World) (c : ℕ) (sessions : Sessions) (s s' : Sequencing) → (may_happen w (Turn c) ≡ true → ⊥) → SessionsStand sessions w.primary.connections w.primary.calls → s' ≡ s → TakesTurn w c false sessions s s'
+pub no-turn : (w : World) (c : ℕ) (sessions : Sessions) (s s' : Sequencing) → (may_happen w (Turn c) ≡ true → ⊥) → SessionsRefine sessions w.primary.connections w.primary.calls → s' ≡ s → TakesTurn w c false sessions s s'
 no-turn w c sessions s s' never stands same = record {
   done = sym (false_from_ne_true (may_happen w (Turn c)) never);
   goes = λ did. cc;
@@ -215,16 +215,16 @@ no-turn w c sessions s s' never stands same = record {
 }
 
 -- there is no such connection
-pub no-turn-past : (w : World) (c : ℕ) (sessions : Sessions) (s : Sequencing) → length sessions.connections.items ≤ c → SessionsStand sessions w.primary.connections w.primary.calls → TakesTurn w c false sessions s s
+pub no-turn-past : (w : World) (c : ℕ) (sessions : Sessions) (s : Sequencing) → length sessions.connections.items ≤ c → SessionsRefine sessions w.primary.connections w.primary.calls → TakesTurn w c false sessions s s
 no-turn-past w c sessions s past stands =
     no-turn w c sessions s s (λ e. absurd (omega (arith, enabled-open w c e, length-connections w.primary.calls 0 sessions.connections.items w.primary.connections stands.connections_stand))) stands refl
 
 -- the connection of a number that there is
-pub connection-stands : (w : World) (c : ℕ) (sessions : Sessions) (code : Connection) → SessionsStand sessions w.primary.connections w.primary.calls → c < length sessions.connections.items
-    → code ≡ slice_index_or sessions.connections.items c code → ConnectionStands w.primary.calls c code (connection_of w c)
+pub connection-stands : (w : World) (c : ℕ) (sessions : Sessions) (code : Connection) → SessionsRefine sessions w.primary.connections w.primary.calls → c < length sessions.connections.items
+    → code ≡ slice_index_or sessions.connections.items c code → ConnectionRefines w.primary.calls c code (connection_of w c)
 connection-stands w c sessions code stands lt is = stands-at w.primary.calls 0 sessions.connections.items w.primary.connections c code stands.connections_stand lt is c (omega arith)
 
-inbound-same : (old new : Inbound) (machine : MachineInbound) → InboundStands old machine → new.parser ≡ old.parser → new.is_closed ≡ old.is_closed → new.asked.items ≡ old.asked.items → new.waiting.items ≡ old.waiting.items → InboundStands new machine
+inbound-same : (old new : Inbound) (machine : MachineInbound) → InboundRefines old machine → new.parser ≡ old.parser → new.is_closed ≡ old.is_closed → new.asked.items ≡ old.asked.items → new.waiting.items ≡ old.waiting.items → InboundRefines new machine
 inbound-same old new machine stands parser is_closed asked_same waiting_same = record {
   parsed = subst (HasParsed machine.fed) (sym parser) stands.parsed;
   closed = is_closed ∙ stands.closed;
@@ -249,27 +249,27 @@ pub record LeavesRest (old new : Sessions) (c : ℕ) (code code' : Connection) :
 
 -- the sequencer ran nothing
 pub no-turn-unserved : (w : World) (c : ℕ) (old new : Sessions) (code code' : Connection) (s s' : Sequencing) → c < length old.connections.items → code ≡ slice_index_or old.connections.items c code
-    → (MayRun code s → ⊥) → Sound w → SessionsStand old w.primary.connections w.primary.calls → SequencerStands w.primary.calls w.primary.committer.closed s → LeavesRest old new c code code'
+    → (MayRun code s → ⊥) → Sound w → SessionsRefine old w.primary.connections w.primary.calls → SequencerRefines w.primary.calls w.primary.committer.closed s → LeavesRest old new c code code'
     → code'.inbound.asked.items ≡ code.inbound.asked.items → code'.inbound.waiting.items ≡ code.inbound.waiting.items → code'.outbound.made.items ≡ code.outbound.made.items
     → new.calls.items ≡ old.calls.items → new.replies.items ≡ [] → s' ≡ s → TakesTurn w c false new s s'
 no-turn-unserved w c old new code code' s s' lt is never sound stands sequencer rest asked_same waiting_same made_same calls_same replies same =
-    let here : ConnectionStands w.primary.calls c code (connection_of w c) = connection-stands w c old code stands lt is in
+    let here : ConnectionRefines w.primary.calls c code (connection_of w c) = connection-stands w c old code stands lt is in
     let machine = connection_of w c in
-    let at : ConnectionStands w.primary.calls (0 + c) code' machine = record {
+    let at : ConnectionRefines w.primary.calls (0 + c) code' machine = record {
       seat = omega (arith, rest.seat, here.seat);
       is_open = here.is_open;
       inbound = inbound-same code.inbound code'.inbound machine.inbound here.inbound rest.parser rest.is_closed_same asked_same waiting_same;
       outbound = record {
         made = subst (λ (mades : List Made). AreMade w.primary.calls mades machine.outbound.made) (sym made_same) here.outbound.made;
-        gate = subst (λ g. GateStands g machine.outbound) (sym rest.gate) here.outbound.gate;
+        gate = subst (λ g. GateRefines g machine.outbound) (sym rest.gate) here.outbound.gate;
         released = ap (λ r. r.items) rest.released ∙ here.outbound.released;
         local = ap (λ seen. seen.local) rest.seen ∙ here.outbound.local;
         remote = ap (λ seen. seen.remote) rest.seen ∙ here.outbound.remote;
       };
     } in
     no-turn w c new s s' (λ e. never (enabled-runs w c code s sound sequencer here e)) (record {
-      seats = subst (λ lobby. SeatsStand lobby.statuses (length w.primary.connections)) (sym rest.lobby) stands.seats;
-      connections_stand = subst (λ (codes : List Connection). ConnectionsStand w.primary.calls 0 codes w.primary.connections) (sym rest.connections)
+      seats = subst (λ lobby. SeatsRefine lobby.statuses (length w.primary.connections)) (sym rest.lobby) stands.seats;
+      connections_stand = subst (λ (codes : List Connection). ConnectionsRefine w.primary.calls 0 codes w.primary.connections) (sym rest.connections)
           (stand-replaced w.primary.calls 0 old.connections.items w.primary.connections c code' stands.connections_stand at);
       calls_are = calls_same ∙ stands.calls_are;
       no_reply = replies;
@@ -279,21 +279,21 @@ no-turn-unserved w c old new code code' s s' lt is never sound stands sequencer 
 
 -- the sequencer ran the first item that waits
 pub turn-taken : (w : World) (c : ℕ) (old new : Sessions) (code code' : Connection) (s s' : Sequencing) (held : Held) → c < length old.connections.items → code ≡ slice_index_or old.connections.items c code
-    → length code.outbound.made.items < PIPE_ITEMS → Sound w → SessionsStand old w.primary.connections w.primary.calls → SequencerStands w.primary.calls w.primary.committer.closed s → LeavesRest old new c code code'
+    → length code.outbound.made.items < PIPE_ITEMS → Sound w → SessionsRefine old w.primary.connections w.primary.calls → SequencerRefines w.primary.calls w.primary.committer.closed s → LeavesRest old new c code code'
     → (runs : Runs s code.seat code.inbound.waiting.items held code'.inbound.waiting.items s')
     → code'.inbound.asked.items ≡ drop 1 code.inbound.asked.items → code'.outbound.made.items ≡ code.outbound.made.items ++ record { call = length old.calls.items; position = held.position } ∷ []
     → new.calls.items ≡ old.calls.items ++ call_of c runs.item held.reply ∷ [] → new.replies.items ≡ [] → TakesTurn w c true new s s'
 turn-taken w c old new code code' s s' held lt is room sound stands sequencer rest runs asked_now made_now calls_now replies =
     let machine = connection_of w c in
-    let here : ConnectionStands w.primary.calls c code machine = connection-stands w c old code stands lt is in
+    let here : ConnectionRefines w.primary.calls c code machine = connection-stands w c old code stands lt is in
     let call = call_of c runs.item held.reply in
     let calls' = w.primary.calls ++ call ∷ [] in
     let answers : Answers s c runs.item held.reply s' = subst (λ n. Answers s n runs.item held.reply s') here.seat runs.answers in
-    let after : SequencerStands calls' w.primary.committer.closed s' = sequencer-answered w.primary.calls w.primary.committer.closed s s' c runs.item held.reply sequencer answers in
+    let after : SequencerRefines calls' w.primary.committer.closed s' = sequencer-answered w.primary.calls w.primary.committer.closed s s' c runs.item held.reply sequencer answers in
     let lt' : c < length w.primary.connections = omega (arith, length-connections w.primary.calls 0 old.connections.items w.primary.connections stands.connections_stand) in
     let asks = first-asked code.inbound machine.inbound runs.item code'.inbound.waiting.items here.inbound runs.first in
     let reply : Held = record { reply = held.reply; position = position_of calls' } in
-    let at : ConnectionStands calls' (0 + c) code' (with_outbound (with_made reply) (with_inbound taken_first machine)) = record {
+    let at : ConnectionRefines calls' (0 + c) code' (with_outbound (with_made reply) (with_inbound taken_first machine)) = record {
       seat = omega (arith, rest.seat, here.seat);
       is_open = here.is_open;
       inbound = inbound-taken code.inbound code'.inbound machine.inbound runs.item code'.inbound.waiting.items (drop 1 code.inbound.asked.items) here.inbound runs.first asks
@@ -317,11 +317,11 @@ turn-taken w c old new code code' s s' held lt is room sound stands sequencer re
           now = refl;
         },
         record {
-          seats = subst (λ lobby. SeatsStand lobby.statuses (length (changed_at c (with_outbound (with_made reply)) taken))) (sym rest.lobby)
-              (subst (SeatsStand old.lobby.statuses) (sym count) stands.seats);
-          connections_stand = subst (λ (codes : List Connection). ConnectionsStand calls' 0 codes (changed_at c (with_outbound (with_made reply)) taken)) (sym rest.connections)
+          seats = subst (λ lobby. SeatsRefine lobby.statuses (length (changed_at c (with_outbound (with_made reply)) taken))) (sym rest.lobby)
+              (subst (SeatsRefine old.lobby.statuses) (sym count) stands.seats);
+          connections_stand = subst (λ (codes : List Connection). ConnectionsRefine calls' 0 codes (changed_at c (with_outbound (with_made reply)) taken)) (sym rest.connections)
               (stand-changed calls' 0 old.connections.items w.primary.connections c code' (with_inbound taken_first) (with_outbound (with_made reply))
-              (ConnectionsStand-grows w.primary.calls (call ∷ []) 0 old.connections.items w.primary.connections stands.connections_stand) at);
+              (ConnectionsRefine-grows w.primary.calls (call ∷ []) 0 old.connections.items w.primary.connections stands.connections_stand) at);
           calls_are = calls_now ∙ ap (λ (calls : List Call). calls ++ call ∷ []) stands.calls_are;
           no_reply = replies;
         },

@@ -4,14 +4,14 @@ use Rattle.pmem.specs.Device.{State}
 use Rattle.kv_types.specs.declared.refusal.Refusal.{Refusal}
 use Rattle.model.specs.declared.call.Call.{Call}
 use Rattle.model.specs.declared.record.Role.TheVariants.{Primary, Standby}
-use Rattle.model.specs.Calls.{position_of}
+use Rattle.model.specs.Call.{position_of}
 use Rattle.model.specs.Standing.{Holder, new_holder}
 use Rattle.machine.specs.declared.event.Event.{Event}
-use Rattle.machine.specs.Events.{Run, World, is_enabled, start, last_world}
-use Rattle.machine.specs.Promises.{IsPromised, IsReleased, released_in}
-use Rattle.world.specs.Committings.{FromOnly, Moves, FormattingOnly, next_primary, next_standby}
-use Rattle.world.specs.Causes.{Stretch, Resting, UnformedBy, EndsBy}
-use Rattle.world.specs.Pairs.{Pair, PairStands, IsCut}
+use Rattle.machine.specs.Event.{Run, World, is_enabled, start, last_world}
+use Rattle.machine.specs.Promise.{IsPromised, IsReleased, released_in}
+use Rattle.world.specs.Committing.{FromOnly, Moves, FormattingOnly, next_primary, next_standby}
+use Rattle.world.specs.Cause.{Stretch, Resting, UnformedBy, EndsBy}
+use Rattle.world.specs.Pair.{Pair, PairRefines, IsCut}
 use Rattle.world.specs.declared.trace.Ended.{Ended}
 use Rattle.world.specs.declared.trace.Ended.TheVariants.{AtFormatting, AtEvent}
 
@@ -25,7 +25,7 @@ standby_position w = w.standby.position
 -- each crash between these two states of a device leaves an image in which no call is missing that was released in this world
 abbrev pub KeepsReleased : Holder → List Call → World → State → State → Type 0
 KeepsReleased holder calls w old new =
-    (front : List Call) (call : Call) → IsReleased w.primary.calls (released_in w) front call → FromOnly holder calls (position_of (front ++ call ∷ [])) old new
+    (prefix : List Call) (call : Call) → IsReleased w.primary.calls (released_in w) prefix call → FromOnly holder calls (position_of (prefix ++ call ∷ [])) old new
 
 -- The moments of a device, cut by the events of a run from this world on. A crash during an event leaves an image that stands where the node stood before
 -- it or where it stood after it. What comes behind the last event is a stretch of its own. And from each cut on, up to the end, each crash keeps what was
@@ -107,7 +107,7 @@ pub record Reaches (first second : Holder) (began : Pair) (events : List Event) 
 -- and the pair stands for the last world
 pub record StandsAfter (first second : Holder) (began : Pair) (events : List Event) (done : List Bool) (pair : Pair) : Type 0 where
   pub reaches : Reaches first second began events done pair.device pair.standby.device
-  pub stands : PairStands first second pair (last_world start reaches.worlds)
+  pub stands : PairRefines first second pair (last_world start reaches.worlds)
 
 -- or it was cut in the event behind them
 pub record IsCutAfter (first second : Holder) (began : Pair) (events : List Event) (event : Event) (refusal : Refusal) (done : List Bool) (pair : Pair) : Type 0 where

@@ -4,7 +4,7 @@ use Rattle.kv_types.specs.declared.item.Item.{Item}
 use Rattle.kv_types.specs.declared.reply.Held.{Held}
 use Rattle.model.specs.declared.group.TheConstants.{MAX_PARTS}
 use Rattle.redis_core.specs.Sequencing.{Sequencing, is_closed}
-use Rattle.redis_core.specs.Turns.{Answers}
+use Rattle.redis_core.specs.Turn.{Answers}
 
 -- The sequencer answered the first of the items that waited, in an open seat and with room for what it changes. The reply bears the position after it.
 pub record Runs (before : Sequencing) (seat : ℕ) (waiting : List Item) (held : Held) (rest : List Item) (after : Sequencing) : Type 0 where

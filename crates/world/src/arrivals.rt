@@ -2,16 +2,16 @@
 ghost use Rattle.std.specs.Prelude.{◌≡◌, ◌⊎◌, ◌↔◌, ℕ, ◌<◌, true, false, List, [], ◌∷◌, ◌++◌, length, slice_get, IsTrue, IfOk, IfErr, OnOk, OnErr};
 ghost use Rattle.machine.specs.declared.event.Event.TheVariants.{Deliver, Apply};
 ghost use Rattle.model.specs.Standing.{Holder};
-ghost use Rattle.machine.specs.Events.{World, may_happen, acknowledgement_of, delivered, option_items};
+ghost use Rattle.machine.specs.Event.{World, may_happen, acknowledgement_of, delivered, option_items};
 ghost use Rattle.machine.specs.Sound.{Sound};
 ghost use Rattle.wbl_engine.specs.Contents.{IsDurable};
 ghost use Rattle.standby.specs.declared.frame.Frame.{Frame};
 ghost use Rattle.standby.specs.Following.{Follows};
 ghost use Rattle.world.specs.Going.{Goes};
-ghost use Rattle.world.specs.Causes.{EndsBy};
-ghost use Rattle.world.specs.Committings.{NearOnly, next_standby};
-ghost use Rattle.world.specs.Links.{AreFramesAt};
-ghost use Rattle.world.specs.Standbys.{StandbyStands, ArrivalsStand, AppliesFirst, told_by};
+ghost use Rattle.world.specs.Cause.{EndsBy};
+ghost use Rattle.world.specs.Committing.{NearOnly, next_standby};
+ghost use Rattle.world.specs.Link.{AreFramesAt};
+ghost use Rattle.world.specs.Standby.{StandbyStands, ArrivalsRefine, AppliesFirst, told_by};
 
 use kv_types::Refusal;
 use mv_keyspace::Keyspace;
@@ -31,7 +31,7 @@ pub(crate) struct Arrivals {
 
 impl Arrivals {
     pub(crate) fn new(alloc: Global) -> Arrivals
-        ensures { (epoch : ℕ) → ArrivalsStand epoch [] [] result [] [] }
+        ensures { (epoch : ℕ) → ArrivalsRefine epoch [] [] result [] [] }
     {
         Arrivals {
             delivered: VecDeque::new(alloc),
@@ -41,8 +41,8 @@ impl Arrivals {
 
     /// The standby tells its position.
     pub(crate) fn acknowledge(&mut self, ack: Ack) -> Result<(), Refusal>
-        ensures stands { OnOk result ((epoch : ℕ) (frames : List Frame) (w : World) → ArrivalsStand epoch w.primary.calls frames self.old w.standby.waiting w.wire.acknowledgements → told_by ack ≡ acknowledgement_of w.standby
-            → ArrivalsStand epoch w.primary.calls frames self.new w.standby.waiting (w.wire.acknowledgements ++ acknowledgement_of w.standby ∷ [])) }
+        ensures stands { OnOk result ((epoch : ℕ) (frames : List Frame) (w : World) → ArrivalsRefine epoch w.primary.calls frames self.old w.standby.waiting w.wire.acknowledgements → told_by ack ≡ acknowledgement_of w.standby
+            → ArrivalsRefine epoch w.primary.calls frames self.new w.standby.waiting (w.wire.acknowledgements ++ acknowledgement_of w.standby ∷ [])) }
         ensures cause { IfErr result (λ refusal. refusal ≡ Refusal.Memory) }
     {
         self.acknowledgements.push(ack)?;
@@ -51,11 +51,11 @@ impl Arrivals {
 
     /// A frame that was sent comes to the standby. Answers whether there is such a frame.
     pub(crate) fn deliver(&mut self, sent: &[usize], frame: u64) -> Result<bool, Refusal>
-        ensures goes { IfOk result (λ did. (epoch : ℕ) (frames : List Frame) (w : World) → ArrivalsStand epoch w.primary.calls frames self.old w.standby.waiting w.wire.acknowledgements
+        ensures goes { IfOk result (λ did. (epoch : ℕ) (frames : List Frame) (w : World) → ArrivalsRefine epoch w.primary.calls frames self.old w.standby.waiting w.wire.acknowledgements
             → AreFramesAt epoch w.primary.calls frames sent.now w.wire.frames
             → Goes (may_happen w (Deliver frame)) did
-            (ArrivalsStand epoch w.primary.calls frames self.new (delivered (option_items (slice_get w.wire.frames frame)) w.standby).waiting w.wire.acknowledgements)
-            (ArrivalsStand epoch w.primary.calls frames self.new w.standby.waiting w.wire.acknowledgements)) }
+            (ArrivalsRefine epoch w.primary.calls frames self.new (delivered (option_items (slice_get w.wire.frames frame)) w.standby).waiting w.wire.acknowledgements)
+            (ArrivalsRefine epoch w.primary.calls frames self.new w.standby.waiting w.wire.acknowledgements)) }
         ensures cause { IfErr result (λ refusal. refusal ≡ Refusal.Memory) }
         ensures some { OnErr result (frame < length sent.now) }
     {
@@ -82,7 +82,7 @@ impl Arrivals {
         requires durable { IsDurable (E.device standby.old.engine) (E.contents standby.old.engine) }
         ensures applies { IfOk result (λ did. (holder : Holder) (w : World) → Sound w
             → (E.contents standby.old.engine).current.epoch ≡ w.standby.epoch
-            → ArrivalsStand (E.contents standby.old.engine).current.epoch w.primary.calls frames.now self.old w.standby.waiting w.wire.acknowledgements
+            → ArrivalsRefine (E.contents standby.old.engine).current.epoch w.primary.calls frames.now self.old w.standby.waiting w.wire.acknowledgements
             → StandbyStands holder (E.contents standby.old.engine).current.epoch w.primary.calls w.standby.position (record {
               device = E.device standby.old.engine;
               contents = E.contents standby.old.engine;
@@ -110,7 +110,7 @@ impl Arrivals {
             })) }
         ensures cut { IfErr result (λ refusal. (holder : Holder) (w : World) → Sound w
             → (E.contents standby.old.engine).current.epoch ≡ w.standby.epoch
-            → ArrivalsStand (E.contents standby.old.engine).current.epoch w.primary.calls frames.now self.old w.standby.waiting w.wire.acknowledgements
+            → ArrivalsRefine (E.contents standby.old.engine).current.epoch w.primary.calls frames.now self.old w.standby.waiting w.wire.acknowledgements
             → StandbyStands holder (E.contents standby.old.engine).current.epoch w.primary.calls w.standby.position (record {
               device = E.device standby.old.engine;
               contents = E.contents standby.old.engine;
@@ -124,7 +124,7 @@ impl Arrivals {
         // at any moment of the call
         ensures moments { (holder : Holder) (w : World) → Sound w
             → (E.contents standby.old.engine).current.epoch ≡ w.standby.epoch
-            → ArrivalsStand (E.contents standby.old.engine).current.epoch w.primary.calls frames.now self.old w.standby.waiting w.wire.acknowledgements
+            → ArrivalsRefine (E.contents standby.old.engine).current.epoch w.primary.calls frames.now self.old w.standby.waiting w.wire.acknowledgements
             → StandbyStands holder (E.contents standby.old.engine).current.epoch w.primary.calls w.standby.position (record {
               device = E.device standby.old.engine;
               contents = E.contents standby.old.engine;

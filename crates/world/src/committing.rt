@@ -1,16 +1,16 @@
 //! The primary's committer: a group is committed, then shown, then handed on, in three turns.
 ghost use Rattle.std.specs.Prelude.{◌≡◌, ◌≢◌, ◌<◌, ◌↔◌, ℕ, true, false, [], ◌++◌, length, IfOk, IfErr, OnOk, OnErr, IsTrue};
-ghost use Rattle.model.specs.Calls.{position_of};
-ghost use Rattle.model.specs.Groups.{Contents};
+ghost use Rattle.model.specs.Call.{position_of};
+ghost use Rattle.model.specs.Group.{Contents};
 ghost use Rattle.model.specs.Standing.{Holder};
 ghost use Rattle.machine.specs.declared.event.Event.TheVariants.{CloseGroup, Commit, RaiseLocal, Hand};
-ghost use Rattle.machine.specs.Events.{World, may_happen, start, closed_group, committed_first, raised_local, ready_again, handed};
+ghost use Rattle.machine.specs.Event.{World, may_happen, start, closed_group, committed_first, raised_local, ready_again, handed};
 ghost use Rattle.machine.specs.Sound.{Sound};
 ghost use Rattle.world.specs.Going.{Goes};
-ghost use Rattle.world.specs.Causes.{EndsBy};
-ghost use Rattle.world.specs.GroupSpans.{AreGroupsOf};
-ghost use Rattle.world.specs.Sessions.{SequencerStands};
-ghost use Rattle.world.specs.Committings.{AreGroups, Leads, LeadsOn, EngineStands, NearOnly, CommittingStands, next_primary};
+ghost use Rattle.world.specs.Cause.{EndsBy};
+ghost use Rattle.world.specs.GroupSpan.{AreGroupsOf};
+ghost use Rattle.world.specs.Session.{SequencerRefines};
+ghost use Rattle.world.specs.Committing.{AreGroups, Leads, LeadsOn, EngineStands, NearOnly, CommittingRefines, next_primary};
 
 use kv_types::Refusal;
 use model::Group;
@@ -43,7 +43,7 @@ pub(crate) struct Committing {
 
 impl Committing {
     pub(crate) fn new(alloc: Global) -> Result<Committing, AllocError>
-        ensures stands { IfOk result (λ committing. CommittingStands [] committing start.primary.committer) }
+        ensures stands { IfOk result (λ committing. CommittingRefines [] committing start.primary.committer) }
         ensures none { IfOk result (λ committing. committing.waiting.items ≡ []) }
     {
         Ok(Committing {
@@ -59,13 +59,13 @@ impl Committing {
         alloc: Global,
         sequencer: &mut Sequencer<K>,
     ) -> Result<bool, Refusal>
-        ensures goes { IfOk result (λ did. (w : World) → CommittingStands w.primary.calls self.old w.primary.committer → SequencerStands w.primary.calls w.primary.committer.closed sequencer.old
+        ensures goes { IfOk result (λ did. (w : World) → CommittingRefines w.primary.calls self.old w.primary.committer → SequencerRefines w.primary.calls w.primary.committer.closed sequencer.old
             → Goes (may_happen w CloseGroup) did
-            (CommittingStands w.primary.calls self.new (closed_group (position_of w.primary.calls) w.primary.committer) × SequencerStands w.primary.calls (position_of w.primary.calls) sequencer.new)
-            (CommittingStands w.primary.calls self.new w.primary.committer × SequencerStands w.primary.calls w.primary.committer.closed sequencer.new)) }
+            (CommittingRefines w.primary.calls self.new (closed_group (position_of w.primary.calls) w.primary.committer) × SequencerRefines w.primary.calls (position_of w.primary.calls) sequencer.new)
+            (CommittingRefines w.primary.calls self.new w.primary.committer × SequencerRefines w.primary.calls w.primary.committer.closed sequencer.new)) }
         ensures leads { (contents : Contents) → Leads contents self.old.waiting.items sequencer.old → Leads contents self.new.waiting.items sequencer.new }
         ensures cause { IfErr result (λ refusal. refusal ≡ Refusal.Memory) }
-        ensures enabled { OnErr result ((w : World) → CommittingStands w.primary.calls self.old w.primary.committer → SequencerStands w.primary.calls w.primary.committer.closed sequencer.old
+        ensures enabled { OnErr result ((w : World) → CommittingRefines w.primary.calls self.old w.primary.committer → SequencerRefines w.primary.calls w.primary.committer.closed sequencer.old
             → may_happen w CloseGroup ≡ true) }
     {
         if !self.can_close(sequencer) {
@@ -91,24 +91,24 @@ impl Committing {
         link: &LocalPipe<Group>,
     ) -> Result<bool, Refusal>
         requires { AreGroups (E.contents engine.old) self.old.waiting.items }
-        ensures goes { IfOk result (λ did. (holder : Holder) (w : World) → CommittingStands w.primary.calls self.old w.primary.committer
+        ensures goes { IfOk result (λ did. (holder : Holder) (w : World) → CommittingRefines w.primary.calls self.old w.primary.committer
             → EngineStands holder w.primary.calls w.primary.committer.position (E.device engine.old) (E.contents engine.old) (E.is_faulted engine.old)
             → AreGroupsOf w.primary.calls link.now.items w.primary.link.waiting
             → Goes (may_happen w Commit) did
-            (CommittingStands w.primary.calls self.new (committed_first w.primary.committer.waiting w.primary.committer)
+            (CommittingRefines w.primary.calls self.new (committed_first w.primary.committer.waiting w.primary.committer)
             × EngineStands holder w.primary.calls (committed_first w.primary.committer.waiting w.primary.committer).position (E.device engine.new) (E.contents engine.new) (E.is_faulted engine.new))
-            (CommittingStands w.primary.calls self.new w.primary.committer
+            (CommittingRefines w.primary.calls self.new w.primary.committer
             × EngineStands holder w.primary.calls w.primary.committer.position (E.device engine.new) (E.contents engine.new) (E.is_faulted engine.new))) }
         ensures leads { IfOk result (λ _. LeadsOn (E.contents engine.old) self.old.waiting.items (E.contents engine.new) self.new.waiting.items) }
         ensures stays { IfOk result (λ did. did ≡ false → engine.new ≡ engine.old) }
         ensures failures { OnOk result ((E.device engine.new).failures ≡ (E.device engine.old).failures) }
-        ensures cut { IfErr result (λ refusal. (holder : Holder) (w : World) → Sound w → CommittingStands w.primary.calls self.old w.primary.committer
+        ensures cut { IfErr result (λ refusal. (holder : Holder) (w : World) → Sound w → CommittingRefines w.primary.calls self.old w.primary.committer
             → EngineStands holder w.primary.calls w.primary.committer.position (E.device engine.old) (E.contents engine.old) (E.is_faulted engine.old)
             → AreGroupsOf w.primary.calls link.now.items w.primary.link.waiting
             → (may_happen w Commit ≡ true)
             × EndsBy refusal Commit (λ last _. last holder w.primary.calls w.primary.committer.position (next_primary w) (E.device engine.old) (E.device engine.new))) }
         // at any moment of the call
-        ensures moments { (holder : Holder) (w : World) → Sound w → CommittingStands w.primary.calls self.old w.primary.committer
+        ensures moments { (holder : Holder) (w : World) → Sound w → CommittingRefines w.primary.calls self.old w.primary.committer
             → EngineStands holder w.primary.calls w.primary.committer.position (E.device engine.old) (E.contents engine.old) (E.is_faulted engine.old)
             → NearOnly holder w.primary.calls w.primary.committer.position (next_primary w) (E.device engine.old) (E.device engine.new) }
     {
@@ -128,10 +128,10 @@ impl Committing {
 
     /// Shows the last commit: raises the local mark to its position. Answers whether there was one to show.
     pub(crate) fn raise_local<E: Durable>(&mut self, engine: &E) -> bool
-        ensures goes { (w : World) → CommittingStands w.primary.calls self.old w.primary.committer → (E.contents engine.now).current.position ≡ w.primary.committer.position
+        ensures goes { (w : World) → CommittingRefines w.primary.calls self.old w.primary.committer → (E.contents engine.now).current.position ≡ w.primary.committer.position
             → Goes (may_happen w RaiseLocal) result
-            (CommittingStands w.primary.calls self.new (raised_local w.primary.committer))
-            (CommittingStands w.primary.calls self.new w.primary.committer) }
+            (CommittingRefines w.primary.calls self.new (raised_local w.primary.committer))
+            (CommittingRefines w.primary.calls self.new w.primary.committer) }
         ensures waiting { self.new.waiting ≡ self.old.waiting }
     {
         match std::mem::replace(&mut self.stage, Stage::Ready) {
@@ -149,10 +149,10 @@ impl Committing {
 
     /// Hands the group on to the link. Answers whether there was one.
     pub(crate) fn hand(&mut self, link: &mut LocalPipe<Group>) -> bool
-        ensures goes { (w : World) → Sound w → CommittingStands w.primary.calls self.old w.primary.committer → AreGroupsOf w.primary.calls link.old.items w.primary.link.waiting
+        ensures goes { (w : World) → Sound w → CommittingRefines w.primary.calls self.old w.primary.committer → AreGroupsOf w.primary.calls link.old.items w.primary.link.waiting
             → Goes (may_happen w Hand) result
-            (CommittingStands w.primary.calls self.new (ready_again w.primary.committer) × AreGroupsOf w.primary.calls link.new.items (w.primary.link.waiting ++ handed w.primary.committer.stage))
-            (CommittingStands w.primary.calls self.new w.primary.committer × AreGroupsOf w.primary.calls link.new.items w.primary.link.waiting) }
+            (CommittingRefines w.primary.calls self.new (ready_again w.primary.committer) × AreGroupsOf w.primary.calls link.new.items (w.primary.link.waiting ++ handed w.primary.committer.stage))
+            (CommittingRefines w.primary.calls self.new w.primary.committer × AreGroupsOf w.primary.calls link.new.items w.primary.link.waiting) }
         ensures waiting { self.new.waiting ≡ self.old.waiting }
     {
         match std::mem::replace(&mut self.stage, Stage::Ready) {

@@ -1,18 +1,18 @@
 //! A pair of new nodes.
 ghost use Rattle.std.specs.Prelude.{◌≡◌, ℕ, ◌<◌, ◌≤◌, ◌↔◌, [], IsTrue, IfOk, IfErr, MatchResult, vec_capacity};
-ghost use Rattle.model.specs.Groups.{Contents};
+ghost use Rattle.model.specs.Group.{Contents};
 ghost use Rattle.model.specs.Standing.{new_holder};
-ghost use Rattle.machine.specs.Events.{start};
+ghost use Rattle.machine.specs.Event.{start};
 ghost use Rattle.wbl_engine.specs.Contents.{IsNew};
-ghost use Rattle.redis_core.specs.Sequencing.{StandsFor};
-ghost use Rattle.world.specs.Causes.{UnformedBy};
-ghost use Rattle.world.specs.Committings.{CommittingStands, FormattingOnly};
-ghost use Rattle.world.specs.Links.{LinkStands};
-ghost use Rattle.world.specs.Standbys.{ArrivalsStand};
-ghost use Rattle.world.specs.Pairs.{PairStands};
-ghost use Rattle.world.specs.Sessions.{SessionsStand, SequencerStands};
+ghost use Rattle.redis_core.specs.Sequencing.{Continues};
+ghost use Rattle.world.specs.Cause.{UnformedBy};
+ghost use Rattle.world.specs.Committing.{CommittingRefines, FormattingOnly};
+ghost use Rattle.world.specs.Link.{LinkRefines};
+ghost use Rattle.world.specs.Standby.{ArrivalsRefine};
+ghost use Rattle.world.specs.Pair.{PairRefines};
+ghost use Rattle.world.specs.Session.{SessionsRefine, SequencerRefines};
 ghost use Rattle.extent_heap.specs.Room.{is_free_line, is_free_entry};
-ghost use Rattle.model.specs.Images.{entries_of_lines, first_extent_line};
+ghost use Rattle.model.specs.Image.{entries_of_lines, first_extent_line};
 ghost use Rattle.wbl_engine.specs.Contents.{IsDurable};
 
 use crate::arrivals::Arrivals;
@@ -48,16 +48,16 @@ fn make_between<K: Keyspace + Drop>(
     calls: usize,
 ) -> Result<Between<K>, Refusal>
     requires { K.table keyspace ≡ [] }
-    ensures sessions { IfOk result (λ between. SessionsStand between.sessions [] []) }
+    ensures sessions { IfOk result (λ between. SessionsRefine between.sessions [] []) }
     ensures room { IfOk result (λ between. calls ≤ vec_capacity between.sessions.calls) }
-    ensures sequencer { IfOk result (λ between. SequencerStands [] 0 between.sequencer) }
-    ensures underlies { IfOk result (λ between. (contents : Contents) → IsNew lines contents.current.role contents → StandsFor between.sequencer contents) }
-    ensures committing { IfOk result (λ between. CommittingStands [] between.committing start.primary.committer) }
+    ensures sequencer { IfOk result (λ between. SequencerRefines [] 0 between.sequencer) }
+    ensures underlies { IfOk result (λ between. (contents : Contents) → IsNew lines contents.current.role contents → Continues between.sequencer contents) }
+    ensures committing { IfOk result (λ between. CommittingRefines [] between.committing start.primary.committer) }
     ensures none { IfOk result (λ between. between.committing.waiting.items ≡ []) }
-    ensures link { IfOk result (λ between. LinkStands [] between.link start.primary.link []) }
+    ensures link { IfOk result (λ between. LinkRefines [] between.link start.primary.link []) }
     ensures epoch { IfOk result (λ between. between.link.epoch ≡ FIRST_EPOCH) }
     ensures no_frame { IfOk result (λ between. between.link.frames.items ≡ []) }
-    ensures arrivals { IfOk result (λ between. (epoch : ℕ) → ArrivalsStand epoch [] [] between.arrivals [] []) }
+    ensures arrivals { IfOk result (λ between. (epoch : ℕ) → ArrivalsRefine epoch [] [] between.arrivals [] []) }
     ensures cause { IfErr result (λ refusal. refusal ≡ Refusal.Memory) }
 {
     Ok(Between {
@@ -94,7 +94,7 @@ pub(crate) fn form<P: Pmem, K: Keyspace + Drop>(
 ) -> Result<Pair<WblEngine<P>, K>, (Refusal, P, P)>
     requires serving { K.table keyspaces.0 ≡ [] }
     requires following { K.table keyspaces.1 ≡ [] }
-    ensures stands { IfOk result (λ pair. PairStands (new_holder (P.state primary).lines Role.Primary) (new_holder (P.state standby).lines Role.Standby) (⟦<Pair<WblEngine<P>, K> as Stepper>⟧.parts pair) start) }
+    ensures stands { IfOk result (λ pair. PairRefines (new_holder (P.state primary).lines Role.Primary) (new_holder (P.state standby).lines Role.Standby) (⟦<Pair<WblEngine<P>, K> as Stepper>⟧.parts pair) start) }
     ensures room { IfOk result (λ pair. calls ≤ vec_capacity pair.sessions.calls) }
     ensures cause { IfErr result (λ refused. UnformedBy refused.0 (P.state primary) (P.state standby) (P.state refused.1) (P.state refused.2)) }
     ensures moments { MatchResult result

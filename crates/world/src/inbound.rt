@@ -1,8 +1,8 @@
 //! What comes in from a connection, up to the sequencer.
 ghost use Rattle.std.specs.Prelude.{◌≡◌, ℕ, ◌<◌, [], ◌++◌, List, false, length, IfOk, IfErr, OnOk, OnErr};
 ghost use Rattle.std.specs.List.{list_any};
-ghost use Rattle.machine.specs.Events.{Inbound as Machine};
-ghost use Rattle.model.specs.Commands.{closes};
+ghost use Rattle.machine.specs.Event.{Inbound as Machine};
+ghost use Rattle.model.specs.Command.{closes};
 ghost use Rattle.resp_codec.specs.Parsing.{fed, ahead};
 
 use bytes::Bytes;
@@ -25,11 +25,11 @@ pub(crate) struct Inbound {
 }
 
 impl Inbound {
-    ghost use Rattle.world.specs.Inbounds.{InboundStands, Feeds, Offers};
-    ghost use Rattle.machine.specs.Events.{no_connection};
+    ghost use Rattle.world.specs.Inbound.{InboundRefines, Feeds, Offers};
+    ghost use Rattle.machine.specs.Event.{no_connection};
 
     pub(crate) fn new(alloc: Global) -> Result<Inbound, AllocError>
-        ensures { IfOk result (λ inbound. InboundStands inbound no_connection.inbound) }
+        ensures { IfOk result (λ inbound. InboundRefines inbound no_connection.inbound) }
     {
         Ok(Inbound {
             parser: Parser::new(alloc),
@@ -41,7 +41,7 @@ impl Inbound {
 
     /// Takes a piece of the connection's bytes, unless an item closed it. Answers whether it did.
     pub(crate) fn feed(&mut self, piece: &Bytes) -> Result<bool, Refusal>
-        ensures feeds { IfOk result (λ did. (machine : Machine) → InboundStands self.old machine → Feeds piece.now self.old self.new did machine) }
+        ensures feeds { IfOk result (λ did. (machine : Machine) → InboundRefines self.old machine → Feeds piece.now self.old self.new did machine) }
         ensures cause { IfErr result (λ refusal. refusal ≡ Refusal.Memory) }
         ensures open { OnErr result (self.old.is_closed ≡ false) }
     {
@@ -56,7 +56,7 @@ impl Inbound {
 
     /// Hands the next item to the sequencer, if there is one and room for it. Answers whether it did.
     pub(crate) fn offer(&mut self) -> Result<bool, Refusal>
-        ensures offers { IfOk result (λ did. (machine : Machine) → InboundStands self.old machine → Offers self.old self.new did machine) }
+        ensures offers { IfOk result (λ did. (machine : Machine) → InboundRefines self.old machine → Offers self.old self.new did machine) }
         ensures cause { IfErr result (λ refusal. refusal ≡ Refusal.Memory) }
         ensures some { OnErr result (length self.old.waiting.items < length self.old.asked.items) }
         ensures room { OnErr result (length self.old.waiting.items < PIPE_ITEMS) }

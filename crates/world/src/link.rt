@@ -1,11 +1,11 @@
 //! The primary's link to the standby, and the frames that pass over it.
 ghost use Rattle.std.specs.Prelude.{◌≡◌, ◌≤◌, true, [], length, ◌++◌, map, IfOk, IfErr, OnOk, OnErr};
-ghost use Rattle.model.specs.Groups.{change_of, changes_of_group, last_position};
+ghost use Rattle.model.specs.Group.{change_of, changes_of_group, last_position};
 ghost use Rattle.machine.specs.declared.event.Event.TheVariants.{Send, RaiseRemote};
-ghost use Rattle.machine.specs.Events.{World, may_happen, start, opened_link, sent_next, next_to_send, framed, knowing, raised_remote};
+ghost use Rattle.machine.specs.Event.{World, may_happen, start, opened_link, sent_next, next_to_send, framed, knowing, raised_remote};
 ghost use Rattle.machine.specs.Sound.{Sound};
 ghost use Rattle.world.specs.Going.{Goes};
-ghost use Rattle.world.specs.Links.{LinkStands, KeepsFrames, DropsKnown};
+ghost use Rattle.world.specs.Link.{LinkRefines, KeepsFrames, DropsKnown};
 
 use kv_types::{Change, Refusal};
 use machine::KEPT_GROUPS;
@@ -36,7 +36,7 @@ pub(crate) struct Link {
 
 impl Link {
     pub(crate) fn new(alloc: Global, epoch: u64) -> Result<Link, AllocError>
-        ensures stands { IfOk result (λ link. LinkStands [] link start.primary.link []) }
+        ensures stands { IfOk result (λ link. LinkRefines [] link start.primary.link []) }
         ensures none { IfOk result (λ link. link.frames.items ≡ []) }
         ensures epoch { IfOk result (λ link. link.epoch ≡ epoch) }
     {
@@ -54,7 +54,7 @@ impl Link {
 
     /// All kept groups are to be sent again.
     pub(crate) fn reopen(&mut self)
-        ensures stands { (w : World) → LinkStands w.primary.calls self.old w.primary.link w.wire.frames → LinkStands w.primary.calls self.new (opened_link w.primary.link) w.wire.frames }
+        ensures stands { (w : World) → LinkRefines w.primary.calls self.old w.primary.link w.wire.frames → LinkRefines w.primary.calls self.new (opened_link w.primary.link) w.wire.frames }
         ensures keeps { KeepsFrames self.old self.new }
     {
         self.again = self.kept;
@@ -62,13 +62,13 @@ impl Link {
 
     /// Sends one frame: of those that are to be sent again, or else of the first group that waits. Answers whether there was one.
     pub(crate) fn send(&mut self, alloc: Global) -> Result<bool, Refusal>
-        ensures goes { IfOk result (λ did. (w : World) → Sound w → LinkStands w.primary.calls self.old w.primary.link w.wire.frames
+        ensures goes { IfOk result (λ did. (w : World) → Sound w → LinkRefines w.primary.calls self.old w.primary.link w.wire.frames
             → Goes (may_happen w Send) did
-            (LinkStands w.primary.calls self.new (sent_next w.primary.link.again w.primary.link) (w.wire.frames ++ framed self.old.epoch (next_to_send w.primary.link)))
-            (LinkStands w.primary.calls self.new w.primary.link w.wire.frames)) }
+            (LinkRefines w.primary.calls self.new (sent_next w.primary.link.again w.primary.link) (w.wire.frames ++ framed self.old.epoch (next_to_send w.primary.link)))
+            (LinkRefines w.primary.calls self.new w.primary.link w.wire.frames)) }
         ensures keeps { OnOk result (KeepsFrames self.old self.new) }
         ensures cause { IfErr result (λ refusal. refusal ≡ Refusal.Memory) }
-        ensures enabled { OnErr result ((w : World) → LinkStands w.primary.calls self.old w.primary.link w.wire.frames → may_happen w Send ≡ true) }
+        ensures enabled { OnErr result ((w : World) → LinkRefines w.primary.calls self.old w.primary.link w.wire.frames → may_happen w Send ≡ true) }
     {
         if self.again < self.frames.len() {
             self.sent.push(self.again)?;
@@ -89,7 +89,7 @@ impl Link {
 
     /// An acknowledgement came: frames up to it are kept no longer.
     pub(crate) fn on_ack(&mut self, ack: Ack)
-        ensures stands { (w : World) → Sound w → LinkStands w.primary.calls self.old w.primary.link w.wire.frames → LinkStands w.primary.calls self.new (knowing ack.position w.primary.link) w.wire.frames }
+        ensures stands { (w : World) → Sound w → LinkRefines w.primary.calls self.old w.primary.link w.wire.frames → LinkRefines w.primary.calls self.new (knowing ack.position w.primary.link) w.wire.frames }
         ensures keeps { KeepsFrames self.old self.new }
     {
         self.kept = first_above(&self.frames, self.kept, ack.position);
@@ -99,8 +99,8 @@ impl Link {
 
     /// Raises the remote mark to what was acknowledged. Answers whether it rose.
     pub(crate) fn raise_remote(&mut self) -> bool
-        ensures goes { (w : World) → Sound w → LinkStands w.primary.calls self.old w.primary.link w.wire.frames
-            → Goes (may_happen w RaiseRemote) result (LinkStands w.primary.calls self.new (raised_remote w.primary.link) w.wire.frames) (LinkStands w.primary.calls self.new w.primary.link w.wire.frames) }
+        ensures goes { (w : World) → Sound w → LinkRefines w.primary.calls self.old w.primary.link w.wire.frames
+            → Goes (may_happen w RaiseRemote) result (LinkRefines w.primary.calls self.new (raised_remote w.primary.link) w.wire.frames) (LinkRefines w.primary.calls self.new w.primary.link w.wire.frames) }
         ensures keeps { KeepsFrames self.old self.new }
     {
         let rises = self.remote < self.known;

@@ -1,7 +1,7 @@
 //! What goes out to a connection, from the sequencer on.
 ghost use Rattle.std.specs.Prelude.{◌≡◌, ◌≢◌, ◌≤◌, List, [], length, IfOk, IfErr, OnErr};
 ghost use Rattle.model.specs.declared.call.Call.{Call};
-ghost use Rattle.machine.specs.Events.{Outbound as Machine, World, having_read};
+ghost use Rattle.machine.specs.Event.{Outbound as Machine, World, having_read};
 
 use kv_types::Refusal;
 use machine::Mark;
@@ -29,11 +29,11 @@ pub(crate) struct Outbound {
 }
 
 impl Outbound {
-    ghost use Rattle.machine.specs.Events.{no_connection};
-    ghost use Rattle.world.specs.Outbounds.{OutboundStands, HoldsFirst, LetsOut, Writes};
+    ghost use Rattle.machine.specs.Event.{no_connection};
+    ghost use Rattle.world.specs.Outbound.{OutboundRefines, HoldsFirst, LetsOut, Writes};
 
     pub(crate) fn new(alloc: Global) -> Result<Outbound, AllocError>
-        ensures { IfOk result (λ outbound. (calls : List Call) → OutboundStands calls outbound no_connection.outbound) }
+        ensures { IfOk result (λ outbound. (calls : List Call) → OutboundRefines calls outbound no_connection.outbound) }
     {
         Ok(Outbound {
             made: LocalPipe::new(alloc)?,
@@ -48,7 +48,7 @@ impl Outbound {
 
     /// The gate takes the first reply that waits. Answers whether there was one.
     pub(crate) fn hold(&mut self, calls: &[Call]) -> Result<bool, Refusal>
-        ensures stands { IfOk result (λ did. (machine : Machine) → OutboundStands calls.now self.old machine → HoldsFirst calls.now self.new did machine) }
+        ensures stands { IfOk result (λ did. (machine : Machine) → OutboundRefines calls.now self.old machine → HoldsFirst calls.now self.new did machine) }
         ensures cause { IfErr result (λ refusal. refusal ≡ Refusal.Memory) }
         ensures some { OnErr result (self.old.made.items ≢ []) }
         ensures released { self.new.released ≡ self.old.released }
@@ -64,8 +64,8 @@ impl Outbound {
 
     /// The gate reads one of the marks, which stand so now.
     pub(crate) fn read(&mut self, mark: Mark, marks: Seen)
-        ensures stands { (calls : List Call) (w : World) (machine : Machine) → OutboundStands calls self.old machine
-            → marks.local ≡ w.primary.committer.local → marks.remote ≡ w.primary.link.remote → OutboundStands calls self.new (having_read mark w machine) }
+        ensures stands { (calls : List Call) (w : World) (machine : Machine) → OutboundRefines calls self.old machine
+            → marks.local ≡ w.primary.committer.local → marks.remote ≡ w.primary.link.remote → OutboundRefines calls self.new (having_read mark w machine) }
         ensures released { self.new.released ≡ self.old.released }
     {
         match mark {
@@ -74,9 +74,9 @@ impl Outbound {
         }
     }
 
-    /// Lets out the replies that are covered. Answers whether there were any.
+    /// Releases the replies that are covered. Answers whether there were any.
     pub(crate) fn release(&mut self) -> bool
-        ensures { (calls : List Call) (machine : Machine) → OutboundStands calls self.old machine → LetsOut calls self.new result machine }
+        ensures { (calls : List Call) (machine : Machine) → OutboundRefines calls self.old machine → LetsOut calls self.new result machine }
     {
         if !self.gate.can_release(&self.seen) {
             return false;
@@ -87,7 +87,7 @@ impl Outbound {
 
     /// Writes so many of the bytes that are out, if there are so many. Answers whether it did.
     pub(crate) fn write(&mut self, n: u64) -> Result<bool, Refusal>
-        ensures stands { IfOk result (λ did. (calls : List Call) (machine : Machine) → OutboundStands calls self.old machine → Writes n calls self.new did machine) }
+        ensures stands { IfOk result (λ did. (calls : List Call) (machine : Machine) → OutboundRefines calls self.old machine → Writes n calls self.new did machine) }
         ensures cause { IfErr result (λ refusal. refusal ≡ Refusal.Memory) }
         ensures enough { OnErr result (n ≤ length self.old.gate.pending) }
         ensures released { OnErr result (self.new.released.items ≡ self.old.released.items) }

@@ -1,8 +1,8 @@
 //! A pair of nodes with their connections, one event at a time.
 ghost use Rattle.std.specs.Prelude.{◌≡◌};
 ghost use Rattle.machine.specs.declared.event.Event.TheVariants as events;
-ghost use Rattle.world.specs.Pairs.{Does, HasRoom, HasWorld};
-ghost use Rattle.world.specs.Pairs as specs;
+ghost use Rattle.world.specs.Pair.{Does, HasRoom, HasWorld};
+ghost use Rattle.world.specs.Pair as specs;
 
 use crate::arrivals::Arrivals;
 use crate::committing::Committing;

@@ -2,10 +2,10 @@
 ghost use Rattle.std.specs.Prelude.{◌≡◌, ℕ, ◌≤◌, ◌∷◌, [], List, map, length, vec_len, vec_capacity, Some, IfOk};
 ghost use Rattle.model.specs.Standing.{Holder};
 ghost use Rattle.world.specs.declared.trace.Ended.TheVariants.{AtFormatting};
-ghost use Rattle.machine.specs.Events.{start};
+ghost use Rattle.machine.specs.Event.{start};
 ghost use Rattle.world.specs.Headline.{KeepsItsWord, PlaysOn, Plays};
-ghost use Rattle.world.specs.Pairs.{PairStands};
-ghost use Rattle.world.specs.Sessions.{released_of};
+ghost use Rattle.world.specs.Pair.{PairRefines};
+ghost use Rattle.world.specs.Session.{released_of};
 
 use crate::connection::Connection;
 use crate::form::form;
@@ -131,8 +131,8 @@ fn play_on<P: Pmem, K: Keyspace + Drop>(
     requires none_released { released.items ≡ [] }
     requires room_released { SEATS ≤ vec_capacity released }
     requires room_calls { length events.now ≤ vec_capacity pair.sessions.calls }
-    requires stands { (first : Holder) × (second : Holder) × PairStands first second (⟦<Pair<WblEngine<P>, K> as Stepper>⟧.parts pair) start }
-    ensures { (first second : Holder) → PairStands first second (⟦<Pair<WblEngine<P>, K> as Stepper>⟧.parts pair) start
+    requires stands { (first : Holder) × (second : Holder) × PairRefines first second (⟦<Pair<WblEngine<P>, K> as Stepper>⟧.parts pair) start }
+    ensures { (first second : Holder) → PairRefines first second (⟦<Pair<WblEngine<P>, K> as Stepper>⟧.parts pair) start
         → PlaysOn first second events.now result.ended result.done.items result.calls.items (map (λ bytes. bytes.items) result.released.items)
         (⟦<Pair<WblEngine<P>, K> as Stepper>⟧.parts pair).device (⟦<Pair<WblEngine<P>, K> as Stepper>⟧.parts pair).standby.device
         (P.state result.primary) (P.state result.standby) }
@@ -175,8 +175,8 @@ fn play<S: Stepper>(stepper: &mut S, events: &[Event], done: &mut Vec<bool>) -> 
     requires none { done.old.items ≡ [] }
     requires room { length events.now ≤ vec_capacity done.old }
     requires room_calls { length events.now ≤ vec_capacity (S.parts stepper.old).sessions.calls }
-    requires stands { (first : Holder) × (second : Holder) × PairStands first second (S.parts stepper.old) start }
-    ensures { (first second : Holder) → PairStands first second (S.parts stepper.old) start
+    requires stands { (first : Holder) × (second : Holder) × PairRefines first second (S.parts stepper.old) start }
+    ensures { (first second : Holder) → PairRefines first second (S.parts stepper.old) start
         → Plays first second (S.parts stepper.old) events.now result done.new.items (S.parts stepper.new) }
 {
     for event in events {

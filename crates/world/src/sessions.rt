@@ -1,16 +1,16 @@
 //! The connections, and the one list of calls that the sequencer makes of their items.
 ghost use Rattle.std.specs.Prelude.{◌≡◌, ◌≢◌, ◌+◌, ◌<◌, ◌≤◌, ◌∷◌, ◌++◌, [], true, false, List, length, IfOk, IfErr, IfNone, IfSome, IsSome, OnErr, vec_len, vec_capacity};
 ghost use Rattle.kv_types.specs.declared.item.Item.{Item};
-ghost use Rattle.model.specs.Groups.{Contents};
+ghost use Rattle.model.specs.Group.{Contents};
 ghost use Rattle.model.specs.declared.group.TheConstants.{MAX_PARTS};
 ghost use Rattle.machine.specs.declared.event.Event.TheVariants.{Enter, Feed, Offer, Hold, Read, Release, Write};
-ghost use Rattle.machine.specs.Events.{World, may_happen, new_connection, changed_at, with_inbound, with_outbound, fed_with, offered_next, held_first, having_read, let_out, written};
+ghost use Rattle.machine.specs.Event.{World, may_happen, new_connection, changed_at, with_inbound, with_outbound, fed_with, offered_next, held_first, having_read, having_released, written};
 ghost use Rattle.machine.specs.Sound.{Sound};
-ghost use Rattle.redis_core.specs.Sequencing.{StandsFor, is_closed};
-ghost use Rattle.redis_core.specs.Turns.{call_of};
+ghost use Rattle.redis_core.specs.Sequencing.{Continues, is_closed};
+ghost use Rattle.redis_core.specs.Turn.{call_of};
 ghost use Rattle.world.specs.Going.{Goes};
 ghost use Rattle.world.specs.Running.{Runs};
-ghost use Rattle.world.specs.Sessions.{SessionsStand, SequencerStands, AddsOne, TakesTurn, TellsTheSame};
+ghost use Rattle.world.specs.Session.{SessionsRefine, SequencerRefines, AddsOne, TakesTurn, TellsTheSame};
 
 use crate::connection::Connection;
 use crate::inbound::Inbound;
@@ -40,7 +40,7 @@ pub(crate) struct Sessions {
 impl Sessions {
     /// No connection, and no call, with room for so many calls.
     pub(crate) fn new(alloc: Global, calls: usize) -> Result<Sessions, Refusal>
-        ensures stands { IfOk result (λ sessions. SessionsStand sessions [] []) }
+        ensures stands { IfOk result (λ sessions. SessionsRefine sessions [] []) }
         ensures room { IfOk result (λ sessions. calls ≤ vec_capacity sessions.calls) }
         ensures cause { IfErr result (λ refusal. refusal ≡ Refusal.Memory) }
     {
@@ -54,11 +54,11 @@ impl Sessions {
 
     /// Gives a new connection a seat, if one is free. Answers whether it did.
     pub(crate) fn enter(&mut self, alloc: Global) -> Result<bool, Refusal>
-        ensures goes { IfOk result (λ did. (w : World) → SessionsStand self.old w.primary.connections w.primary.calls
-            → Goes (may_happen w Enter) did (SessionsStand self.new (w.primary.connections ++ new_connection ∷ []) w.primary.calls) (SessionsStand self.new w.primary.connections w.primary.calls)) }
+        ensures goes { IfOk result (λ did. (w : World) → SessionsRefine self.old w.primary.connections w.primary.calls
+            → Goes (may_happen w Enter) did (SessionsRefine self.new (w.primary.connections ++ new_connection ∷ []) w.primary.calls) (SessionsRefine self.new w.primary.connections w.primary.calls)) }
         ensures told { OnErr result (TellsTheSame self.old self.new) }
         ensures cause { IfErr result (λ refusal. refusal ≡ Refusal.Memory) }
-        ensures enabled { OnErr result ((w : World) → SessionsStand self.old w.primary.connections w.primary.calls → may_happen w Enter ≡ true) }
+        ensures enabled { OnErr result ((w : World) → SessionsRefine self.old w.primary.connections w.primary.calls → may_happen w Enter ≡ true) }
         ensures calls { self.new.calls ≡ self.old.calls }
     {
         // Where memory is refused the run ends, and the seat with it.
@@ -76,13 +76,13 @@ impl Sessions {
 
     /// Takes a piece of a connection's bytes, unless an item closed it. Answers whether it did.
     pub(crate) fn feed(&mut self, c: u64, piece: &Bytes) -> Result<bool, Refusal>
-        ensures goes { IfOk result (λ did. (w : World) → SessionsStand self.old w.primary.connections w.primary.calls
+        ensures goes { IfOk result (λ did. (w : World) → SessionsRefine self.old w.primary.connections w.primary.calls
             → Goes (may_happen w (Feed c piece.now)) did
-            (SessionsStand self.new (changed_at c (with_inbound (fed_with piece.now)) w.primary.connections) w.primary.calls)
-            (SessionsStand self.new w.primary.connections w.primary.calls)) }
+            (SessionsRefine self.new (changed_at c (with_inbound (fed_with piece.now)) w.primary.connections) w.primary.calls)
+            (SessionsRefine self.new w.primary.connections w.primary.calls)) }
         ensures told { OnErr result (TellsTheSame self.old self.new) }
         ensures cause { IfErr result (λ refusal. refusal ≡ Refusal.Memory) }
-        ensures enabled { OnErr result ((w : World) → SessionsStand self.old w.primary.connections w.primary.calls → may_happen w (Feed c piece.now) ≡ true) }
+        ensures enabled { OnErr result ((w : World) → SessionsRefine self.old w.primary.connections w.primary.calls → may_happen w (Feed c piece.now) ≡ true) }
         ensures calls { self.new.calls ≡ self.old.calls }
     {
         let place = c as usize;
@@ -94,13 +94,13 @@ impl Sessions {
 
     /// Hands a connection's next item to the sequencer, if there is one and room for it. Answers whether it did.
     pub(crate) fn offer(&mut self, c: u64) -> Result<bool, Refusal>
-        ensures goes { IfOk result (λ did. (w : World) → SessionsStand self.old w.primary.connections w.primary.calls
+        ensures goes { IfOk result (λ did. (w : World) → SessionsRefine self.old w.primary.connections w.primary.calls
             → Goes (may_happen w (Offer c)) did
-            (SessionsStand self.new (changed_at c (with_inbound offered_next) w.primary.connections) w.primary.calls)
-            (SessionsStand self.new w.primary.connections w.primary.calls)) }
+            (SessionsRefine self.new (changed_at c (with_inbound offered_next) w.primary.connections) w.primary.calls)
+            (SessionsRefine self.new w.primary.connections w.primary.calls)) }
         ensures told { OnErr result (TellsTheSame self.old self.new) }
         ensures cause { IfErr result (λ refusal. refusal ≡ Refusal.Memory) }
-        ensures enabled { OnErr result ((w : World) → SessionsStand self.old w.primary.connections w.primary.calls → may_happen w (Offer c) ≡ true) }
+        ensures enabled { OnErr result ((w : World) → SessionsRefine self.old w.primary.connections w.primary.calls → may_happen w (Offer c) ≡ true) }
         ensures calls { self.new.calls ≡ self.old.calls }
     {
         match self.connections.get_mut(c as usize) {
@@ -111,13 +111,13 @@ impl Sessions {
 
     /// A connection's gate takes the first reply that waits. Answers whether there was one.
     pub(crate) fn hold(&mut self, c: u64) -> Result<bool, Refusal>
-        ensures goes { IfOk result (λ did. (w : World) → SessionsStand self.old w.primary.connections w.primary.calls
+        ensures goes { IfOk result (λ did. (w : World) → SessionsRefine self.old w.primary.connections w.primary.calls
             → Goes (may_happen w (Hold c)) did
-            (SessionsStand self.new (changed_at c (with_outbound held_first) w.primary.connections) w.primary.calls)
-            (SessionsStand self.new w.primary.connections w.primary.calls)) }
+            (SessionsRefine self.new (changed_at c (with_outbound held_first) w.primary.connections) w.primary.calls)
+            (SessionsRefine self.new w.primary.connections w.primary.calls)) }
         ensures told { OnErr result (TellsTheSame self.old self.new) }
         ensures cause { IfErr result (λ refusal. refusal ≡ Refusal.Memory) }
-        ensures enabled { OnErr result ((w : World) → SessionsStand self.old w.primary.connections w.primary.calls → may_happen w (Hold c) ≡ true) }
+        ensures enabled { OnErr result ((w : World) → SessionsRefine self.old w.primary.connections w.primary.calls → may_happen w (Hold c) ≡ true) }
         ensures calls { self.new.calls ≡ self.old.calls }
     {
         match self.connections.get_mut(c as usize) {
@@ -128,10 +128,10 @@ impl Sessions {
 
     /// A connection's gate reads one of the marks, which stand so now. Answers whether there is such a connection.
     pub(crate) fn read(&mut self, c: u64, mark: Mark, marks: Seen) -> bool
-        ensures goes { (w : World) → SessionsStand self.old w.primary.connections w.primary.calls → marks.local ≡ w.primary.committer.local → marks.remote ≡ w.primary.link.remote
+        ensures goes { (w : World) → SessionsRefine self.old w.primary.connections w.primary.calls → marks.local ≡ w.primary.committer.local → marks.remote ≡ w.primary.link.remote
             → Goes (may_happen w (Read c mark)) result
-            (SessionsStand self.new (changed_at c (with_outbound (having_read mark w)) w.primary.connections) w.primary.calls)
-            (SessionsStand self.new w.primary.connections w.primary.calls) }
+            (SessionsRefine self.new (changed_at c (with_outbound (having_read mark w)) w.primary.connections) w.primary.calls)
+            (SessionsRefine self.new w.primary.connections w.primary.calls) }
         ensures calls { self.new.calls ≡ self.old.calls }
     {
         match self.connections.get_mut(c as usize) {
@@ -143,12 +143,12 @@ impl Sessions {
         }
     }
 
-    /// A connection's gate lets out the replies that are covered. Answers whether there were any.
+    /// A connection's gate releases the replies that are covered. Answers whether there were any.
     pub(crate) fn release(&mut self, c: u64) -> bool
-        ensures goes { (w : World) → SessionsStand self.old w.primary.connections w.primary.calls
+        ensures goes { (w : World) → SessionsRefine self.old w.primary.connections w.primary.calls
             → Goes (may_happen w (Release c)) result
-            (SessionsStand self.new (changed_at c (with_outbound let_out) w.primary.connections) w.primary.calls)
-            (SessionsStand self.new w.primary.connections w.primary.calls) }
+            (SessionsRefine self.new (changed_at c (with_outbound having_released) w.primary.connections) w.primary.calls)
+            (SessionsRefine self.new w.primary.connections w.primary.calls) }
         ensures calls { self.new.calls ≡ self.old.calls }
     {
         match self.connections.get_mut(c as usize) {
@@ -159,13 +159,13 @@ impl Sessions {
 
     /// Writes so many of the bytes that are out to a connection, if there are so many. Answers whether it did.
     pub(crate) fn write(&mut self, c: u64, n: u64) -> Result<bool, Refusal>
-        ensures goes { IfOk result (λ did. (w : World) → SessionsStand self.old w.primary.connections w.primary.calls
+        ensures goes { IfOk result (λ did. (w : World) → SessionsRefine self.old w.primary.connections w.primary.calls
             → Goes (may_happen w (Write c n)) did
-            (SessionsStand self.new (changed_at c (with_outbound (written n)) w.primary.connections) w.primary.calls)
-            (SessionsStand self.new w.primary.connections w.primary.calls)) }
+            (SessionsRefine self.new (changed_at c (with_outbound (written n)) w.primary.connections) w.primary.calls)
+            (SessionsRefine self.new w.primary.connections w.primary.calls)) }
         ensures told { OnErr result (TellsTheSame self.old self.new) }
         ensures cause { IfErr result (λ refusal. refusal ≡ Refusal.Memory) }
-        ensures enabled { OnErr result ((w : World) → SessionsStand self.old w.primary.connections w.primary.calls → may_happen w (Write c n) ≡ true) }
+        ensures enabled { OnErr result ((w : World) → SessionsRefine self.old w.primary.connections w.primary.calls → may_happen w (Write c n) ≡ true) }
         ensures calls { self.new.calls ≡ self.old.calls }
     {
         match self.connections.get_mut(c as usize) {
@@ -183,10 +183,10 @@ impl Sessions {
         sequencer: &mut Sequencer<K>,
     ) -> bool
         requires { vec_len self.old.calls < vec_capacity self.old.calls }
-        ensures turns { (w : World) → Sound w → SessionsStand self.old w.primary.connections w.primary.calls
-            → SequencerStands w.primary.calls w.primary.committer.closed sequencer.old
+        ensures turns { (w : World) → Sound w → SessionsRefine self.old w.primary.connections w.primary.calls
+            → SequencerRefines w.primary.calls w.primary.committer.closed sequencer.old
             → TakesTurn w c result self.new sequencer.old sequencer.new }
-        ensures stands { (contents : Contents) → StandsFor sequencer.old contents → StandsFor sequencer.new contents }
+        ensures stands { (contents : Contents) → Continues sequencer.old contents → Continues sequencer.new contents }
         ensures calls { AddsOne self.old.calls self.new.calls }
     {
         let Some(connection) = self.connections.get_mut(c as usize) else {
@@ -229,7 +229,7 @@ fn first_reply<K: Keyspace>(
     ensures stays { replies.old.items ≡ [] → IfNone result ((waiting.new.items ≡ waiting.old.items) × (sequencer.new ≡ sequencer.old)) }
     ensures otherwise { replies.old.items ≡ [] → is_closed sequencer.old seat.now ≡ false → length (sequencer.old).waiting < MAX_PARTS → waiting.old.items ≢ [] → IsSome result }
     ensures replies { replies.old.items ≡ [] → replies.new.items ≡ [] }
-    ensures stands { (contents : Contents) → StandsFor sequencer.old contents → StandsFor sequencer.new contents }
+    ensures stands { (contents : Contents) → Continues sequencer.old contents → Continues sequencer.new contents }
 {
     match sequencer.turn(alloc, seat, waiting, replies) {
         Turn::Served => replies.take(),

@@ -1,5 +1,5 @@
 use Rattle.std.proofs.Common.{◌≡◌, ◌+◌, drop}
-use Rattle.kv_types.specs.Changes.{changes_size}
+use Rattle.kv_types.specs.Change.{changes_size}
 use Rattle.kv_types.proofs.change.changes_fit.Given as goal
 
 abbrev pub invariant-loop-change : goal.invariant-loop-change

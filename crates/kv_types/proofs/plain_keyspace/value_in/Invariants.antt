@@ -1,5 +1,5 @@
 use Rattle.std.proofs.Common.{◌≡◌, drop}
-use Rattle.kv_types.specs.Keyspaces.{value_at}
+use Rattle.kv_types.specs.Keyspace.{value_at}
 use Rattle.kv_types.proofs.plain_keyspace.value_in.Given as goal
 
 abbrev pub invariant-loop-record : goal.invariant-loop-record

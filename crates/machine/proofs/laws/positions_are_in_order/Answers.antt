@@ -1,4 +1,4 @@
-use Rattle.machine.specs.Events.{start, last_world}
+use Rattle.machine.specs.Event.{start, last_world}
 use Rattle.machine.proofs.RunLemmas.{sound-run}
 use Rattle.machine.proofs.LawLemmas.{in_order}
 use Rattle.machine.proofs.laws.positions_are_in_order.Goals as goal

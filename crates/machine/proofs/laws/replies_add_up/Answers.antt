@@ -1,4 +1,4 @@
-use Rattle.machine.specs.Events.{start, last_world}
+use Rattle.machine.specs.Event.{start, last_world}
 use Rattle.machine.proofs.RunLemmas.{sound-run}
 use Rattle.machine.proofs.PromiseLemmas.{replies-add_up, released-covered}
 use Rattle.machine.proofs.LawLemmas.{answers_bear_positions}

@@ -1,8 +1,8 @@
 use Rattle.std.proofs.Common.{◌≡◌, ℕ, List, Bool, sym, ap, ◌∙◌}
 use Rattle.kv_types.specs.declared.record_id.RecordId.{RecordId}
 use Rattle.model.specs.declared.record.Record.{Record}
-use Rattle.model.specs.Images.{Image, counts, entry_word}
-use Rattle.model.specs.ReadImages.{image_of, line_count}
+use Rattle.model.specs.Image.{Image, counts, entry_word}
+use Rattle.model.specs.ReadImage.{image_of, line_count}
 use Rattle.model.proofs.ReadMapLemmas.{CannotAdd-clash, AddsEntry-put}
 use Rattle.model.proofs.image_contents.add_entry.Goals as goal
 

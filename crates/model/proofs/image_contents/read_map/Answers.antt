@@ -1,6 +1,6 @@
 use Rattle.std.proofs.Common.{arith}
-use Rattle.model.specs.Images.{version_at}
-use Rattle.model.specs.ReadImages.{image_of, line_count}
+use Rattle.model.specs.Image.{version_at}
+use Rattle.model.specs.ReadImage.{image_of, line_count}
 use Rattle.model.proofs.ReadMapLemmas.{IsMapOf-added, no_map}
 use Rattle.model.proofs.image_contents.read_map.Goals as goal
 

@@ -1,5 +1,5 @@
-use Rattle.model.specs.Images.{IsMapOf, version_at}
-use Rattle.model.specs.ReadImages.{image_of}
+use Rattle.model.specs.Image.{IsMapOf, version_at}
+use Rattle.model.specs.ReadImage.{image_of}
 use Rattle.model.proofs.image_contents.read_map.Given as goal
 
 abbrev pub invariant-loop-i : goal.invariant-loop-i

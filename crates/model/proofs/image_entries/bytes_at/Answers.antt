@@ -1,8 +1,8 @@
 use Rattle.std.proofs.Common.{◌≡◌, ◌+◌, ◌*◌, ◌/◌, ◌++◌, length, take, w64, sym, ap, ◌∙◌, arith}
 use Rattle.std.specs.Int.{to_le_bytes}
 use Rattle.std.specs.List.{flat_map}
-use Rattle.model.specs.Images.{words_from}
-use Rattle.model.specs.ReadImages.{image_of}
+use Rattle.model.specs.Image.{words_from}
+use Rattle.model.specs.ReadImage.{image_of}
 use Rattle.model.proofs.ReadEntryLemmas.{word_bytes-more, length-bytes_at}
 use Rattle.model.proofs.image_entries.bytes_at.Goals as goal
 

@@ -1,8 +1,8 @@
 use Rattle.std.proofs.Common.{◌≡◌, ◌*◌, w64}
 use Rattle.std.specs.Int.{to_le_bytes}
 use Rattle.std.specs.List.{flat_map}
-use Rattle.model.specs.Images.{words_from}
-use Rattle.model.specs.ReadImages.{image_of}
+use Rattle.model.specs.Image.{words_from}
+use Rattle.model.specs.ReadImage.{image_of}
 use Rattle.model.proofs.image_entries.bytes_at.Given as goal
 
 abbrev pub invariant-loop-k : goal.invariant-loop-k

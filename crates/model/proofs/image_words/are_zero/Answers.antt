@@ -1,5 +1,5 @@
 use Rattle.std.proofs.Common.{sym, ◌∙◌, arith}
-use Rattle.model.specs.ReadImages.{image_of}
+use Rattle.model.specs.ReadImage.{image_of}
 use Rattle.model.proofs.ReadRecordLemmas.{AreZero-more, AreZero-at}
 use Rattle.model.proofs.image_words.are_zero.Goals as goal
 

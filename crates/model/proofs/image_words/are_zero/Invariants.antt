@@ -1,4 +1,4 @@
-use Rattle.model.specs.ReadImages.{image_of, AreZero}
+use Rattle.model.specs.ReadImage.{image_of, AreZero}
 use Rattle.model.proofs.image_words.are_zero.Given as goal
 
 abbrev pub invariant-loop-k : goal.invariant-loop-k

@@ -1,6 +1,6 @@
 use Rattle.std.proofs.Common.{◌≡◌, ◌+◌, ◌*◌, length, ap, sym, ◌∙◌, arith, lit<, ◌++◌, ◌∷◌, []}
 use Rattle.model.specs.declared.record.Gap.{Gap}
-use Rattle.model.specs.ReadImages.{image_of, gaps_from}
+use Rattle.model.specs.ReadImage.{image_of, gaps_from}
 use Rattle.model.proofs.ReadRecordLemmas.{pair_at, length-gaps_from, gaps_from-more}
 use Rattle.model.proofs.image_words.read_gaps.Goals as goal
 

@@ -1,5 +1,5 @@
 use Rattle.std.proofs.Common.{◌≡◌}
-use Rattle.model.specs.ReadImages.{image_of, gaps_from}
+use Rattle.model.specs.ReadImage.{image_of, gaps_from}
 use Rattle.model.proofs.image_words.read_gaps.Given as goal
 
 abbrev pub invariant-loop-k : goal.invariant-loop-k

@@ -1,6 +1,6 @@
 use Rattle.std.proofs.Common.{sym, ap, ◌∙◌, refl}
-use Rattle.model.specs.Layouts.{first_word}
-use Rattle.model.specs.ReadImages.{image_of}
+use Rattle.model.specs.Layout.{first_word}
+use Rattle.model.specs.ReadImage.{image_of}
 use Rattle.model.proofs.ReadRecordLemmas.{no_record-role, no_record-filled, IsRecordOf-read}
 use Rattle.model.proofs.image_words.read_record.Goals as goal
 

@@ -1,8 +1,8 @@
 use Rattle.std.proofs.Common.{rules, not, ◌++◌, ap, ◌∙◌, arith}
 use Rattle.std.proofs.lemmas.Fn.{filter_same}
-use Rattle.model.specs.Groups.{change_of, ends_record}
-use Rattle.mv_keyspace.specs.Tables.{entries_of}
-use Rattle.mv_keyspace.specs.Rows.{table_of, numbers_of, ended_rows}
+use Rattle.model.specs.Group.{change_of, ends_record}
+use Rattle.mv_keyspace.specs.Table.{entries_of}
+use Rattle.mv_keyspace.specs.Row.{table_of, numbers_of, ended_rows}
 use Rattle.mv_keyspace.proofs.ListLemmas.{table_of-filter, length-moved}
 use Rattle.mv_keyspace.proofs.list_keyspace.end_rows.Goals as goal
 

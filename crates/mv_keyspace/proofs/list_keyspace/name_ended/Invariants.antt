@@ -1,7 +1,7 @@
 use Rattle.std.proofs.Common.{◌≡◌, ◌≤◌, ◌+◌, ◌++◌, drop, vec_len, vec_capacity}
-use Rattle.model.specs.Groups.{change_of}
-use Rattle.mv_keyspace.specs.Tables.{entries_of}
-use Rattle.mv_keyspace.specs.Rows.{table_of, ended_rows, numbers_of}
+use Rattle.model.specs.Group.{change_of}
+use Rattle.mv_keyspace.specs.Table.{entries_of}
+use Rattle.mv_keyspace.specs.Row.{table_of, ended_rows, numbers_of}
 use Rattle.mv_keyspace.proofs.list_keyspace.name_ended.Given as goal
 
 abbrev pub invariant-loop-row : goal.invariant-loop-row

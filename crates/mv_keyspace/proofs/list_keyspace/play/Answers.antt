@@ -1,7 +1,7 @@
 use Rattle.std.proofs.Common.{◌++◌, ◌+◌, length, drop, vec_len, vec_capacity, subst, subst₂, sym, ap, ◌∙◌, arith, drop_of_length-le}
 use Rattle.std.specs.Option.{option_to_list}
 use Rattle.std.specs.Vec.Iter.{into_iter_items, into_iter_len}
-use Rattle.mv_keyspace.specs.Rows.{table_of, numbers_of, cell_of_row}
+use Rattle.mv_keyspace.specs.Row.{table_of, numbers_of, cell_of_row}
 use Rattle.mv_keyspace.proofs.PlayingLemmas.{Playing, playing-start, playing-end, put-step, other-step, absent-step, makes_none}
 use Rattle.mv_keyspace.proofs.list_keyspace.play.Goals as goal
 use Rattle.mv_keyspace.proofs.list_keyspace.play.Goals.{in-Put, in_default}

@@ -1,7 +1,7 @@
 use Rattle.std.proofs.Common.{◌≡◌, ℕ, ◌≤◌, ◌+◌, drop, vec_len, vec_capacity}
 use Rattle.std.specs.Vec.Iter.{into_iter_items, into_iter_len}
-use Rattle.mv_keyspace.specs.Tables.{puts_of}
-use Rattle.mv_keyspace.specs.Rows.{table_of, rows_of_puts, numbers_of}
+use Rattle.mv_keyspace.specs.Table.{puts_of}
+use Rattle.mv_keyspace.specs.Row.{table_of, rows_of_puts, numbers_of}
 use Rattle.mv_keyspace.proofs.PlayingLemmas.{Playing}
 use Rattle.mv_keyspace.proofs.list_keyspace.play.Given as goal
 

@@ -1,7 +1,7 @@
 use Rattle.std.proofs.Common.{ap, ◌∙◌, sym, cond, insert}
 use Rattle.std.specs.Result.{is_ok}
-use Rattle.mv_keyspace.specs.Rows.{table_of, cell_of_row}
-use Rattle.mv_keyspace.specs.Tables.{with_cell}
+use Rattle.mv_keyspace.specs.Row.{table_of, cell_of_row}
+use Rattle.mv_keyspace.specs.Table.{with_cell}
 use Rattle.mv_keyspace.proofs.ListLemmas.{table_of-insert}
 use Rattle.mv_keyspace.proofs.list_keyspace.put_row.Goals as goal
 

@@ -1,6 +1,6 @@
 use Rattle.std.proofs.Common.{◌≡◌, ◌++◌, drop}
-use Rattle.mv_keyspace.specs.Tables.{puts_of}
-use Rattle.mv_keyspace.specs.Rows.{table_of, rows_of_puts}
+use Rattle.mv_keyspace.specs.Table.{puts_of}
+use Rattle.mv_keyspace.specs.Row.{table_of, rows_of_puts}
 use Rattle.mv_keyspace.proofs.list_keyspace.stage.Given as goal
 
 abbrev pub invariant-loop-change : goal.invariant-loop-change

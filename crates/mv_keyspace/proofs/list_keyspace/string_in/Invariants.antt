@@ -1,8 +1,8 @@
 use Rattle.std.proofs.Common.{◌≡◌, drop}
 use Rattle.kv_types.specs.declared.record_id.RecordId.TheVariants.{Str}
-use Rattle.kv_types.specs.Keyspaces.{value_at}
-use Rattle.mv_keyspace.specs.Tables.{records}
-use Rattle.mv_keyspace.specs.Rows.{table_of}
+use Rattle.kv_types.specs.Keyspace.{value_at}
+use Rattle.mv_keyspace.specs.Table.{records}
+use Rattle.mv_keyspace.specs.Row.{table_of}
 use Rattle.mv_keyspace.proofs.list_keyspace.string_in.Given as goal
 
 abbrev pub invariant-loop-row : goal.invariant-loop-row

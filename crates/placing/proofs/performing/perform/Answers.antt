@@ -1,5 +1,5 @@
 use Rattle.std.proofs.Common.{◌≡◌, refl, sym, subst}
-use Rattle.mv_keyspace.specs.Tables.{AreEnded, AreFresh, place_all, puts_of}
+use Rattle.mv_keyspace.specs.Table.{AreEnded, AreFresh, place_all, puts_of}
 use Rattle.placing.specs.Left.{IsBeside}
 use Rattle.placing.proofs.BesideLemmas.{beside_lawful, beside_fresh, beside_after}
 use Rattle.placing.proofs.performing.perform.Goals as goal

@@ -1,8 +1,8 @@
 use Rattle.std.proofs.Common.{sym, subst}
 use Rattle.extent_heap.specs.Room.{Room}
-use Rattle.model.specs.Groups.{put_of}
-use Rattle.mv_keyspace.specs.Tables.{puts_of}
-use Rattle.placing.specs.Places.{TakesPlaces}
+use Rattle.model.specs.Group.{put_of}
+use Rattle.mv_keyspace.specs.Table.{puts_of}
+use Rattle.placing.specs.Place.{TakesPlaces}
 use Rattle.placing.proofs.PlacesLemmas.{last_place}
 use Rattle.placing.proofs.places.give_back.Goals as goal
 use Rattle.placing.proofs.places.give_back.Goals.{In-Some}
@@ -20,10 +20,10 @@ give_place_back-requires c =
 
 pub loop-change-preserved : goal.loop-change-preserved
 loop-change-preserved c =
-    let front = λ (before : Room) (takes : TakesPlaces before (puts_of c.loop-change.placed.items) c.loop-change.heap).
+    let prefix = λ (before : Room) (takes : TakesPlaces before (puts_of c.loop-change.placed.items) c.loop-change.heap).
     let split = last (goal.at.loop-change-preserved c).In-Some before takes in
     subst (TakesPlaces before (puts_of c.pop.new.self.items)) (sym (c.give_place_back.ensures split.0 split.2)) split.1 in
     record {
-      taken = (c.loop-change.invariant.taken.0, front c.loop-change.invariant.taken.0 c.loop-change.invariant.taken.1);
-      rest = λ before takes. front before (c.loop-change.invariant.rest before takes);
+      taken = (c.loop-change.invariant.taken.0, prefix c.loop-change.invariant.taken.0 c.loop-change.invariant.taken.1);
+      rest = λ before takes. prefix before (c.loop-change.invariant.rest before takes);
     }

@@ -1,7 +1,7 @@
 use Rattle.std.proofs.Common.{vec_len}
 use Rattle.extent_heap.specs.Room.{Room}
-use Rattle.mv_keyspace.specs.Tables.{puts_of}
-use Rattle.placing.specs.Places.{TakesPlaces}
+use Rattle.mv_keyspace.specs.Table.{puts_of}
+use Rattle.placing.specs.Place.{TakesPlaces}
 use Rattle.placing.proofs.places.give_back.Given as goal
 
 -- whatever the heap was before the places were taken, it is that behind the places that are left

@@ -1,7 +1,7 @@
 use Rattle.std.proofs.Common.{sym, subst}
 use Rattle.extent_heap.specs.Room.{Room, TakesEntry}
-use Rattle.model.specs.Groups.{put_of}
-use Rattle.placing.specs.Places.{TakesPlaces}
+use Rattle.model.specs.Group.{put_of}
+use Rattle.placing.specs.Place.{TakesPlaces}
 use Rattle.placing.proofs.PlacesLemmas.{one_place}
 use Rattle.placing.proofs.places.give_place_back.Goals as goal
 use Rattle.placing.proofs.places.give_place_back.Goals.{After-give}

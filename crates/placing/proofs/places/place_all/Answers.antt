@@ -2,9 +2,9 @@ use Rattle.std.proofs.Common.{◌≡◌, [], ◌∷◌, ◌++◌, List, map, len
 use Rattle.std.proofs.lemmas.List.{map-append}
 use Rattle.std.specs.Vec.Iter.{into_iter_items}
 use Rattle.kv_types.specs.declared.change.Change.{Change}
-use Rattle.model.specs.Groups.{change_of}
-use Rattle.mv_keyspace.specs.Tables.{puts_of}
-use Rattle.placing.specs.Places.{TakesPlaces, HasRoomFor}
+use Rattle.model.specs.Group.{change_of}
+use Rattle.mv_keyspace.specs.Table.{puts_of}
+use Rattle.placing.specs.Place.{TakesPlaces, HasRoomFor}
 use Rattle.placing.proofs.PlacesLemmas.{more_places, no_room}
 use Rattle.placing.proofs.places.place_all.Goals as goal
 

@@ -1,9 +1,9 @@
 use Rattle.std.proofs.Common.{◌≡◌, ◌+◌, ◌≤◌, ◌++◌, map, length, vec_len}
 use Rattle.std.specs.Vec.{vec_capacity}
 use Rattle.std.specs.Vec.Iter.{into_iter_items}
-use Rattle.model.specs.Groups.{change_of}
-use Rattle.mv_keyspace.specs.Tables.{puts_of}
-use Rattle.placing.specs.Places.{TakesPlaces}
+use Rattle.model.specs.Group.{change_of}
+use Rattle.mv_keyspace.specs.Table.{puts_of}
+use Rattle.placing.specs.Place.{TakesPlaces}
 use Rattle.placing.proofs.places.place_all.Given as goal
 
 abbrev pub invariant-loop-change : goal.invariant-loop-change

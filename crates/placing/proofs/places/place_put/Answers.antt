@@ -1,6 +1,6 @@
 use Rattle.std.proofs.Common.{◌≡◌, ◌+◌, length, ap, ◌∙◌}
-use Rattle.model.specs.Images.{lines_of_bytes}
-use Rattle.model.specs.Groups.{bytes_of_id}
+use Rattle.model.specs.Image.{lines_of_bytes}
+use Rattle.model.specs.Group.{bytes_of_id}
 use Rattle.placing.proofs.PlacesLemmas.{no_place}
 use Rattle.placing.proofs.places.place_put.Goals as goal
 

@@ -1,5 +1,5 @@
 use Rattle.std.proofs.Common.{ℕ, ◌<◌, ◌/◌, length, ap, arith}
-use Rattle.pmem.specs.Cells.{at}
+use Rattle.pmem.specs.Cell.{at}
 use Rattle.pmem.proofs.Compacting.{Compacting-turn_kept, Compacting-turn_dropped}
 use Rattle.pmem.proofs.cells.compact.Goals as goal
 use Rattle.pmem.proofs.cells.compact.Goals.{then-not-candidate, else-not-candidate}

@@ -1,5 +1,5 @@
 use Rattle.std.proofs.Common.{◌≡◌, ◌+◌, length}
-use Rattle.pmem.specs.Cells.{at, older_below, older_in}
+use Rattle.pmem.specs.Cell.{at, older_below, older_in}
 use Rattle.pmem.proofs.Walks.{end_of}
 use Rattle.pmem.proofs.Picking.{Walking}
 use Rattle.pmem.proofs.cells.older_count.Given as goal

@@ -1,5 +1,5 @@
 use Rattle.std.proofs.Common.{ℕ, ◌<◌, ◌/◌, ◌-◌, length, arith, sym, subst}
-use Rattle.pmem.specs.Cells.{older_in}
+use Rattle.pmem.specs.Cell.{older_in}
 use Rattle.pmem.proofs.Walks.{end_of}
 use Rattle.pmem.proofs.Picking.{Walking-start, Walking-next, Seeking, Seeking-start, seek-hit, seek-miss}
 use Rattle.pmem.proofs.cells.older_value.Goals as goal

@@ -1,5 +1,5 @@
 use Rattle.std.proofs.Common.{◌-◌, length}
-use Rattle.pmem.specs.Cells.{older_in}
+use Rattle.pmem.specs.Cell.{older_in}
 use Rattle.pmem.proofs.Walks.{end_of}
 use Rattle.pmem.proofs.Picking.{Walking, Seeking}
 use Rattle.pmem.proofs.cells.older_value.Given as goal

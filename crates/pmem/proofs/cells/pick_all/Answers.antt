@@ -1,7 +1,7 @@
 use Rattle.std.proofs.Common.{◌<◌, ℕ, length, get_or, ap, sym, ◌∙◌, arith, ◌+◌, ◌%◌, ◌++◌, ◌∷◌, [], map}
 use Rattle.pmem.specs.Device.{Older}
 use Rattle.std.proofs.lemmas.List.{get_or_read_under}
-use Rattle.pmem.specs.Cells.{older_in}
+use Rattle.pmem.specs.Cell.{older_in}
 use Rattle.pmem.proofs.Picking.{Picked-hit, Picked-miss, Picked-end}
 use Rattle.pmem.proofs.cells.pick_all.Goals as goal
 use Rattle.pmem.proofs.cells.pick_all.Goals.{then-older_count-gt0, else-older_count-gt0}

@@ -1,6 +1,6 @@
 use Rattle.std.proofs.Common.{◌≡◌, ℕ, ◌+◌, ◌*◌, ◌≤◌, List, [], ◌∷◌, ◌++◌, length, drop, sym, ap, ◌∙◌, arith, append_assoc}
 use Rattle.std.proofs.lemmas.List.{append-nil, length-drop}
-use Rattle.pmem_file.specs.Bytes.{words_in}
+use Rattle.pmem_file.specs.Byte.{words_in}
 use Rattle.pmem_file.proofs.BytesLemmas.{words_in-next, words_in-short}
 use Rattle.pmem_file.proofs.bytes.decode.Goals as goal
 

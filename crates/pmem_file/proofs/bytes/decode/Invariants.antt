@@ -1,5 +1,5 @@
 use Rattle.std.proofs.Common.{◌≡◌, ◌+◌, ◌*◌, ◌++◌, drop, vec_len}
-use Rattle.pmem_file.specs.Bytes.{words_in}
+use Rattle.pmem_file.specs.Byte.{words_in}
 use Rattle.pmem_file.proofs.bytes.decode.Given as goal
 
 abbrev pub invariant-loop-i : goal.invariant-loop-i

@@ -1,5 +1,5 @@
 use Rattle.std.proofs.Common.{◌≡◌, ◌*◌, ◌++◌, ◌≤◌, vec_len, vec_capacity, drop}
-use Rattle.pmem_file.specs.Bytes.{bytes_of}
+use Rattle.pmem_file.specs.Byte.{bytes_of}
 use Rattle.pmem_file.proofs.bytes.encode.Given as goal
 
 abbrev pub invariant-loop-word : goal.invariant-loop-word

@@ -2,7 +2,7 @@ use Rattle.std.proofs.Common.{◌≡◌, ℕ, ◌+◌, ◌<◌, true, false, ◌
 use Rattle.std.proofs.lemmas.List.{at_drop_more, drop_all}
 use Rattle.std.proofs.lemmas.Bool.{eqb-true}
 use Rattle.pmem.proofs.Staging.{same_or_other}
-use Rattle.pmem_file.specs.Lines.{has_line}
+use Rattle.pmem_file.specs.Line.{has_line}
 use Rattle.pmem_file.proofs.LinesLemmas.{marked-below, not_marked, has_line-at, cleared}
 use Rattle.pmem_file.proofs.CallsLemmas.{or_cases}
 use Rattle.pmem_file.proofs.notes.unmark.Goals as goal

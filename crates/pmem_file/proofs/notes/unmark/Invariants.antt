@@ -1,5 +1,5 @@
 use Rattle.std.proofs.Common.{◌≡◌, ℕ, true, false, drop, vec_len, get_or}
-use Rattle.pmem_file.specs.Lines.{has_line}
+use Rattle.pmem_file.specs.Line.{has_line}
 use Rattle.pmem_file.proofs.notes.unmark.Given as goal
 
 abbrev pub invariant-loop-line : goal.invariant-loop-line

@@ -1,5 +1,5 @@
 use Rattle.std.proofs.Common.{◌≡◌, ◌+◌, ◌≤◌, length}
-use Rattle.reply_gate.specs.Gates.{covered_bytes, uncovered_rest, held_bytes}
+use Rattle.reply_gate.specs.Gate.{covered_bytes, uncovered_rest, held_bytes}
 use Rattle.reply_gate.proofs.gate.take_covered.Given as goal
 
 -- what was taken and what is still to be taken are together what there was

@@ -2,8 +2,8 @@ use Rattle.std.proofs.Common.{◌∷◌, ◌++◌}
 use Rattle.std.proofs.lemmas.Result.{err_from_is_err_and}
 use Rattle.std.specs.Fmt.{decimal}
 use Rattle.std.specs.List.{flat_map}
-use Rattle.kv_types.specs.Requests.{line_end}
-use Rattle.kv_types.specs.Replies.{text_of}
+use Rattle.kv_types.specs.Request.{line_end}
+use Rattle.kv_types.specs.Reply.{text_of}
 use Rattle.resp_codec.proofs.ReplyTexts.{text_of_counted, no_room, head_put}
 use Rattle.resp_codec.proofs.replies.+put_reply.Goals as goal
 

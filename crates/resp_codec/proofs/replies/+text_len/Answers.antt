@@ -2,7 +2,7 @@ use Rattle.std.proofs.Common.{◌≡◌, ap, ◌∙◌, length, arith}
 use Rattle.std.proofs.lemmas.List.{at_drop_all}
 use Rattle.std.specs.Fmt.{decimal}
 use Rattle.std.specs.List.{flat_map}
-use Rattle.kv_types.specs.Replies.{text_of}
+use Rattle.kv_types.specs.Reply.{text_of}
 use Rattle.resp_codec.proofs.ReplyTexts.{length-text_of-Array}
 use Rattle.resp_codec.proofs.replies.+text_len.Goals as goal
 

@@ -1,6 +1,6 @@
 use Rattle.std.proofs.Common.{◌≡◌, ◌+◌, ◌^◌, ◌<◌, length, drop}
 use Rattle.std.specs.List.{flat_map}
-use Rattle.kv_types.specs.Replies.{text_of}
+use Rattle.kv_types.specs.Reply.{text_of}
 use Rattle.resp_codec.proofs.replies.+text_len.Given as goal
 
 -- what is counted and the texts that are left make the whole

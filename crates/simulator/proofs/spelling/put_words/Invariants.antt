@@ -1,6 +1,6 @@
 use Rattle.std.proofs.Common.{◌≡◌, ◌++◌, flat_map}
 use Rattle.std.specs.Vec.Iter.{into_iter_items}
-use Rattle.kv_types.specs.Requests.{bulk}
+use Rattle.kv_types.specs.Request.{bulk}
 use Rattle.simulator.proofs.spelling.put_words.Given as goal
 
 -- the words that are put and those that are left

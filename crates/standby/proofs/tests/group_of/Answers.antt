@@ -1,8 +1,8 @@
 use Rattle.std.proofs.Common.{◌≡◌, ◌+◌, ◌<◌, List, [], ◌∷◌, ◌++◌, length, None, refl, sym, ap, subst, ◌∙◌, arith}
 use Rattle.model.specs.declared.group.Part.{Part}
 use Rattle.model.specs.declared.record.Role.TheVariants.{Primary}
-use Rattle.model.specs.Groups.{last_position}
-use Rattle.mv_keyspace.specs.Tables.{Table}
+use Rattle.model.specs.Group.{last_position}
+use Rattle.mv_keyspace.specs.Table.{Table}
 use Rattle.standby.proofs.GrowingLemmas.{IsGrown, grown-none, grown-beside, grown-more, group-new, count-more}
 use Rattle.placing.proofs.PartsLemmas.{last_position-append}
 use Rattle.standby.proofs.tests.group_of.Goals as goal

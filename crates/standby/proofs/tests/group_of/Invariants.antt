@@ -1,5 +1,5 @@
 use Rattle.std.proofs.Common.{◌≡◌, ℕ, length, None}
-use Rattle.model.specs.Groups.{Versions, last_position}
+use Rattle.model.specs.Group.{Versions, last_position}
 use Rattle.standby.proofs.GrowingLemmas.{IsGrown}
 use Rattle.standby.proofs.tests.group_of.Given as goal
 

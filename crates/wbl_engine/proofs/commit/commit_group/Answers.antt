@@ -1,7 +1,7 @@
 use Rattle.std.proofs.Common.{◌+◌, List, sym, subst}
 use Rattle.std.proofs.lemmas.Result.{on_ok_weaker, on_err_weaker}
 use Rattle.model.specs.declared.group.Part.{Part}
-use Rattle.wbl_engine.specs.Stages.{AreEndsWithin}
+use Rattle.wbl_engine.specs.Stage.{AreEndsWithin}
 use Rattle.wbl_engine.proofs.CommitSteps.{committing, group_staged, group_failed, first_fault, first_fault_moments, later_fault, done_rest, done_same, done_moments}
 use Rattle.wbl_engine.proofs.EndsWithin.{ends_within}
 use Rattle.wbl_engine.proofs.Results.{on_err_from}

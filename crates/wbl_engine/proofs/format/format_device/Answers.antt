@@ -2,7 +2,7 @@ use Rattle.std.proofs.Common.{[], ◌∷◌, subst, sym}
 use Rattle.std.proofs.lemmas.Result.{on_ok_weaker, on_err_weaker}
 use Rattle.pmem.specs.Runs.{LeavesOnly, IsPartlyStored}
 use Rattle.model.specs.declared.record.Record.{Record}
-use Rattle.model.specs.Images.{magic_number}
+use Rattle.model.specs.Image.{magic_number}
 use Rattle.wbl_engine.specs.AtRest.{IsAtRest}
 use Rattle.wbl_engine.proofs.FormatLemmas.{magic_pairs, first_moments, second_moments, third_moments, second_staged, second_failed, format_rest}
 use Rattle.wbl_engine.proofs.Results.{on_both}

@@ -2,7 +2,7 @@ use Rattle.std.proofs.Common.{ap}
 use Rattle.std.proofs.lemmas.Result.{on_ok_weaker, on_err_weaker}
 use Rattle.pmem.specs.Runs.{lines_from}
 use Rattle.pmem.proofs.Chaining.{Runs-flushes, stage_ok, stage_err}
-use Rattle.model.specs.Images.{first_extent_line}
+use Rattle.model.specs.Image.{first_extent_line}
 use Rattle.wbl_engine.specs.Formatting.{new_pairs}
 use Rattle.wbl_engine.proofs.FormatRuns.{new_run, new_flushes}
 use Rattle.wbl_engine.proofs.format.write_new.Goals as goal

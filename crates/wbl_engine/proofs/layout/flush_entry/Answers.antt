@@ -1,7 +1,7 @@
 use Rattle.std.proofs.Common.{ℕ, [], ◌∷◌, subst}
 use Rattle.pmem.specs.Runs.{Runs, flushes, lines_from}
 use Rattle.pmem.proofs.Chaining.{Runs-step_flush}
-use Rattle.model.specs.Images.{entry_line}
+use Rattle.model.specs.Image.{entry_line}
 use Rattle.wbl_engine.proofs.LayoutRuns.{Runs-more_flushes}
 use Rattle.wbl_engine.proofs.layout.flush_entry.Goals as goal
 

@@ -1,5 +1,5 @@
 use Rattle.std.proofs.Common.{◌≡◌, ℕ, ◌<◌, ◌++◌, List, [], ◌∷◌, arith, length, get_or, ap, ◌∙◌, subst}
-use Rattle.wbl_engine.specs.Entries.{name_bytes, version_bytes, entry_words}
+use Rattle.wbl_engine.specs.Entry.{name_bytes, version_bytes, entry_words}
 use Rattle.wbl_engine.proofs.LayoutRuns.{put_runs, length-name, read_bytes}
 use Rattle.wbl_engine.proofs.layout.write_entry.Goals as goal
 

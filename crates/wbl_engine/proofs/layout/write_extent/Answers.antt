@@ -2,7 +2,7 @@ use Rattle.std.proofs.Common.{ℕ, ◌+◌, ◌*◌, ◌++◌, ◌≤◌, ◌<�
 use Rattle.pmem.specs.Device.{Steps, store_at}
 use Rattle.pmem.specs.Runs.{pairs_from}
 use Rattle.pmem.proofs.Chaining.{Runs-none, Runs-next_store, Runs-all_stored}
-use Rattle.wbl_engine.specs.Entries.{packed}
+use Rattle.wbl_engine.specs.Entry.{packed}
 use Rattle.wbl_engine.proofs.LayoutRuns.{bytes-append, length-extent_pairs, extent_pair}
 use Rattle.wbl_engine.proofs.layout.write_extent.Goals as goal
 

@@ -1,6 +1,6 @@
 use Rattle.std.proofs.Common.{◌*◌, ◌++◌, take}
 use Rattle.pmem.specs.Runs.{Runs, stores, pairs_from}
-use Rattle.wbl_engine.specs.Entries.{packed}
+use Rattle.wbl_engine.specs.Entry.{packed}
 use Rattle.wbl_engine.proofs.layout.write_extent.Given as goal
 
 abbrev pub invariant-loop-i : goal.invariant-loop-i

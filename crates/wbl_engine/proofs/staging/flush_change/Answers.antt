@@ -2,7 +2,7 @@ use Rattle.std.proofs.Common.{List, sym, subst}
 use Rattle.pmem.specs.Runs.{Runs, flushes}
 use Rattle.pmem.proofs.Chaining.{Runs-none}
 use Rattle.model.specs.declared.group.Put.{Put}
-use Rattle.wbl_engine.specs.Stages.{puts_lines}
+use Rattle.wbl_engine.specs.Stage.{puts_lines}
 use Rattle.wbl_engine.proofs.StagingLemmas.{no_put}
 use Rattle.wbl_engine.proofs.staging.flush_change.Goals as goal
 

@@ -1,7 +1,7 @@
 use Rattle.std.proofs.Common.{ℕ, sym, subst}
 use Rattle.std.specs.List.{AllByRecursion}
 use Rattle.pmem.proofs.Chaining.{Runs-none}
-use Rattle.model.specs.Groups.{IsPlaced, puts_of_part}
+use Rattle.model.specs.Group.{IsPlaced, puts_of_part}
 use Rattle.wbl_engine.proofs.StagingLemmas.{all_of_item, parts_flushed}
 use Rattle.wbl_engine.proofs.staging.flush_parts.Goals as goal
 

@@ -1,6 +1,6 @@
 use Rattle.std.proofs.Common.{take}
 use Rattle.pmem.specs.Runs.{Runs, flushes}
-use Rattle.wbl_engine.specs.Stages.{parts_lines}
+use Rattle.wbl_engine.specs.Stage.{parts_lines}
 use Rattle.wbl_engine.proofs.staging.flush_parts.Given as goal
 
 abbrev pub invariant-loop-part : goal.invariant-loop-part

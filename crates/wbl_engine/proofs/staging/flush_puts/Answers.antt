@@ -1,7 +1,7 @@
 use Rattle.std.proofs.Common.{ℕ, sym, subst}
 use Rattle.std.specs.List.{AllByRecursion}
 use Rattle.pmem.proofs.Chaining.{Runs-none}
-use Rattle.model.specs.Groups.{IsPlaced, put_of}
+use Rattle.model.specs.Group.{IsPlaced, put_of}
 use Rattle.wbl_engine.proofs.StagingLemmas.{all_of_item, changes_flushed}
 use Rattle.wbl_engine.proofs.staging.flush_puts.Goals as goal
 

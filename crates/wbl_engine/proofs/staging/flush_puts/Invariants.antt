@@ -1,6 +1,6 @@
 use Rattle.std.proofs.Common.{take}
 use Rattle.pmem.specs.Runs.{Runs, flushes}
-use Rattle.wbl_engine.specs.Stages.{puts_of_changes, puts_lines}
+use Rattle.wbl_engine.specs.Stage.{puts_of_changes, puts_lines}
 use Rattle.wbl_engine.proofs.staging.flush_puts.Given as goal
 
 abbrev pub invariant-loop-change : goal.invariant-loop-change

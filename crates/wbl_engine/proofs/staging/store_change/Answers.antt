@@ -4,8 +4,8 @@ use Rattle.std.proofs.lemmas.List.{append-nil}
 use Rattle.pmem.specs.Runs.{Runs, stores}
 use Rattle.pmem.proofs.Chaining.{Runs-none}
 use Rattle.model.specs.declared.group.Put.{Put}
-use Rattle.wbl_engine.specs.Entries.{IsStorable, put_pairs}
-use Rattle.wbl_engine.specs.Stages.{puts_pairs}
+use Rattle.wbl_engine.specs.Entry.{IsStorable, put_pairs}
+use Rattle.wbl_engine.specs.Stage.{puts_pairs}
 use Rattle.wbl_engine.proofs.StagingLemmas.{no_put}
 use Rattle.wbl_engine.proofs.staging.store_change.Goals as goal
 

@@ -1,6 +1,6 @@
 use Rattle.std.proofs.Common.{take}
 use Rattle.pmem.specs.Runs.{Runs, stores}
-use Rattle.wbl_engine.specs.Stages.{end_pairs}
+use Rattle.wbl_engine.specs.Stage.{end_pairs}
 use Rattle.wbl_engine.proofs.staging.store_ends.Given as goal
 
 abbrev pub invariant-loop-entry : goal.invariant-loop-entry

@@ -2,8 +2,8 @@ use Rattle.std.proofs.Common.{List, subst}
 use Rattle.kv_types.specs.declared.place.EntryNo.{EntryNo}
 use Rattle.pmem.specs.Runs.{Runs, stores}
 use Rattle.model.specs.declared.group.PlacedChange.{PlacedChange}
-use Rattle.model.specs.Groups.{puts_of_part}
-use Rattle.wbl_engine.specs.Stages.{puts_of_changes, puts_pairs, end_pairs}
+use Rattle.model.specs.Group.{puts_of_part}
+use Rattle.wbl_engine.specs.Stage.{puts_of_changes, puts_pairs, end_pairs}
 use Rattle.wbl_engine.proofs.LayoutRuns.{Runs-more_stores}
 use Rattle.wbl_engine.proofs.staging.store_part.Goals as goal
 

@@ -1,8 +1,8 @@
 use Rattle.std.proofs.Common.{take}
 use Rattle.std.specs.List.{AllByRecursion}
 use Rattle.pmem.specs.Runs.{Runs, stores}
-use Rattle.wbl_engine.specs.Entries.{IsStorable}
-use Rattle.wbl_engine.specs.Stages.{puts_of_parts, parts_pairs}
+use Rattle.wbl_engine.specs.Entry.{IsStorable}
+use Rattle.wbl_engine.specs.Stage.{puts_of_parts, parts_pairs}
 use Rattle.wbl_engine.proofs.staging.store_parts.Given as goal
 
 abbrev pub invariant-loop-i : goal.invariant-loop-i

@@ -2,7 +2,7 @@ use Rattle.std.proofs.Common.{refl, ap, sym, subst, ◌∙◌}
 use Rattle.kv_types.specs.declared.refusal.Refusal.{Refusal}
 use Rattle.model.specs.declared.record.Role.TheVariants.{Primary, Standby}
 use Rattle.standby.proofs.NewLemmas.{HasAll}
-use Rattle.world.specs.Causes.{UnformedBy}
+use Rattle.world.specs.Cause.{UnformedBy}
 use Rattle.world.proofs.FormLemmas.{engine-new, formatting-none, new-own, pair-starts, standby-new, unformed-first, unformed-second}
 use Rattle.world.proofs.form.form.Goals as goal
 

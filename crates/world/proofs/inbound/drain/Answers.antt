@@ -1,7 +1,7 @@
 use Rattle.std.proofs.Common.{◌≡◌, ℕ, ◌++◌, ◌||◌, Bool, false, Ok, List, [], ◌∷◌, length, Option, Some, None, refl, sym, ap, subst, ◌∙◌, append-nil}
 use Rattle.std.specs.List.{list_any}
 use Rattle.kv_types.specs.declared.item.Item.{Item}
-use Rattle.model.specs.Commands.{closes}
+use Rattle.model.specs.Command.{closes}
 use Rattle.resp_codec.specs.Parsing.{fed, ahead}
 use Rattle.world.proofs.ParserLemmas.{Gives, gives-now, moved, closing-moved, fewer, nothing-ahead, later-drained, closes-drained}
 use Rattle.world.proofs.inbound.drain.Goals as goal

@@ -1,6 +1,6 @@
 use Rattle.std.proofs.Common.{◌≡◌, ℕ, ◌++◌, ◌||◌, List, length}
 use Rattle.std.specs.List.{list_any}
-use Rattle.model.specs.Commands.{closes}
+use Rattle.model.specs.Command.{closes}
 use Rattle.resp_codec.specs.Parsing.{fed, ahead}
 use Rattle.world.proofs.inbound.drain.Given as goal
 

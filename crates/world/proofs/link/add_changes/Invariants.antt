@@ -1,6 +1,6 @@
 use Rattle.std.proofs.Common.{◌≡◌, ◌++◌, map}
 use Rattle.std.specs.Vec.Iter.{into_iter_items}
-use Rattle.model.specs.Groups.{change_of}
+use Rattle.model.specs.Group.{change_of}
 use Rattle.world.proofs.link.add_changes.Given as goal
 
 abbrev pub invariant-loop-change : goal.invariant-loop-change

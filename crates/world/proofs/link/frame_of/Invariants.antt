@@ -1,7 +1,7 @@
 use Rattle.std.proofs.Common.{◌≡◌, ◌++◌}
 use Rattle.std.specs.List.{flat_map}
 use Rattle.std.specs.Vec.Iter.{into_iter_items}
-use Rattle.model.specs.Groups.{changes_of_part, last_position}
+use Rattle.model.specs.Group.{changes_of_part, last_position}
 use Rattle.world.proofs.link.frame_of.Given as goal
 
 abbrev pub invariant-loop-part : goal.invariant-loop-part

@@ -1,8 +1,8 @@
 use Rattle.std.proofs.Common.{ap, map, subst, sym}
 use Rattle.pmem.specs.Device.{State}
 use Rattle.model.specs.declared.record.Role.TheVariants.{Primary, Standby}
-use Rattle.world.specs.Causes.{UnformedBy}
-use Rattle.world.specs.Committings.{FormattingOnly}
+use Rattle.world.specs.Cause.{UnformedBy}
+use Rattle.world.specs.Committing.{FormattingOnly}
 use Rattle.world.proofs.FormLemmas.{formatting-none}
 use Rattle.world.proofs.RunningLemmas.{keeps-played, keeps-unplayed}
 use Rattle.world.proofs.playing.play_over.Goals as goal

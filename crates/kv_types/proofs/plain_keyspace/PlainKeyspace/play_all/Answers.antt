@@ -1,6 +1,6 @@
 use Rattle.std.proofs.Common.{[], ◌∷◌, ◌++◌, sym, ap, ◌∙◌, append_assoc}
 use Rattle.std.specs.Vec.Iter.{into_iter_items}
-use Rattle.kv_types.specs.Keyspaces.{play}
+use Rattle.kv_types.specs.Keyspace.{play}
 use Rattle.kv_types.proofs.PlayLemmas.{play_all-push}
 use Rattle.kv_types.proofs.plain_keyspace.PlainKeyspace.play_all.Goals as goal
 

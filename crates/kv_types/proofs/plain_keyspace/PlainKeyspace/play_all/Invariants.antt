@@ -1,6 +1,6 @@
 use Rattle.std.proofs.Common.{◌≡◌, ◌++◌}
 use Rattle.std.specs.Vec.Iter.{into_iter_items}
-use Rattle.kv_types.specs.Keyspaces.{play_all}
+use Rattle.kv_types.specs.Keyspace.{play_all}
 use Rattle.kv_types.proofs.plain_keyspace.PlainKeyspace.play_all.Given as goal
 
 abbrev pub invariant-loop-change : goal.invariant-loop-change

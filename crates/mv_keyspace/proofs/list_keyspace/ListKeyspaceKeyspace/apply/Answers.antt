@@ -1,6 +1,6 @@
 use Rattle.std.proofs.Common.{subst}
-use Rattle.mv_keyspace.specs.Tables.{AreEnded}
-use Rattle.mv_keyspace.specs.Rows.{table_of}
+use Rattle.mv_keyspace.specs.Table.{AreEnded}
+use Rattle.mv_keyspace.specs.Row.{table_of}
 use Rattle.mv_keyspace.proofs.list_keyspace.ListKeyspaceKeyspace.apply.Goals as goal
 
 pub returns-clause-ended : goal.returns-clause-ended

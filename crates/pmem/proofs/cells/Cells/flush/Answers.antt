@@ -1,7 +1,7 @@
 use Rattle.std.proofs.Common.{ℕ, ◌<◌, List, Option, None, length, refl, sym, subst, ap, arith}
 use Rattle.std.proofs.lemmas.List.{get_or_read_under}
 use Rattle.pmem.specs.Device.{flush_at}
-use Rattle.pmem.specs.Cells.{HoldsIn}
+use Rattle.pmem.specs.Cell.{HoldsIn}
 use Rattle.pmem.proofs.Walks.{Flushing, Flushing-start, Flushing-turn, Flushing-end, HoldsIn-flush}
 use Rattle.pmem.proofs.cells.Cells.flush.Goals as goal
 

@@ -3,7 +3,7 @@ use Rattle.std.proofs.lemmas.List.{get_or_read_under}
 use Rattle.std.proofs.lemmas.Result.{err_from_is_err_and}
 use Rattle.pmem.specs.declared.cells.Candidate.{Candidate}
 use Rattle.pmem.specs.Device.{store_at}
-use Rattle.pmem.specs.Cells.{HoldsIn}
+use Rattle.pmem.specs.Cell.{HoldsIn}
 use Rattle.pmem.proofs.Chains.{HoldsIn-stored, HoldsIn-starved_store}
 use Rattle.pmem.proofs.cells.Cells.store.Goals as goal
 

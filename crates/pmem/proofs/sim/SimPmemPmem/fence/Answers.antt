@@ -1,6 +1,6 @@
 use Rattle.std.proofs.Common.{◌≡◌, ℕ, ◌||◌, Bool, false, vec_len, sym, subst}
 use Rattle.pmem.specs.Device.{Word}
-use Rattle.pmem.specs.Cells.{Holds}
+use Rattle.pmem.specs.Cell.{Holds}
 use Rattle.pmem.specs.Keep.{HoldsKept}
 use Rattle.pmem.specs.History.{words_of}
 use Rattle.pmem.proofs.Keeping.{HoldsIn-weaken}

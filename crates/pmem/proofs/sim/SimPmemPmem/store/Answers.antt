@@ -1,7 +1,7 @@
 use Rattle.std.proofs.Common.{◌≡◌, ℕ, ◌||◌, Bool, vec_len, vec_capacity, ◌≤◌, true, sym, subst}
 use Rattle.std.proofs.lemmas.Result.{on_ok_weaker, on_err_weaker}
 use Rattle.pmem.specs.Device.{Word, store_at}
-use Rattle.pmem.specs.Cells.{Holds}
+use Rattle.pmem.specs.Cell.{Holds}
 use Rattle.pmem.specs.Keep.{HoldsKept, is_forgotten}
 use Rattle.pmem.specs.History.{words_of}
 use Rattle.pmem.specs.declared.keep.Keep.TheVariants.{Awaited}

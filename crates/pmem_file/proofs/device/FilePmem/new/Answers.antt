@@ -1,7 +1,7 @@
 use Rattle.std.proofs.Common.{ℕ, List, [], sym, subst}
 use Rattle.pmem.specs.Device.{Word}
 use Rattle.pmem.specs.History.{words_of}
-use Rattle.pmem_file.specs.Calls.{Call, calls_of}
+use Rattle.pmem_file.specs.Call.{Call, calls_of}
 use Rattle.pmem_file.specs.Holding.{Holds}
 use Rattle.pmem_file.proofs.HoldingLemmas.{Holds-read}
 use Rattle.pmem_file.proofs.device.FilePmem.new.Goals as goal

@@ -1,8 +1,8 @@
 use Rattle.std.proofs.Common.{ℕ, List, sym, subst, ◌∙◌}
 use Rattle.pmem.specs.Device.{Word, fenced}
 use Rattle.pmem.specs.History.{words_of}
-use Rattle.pmem_file.specs.Calls.{Brings, read_of, calls_of}
-use Rattle.pmem_file.specs.Lines.{Fixes}
+use Rattle.pmem_file.specs.Call.{Brings, read_of, calls_of}
+use Rattle.pmem_file.specs.Line.{Fixes}
 use Rattle.pmem_file.specs.Holding.{Holds}
 use Rattle.pmem_file.proofs.HoldingLemmas.{Holds-fenced}
 use Rattle.pmem_file.proofs.device.FilePmemPmem.fence.Goals as goal

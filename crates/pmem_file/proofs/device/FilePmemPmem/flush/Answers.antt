@@ -1,7 +1,7 @@
 use Rattle.std.proofs.Common.{ℕ, sym, subst}
 use Rattle.pmem.specs.Device.{Word}
 use Rattle.pmem.specs.History.{words_of}
-use Rattle.pmem_file.specs.Calls.{read_of, calls_of}
+use Rattle.pmem_file.specs.Call.{read_of, calls_of}
 use Rattle.pmem_file.specs.Holding.{Holds}
 use Rattle.pmem_file.proofs.HoldingLemmas.{Holds-flushed}
 use Rattle.pmem_file.proofs.device.FilePmemPmem.flush.Goals as goal

@@ -1,6 +1,6 @@
 use Rattle.std.proofs.Common.{◌≡◌, Bool, true, false, not, ◌||◌, List, ◌∷◌, sym, subst, ap, ◌∙◌}
-use Rattle.pmem_file.specs.Calls.{Call, Synced, calls_of, has_failed, Brings}
-use Rattle.pmem_file.specs.Lines.{runs_of, with_writes, Fixes}
+use Rattle.pmem_file.specs.Call.{Call, Synced, calls_of, has_failed, Brings}
+use Rattle.pmem_file.specs.Line.{runs_of, with_writes, Fixes}
 use Rattle.pmem_file.proofs.CallsLemmas.{Brings-synced, Fixes-synced}
 use Rattle.pmem_file.proofs.logged_file.LoggedFile.persist.Goals as goal
 

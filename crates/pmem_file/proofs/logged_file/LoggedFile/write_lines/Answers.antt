@@ -1,8 +1,8 @@
 use Rattle.std.proofs.Common.{◌≡◌, ℕ, ◌+◌, ◌*◌, ◌≤◌, Bool, true, false, not, ◌||◌, List, ◌∷◌, drop, get_or, length, refl, sym, subst, ap, ◌∙◌, arith}
 use Rattle.std.proofs.lemmas.List.{at_drop_more, drop_all}
 use Rattle.pmem_file.specs.declared.run.Run.{Run}
-use Rattle.pmem_file.specs.Calls.{Call, Wrote, calls_of, has_failed, Brings}
-use Rattle.pmem_file.specs.Lines.{run_bytes}
+use Rattle.pmem_file.specs.Call.{Call, Wrote, calls_of, has_failed, Brings}
+use Rattle.pmem_file.specs.Line.{run_bytes}
 use Rattle.pmem_file.proofs.CallsLemmas.{Fit, Writing, Writing-start, Writing-joined, Writing-written, Writing-end, Brings-write, InRange-later}
 use Rattle.pmem_file.proofs.logged_file.LoggedFile.write_lines.Goals as goal
 use Rattle.pmem_file.proofs.logged_file.LoggedFile.write_lines.Goals.{then-is_next, else-is_next+then-write_run}

@@ -1,5 +1,5 @@
 use Rattle.std.proofs.Common.{◌≡◌, ◌≤◌, drop, vec_capacity}
-use Rattle.pmem_file.specs.Calls.{read_of, calls_of}
+use Rattle.pmem_file.specs.Call.{read_of, calls_of}
 use Rattle.pmem_file.proofs.CallsLemmas.{Writing}
 use Rattle.pmem_file.proofs.logged_file.LoggedFile.write_lines.Given as goal
 

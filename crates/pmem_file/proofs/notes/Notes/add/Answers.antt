@@ -1,6 +1,6 @@
 use Rattle.std.proofs.Common.{◌≡◌, ℕ, ◌+◌, ◌<◌, Bool, false, ◌||◌, ◌==◌, List, [], ◌∷◌, ◌++◌, length, get_or, vec_len, sym, ap, ◌∙◌, arith}
 use Rattle.std.proofs.lemmas.List.{get_or_read}
-use Rattle.pmem_file.specs.Lines.{has_line}
+use Rattle.pmem_file.specs.Line.{has_line}
 use Rattle.pmem_file.proofs.LinesLemmas.{has_line-push, get_or-marked, marked-room, marked-set, not_refused, pushed}
 use Rattle.pmem_file.proofs.notes.Notes.add.Goals as goal
 

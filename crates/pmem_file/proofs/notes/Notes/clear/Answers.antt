@@ -1,5 +1,5 @@
 use Rattle.std.proofs.Common.{ℕ, List, sym, ap, ◌∙◌}
-use Rattle.pmem_file.specs.Lines.{has_line}
+use Rattle.pmem_file.specs.Line.{has_line}
 use Rattle.pmem_file.proofs.LinesLemmas.{marked-none}
 use Rattle.pmem_file.proofs.notes.Notes.clear.Goals as goal
 

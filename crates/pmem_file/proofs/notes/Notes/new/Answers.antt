@@ -1,5 +1,5 @@
 use Rattle.std.proofs.Common.{◌≡◌, ℕ, Bool, false, List, get_or, sym, ap, ◌∙◌, rules}
-use Rattle.pmem_file.specs.Lines.{has_line}
+use Rattle.pmem_file.specs.Line.{has_line}
 use Rattle.pmem_file.proofs.LinesLemmas.{unmarked, marked-none}
 use Rattle.pmem_file.proofs.notes.Notes.new.Goals as goal
 use Rattle.pmem_file.proofs.notes.Notes.new.Goals.{In_ok-vec}

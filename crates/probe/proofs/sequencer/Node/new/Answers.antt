@@ -1,5 +1,5 @@
 use Rattle.std.proofs.Common.{sym, subst}
-use Rattle.mv_keyspace.specs.Tables.{Table}
+use Rattle.mv_keyspace.specs.Table.{Table}
 use Rattle.placing.specs.Left.{IsBeside}
 use Rattle.placing.proofs.BesideLemmas.{beside_none}
 use Rattle.probe.proofs.sequencer.Node.new.Goals as goal

@@ -1,12 +1,12 @@
 use Rattle.std.proofs.Common.{◌≡◌, ◌≤◌, Err, refl, subst, ap, ◌∙◌}
 use Rattle.std.proofs.lemmas.Result.{err_from_is_err_and}
 use Rattle.kv_types.specs.declared.refusal.Refusal.TheVariants.{Full}
-use Rattle.kv_types.specs.Changes.{changes_size}
+use Rattle.kv_types.specs.Change.{changes_size}
 use Rattle.model.specs.declared.call.TheConstants.{MAX_CHANGE_TEXT_BYTES}
-use Rattle.model.specs.Commands.{outcome_of}
-use Rattle.mv_keyspace.specs.Tables.{records}
-use Rattle.placing.specs.Places.{HasRoomFor}
-use Rattle.redis_core.specs.Readings.{IsOutcome}
+use Rattle.model.specs.Command.{outcome_of}
+use Rattle.mv_keyspace.specs.Table.{records}
+use Rattle.placing.specs.Place.{HasRoomFor}
+use Rattle.redis_core.specs.Reading.{IsOutcome}
 use Rattle.redis_core.specs.Sequencing.{Sequencing}
 use Rattle.redis_core.proofs.AnswersLemmas.{serves_outcome}
 use Rattle.redis_core.proofs.sequencer.Sequencer.serve.Goals as goal

@@ -2,8 +2,8 @@ use Rattle.std.proofs.Common.{◌≡◌, ◌<◌, [], ◌∷◌, ◌++◌, List,
 use Rattle.pmem.proofs.Leaving.{none_leaves}
 use Rattle.model.specs.declared.group.Group.{Group}
 use Rattle.model.specs.declared.group.Part.{Part}
-use Rattle.model.specs.Groups.{IsGroup, after_group}
-use Rattle.mv_keyspace.specs.Tables.{place_all}
+use Rattle.model.specs.Group.{IsGroup, after_group}
+use Rattle.mv_keyspace.specs.Table.{place_all}
 use Rattle.standby.specs.Following.{Follows}
 use Rattle.standby.proofs.FollowingLemmas.{IsGroup-one, Follows-after, Follows-same, HasTaken-group, LeavesOnly-group}
 use Rattle.standby.proofs.standby.Standby.take.Given.{Over}
@@ -42,26 +42,26 @@ returns-in_err-part-clause-moments g c = none_leaves _ _ (λ image is. inl (c.re
 
 pub returns-in_err-commit-clause-moments : goal.returns-in_err-commit-clause-moments
 returns-in_err-commit-clause-moments g c =
-    let front = (goal.at.returns-in_err-commit-clause-moments g c).After-push_reserved in
+    let prefix = (goal.at.returns-in_err-commit-clause-moments g c).After-push_reserved in
     LeavesOnly-group (g.E.Durable.contents c.args.self.now.engine) (g.K.Keyspace.table c.args.self.now.keyspace) c.args.frame.now c.in_ok-part.part c.in_ok-part.ensures.ok.changes_are c.in_ok-part.ensures.ok.position_is
-    (the_group g front) (one g front) (g.E.Durable.device c.args.self.now.engine) (g.E.Durable.device c.commit.new.self) c.make_part.new.heap (follows_after g front) (c.commit.ensures.moments c.requires.sound)
+    (the_group g prefix) (one g prefix) (g.E.Durable.device c.args.self.now.engine) (g.E.Durable.device c.commit.new.self) c.make_part.new.heap (follows_after g prefix) (c.commit.ensures.moments c.requires.sound)
 
 pub returns-clause-moments : goal.returns-clause-moments
 returns-clause-moments g c =
-    let front = (goal.at.returns-clause-moments g c).After-push_reserved in
+    let prefix = (goal.at.returns-clause-moments g c).After-push_reserved in
     LeavesOnly-group (g.E.Durable.contents c.args.self.now.engine) (g.K.Keyspace.table c.args.self.now.keyspace) c.args.frame.now c.in_ok-part.part c.in_ok-part.ensures.ok.changes_are c.in_ok-part.ensures.ok.position_is
-    (the_group g front) (one g front) (g.E.Durable.device c.args.self.now.engine) (g.E.Durable.device c.commit.new.self) c.make_part.new.heap (follows_after g front) (c.commit.ensures.moments c.requires.sound)
+    (the_group g prefix) (one g prefix) (g.E.Durable.device c.args.self.now.engine) (g.E.Durable.device c.commit.new.self) c.make_part.new.heap (follows_after g prefix) (c.commit.ensures.moments c.requires.sound)
 
 pub returns-clause-taken : goal.returns-clause-taken
 returns-clause-taken g c =
-    let front = (goal.at.returns-clause-taken g c).After-push_reserved in
+    let prefix = (goal.at.returns-clause-taken g c).After-push_reserved in
     HasTaken-group (g.E.Durable.contents c.args.self.now.engine) (g.K.Keyspace.table c.args.self.now.keyspace) c.args.frame.now c.in_ok-part.part c.in_ok-part.ensures.ok.changes_are c.in_ok-part.ensures.ok.position_is
-    (the_group g front) (one g front) (g.E.Durable.contents c.commit.new.self) (g.K.Keyspace.table c.make_part.new.keyspace) c.in_ok-commit.ensures.moved c.in_ok-part.ensures.ok.table_is
+    (the_group g prefix) (one g prefix) (g.E.Durable.contents c.commit.new.self) (g.K.Keyspace.table c.make_part.new.keyspace) c.in_ok-commit.ensures.moved c.in_ok-part.ensures.ok.table_is
 
 pub returns-clause-still : goal.returns-clause-still
 returns-clause-still g c = λ _.
-    let front = (goal.at.returns-clause-still g c).After-push_reserved in
+    let prefix = (goal.at.returns-clause-still g c).After-push_reserved in
     let contents = g.E.Durable.contents c.args.self.now.engine in
     let after = g.E.Durable.contents c.commit.new.self in
-    Follows-same (after_group contents (the_group g front)) after (g.K.Keyspace.table c.make_part.new.keyspace) c.make_part.new.heap c.in_ok-commit.ensures.moved
-    (subst (λ table. Follows (after_group contents (the_group g front)) table c.make_part.new.heap) (sym c.in_ok-part.ensures.ok.table_is) (follows_after g front))
+    Follows-same (after_group contents (the_group g prefix)) after (g.K.Keyspace.table c.make_part.new.keyspace) c.make_part.new.heap c.in_ok-commit.ensures.moved
+    (subst (λ table. Follows (after_group contents (the_group g prefix)) table c.make_part.new.heap) (sym c.in_ok-part.ensures.ok.table_is) (follows_after g prefix))

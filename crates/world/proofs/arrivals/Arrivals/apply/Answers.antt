@@ -3,16 +3,16 @@ use Rattle.model.specs.Standing.{Holder}
 use Rattle.std.proofs.lemmas.Result.{err_from_is_err_and}
 use Rattle.kv_types.specs.declared.refusal.Refusal.{Refusal}
 use Rattle.kv_types.specs.declared.refusal.Refusal.TheVariants.{Memory}
-use Rattle.model.specs.Calls.{is_nonempty}
+use Rattle.model.specs.Call.{is_nonempty}
 use Rattle.machine.specs.declared.event.Event.TheVariants.{Apply}
-use Rattle.machine.specs.Events.{World, Frame as Sent, without_first}
+use Rattle.machine.specs.Event.{World, Frame as Sent, without_first}
 use Rattle.machine.specs.Sound.{Sound}
 use Rattle.standby.specs.declared.frame.Ack.{Ack}
 use Rattle.standby.specs.declared.standby.Standby.{Standby}
 use Rattle.world.specs.declared.arrivals.Arrivals.{Arrivals}
-use Rattle.world.specs.Causes.{EndsBy}
-use Rattle.world.specs.Committings.{NearOnly, next_from, next_standby}
-use Rattle.world.specs.Standbys.{Node, ArrivalsStand, StandbyStands}
+use Rattle.world.specs.Cause.{EndsBy}
+use Rattle.world.specs.Committing.{NearOnly, next_from, next_standby}
+use Rattle.world.specs.Standby.{Node, ArrivalsRefine, StandbyStands}
 use Rattle.world.proofs.StandbyLemmas.{Answers, OnErr-weaken, takes_ok, takes_refused, frame-ends, frame-moments, StandbyStands-still}
 use Rattle.world.proofs.EngineLemmas.{Stands-engine, rests-same}
 use Rattle.world.proofs.ArrivalLemmas.{FirstFrame, first-frame, place_within, applies}
@@ -53,13 +53,13 @@ answers g c = record {
 told : (g : Over) (c : After-on_frame g) (result : Result Ack Refusal) → c.on_frame.result ≡ result → Answers c.in-Some-get.frame.now (node g c.args.standby.now) result (node g c.on_frame.new.self)
 told g c result is = subst (λ (r : Result Ack Refusal). Answers c.in-Some-get.frame.now (node g c.args.standby.now) r (node g c.on_frame.new.self)) is (answers g c)
 
-first : (g : Over) (c : After-on_frame g) (w : World) → ArrivalsStand (g.E.Durable.contents c.args.standby.now.engine).current.epoch w.primary.calls c.args.frames.now c.args.self.now w.standby.waiting w.wire.acknowledgements
+first : (g : Over) (c : After-on_frame g) (w : World) → ArrivalsRefine (g.E.Durable.contents c.args.standby.now.engine).current.epoch w.primary.calls c.args.frames.now c.args.self.now w.standby.waiting w.wire.acknowledgements
     → FirstFrame (g.E.Durable.contents c.args.standby.now.engine).current.epoch w.primary.calls c.args.frames.now c.in-Some-get.frame.now (drop 1 c.args.self.now.delivered.items) w.standby.waiting
 first g c w stands = first-frame (g.E.Durable.contents c.args.standby.now.engine).current.epoch c.args.frames.now w c.args.self.now c.in-Some.place.now c.in-Some-get.frame.now c.in-Some.ensures.item.3.0 c.in-Some.ensures.lookup
     c.in-Some-get.ensures.lookup.1 stands
 
 -- at any moment of the call
-moments : (g : Over) (c : After-on_frame g) (holder : Holder) (w : World) → Sound w → (g.E.Durable.contents c.args.standby.now.engine).current.epoch ≡ w.standby.epoch → ArrivalsStand (g.E.Durable.contents c.args.standby.now.engine).current.epoch w.primary.calls c.args.frames.now c.args.self.now w.standby.waiting w.wire.acknowledgements
+moments : (g : Over) (c : After-on_frame g) (holder : Holder) (w : World) → Sound w → (g.E.Durable.contents c.args.standby.now.engine).current.epoch ≡ w.standby.epoch → ArrivalsRefine (g.E.Durable.contents c.args.standby.now.engine).current.epoch w.primary.calls c.args.frames.now c.args.self.now w.standby.waiting w.wire.acknowledgements
     → StandbyStands holder (g.E.Durable.contents c.args.standby.now.engine).current.epoch w.primary.calls w.standby.position (node g c.args.standby.now)
     → NearOnly holder w.primary.calls w.standby.position (next_standby w) (g.E.Durable.device c.args.standby.now.engine) (g.E.Durable.device c.on_frame.new.self.engine)
 moments g c holder w sound epochs arrives stands =
@@ -77,24 +77,24 @@ returns-in_default-get-clause-applies g c = λ holder w sound epochs arrives sta
 
 pub returns-clause-applies : goal.returns-clause-applies
 returns-clause-applies g c =
-    let front = (goal.at.returns-clause-applies g c).After-on_frame in
+    let prefix = (goal.at.returns-clause-applies g c).After-on_frame in
     let epoch = (g.E.Durable.contents c.args.standby.now.engine).current.epoch in
     let frame = c.in-Some-get.frame.now in
     let new : Arrivals = record { delivered = c.pop_front.new.self; acknowledgements = c.match-on_frame.self.acknowledgements } in
     elim c.match-on_frame.branch [
       | in-Ok w ↦ λ holder w' sound epochs arrives stands.
-          let one = first g front w' arrives in
+          let one = first g prefix w' arrives in
           applies holder epoch c.args.frames.now w' frame (w.in-Ok.ack ∷ []) c.args.self.now new (node g c.args.standby.now) (node g c.on_frame.new.self)
           (c.pop_front.ensures.rest ∙ ap (λ (a : Arrivals). drop 1 a.delivered.items) w.self-is)
           (ap (λ (a : Arrivals). a.acknowledgements.items) w.self-is ∙ w.push_reserved.ensures.items ∙ ap (λ (acks : List Ack). acks ++ w.in-Ok.ack ∷ []) c.in_ok-reserve.ensures.items) arrives one
-          (takes_ok holder epoch w'.primary.calls (without_first w'.standby) frame one.span (node g c.args.standby.now) (node g c.on_frame.new.self) one.epoch_is epochs one.is stands w.in-Ok.ack (told g front (Ok w.in-Ok.ack) w.in-Ok.is))
+          (takes_ok holder epoch w'.primary.calls (without_first w'.standby) frame one.span (node g c.args.standby.now) (node g c.on_frame.new.self) one.epoch_is epochs one.is stands w.in-Ok.ack (told g prefix (Ok w.in-Ok.ack) w.in-Ok.is))
       | in-Err w ↦ λ holder w' sound epochs arrives stands.
-          let one = first g front w' arrives in
+          let one = first g prefix w' arrives in
           applies holder epoch c.args.frames.now w' frame [] c.args.self.now new (node g c.args.standby.now) (node g c.on_frame.new.self)
           (c.pop_front.ensures.rest ∙ ap (λ (a : Arrivals). drop 1 a.delivered.items) w.self-is)
           (ap (λ (a : Arrivals). a.acknowledgements.items) w.self-is ∙ c.in_ok-reserve.ensures.items ∙ sym (append-nil c.args.self.now.acknowledgements.items)) arrives one
           (takes_refused holder epoch w'.primary.calls (without_first w'.standby) frame one.span (node g c.args.standby.now) (node g c.on_frame.new.self) one.epoch_is epochs one.is stands w.in-Err.refusal (w.goes_on.ensures.0 w.if-goes_on.true)
-          (told g front (Err w.in-Err.refusal) w.in-Err.is))
+          (told g prefix (Err w.in-Err.refusal) w.in-Err.is))
     ]
 
 pub returns-in_default-clause-moments : goal.returns-in_default-clause-moments
@@ -126,12 +126,12 @@ returns-in_err-reserve-clause-cut g c =
 
 pub returns-in-Err-2-clause-cut : goal.returns-in-Err-2-clause-cut
 returns-in-Err-2-clause-cut g c = λ holder w sound epochs arrives stands.
-    let front = (goal.at.returns-in-Err-2-clause-cut g c).After-on_frame in
+    let prefix = (goal.at.returns-in-Err-2-clause-cut g c).After-on_frame in
     let epoch = (g.E.Durable.contents c.args.standby.now.engine).current.epoch in
     let frame = c.in-Some-get.frame.now in
-    let one = first g front w arrives in (
+    let one = first g prefix w arrives in (
       ap is_nonempty one.all,
       subst (λ (frames : List Sent). EndsBy c.in-Err.refusal Apply (λ _ last. last holder w.primary.calls w.standby.position (next_from w.standby.position frames) (g.E.Durable.device c.args.standby.now.engine) (g.E.Durable.device c.on_frame.new.self.engine))) (sym one.all)
           (frame-ends holder epoch w.primary.calls w.standby frame one.span (node g c.args.standby.now) (node g c.on_frame.new.self) one.epoch_is epochs one.is stands c.in-Err.refusal
-          (λ goes. true≢false (sym (c.goes_on.ensures.1 goes) ∙ c.if-goes_on.false)) (told g front (Err c.in-Err.refusal) c.in-Err.is)),
+          (λ goes. true≢false (sym (c.goes_on.ensures.1 goes) ∙ c.if-goes_on.false)) (told g prefix (Err c.in-Err.refusal) c.in-Err.is)),
     )

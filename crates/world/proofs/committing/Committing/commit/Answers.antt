@@ -2,7 +2,7 @@ use Rattle.std.proofs.Common.{◌≡◌, Err, ap, sym, ◌∙◌, arith}
 use Rattle.std.proofs.lemmas.Result.{err_from_is_err_and}
 use Rattle.world.proofs.CommittingLemmas.{commit-ends, commit-full, commit-goes, commit-moments, first-lawful, may-commit}
 use Rattle.world.proofs.EngineLemmas.{near-still}
-use Rattle.world.specs.Committings.{next_primary}
+use Rattle.world.specs.Committing.{next_primary}
 use Rattle.world.proofs.committing.Committing.commit.Goals as goal
 
 pub returns-in_default-clause-moments : goal.returns-in_default-clause-moments

@@ -1,8 +1,8 @@
 use Rattle.std.proofs.Common.{◌≡◌, ◌≤◌, List, length, sym, ap, subst, ◌∙◌, arith}
-use Rattle.machine.specs.Events.{Span, above}
+use Rattle.machine.specs.Event.{Span, above}
 use Rattle.machine.specs.Sound.{IsChain}
 use Rattle.standby.specs.declared.frame.Frame.{Frame}
-use Rattle.world.specs.Links.{DropsKnown}
+use Rattle.world.specs.Link.{DropsKnown}
 use Rattle.world.proofs.LinkLemmas.{length-frames, above-from, chain-behind}
 use Rattle.world.proofs.link.Link.on_ack.Goals as goal
 

@@ -2,9 +2,9 @@ use Rattle.std.proofs.Common.{◌≡◌, ◌<◌, ◌≤◌, List, length, take,
 use Rattle.std.proofs.lemmas.Option.{get_or_from_slice_get, slice_get_within}
 use Rattle.kv_types.specs.declared.reply.Held.{Held}
 use Rattle.model.specs.declared.call.Call.{Call}
-use Rattle.model.specs.Calls.{is_nonempty}
+use Rattle.model.specs.Call.{is_nonempty}
 use Rattle.world.specs.declared.outbound.Made.{Made}
-use Rattle.world.specs.Outbounds.{AreMade}
+use Rattle.world.specs.Outbound.{AreMade}
 use Rattle.world.proofs.OutboundLemmas.{Takes, takes-first, gate-holds}
 use Rattle.world.proofs.outbound.Outbound.hold.Goals as goal
 

@@ -1,6 +1,6 @@
 use Rattle.std.proofs.Common.{[], ◌∷◌, ◌++◌, refl}
 use Rattle.machine.specs.declared.event.Event.TheVariants as events
-use Rattle.machine.specs.Events.{World, new_connection}
+use Rattle.machine.specs.Event.{World, new_connection}
 use Rattle.world.proofs.PairLemmas.{sessions-do}
 use Rattle.world.proofs.pair.Pair.enter.Goals as goal
 

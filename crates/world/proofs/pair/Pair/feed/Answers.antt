@@ -1,6 +1,6 @@
 use Rattle.std.proofs.Common.{refl}
 use Rattle.machine.specs.declared.event.Event.TheVariants as events
-use Rattle.machine.specs.Events.{World, changed_at, with_inbound, fed_with}
+use Rattle.machine.specs.Event.{World, changed_at, with_inbound, fed_with}
 use Rattle.world.proofs.PairLemmas.{sessions-do}
 use Rattle.world.proofs.pair.Pair.feed.Goals as goal
 

@@ -1,6 +1,6 @@
 use Rattle.std.proofs.Common.{refl}
 use Rattle.machine.specs.declared.event.Event.TheVariants as events
-use Rattle.machine.specs.Events.{World, changed_at, with_outbound, having_read}
+use Rattle.machine.specs.Event.{World, changed_at, with_outbound, having_read}
 use Rattle.world.proofs.PairLemmas.{read-does}
 use Rattle.world.proofs.pair.Pair.read.Goals as goal
 

@@ -1,6 +1,6 @@
 use Rattle.std.proofs.Common.{refl}
 use Rattle.machine.specs.declared.event.Event.TheVariants as events
-use Rattle.machine.specs.Events.{World, changed_at, with_outbound, written}
+use Rattle.machine.specs.Event.{World, changed_at, with_outbound, written}
 use Rattle.world.proofs.PairLemmas.{sessions-do}
 use Rattle.world.proofs.pair.Pair.write.Goals as goal
 

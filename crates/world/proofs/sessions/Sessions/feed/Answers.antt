@@ -1,6 +1,6 @@
 use Rattle.std.proofs.Common.{◌&&◌, ◌∙◌, not, sym, ap, refl}
 use Rattle.std.proofs.lemmas.Result.{IfOk-weaker, on_err_weaker}
-use Rattle.machine.specs.Events.{fed_with, is_closed_by, get_connection}
+use Rattle.machine.specs.Event.{fed_with, is_closed_by, get_connection}
 use Rattle.world.specs.declared.connection.Connection.{Connection}
 use Rattle.world.proofs.SessionLemmas.{inbound-goes, none-goes, enabled-at, tells-the-same, on_err_from}
 use Rattle.world.proofs.sessions.Sessions.feed.Goals as goal

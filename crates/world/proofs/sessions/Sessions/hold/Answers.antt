@@ -1,10 +1,10 @@
 use Rattle.std.proofs.Common.{◌&&◌, List, refl, ap, subst, ◌∙◌}
 use Rattle.std.proofs.lemmas.Result.{IfOk-weaker, on_err_weaker}
 use Rattle.model.specs.declared.call.Call.{Call}
-use Rattle.model.specs.Calls.{is_nonempty}
-use Rattle.machine.specs.Events.{held_first, get_connection}
+use Rattle.model.specs.Call.{is_nonempty}
+use Rattle.machine.specs.Event.{held_first, get_connection}
 use Rattle.world.specs.declared.connection.Connection.{Connection}
-use Rattle.world.specs.Outbounds.{OutboundStands, HoldsFirst}
+use Rattle.world.specs.Outbound.{OutboundRefines, HoldsFirst}
 use Rattle.world.proofs.SessionLemmas.{outbound-goes, none-goes, enabled-at, tells-the-same, on_err_from}
 use Rattle.world.proofs.OutboundLemmas.{may-hold}
 use Rattle.world.proofs.sessions.Sessions.hold.Goals as goal
@@ -17,7 +17,7 @@ returns-in-Some-clause-goes c = IfOk-weaker c.hold.result _ _
     c.in-Some.ensures.item.3.0 c.in-Some.ensures.value stand
     (λ stands.
     let went =
-    subst (λ (calls : List Call). OutboundStands calls c.in-Some.connection.now.outbound outbound → HoldsFirst calls c.hold.new.self did outbound)
+    subst (λ (calls : List Call). OutboundRefines calls c.in-Some.connection.now.outbound outbound → HoldsFirst calls c.hold.new.self did outbound)
     (c.as_slice.ensures.value ∙ stand.calls_are) (holds outbound) stands in
     record { done = went.done; goes = went.held; stays = went.stays }))
     c.hold.ensures.stands

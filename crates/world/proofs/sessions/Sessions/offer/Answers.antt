@@ -1,6 +1,6 @@
 use Rattle.std.proofs.Common.{◌&&◌, nat_lt, length, refl}
 use Rattle.std.proofs.lemmas.Result.{IfOk-weaker}
-use Rattle.machine.specs.Events.{offered_next, asked, has_room, get_connection}
+use Rattle.machine.specs.Event.{offered_next, asked, has_room, get_connection}
 use Rattle.world.specs.declared.connection.Connection.{Connection}
 use Rattle.world.proofs.SessionLemmas.{inbound-goes, none-goes, enabled-at, tells-the-same, on_err_from, on_err_both}
 use Rattle.world.proofs.InboundLemmas.{may-offer}

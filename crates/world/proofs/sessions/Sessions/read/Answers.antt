@@ -1,5 +1,5 @@
 use Rattle.std.proofs.Common.{true, refl}
-use Rattle.machine.specs.Events.{having_read, get_connection}
+use Rattle.machine.specs.Event.{having_read, get_connection}
 use Rattle.world.proofs.SessionLemmas.{outbound-goes, none-goes}
 use Rattle.world.proofs.sessions.Sessions.read.Goals as goal
 

@@ -1,9 +1,9 @@
 use Rattle.std.proofs.Common.{◌≢◌, ◌<◌, length, drop, false, refl, sym, subst, ◌∙◌, arith}
 use Rattle.machine.specs.declared.event.TheConstants.{PIPE_ITEMS}
-use Rattle.machine.specs.Events.{connection_of}
+use Rattle.machine.specs.Event.{connection_of}
 use Rattle.world.specs.declared.sessions.Sessions.{Sessions}
 use Rattle.world.specs.Running.{Runs}
-use Rattle.world.specs.Sessions.{ConnectionStands, TakesTurn}
+use Rattle.world.specs.Session.{ConnectionRefines, TakesTurn}
 use Rattle.world.proofs.TurnLemmas.{first-asked, none-wait, connection-stands, no-turn-past, no-turn-unserved, turn-taken}
 use Rattle.world.proofs.sessions.Sessions.turn.Goals as goal
 use Rattle.world.proofs.sessions.Sessions.turn.Goals.{then-len-eq-PIPE_ITEMS-via-then-len-eq-PIPE_ITEMS, then-len-eq-PIPE_ITEMS-via-else-len-eq-PIPE_ITEMS+then-is_empty}
@@ -44,7 +44,7 @@ returns-clause-turns g c = λ w sound stands sequencer.
     let held = c.in-Some-first_reply.held in
     let lt : c.args.c < length old.connections.items = c.in-Some.ensures.item.3.0 in
     let runs : Runs c.args.sequencer.now code.seat code.inbound.waiting.items held c.first_reply.new.waiting.items c.first_reply.new.sequencer = c.in-Some-first_reply.ensures.runs stands.no_reply in
-    let here : ConnectionStands w.primary.calls c.args.c code (connection_of w c.args.c) = connection-stands w c.args.c old code stands lt c.in-Some.ensures.value in
+    let here : ConnectionRefines w.primary.calls c.args.c code (connection_of w c.args.c) = connection-stands w c.args.c old code stands lt c.in-Some.ensures.value in
     let full : c.len.result ≢ PIPE_ITEMS = c.if-len-eq-PIPE_ITEMS.false in
     let room : length code.outbound.made.items < PIPE_ITEMS = omega (arith, full, c.len.ensures, code.outbound.made.within) in
     let written = c.write_call.ensures.written runs.item (drop 1 code.inbound.asked.items)

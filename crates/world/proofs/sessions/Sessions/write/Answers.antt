@@ -1,7 +1,7 @@
 use Rattle.std.proofs.Common.{◌&&◌, nat_le, length, ap, arith, refl}
 use Rattle.std.proofs.lemmas.Bool.{le-leb}
 use Rattle.std.proofs.lemmas.Result.{IfOk-weaker, on_err_weaker}
-use Rattle.machine.specs.Events.{written, get_connection}
+use Rattle.machine.specs.Event.{written, get_connection}
 use Rattle.world.specs.declared.connection.Connection.{Connection}
 use Rattle.world.proofs.SessionLemmas.{outbound-goes, none-goes, enabled-at, tells-the-same}
 use Rattle.world.proofs.sessions.Sessions.write.Goals as goal

@@ -1,7 +1,0 @@
--- The order of records is a total order, and ties only records of one name.
-use Rattle.std.specs.Cmp.{IsTotalOrder, then_total, on_total}
-use Rattle.std.specs.Cmp.Lexicographic.{nat_list_cmp_total, options_total}
-use Rattle.kv_types.specs.Keyspaces.{key_of, field_of, record_cmp}
-
-pub record_cmp_total : IsTotalOrder record_cmp
-record_cmp_total = then_total (on_total key_of nat_list_cmp_total) (on_total field_of (options_total nat_list_cmp_total))

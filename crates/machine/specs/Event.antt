@@ -1,0 +1,248 @@
+-- The pair of nodes as a machine (this project's profile): which event may happen, what it does, and what a run is. What stands where is in
+-- `Worlds`, whose words this file passes on.
+pub use Rattle.machine.specs.World.{Inbound, Outbound, Connection, Span, Frame, Acknowledgement, Stage, Ready, Durable, Shown, Committer, Link, Life, Running, Stopped, Crashed, Primary, Standby, Wire, World, no_connection, new_connection, start_at, start, is_running, get_connection, connection_of, is_open, count_open, changed_at, with_inbound, with_outbound, with_primary, with_connections, on_inbound, on_outbound, with_committer, with_link, with_standby, with_sent, with_acknowledged, asked, is_closed_by, open_changes, has_room, is_ready, is_durable, is_shown, is_covered, covered_prefix, uncovered_rest, texts_of}
+use Rattle.std.specs.Prelude.{◌≡◌, ◌⊎◌, ℕ, ◌+◌, ◌<◌, ◌≤◌, Bool, true, false, not, ◌&&◌, ◌||◌, nat_lt, nat_le, nat_eq, if◌then◌else◌, max, List, [], ◌∷◌, ◌++◌, length, take, drop, map, filter, ◌≢◌, slice_get, Option, Some, None}
+use Rattle.kv_types.specs.declared.reply.Held.{Held}
+use Rattle.model.specs.declared.call.Call.{Call}
+use Rattle.model.specs.Call.{MayReply, is_nonempty, position_of, state_after}
+use Rattle.machine.specs.declared.event.Event.{Event}
+use Rattle.machine.specs.declared.event.Event.TheVariants.{Enter, Feed, Offer, Turn, CloseGroup, Commit, RaiseLocal, Hand, OpenLink, Send, Deliver, Apply, AckDelivered, RaiseRemote, Hold, Read, Release, Write}
+use Rattle.machine.specs.declared.event.Mark.{Mark}
+use Rattle.machine.specs.declared.event.Mark.TheVariants.{Local, Remote}
+use Rattle.machine.specs.declared.event.TheConstants.{SEATS, OPEN_CHANGES, KEPT_GROUPS}
+
+-- ---- which event may happen
+
+-- the nodes that an event is of are running
+abbrev pub nodes_run : World → Event → Bool
+nodes_run w OpenLink = is_running w.primary.life && is_running w.standby.life
+nodes_run w (Deliver frame) = is_running w.standby.life
+nodes_run w Apply = is_running w.standby.life
+nodes_run w event = is_running w.primary.life
+
+-- there is something for it to do, and room for what it makes
+abbrev pub may_happen : World → Event → Bool
+may_happen w Enter = nat_lt (count_open w.primary.connections) SEATS
+may_happen w (Feed c piece) = is_open w c && not (is_closed_by (connection_of w c).inbound.fed)
+may_happen w (Offer c) =
+    let inbound = (connection_of w c).inbound in
+    is_open w c && nat_lt inbound.offered (length (asked inbound.fed)) && has_room inbound.waiting
+may_happen w (Turn c) =
+    let connection = connection_of w c in
+    is_open w c && is_nonempty connection.inbound.waiting && has_room connection.outbound.made && nat_lt (open_changes w) OPEN_CHANGES
+may_happen w CloseGroup = nat_lt 0 (open_changes w) && has_room w.primary.committer.waiting
+may_happen w Commit = is_ready w.primary.committer.stage && is_nonempty w.primary.committer.waiting && has_room w.primary.link.waiting
+may_happen w RaiseLocal = is_durable w.primary.committer.stage
+may_happen w Hand = is_shown w.primary.committer.stage
+may_happen w OpenLink = true
+may_happen w Send = is_nonempty w.primary.link.again || (is_nonempty w.primary.link.waiting && nat_lt (length w.primary.link.kept) KEPT_GROUPS)
+may_happen w (Deliver frame) = nat_lt frame (length w.wire.frames)
+may_happen w Apply = is_nonempty w.standby.waiting
+may_happen w (AckDelivered a) = nat_lt a (length w.wire.acknowledgements)
+may_happen w RaiseRemote = nat_lt w.primary.link.remote w.primary.link.known
+may_happen w (Hold c) = is_open w c && is_nonempty (connection_of w c).outbound.made
+may_happen w (Read c mark) = is_open w c
+may_happen w (Release c) =
+    let outbound = (connection_of w c).outbound in
+    is_open w c && is_nonempty (covered_prefix outbound.local outbound.remote outbound.held)
+may_happen w (Write c n) = is_open w c && nat_le n (length (connection_of w c).outbound.pending)
+
+abbrev pub is_enabled : World → Event → Bool
+is_enabled w event = nodes_run w event && may_happen w event
+
+-- ---- what it does
+
+abbrev pub entered : World → World
+entered w = with_connections (w.primary.connections ++ new_connection ∷ []) w
+
+abbrev pub fed_with : List ℕ → Inbound → Inbound
+fed_with piece inbound = record inbound { fed = inbound.fed ++ piece }
+
+-- the next item of those asked for waits
+abbrev pub offered_next : Inbound → Inbound
+offered_next inbound = record inbound { offered = inbound.offered + 1; waiting = inbound.waiting ++ take 1 (drop inbound.offered (asked inbound.fed)) }
+
+abbrev pub taken_first : Inbound → Inbound
+taken_first inbound = record inbound { waiting = drop 1 inbound.waiting }
+
+abbrev pub with_made : Held → Outbound → Outbound
+with_made reply outbound = record outbound { made = outbound.made ++ reply ∷ [] }
+
+abbrev pub with_call : Call → World → World
+with_call call w = record w { primary = record w.primary { calls = w.primary.calls ++ call ∷ [] } }
+
+-- the call is written, and its reply waits with the position of the list after it
+abbrev pub called : ℕ → Call → World → World
+called c call w =
+    let w' = with_call call w in
+    on_outbound c (with_made (record { reply = call.reply; position = position_of w'.primary.calls })) (on_inbound c taken_first w')
+
+-- the first waiting item is run, and answered as it may be
+pub record Turns (w : World) (c : ℕ) (new : World) : Type 0 where
+  pub call : Call
+  pub connection : call.connection ≡ c
+  pub first : take 1 (connection_of w c).inbound.waiting ≡ call.item ∷ []
+  pub reply : MayReply (state_after w.primary.calls) call
+  pub now : new ≡ called c call w
+
+-- all changing commands that wait, up to this position of the list, are a group
+abbrev pub closed_group : ℕ → Committer → Committer
+closed_group position committer =
+    record committer { closed = position; waiting = committer.waiting ++ record { before = committer.closed; after = position } ∷ [] }
+
+abbrev pub committed_first : List Span → Committer → Committer
+committed_first [] committer = committer
+committed_first (group ∷ groups) committer = record committer { waiting = groups; stage = Durable group; position = group.after }
+
+abbrev pub shown : Stage → Stage
+shown Ready = Ready
+shown (Durable group) = Shown group
+shown (Shown group) = Shown group
+
+abbrev pub raised_local : Committer → Committer
+raised_local committer = record committer { stage = shown committer.stage; local = committer.position }
+
+abbrev pub handed : Stage → List Span
+handed Ready = []
+handed (Durable group) = []
+handed (Shown group) = group ∷ []
+
+abbrev pub ready_again : Committer → Committer
+ready_again committer = record committer { stage = Ready }
+
+abbrev pub handed_to : List Span → Link → Link
+handed_to groups link = record link { waiting = link.waiting ++ groups }
+
+-- all kept groups are to be sent again
+abbrev pub opened_link : Link → Link
+opened_link link = record link { again = link.kept }
+
+-- what the standby tells of itself
+abbrev pub acknowledgement_of : Standby → Acknowledgement
+acknowledgement_of standby = record { epoch = standby.epoch; position = standby.position }
+
+-- what is sent next: a group that is to be sent again goes first, and else one that waits
+abbrev pub next_to_send : Link → List Span
+next_to_send link = take 1 (link.again ++ link.waiting)
+
+abbrev pub sent_waiting : List Span → Link → Link
+sent_waiting [] link = link
+sent_waiting (group ∷ groups) link = record link { waiting = groups; kept = link.kept ++ group ∷ []; again = [] }
+
+abbrev pub sent_next : List Span → Link → Link
+sent_next [] link = sent_waiting link.waiting link
+sent_next (group ∷ groups) link = record link { again = groups }
+
+-- the frame of a group, as the primary sends it
+abbrev pub framed : ℕ → List Span → List Frame
+framed epoch = map (λ group. record { epoch = epoch; span = group })
+
+abbrev pub sent : World → World
+sent w =
+    let link = w.primary.link in
+    with_sent (framed w.primary.epoch (next_to_send link)) (with_link (sent_next link.again link) w)
+
+abbrev pub delivered : List Frame → Standby → Standby
+delivered frames standby = record standby { waiting = standby.waiting ++ frames }
+
+abbrev pub moved_to : ℕ → Standby → Standby
+moved_to position standby = record standby { position = position }
+
+-- What the standby does with a frame, and what it acknowledges. One of another epoch is refused. One that ends at its position or below is acknowledged
+-- again; one that begins there is applied whole and acknowledged, or, where the standby is full, refused; any other is refused. A refused frame changes
+-- nothing and is not acknowledged.
+abbrev pub Takes : Frame → Standby → Standby → List Acknowledgement → Type 0
+Takes frame old new told =
+    ((frame.epoch ≢ old.epoch) × (new ≡ old) × (told ≡ []))
+    ⊎ ((frame.epoch ≡ old.epoch) × (frame.span.after ≤ old.position) × (new ≡ old) × (told ≡ acknowledgement_of old ∷ []))
+    ⊎ ((frame.epoch ≡ old.epoch) × (old.position < frame.span.after) × (frame.span.before ≡ old.position) × (new ≡ moved_to frame.span.after old) × (told ≡ acknowledgement_of new ∷ []))
+    ⊎ ((frame.epoch ≡ old.epoch) × (old.position < frame.span.after) × (frame.span.before ≡ old.position) × (new ≡ old) × (told ≡ []))
+    ⊎ ((frame.epoch ≡ old.epoch) × (old.position < frame.span.after) × (frame.span.before ≢ old.position) × (new ≡ old) × (told ≡ []))
+
+abbrev pub without_first : Standby → Standby
+without_first standby = record standby { waiting = drop 1 standby.waiting }
+
+-- the first frame that waits is taken off, and applied or not
+pub record Applies (w new : World) : Type 0 where
+  pub frame : Frame
+  pub first : take 1 w.standby.waiting ≡ frame ∷ []
+  pub standby : Standby
+  pub told : List Acknowledgement
+  pub takes : Takes frame (without_first w.standby) standby told
+  pub now : new ≡ with_acknowledged told (with_standby standby w)
+
+-- groups that end above this position
+abbrev pub above : ℕ → List Span → List Span
+above position = filter (λ group. nat_lt position group.after)
+
+-- the link knows the position: it keeps no group up to it
+abbrev pub knowing : ℕ → Link → Link
+knowing position link = record link { kept = above position link.kept; again = above position link.again; known = max link.known position }
+
+-- an acknowledgement of another epoch is none
+abbrev pub told : ℕ → Option Acknowledgement → Link → Link
+told epoch None link = link
+told epoch (Some ack) link = if nat_eq ack.epoch epoch then knowing ack.position link else link
+
+abbrev pub raised_remote : Link → Link
+raised_remote link = record link { remote = link.known }
+
+abbrev pub held_first : Outbound → Outbound
+held_first outbound = record outbound { made = drop 1 outbound.made; held = outbound.held ++ take 1 outbound.made }
+
+abbrev pub having_read : Mark → World → Outbound → Outbound
+having_read Local w outbound = record outbound { local = w.primary.committer.local }
+having_read Remote w outbound = record outbound { remote = w.primary.link.remote }
+
+-- exactly the covered prefix is released
+abbrev pub having_released : Outbound → Outbound
+having_released outbound =
+    record outbound {
+      held = uncovered_rest outbound.local outbound.remote outbound.held;
+      pending = outbound.pending ++ texts_of (covered_prefix outbound.local outbound.remote outbound.held);
+    }
+
+abbrev pub written : ℕ → Outbound → Outbound
+written n outbound = record outbound { pending = drop n outbound.pending; released = outbound.released ++ take n outbound.pending }
+
+abbrev pub option_items : {X : Type 0} → Option X → List X
+option_items None = []
+option_items (Some x) = x ∷ []
+
+-- what an enabled event may do
+abbrev pub Happens : World → Event → World → Type 0
+Happens w Enter new = new ≡ entered w
+Happens w (Feed c piece) new = new ≡ on_inbound c (fed_with piece) w
+Happens w (Offer c) new = new ≡ on_inbound c offered_next w
+Happens w (Turn c) new = Turns w c new
+Happens w CloseGroup new = new ≡ with_committer (closed_group (position_of w.primary.calls) w.primary.committer) w
+Happens w Commit new = new ≡ with_committer (committed_first w.primary.committer.waiting w.primary.committer) w
+Happens w RaiseLocal new = new ≡ with_committer (raised_local w.primary.committer) w
+Happens w Hand new = new ≡ with_link (handed_to (handed w.primary.committer.stage) w.primary.link) (with_committer (ready_again w.primary.committer) w)
+Happens w OpenLink new = new ≡ with_link (opened_link w.primary.link) (with_acknowledged (acknowledgement_of w.standby ∷ []) w)
+Happens w Send new = new ≡ sent w
+Happens w (Deliver frame) new = new ≡ with_standby (delivered (option_items (slice_get w.wire.frames frame)) w.standby) w
+Happens w Apply new = Applies w new
+Happens w (AckDelivered a) new = new ≡ with_link (told w.primary.epoch (slice_get w.wire.acknowledgements a) w.primary.link) w
+Happens w RaiseRemote new = new ≡ with_link (raised_remote w.primary.link) w
+Happens w (Hold c) new = new ≡ on_outbound c held_first w
+Happens w (Read c mark) new = new ≡ on_outbound c (having_read mark w) w
+Happens w (Release c) new = new ≡ on_outbound c having_released w
+Happens w (Write c n) new = new ≡ on_outbound c (written n) w
+
+-- One event: it does its step exactly where it is enabled, and else changes nothing.
+pub record Step (old : World) (event : Event) (did : Bool) (new : World) : Type 0 where
+  pub done : did ≡ is_enabled old event
+  pub happens : did ≡ true → Happens old event new
+  pub stands : did ≡ false → new ≡ old
+
+-- a run over events: which of them did their step, and the world after each
+abbrev pub Run : World → List Event → List Bool → List World → Type 0
+Run old [] [] [] = Unit {0}
+Run old (event ∷ events) (did ∷ done) (new ∷ worlds) = Step old event did new × Run new events done worlds
+Run old _ _ _ = ⊥
+
+-- the world after a run
+abbrev pub last_world : World → List World → World
+last_world w [] = w
+last_world w (new ∷ worlds) = last_world new worlds

@@ -1,0 +1,150 @@
+-- Laws of every run, in words.
+use Rattle.std.specs.Prelude.{◌≡◌, ℕ, ◌≤◌, Bool, true, false, List, [], ◌∷◌, ◌++◌, length, take, drop, All}
+use Rattle.kv_types.specs.declared.limits.TheConstants.{SERVED_LIMITS}
+use Rattle.kv_types.specs.declared.reply.Held.{Held}
+use Rattle.kv_types.specs.Reading.{items_at}
+use Rattle.model.specs.declared.call.Call.{Call}
+use Rattle.model.specs.Call.{IsLegal, IsPrefix, Serves, cut_at, items_of, keyspace_after, position_of, replies_to}
+use Rattle.machine.specs.declared.event.Event.{Event}
+use Rattle.machine.specs.declared.event.Event.TheVariants.{AckDelivered, Deliver, RaiseRemote}
+use Rattle.machine.specs.Event.{World, Step, Run, start, last_world, connection_of, asked, texts_of, is_enabled}
+use Rattle.machine.specs.Promise.{IsReleased, released_in, fed_to}
+use Rattle.machine.specs.Sound.{IsChain, IsFrameWithin, Sound, answers_to}
+
+-- it holds after every run, and so of each world of one, since a prefix of a run is a run
+abbrev pub AfterEveryRun : (World → Type 0) → Type 0
+AfterEveryRun P = (events : List Event) (done : List Bool) (worlds : List World) → Run start events done worlds → P (last_world start worlds)
+
+-- ---- runs
+
+abbrev pub EveryWorldIsSound : Type 0
+EveryWorldIsSound = (events : List Event) (done : List Bool) (worlds : List World) → Run start events done worlds → All Sound (start ∷ worlds)
+
+-- a prefix of a run is a run, and the rest goes on from there
+abbrev pub PrefixesAreRuns : Type 0
+PrefixesAreRuns =
+    (n : ℕ) (w : World) (events : List Event) (done : List Bool) (worlds : List World) → Run w events done worlds
+    → Run w (take n events) (take n done) (take n worlds) × Run (last_world w (take n worlds)) (drop n events) (drop n done) (drop n worlds)
+
+-- a run goes on by a step
+abbrev pub RunsGoOn : Type 0
+RunsGoOn =
+    (w : World) (events : List Event) (done : List Bool) (worlds : List World) (event : Event) (did : Bool) (new : World)
+    → Run w events done worlds → Step (last_world w worlds) event did new → Run w (events ++ event ∷ []) (done ++ did ∷ []) (worlds ++ new ∷ [])
+
+-- what is there later: lists go on, and no number falls
+pub record Grows (old new : World) : Type 0 where
+  pub calls : IsPrefix old.primary.calls new.primary.calls
+  pub released : (c : ℕ) → IsPrefix (released_in old c) (released_in new c)
+  pub frames : IsPrefix old.wire.frames new.wire.frames
+  pub acknowledgements : IsPrefix old.wire.acknowledgements new.wire.acknowledgements
+  pub primary_position : old.primary.committer.position ≤ new.primary.committer.position
+  pub standby_position : old.standby.position ≤ new.standby.position
+  pub local : old.primary.committer.local ≤ new.primary.committer.local
+  pub known : old.primary.link.known ≤ new.primary.link.known
+  pub remote : old.primary.link.remote ≤ new.primary.link.remote
+
+abbrev pub WorldsGrow : Type 0
+WorldsGrow =
+    (n : ℕ) (events : List Event) (done : List Bool) (worlds : List World) → Run start events done worlds → Grows (last_world start (take n worlds)) (last_world start worlds)
+
+-- the keyspace at a position that the list has reached stays, whatever happens later
+abbrev pub CutsStay : Type 0
+CutsStay =
+    (n : ℕ) (events : List Event) (done : List Bool) (worlds : List World) → Run start events done worlds
+    → let old = (last_world start (take n worlds)).primary.calls in
+    let new = (last_world start worlds).primary.calls in
+    (p : ℕ) → p ≤ position_of old → keyspace_after (cut_at new p) ≡ keyspace_after (cut_at old p)
+
+-- ---- calls
+
+abbrev pub EveryListIsLegal : Type 0
+EveryListIsLegal = AfterEveryRun (λ w. IsLegal w.primary.calls)
+
+-- each connection's calls take the requests of the bytes that were fed to it, in order
+abbrev pub EveryListServes : Type 0
+EveryListServes =
+    (events : List Event) (done : List Bool) (worlds : List World) → Run start events done worlds
+    → Serves (λ c. items_at SERVED_LIMITS (fed_to c events done)) (last_world start worlds).primary.calls
+
+-- what was handed to the sequencer was called, or waits
+abbrev pub ItemsComeInOrder : Type 0
+ItemsComeInOrder =
+    AfterEveryRun (λ w. (c : ℕ) → let inbound = (connection_of w c).inbound in items_of c w.primary.calls ++ inbound.waiting ≡ take inbound.offered (asked inbound.fed))
+
+-- ---- replies
+
+-- what was released and what waits, together, are the text of the replies of the connection's calls
+abbrev pub RepliesAddUp : Type 0
+RepliesAddUp =
+    AfterEveryRun (λ w. (c : ℕ) → let outbound = (connection_of w c).outbound in
+    outbound.released ++ (outbound.pending ++ (texts_of outbound.held ++ texts_of outbound.made)) ≡ replies_to c w.primary.calls)
+
+-- the replies that wait are the last ones of the connection's calls, each with the position of the list after its call
+abbrev pub RepliesBearPositions : Type 0
+RepliesBearPositions =
+    AfterEveryRun (λ w. (c : ℕ) → let outbound = (connection_of w c).outbound in (out : List Held) × (out ++ (outbound.held ++ outbound.made) ≡ answers_to c w.primary.calls))
+
+-- and these are they, call by call
+abbrev pub AnswersBearPositions : Type 0
+AnswersBearPositions =
+    (prefix : List Call) (call : Call) (rest : List Call)
+    → IsPrefix (answers_to call.connection prefix ++ record { reply = call.reply; position = position_of (prefix ++ call ∷ []) } ∷ []) (answers_to call.connection (prefix ++ call ∷ rest))
+
+-- both marks are at the position of whatever was released
+abbrev pub ReleasedIsCovered : Type 0
+ReleasedIsCovered =
+    AfterEveryRun (λ w. (prefix : List Call) (call : Call) → IsReleased w.primary.calls (released_in w) prefix call
+    → (position_of (prefix ++ call ∷ []) ≤ w.primary.committer.local) × (position_of (prefix ++ call ∷ []) ≤ w.primary.link.remote))
+
+-- ---- positions
+
+-- no mark is above what it shows, and the standby is not ahead
+pub record IsInOrder (w : World) : Type 0 where
+  pub local : w.primary.committer.local ≤ w.primary.committer.position
+  pub primary : w.primary.committer.position ≤ w.primary.committer.closed
+  pub closed : w.primary.committer.closed ≤ position_of w.primary.calls
+  pub remote : w.primary.link.remote ≤ w.primary.link.known
+  pub known : w.primary.link.known ≤ w.standby.position
+  pub standby : w.standby.position ≤ w.primary.committer.position
+  pub acknowledged : All (λ acknowledgement. acknowledgement.position ≤ w.standby.position) w.wire.acknowledgements
+  -- there is one epoch
+  pub epoch : w.standby.epoch ≡ w.primary.epoch
+  pub frames : All (λ frame. frame.epoch ≡ w.primary.epoch) w.wire.frames
+  pub told : All (λ acknowledgement. acknowledgement.epoch ≡ w.primary.epoch) w.wire.acknowledgements
+  -- the numbers of a gate are at most the marks
+  pub read_local : (c : ℕ) → (connection_of w c).outbound.local ≤ w.primary.committer.local
+  pub read_remote : (c : ℕ) → (connection_of w c).outbound.remote ≤ w.primary.link.remote
+
+abbrev pub PositionsAreInOrder : Type 0
+PositionsAreInOrder = AfterEveryRun IsInOrder
+
+-- ---- groups and frames
+
+-- groups that wait for the committer lead from its record's position to where groups were closed
+abbrev pub GroupsAreInOrder : Type 0
+GroupsAreInOrder = AfterEveryRun (λ w. IsChain w.primary.committer.position w.primary.committer.waiting w.primary.committer.closed)
+
+-- each frame, also one that comes to the standby, is a group that the primary committed
+abbrev pub FramesAreCommitted : Type 0
+FramesAreCommitted = AfterEveryRun (λ w. All (IsFrameWithin w.primary.epoch w.primary.committer.position) w.wire.frames × All (IsFrameWithin w.primary.epoch w.primary.committer.position) w.standby.waiting)
+
+-- ---- what has not happened
+
+-- no RaiseRemote among these did its step
+abbrev pub RaisesNoRemote : List Event → List Bool → Type 0
+RaisesNoRemote (RaiseRemote ∷ events) (true ∷ done) = ⊥
+RaisesNoRemote (event ∷ events) (did ∷ done) = RaisesNoRemote events done
+RaisesNoRemote events done = Unit {0}
+
+-- without it no reply goes out that rests on a change
+abbrev pub NothingIsReleasedUnacknowledged : Type 0
+NothingIsReleasedUnacknowledged =
+    (events : List Event) (done : List Bool) (worlds : List World) → Run start events done worlds → RaisesNoRemote events done
+    → let w = last_world start worlds in
+    (prefix : List Call) (call : Call) → IsReleased w.primary.calls (released_in w) prefix call → position_of (prefix ++ call ∷ []) ≡ 0
+
+-- a frame that was not sent does not come, and neither does an acknowledgement that was not made
+abbrev pub OnlyWhatWasMadeIsDelivered : Type 0
+OnlyWhatWasMadeIsDelivered =
+    (w : World) (n : ℕ) → (length w.wire.frames ≤ n → is_enabled w (Deliver n) ≡ false) × (length w.wire.acknowledgements ≤ n → is_enabled w (AckDelivered n) ≡ false)

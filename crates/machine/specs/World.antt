@@ -1,0 +1,271 @@
+-- What stands where in the pair of nodes and their connections (this project's profile), and the words on it. The list of calls is written
+-- as the sequencer runs them; groups and frames are named by the positions of the list that they lie between.
+use Rattle.std.specs.Prelude.{ℕ, zero, suc, Bool, true, false, ◌&&◌, nat_lt, nat_le, if◌then◌else◌, List, [], ◌∷◌, ◌++◌, length, ◌+◌, ◌-◌}
+use Rattle.std.specs.List.{flat_map, list_any}
+use Rattle.kv_types.specs.declared.item.Item.{Item}
+use Rattle.kv_types.specs.declared.limits.TheConstants.{SERVED_LIMITS}
+use Rattle.kv_types.specs.declared.reply.Held.{Held}
+use Rattle.kv_types.specs.Reading.{items_at}
+use Rattle.kv_types.specs.Reply.{text_of}
+use Rattle.model.specs.declared.call.Call.{Call}
+use Rattle.model.specs.Command.{closes}
+use Rattle.model.specs.Call.{position_of, up_to_closing}
+use Rattle.machine.specs.declared.event.TheConstants.{PIPE_ITEMS}
+use Rattle.model.specs.declared.record.TheConstants.{FIRST_EPOCH}
+
+-- ---- what stands where
+
+-- what stands before a connection's gate: bytes that came in, and what was made of them
+pub record Inbound : Type 0 where
+  -- all bytes fed to it
+  pub fed : List ℕ
+  -- how many of the items that they ask for were handed to the sequencer
+  pub offered : ℕ
+  -- those of them that wait to be run
+  pub waiting : List Item
+
+-- a connection's gate and what lies on either side of it
+pub record Outbound : Type 0 where
+  -- replies that the gate has not taken yet
+  pub made : List Held
+  -- replies that the gate holds
+  pub held : List Held
+  -- bytes that the gate has released
+  pub pending : List ℕ
+  -- bytes that were written to the connection
+  pub released : List ℕ
+  -- the marks, as the gate has read them last
+  pub local : ℕ
+  pub remote : ℕ
+
+-- A connection of a client. It is open until it is over, and keeps its number for ever: its seat goes to another connection then.
+pub record Connection : Type 0 where
+  pub is_open : Bool
+  pub inbound : Inbound
+  pub outbound : Outbound
+
+-- a group, or what a frame tells: the changes of the list between two positions, one call after another
+pub record Span : Type 0 where
+  pub before : ℕ
+  pub after : ℕ
+
+-- what is sent to the standby: a span of the list, under an epoch
+pub record Frame : Type 0 where
+  pub epoch : ℕ
+  pub span : Span
+
+-- what the standby answers: the position of its record, under its epoch
+pub record Acknowledgement : Type 0 where
+  pub epoch : ℕ
+  pub position : ℕ
+
+-- the committer takes a group in three turns
+pub data Stage : Type 0 where
+  -- it may take the next group
+  Ready : Stage
+  -- it has committed one, and not shown it yet
+  Durable : Span → Stage
+  -- it has shown it, and not handed it on yet
+  Shown : Span → Stage
+
+-- the primary's committer
+pub record Committer : Type 0 where
+  -- groups were closed up to this position
+  pub closed : ℕ
+  -- groups that wait for it
+  pub waiting : List Span
+  pub stage : Stage
+  -- the position of the primary's record
+  pub position : ℕ
+  -- the local mark
+  pub local : ℕ
+
+-- the primary's link to the standby
+pub record Link : Type 0 where
+  -- groups that wait to be sent for the first time
+  pub waiting : List Span
+  -- groups that were sent and not acknowledged
+  pub kept : List Span
+  -- those of them that are to be sent again
+  pub again : List Span
+  -- the highest position that came acknowledged
+  pub known : ℕ
+  -- the remote mark
+  pub remote : ℕ
+
+-- how a node fares
+pub data Life : Type 0 where
+  Running : Life
+  -- a fence of it failed
+  Stopped : Life
+  Crashed : Life
+
+-- the node that serves
+pub record Primary : Type 0 where
+  pub life : Life
+  pub epoch : ℕ
+  pub connections : List Connection
+  -- the list of calls
+  pub calls : List Call
+  pub committer : Committer
+  pub link : Link
+
+-- the node that follows it
+pub record Standby : Type 0 where
+  pub life : Life
+  pub epoch : ℕ
+  -- frames that came and were not taken
+  pub waiting : List Frame
+  -- the position of its record
+  pub position : ℕ
+
+-- what was ever sent between the two nodes, in order, whatever became of them since
+pub record Wire : Type 0 where
+  pub frames : List Frame
+  pub acknowledgements : List Acknowledgement
+
+pub record World : Type 0 where
+  pub primary : Primary
+  pub standby : Standby
+  pub wire : Wire
+
+-- ---- how it begins
+
+-- a connection that nothing came from: no open one has this number
+abbrev pub no_connection : Connection
+no_connection = record {
+  is_open = false;
+  inbound = record { fed = []; offered = 0; waiting = [] };
+  outbound = record { made = []; held = []; pending = []; released = []; local = 0; remote = 0 };
+}
+
+abbrev pub new_connection : Connection
+new_connection = record no_connection { is_open = true }
+
+-- two nodes that were formatted together under this epoch
+abbrev pub start_at : ℕ → World
+start_at epoch = record {
+  primary = record {
+    life = Running;
+    epoch = epoch;
+    connections = [];
+    calls = [];
+    committer = record { closed = 0; waiting = []; stage = Ready; position = 0; local = 0 };
+    link = record { waiting = []; kept = []; again = []; known = 0; remote = 0 };
+  };
+  standby = record { life = Running; epoch = epoch; waiting = []; position = 0 };
+  wire = record { frames = []; acknowledgements = [] };
+}
+
+abbrev pub start : World
+start = start_at FIRST_EPOCH
+
+-- ---- words on it
+
+abbrev pub is_running : Life → Bool
+is_running Running = true
+is_running Stopped = false
+is_running Crashed = false
+
+abbrev pub get_connection : List Connection → ℕ → Connection
+get_connection [] c = no_connection
+get_connection (connection ∷ connections) zero = connection
+get_connection (connection ∷ connections) (suc c) = get_connection connections c
+
+-- connection c, and one that nothing came from where there is none
+abbrev pub connection_of : World → ℕ → Connection
+connection_of w c = get_connection w.primary.connections c
+
+abbrev pub is_open : World → ℕ → Bool
+is_open w c = (connection_of w c).is_open
+
+-- how many seats are taken
+abbrev pub count_open : List Connection → ℕ
+count_open [] = 0
+count_open (connection ∷ connections) = (if connection.is_open then 1 else 0) + count_open connections
+
+abbrev pub changed_at : ℕ → (Connection → Connection) → List Connection → List Connection
+changed_at c change [] = []
+changed_at zero change (connection ∷ connections) = change connection ∷ connections
+changed_at (suc c) change (connection ∷ connections) = connection ∷ changed_at c change connections
+
+abbrev pub with_inbound : (Inbound → Inbound) → Connection → Connection
+with_inbound change connection = record connection { inbound = change connection.inbound }
+
+abbrev pub with_outbound : (Outbound → Outbound) → Connection → Connection
+with_outbound change connection = record connection { outbound = change connection.outbound }
+
+abbrev pub with_primary : Primary → World → World
+with_primary primary w = record w { primary = primary }
+
+abbrev pub with_connections : List Connection → World → World
+with_connections connections w = record w { primary = record w.primary { connections = connections } }
+
+abbrev pub on_inbound : ℕ → (Inbound → Inbound) → World → World
+on_inbound c change w = with_connections (changed_at c (with_inbound change) w.primary.connections) w
+
+abbrev pub on_outbound : ℕ → (Outbound → Outbound) → World → World
+on_outbound c change w = with_connections (changed_at c (with_outbound change) w.primary.connections) w
+
+abbrev pub with_committer : Committer → World → World
+with_committer committer w = record w { primary = record w.primary { committer = committer } }
+
+abbrev pub with_link : Link → World → World
+with_link link w = record w { primary = record w.primary { link = link } }
+
+abbrev pub with_standby : Standby → World → World
+with_standby standby w = record w { standby = standby }
+
+-- more frames were sent
+abbrev pub with_sent : List Frame → World → World
+with_sent frames w = record w { wire = record w.wire { frames = w.wire.frames ++ frames } }
+
+-- more acknowledgements were made
+abbrev pub with_acknowledged : List Acknowledgement → World → World
+with_acknowledged acknowledgements w = record w { wire = record w.wire { acknowledgements = w.wire.acknowledgements ++ acknowledgements } }
+
+-- the items that the bytes of a connection ask for, up to and with the one that closes it
+abbrev pub asked : List ℕ → List Item
+asked fed = up_to_closing (items_at SERVED_LIMITS fed)
+
+-- the bytes hold an item that closes the connection
+abbrev pub is_closed_by : List ℕ → Bool
+is_closed_by fed = list_any closes (items_at SERVED_LIMITS fed)
+
+-- how many changing commands wait to be closed
+abbrev pub open_changes : World → ℕ
+open_changes w = position_of w.primary.calls - w.primary.committer.closed
+
+abbrev pub has_room : {X : Type 0} → List X → Bool
+has_room items = nat_lt (length items) PIPE_ITEMS
+
+abbrev pub is_ready : Stage → Bool
+is_ready Ready = true
+is_ready (Durable group) = false
+is_ready (Shown group) = false
+
+abbrev pub is_durable : Stage → Bool
+is_durable Ready = false
+is_durable (Durable group) = true
+is_durable (Shown group) = false
+
+abbrev pub is_shown : Stage → Bool
+is_shown Ready = false
+is_shown (Durable group) = false
+is_shown (Shown group) = true
+
+abbrev pub is_covered : ℕ → ℕ → Held → Bool
+is_covered local remote reply = nat_le reply.position local && nat_le reply.position remote
+
+-- the longest prefix of replies that are all covered
+abbrev pub covered_prefix : ℕ → ℕ → List Held → List Held
+covered_prefix local remote [] = []
+covered_prefix local remote (reply ∷ replies) = if is_covered local remote reply then reply ∷ covered_prefix local remote replies else []
+
+-- the replies behind it
+abbrev pub uncovered_rest : ℕ → ℕ → List Held → List Held
+uncovered_rest local remote [] = []
+uncovered_rest local remote (reply ∷ replies) = if is_covered local remote reply then uncovered_rest local remote replies else reply ∷ replies
+
+abbrev pub texts_of : List Held → List ℕ
+texts_of = flat_map (λ reply. text_of reply.reply)

@@ -1,0 +1,185 @@
+-- What the words of an image mean (this project's profile of write-behind logging: Arulraj, Perron, Pavlo, PVLDB 10(4), 2016).
+-- An image gives each word by its number. Where its parts lie is said by its layout.
+use Rattle.std.specs.Prelude.{◌≡◌, ℕ, zero, suc, ◌+◌, ◌-◌, ◌/◌, ◌%◌, ◌<◌, Bool, false, not, ◌&&◌, ◌==◌, nat_lt, nat_le, if◌then◌else◌, List, [], ◌∷◌, ◌++◌, length, take, drop, replicate, Option, Some, None, codes}
+use Rattle.std.specs.List.{list_any, flat_map}
+use Rattle.std.specs.Int.{w64, to_le_bytes, from_le_bytes}
+use Rattle.kv_types.specs.declared.record_id.RecordId.{RecordId}
+use Rattle.kv_types.specs.declared.record_id.RecordId.TheVariants.{Str, Field}
+use Rattle.kv_types.specs.Keyspace.{Keyspace, value_at, with_record}
+use Rattle.model.specs.declared.layout.TheConstants.{FIELD_LENGTH_UNIT, LAYOUT, LINE_BYTES, WORD_BYTES}
+use Rattle.model.specs.Layout as layouts
+use Rattle.model.specs.declared.record.Gap.{Gap}
+use Rattle.model.specs.declared.record.Record.{Record}
+use Rattle.model.specs.declared.record.Role.{Role}
+use Rattle.model.specs.declared.record.Role.TheVariants.{Primary, Standby}
+
+abbrev pub Image : Type 0
+Image = ℕ → ℕ
+
+-- the image has these values, one after another from this word on
+abbrev pub HasWords : Image → ℕ → List ℕ → Type 0
+HasWords image first [] = Unit {0}
+HasWords image first (value ∷ values) = (image first ≡ value) × HasWords image (first + 1) values
+
+-- so many words, one after another from the first
+abbrev pub words_from : Image → ℕ → ℕ → List ℕ
+words_from image first zero = []
+words_from image first (suc count) = image first ∷ words_from image (first + 1) count
+
+-- ---- the superblock, line 0
+
+-- the first word of an image: these eight bytes, as they lie in it, the lowest first
+abbrev pub magic_number : ℕ
+magic_number = from_le_bytes w64 (codes "WBLIMG01")
+
+-- how many entries the directory of an image of so many lines has
+abbrev pub entries_of_lines : ℕ → ℕ
+entries_of_lines lines = layouts.entries_of_lines LAYOUT lines
+
+-- the word that names the current record
+abbrev pub root_word : ℕ
+root_word = LAYOUT.root_word
+
+pub record HasSuperblock (lines : ℕ) (image : Image) : Type 0 where
+  pub magic : image 0 ≡ magic_number
+  pub version : image 1 ≡ LAYOUT.version
+  pub line_count : image 2 ≡ lines
+  pub entry_count : image 3 ≡ entries_of_lines lines
+
+-- ---- records, in two slots that take turns
+
+-- the first line of the slot of record n, and its word k
+abbrev pub slot_line : ℕ → ℕ
+slot_line n = layouts.slot_line LAYOUT n
+
+abbrev pub record_word : ℕ → ℕ → ℕ
+record_word n k = layouts.line_word (slot_line n) k
+
+abbrev pub role_number : Role → ℕ
+role_number Primary = 1
+role_number Standby = 2
+
+abbrev pub gap_words : Gap → List ℕ
+gap_words gap = gap.first ∷ gap.last ∷ []
+
+-- how many words a record has for its gaps
+abbrev pub gap_room : ℕ
+gap_room = layouts.gap_room LAYOUT
+
+-- the pairs of the gaps, and zeros up to the most pairs
+abbrev pub gaps_words : List Gap → List ℕ
+gaps_words gaps = take gap_room (flat_map gap_words gaps ++ replicate gap_room 0)
+
+-- the words of a record
+abbrev pub record_words : Record → List ℕ
+record_words r =
+    r.number ∷ r.position ∷ r.cp ∷ r.cd ∷ r.epoch ∷ length r.gaps.items ∷ gaps_words r.gaps.items ++ role_number r.role ∷ 0 ∷ []
+
+-- the image's current record: the root names it, and its slot holds it
+pub record HasRecord (r : Record) (image : Image) : Type 0 where
+  pub root : image root_word ≡ r.number
+  pub words : HasWords image (record_word r.number 0) (record_words r)
+
+abbrev pub is_in_gap : ℕ → Gap → Bool
+is_in_gap stamp gap = nat_le gap.first stamp && nat_le stamp gap.last
+
+-- the stamp was committed: it is 1 to cp, and in no gap
+abbrev pub counts : Record → ℕ → Bool
+counts r stamp = nat_lt 0 stamp && nat_le stamp r.cp && not (list_any (is_in_gap stamp) r.gaps.items)
+
+-- ---- the directory, one entry a line, and the extents behind it
+
+-- the line of entry i, and its word k
+abbrev pub entry_line : ℕ → ℕ
+entry_line i = layouts.entry_line LAYOUT i
+
+abbrev pub entry_word : ℕ → ℕ → ℕ
+entry_word i k = layouts.line_word (entry_line i) k
+
+-- the first line of the extents
+abbrev pub first_extent_line : ℕ → ℕ
+first_extent_line lines = layouts.first_extent_line LAYOUT lines
+
+-- how many lines so many bytes take: at least one
+abbrev pub lines_of_bytes : ℕ → ℕ
+lines_of_bytes bytes = if bytes == 0 then 1 else (bytes + (LINE_BYTES - 1)) / LINE_BYTES
+
+-- so many bytes from a line on, the lowest byte of a word first
+abbrev pub bytes_at : Image → ℕ → ℕ → List ℕ
+bytes_at image line count = take count (flat_map (to_le_bytes w64) (words_from image (layouts.first_word line) ((count + (WORD_BYTES - 1)) / WORD_BYTES)))
+
+-- the name of a record whose bytes begin with its key and field
+abbrev pub id_of : ℕ → ℕ → ℕ → List ℕ → RecordId
+id_of kind key_bytes field_bytes bytes =
+    if kind == 2 then Field (take key_bytes bytes) (take field_bytes (drop key_bytes bytes)) else Str (take key_bytes bytes)
+
+-- a version of a record: one directory entry and its extent
+pub record Version : Type 0 where
+  pub id : RecordId
+  pub value : List ℕ
+  -- the position of the list at which it was made
+  pub position : ℕ
+  pub first_line : ℕ
+  pub lines : ℕ
+  -- a later change ended it
+  pub is_ended : Bool
+
+-- how many bytes the key of entry i has, and how many its field
+abbrev pub key_bytes : Image → ℕ → ℕ
+key_bytes image i = image (entry_word i 6) % FIELD_LENGTH_UNIT
+
+abbrev pub field_bytes : Image → ℕ → ℕ
+field_bytes image i = image (entry_word i 6) / FIELD_LENGTH_UNIT
+
+-- how many bytes entry i has: key, field and value
+abbrev pub entry_bytes : Image → ℕ → ℕ
+entry_bytes image i = key_bytes image i + field_bytes image i + image (entry_word i 7)
+
+-- the version in entry i, whose begin counts
+abbrev pub version_in : Record → Image → ℕ → Version
+version_in r image i =
+    let bytes = bytes_at image (image (entry_word i 3)) (entry_bytes image i) in
+    record {
+      id = id_of (image (entry_word i 5)) (key_bytes image i) (field_bytes image i) bytes;
+      value = drop (key_bytes image i + field_bytes image i) bytes;
+      position = image (entry_word i 2);
+      first_line = image (entry_word i 3);
+      lines = image (entry_word i 4);
+      is_ended = counts r (image (entry_word i 1));
+    }
+
+-- the version of entry i, if it was begun
+abbrev pub version_at : Record → Image → ℕ → Option Version
+version_at r image i = if counts r (image (entry_word i 0)) then Some (version_in r image i) else None
+
+-- ---- the map of an image
+
+-- entry i holds the record's value now
+pub record IsLive (versions : ℕ → Option Version) (i : ℕ) (id : RecordId) (value : List ℕ) : Type 0 where
+  pub version : Version
+  pub begun : versions i ≡ Some version
+  pub not_ended : version.is_ended ≡ false
+  pub id_is : version.id ≡ id
+  pub value_is : version.value ≡ value
+
+-- The keyspace is the map from records to values of all versions that are live, and no record is live twice.
+pub record IsMapOf (versions : ℕ → Option Version) (entries : ℕ) (s : Keyspace) : Type 0 where
+  pub held : (id : RecordId) (value : List ℕ) → value_at s id ≡ Some value → (i : ℕ) × (i < entries) × IsLive versions i id value
+  pub found : (i : ℕ) (id : RecordId) (value : List ℕ) → i < entries → IsLive versions i id value → value_at s id ≡ Some value
+  pub once : (i j : ℕ) (id : RecordId) (v w : List ℕ) → i < entries → j < entries → IsLive versions i id v → IsLive versions j id w → i ≡ j
+
+-- the records of a version, if it is live
+abbrev pub with_version : Option Version → Keyspace → Keyspace
+with_version None s = s
+with_version (Some version) s = if version.is_ended then s else with_record version.id version.value s
+
+-- the map, computed from the first so many entries
+unfoldable pub map_below : (ℕ → Option Version) → ℕ → Keyspace
+map_below versions zero = []
+map_below versions (suc i) = with_version (versions i) (map_below versions i)
+
+-- the image is whole, has this record, and its map is this keyspace
+pub record Holds (lines : ℕ) (r : Record) (s : Keyspace) (image : Image) : Type 0 where
+  pub superblock : HasSuperblock lines image
+  pub has_record : HasRecord r image
+  pub map : IsMapOf (version_at r image) (entries_of_lines lines) s

@@ -1,0 +1,31 @@
+-- The rows of a list, as a table.
+use Rattle.std.specs.Prelude.{ℕ, not, List, map}
+use Rattle.std.specs.FinMap.Entries.{where_key}
+use Rattle.kv_types.specs.declared.place.EntryNo.{EntryNo}
+use Rattle.kv_types.specs.declared.change.Change.{Change}
+use Rattle.kv_types.specs.Keyspace.{record_cmp}
+use Rattle.model.specs.declared.group.Put.{Put}
+use Rattle.model.specs.Group.{ends_record}
+use Rattle.mv_keyspace.specs.declared.list_keyspace.Row.{Row}
+use Rattle.mv_keyspace.specs.Table.{Cell, Table, cell_of_put}
+
+abbrev pub cell_of_row : Row → Cell
+cell_of_row row = record { value = row.value; entry = row.entry.0; position = row.position }
+
+abbrev pub table_of : List Row → Table
+table_of rows = map (λ row. (row.id, cell_of_row row)) rows
+
+-- the rows that the puts make at this position
+abbrev pub rows_of_puts : ℕ → List Put → Table
+rows_of_puts position puts = map (λ put. (put.id, cell_of_put position put)) puts
+
+abbrev pub numbers_of : List EntryNo → List ℕ
+numbers_of entries = map (λ entry. entry.0) entries
+
+-- the rows whose records a change ends
+abbrev pub ended_rows : Change → Table → Table
+ended_rows change = where_key record_cmp (ends_record change)
+
+-- the rows that it leaves
+abbrev pub spared_rows : Change → Table → Table
+spared_rows change = where_key record_cmp (λ id. not (ends_record change id))

@@ -1,0 +1,92 @@
+-- What one turn of the sequencer does.
+use Rattle.std.specs.Prelude.{◌≡◌, ℕ, ◌+◌, List, [], ◌∷◌, ◌++◌, if◌then◌else◌, slice_set}
+use Rattle.kv_types.specs.declared.change.Change.{Change}
+use Rattle.kv_types.specs.declared.item.Item.{Item}
+use Rattle.kv_types.specs.declared.reply.Reply.{Reply}
+use Rattle.model.specs.declared.call.Call.{Call}
+use Rattle.model.specs.declared.group.Part.{Part}
+use Rattle.model.specs.Call.{MayReply, after_call, changes_of, full_reply, is_changing, outcome_at}
+use Rattle.model.specs.Command.{closes}
+use Rattle.mv_keyspace.specs.Table.{records}
+use Rattle.placing.specs.Place.{HasRoomFor}
+use Rattle.placing.specs.Performs.{Performs}
+use Rattle.redis_core.specs.Sequencing.{Sequencing, state_of}
+use Rattle.redis_core.specs.declared.turn.Turn.{Turn}
+use Rattle.redis_core.specs.declared.turn.Turn.TheVariants.{Served, Idle, Blocked, GroupFull, Ended}
+
+-- the call that an item of a seat and its reply are
+abbrev pub call_of : ℕ → Item → Reply → Call
+call_of seat item reply = record { connection = seat; item = item; reply = reply }
+
+-- One more part waits, which is these changes, made at the next position.
+pub record AddsPart (old : Sequencing) (part : Part) (changes : List Change) (new : Sequencing) : Type 0 where
+  pub performs : Performs old.table old.room (old.position + 1) changes part new.table new.room
+  pub position : new.position ≡ part.position
+  pub waiting : new.waiting ≡ old.waiting ++ part ∷ []
+
+-- nothing moved
+pub record Stays (old new : Sequencing) : Type 0 where
+  pub table : new.table ≡ old.table
+  pub room : new.room ≡ old.room
+  pub position : new.position ≡ old.position
+  pub waiting : new.waiting ≡ old.waiting
+
+-- what a call with these changes moved
+abbrev pub Moves : List Change → Sequencing → Sequencing → Type 0
+Moves [] old new = Stays old new
+Moves (change ∷ changes) old new = (part : Part) × AddsPart old part (change ∷ changes) new
+
+-- One legal entry of the list: the reply that an item got, made at what the sequencer held before it.
+pub record Answers (old : Sequencing) (seat : ℕ) (item : Item) (reply : Reply) (new : Sequencing) : Type 0 where
+  pub legal : MayReply (state_of old) (call_of seat item reply)
+  pub full_only : reply ≡ full_reply → ¬ HasRoomFor old.room (outcome_at (state_of old) seat item).changes
+  pub keyspace : records new.table ≡ (after_call (state_of old) (call_of seat item reply)).keyspace
+  pub position : new.position ≡ old.position + (if is_changing (state_of old) (call_of seat item reply) then 1 else 0)
+  pub moves : Moves (changes_of (state_of old) (call_of seat item reply)) old new
+  pub before : new.before ≡ old.before
+  -- the seat is closed from now on if the item closes its connection
+  pub closed : new.closed ≡ slice_set old.closed seat (closes item)
+
+-- a fact for one answer of a turn
+abbrev pub OnServed : Turn → Type 0 → Type 0
+OnServed Served P = P
+OnServed Idle P = Unit {0}
+OnServed Blocked P = Unit {0}
+OnServed GroupFull P = Unit {0}
+OnServed Ended P = Unit {0}
+
+abbrev pub OnIdle : Turn → Type 0 → Type 0
+OnIdle Served P = Unit {0}
+OnIdle Idle P = P
+OnIdle Blocked P = Unit {0}
+OnIdle GroupFull P = Unit {0}
+OnIdle Ended P = Unit {0}
+
+abbrev pub OnBlocked : Turn → Type 0 → Type 0
+OnBlocked Served P = Unit {0}
+OnBlocked Idle P = Unit {0}
+OnBlocked Blocked P = P
+OnBlocked GroupFull P = Unit {0}
+OnBlocked Ended P = Unit {0}
+
+abbrev pub OnGroupFull : Turn → Type 0 → Type 0
+OnGroupFull Served P = Unit {0}
+OnGroupFull Idle P = Unit {0}
+OnGroupFull Blocked P = Unit {0}
+OnGroupFull GroupFull P = P
+OnGroupFull Ended P = Unit {0}
+
+abbrev pub OnEnded : Turn → Type 0 → Type 0
+OnEnded Served P = Unit {0}
+OnEnded Idle P = Unit {0}
+OnEnded Blocked P = Unit {0}
+OnEnded GroupFull P = Unit {0}
+OnEnded Ended P = P
+
+-- a fact for each answer but `Served`
+abbrev pub OnUnserved : Turn → Type 0 → Type 0
+OnUnserved Served P = Unit {0}
+OnUnserved Idle P = P
+OnUnserved Blocked P = P
+OnUnserved GroupFull P = P
+OnUnserved Ended P = P

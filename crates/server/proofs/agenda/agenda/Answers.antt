@@ -1,9 +1,0 @@
-use Rattle.server.proofs.AgendaLemmas.{agenda-whole, feeds-nothing-again}
-use Rattle.server.proofs.agenda.agenda.Goals as goal
-
-pub returns : goal.returns
-returns c =
-    let replicated = feeds-nothing-again _ _ _ c.in_ok-call_all.ensures c.in_ok-replicate_all.ensures in
-    let released = feeds-nothing-again _ _ _ replicated c.in_ok-release_all.ensures in
-    let written = feeds-nothing-again _ _ _ released c.in_ok-write_all.ensures in
-    agenda-whole c.args.pieces.items _ _ _ c.in_ok-events.ensures.items c.in_ok-feed_all.ensures written

@@ -1,0 +1,80 @@
+-- Why a run may end before its last event, and what each cause leaves of the devices.
+use Rattle.std.specs.Prelude.{◌≡◌, ◌⊎◌, ℕ, ◌+◌, ◌-◌, ◌<◌, ◌≤◌, Bool, true, false, List}
+use Rattle.pmem.specs.Device.{State}
+use Rattle.pmem.specs.Crash.{IsImage}
+use Rattle.kv_types.specs.declared.refusal.Refusal.{Refusal}
+use Rattle.kv_types.specs.declared.refusal.Refusal.TheVariants.{Memory, Fault, Exhausted, WrongSize}
+use Rattle.model.specs.declared.call.Call.{Call}
+use Rattle.model.specs.declared.image.TheConstants.{COUNTER_LIMIT, STAMP_WINDOW, MIN_LINES, MAX_LINES}
+use Rattle.model.specs.declared.record.Record.{Record}
+use Rattle.model.specs.Image.{Image, HasRecord}
+use Rattle.model.specs.Standing.{Holder}
+use Rattle.machine.specs.declared.event.Event.{Event}
+use Rattle.machine.specs.declared.event.Event.TheVariants.{Enter, Feed, Offer, CloseGroup, Commit, OpenLink, Send, Deliver, Apply, Hold, Write}
+use Rattle.world.specs.Committing.{Rests, NearOnly}
+
+-- what leads the device of a holder from one state to another has to do with a position of the list, and with the one that its node goes to next
+abbrev pub Stretch : Type 1
+Stretch = Holder → List Call → ℕ → ℕ → State → State → Type 0
+
+-- ---- before the first event
+
+-- an image may not have so many lines
+abbrev pub IsWrongSize : State → Type 0
+IsWrongSize device = (device.lines < MIN_LINES) ⊎ (MAX_LINES < device.lines)
+
+-- Why the primary and the standby were not formatted. It takes no memory, so that where memory was refused neither was touched. The standby is not touched
+-- before the primary is formatted, in which no fence failed then.
+abbrev pub UnformedBy : Refusal → State → State → State → State → Type 0
+UnformedBy Memory primary standby primary' standby' = (primary' ≡ primary) × (standby' ≡ standby)
+UnformedBy WrongSize primary standby primary' standby' =
+    (standby' ≡ standby) × ((IsWrongSize primary × (primary' ≡ primary)) ⊎ (IsWrongSize standby × (primary'.failures ≡ primary.failures)))
+UnformedBy Fault primary standby primary' standby' =
+    ((primary.failures < primary'.failures) × (standby' ≡ standby)) ⊎ ((primary'.failures ≡ primary.failures) × (standby.failures < standby'.failures))
+UnformedBy refusal primary standby primary' standby' = ⊥
+
+-- ---- in an event
+
+-- each crash between these two states leaves an image that stands at this position of the list, and no fence failed
+abbrev pub Resting : Stretch
+Resting holder calls position next = Rests holder calls position
+
+-- A fence of the device failed. Each crash between these two states leaves an image that stands at one of these two positions of the list.
+pub record Breaks (holder : Holder) (calls : List Call) (position next : ℕ) (old new : State) : Type 0 where
+  pub leaves : NearOnly holder calls position next old new
+  pub failures : old.failures < new.failures
+
+-- the changes of these many positions would take a counter of the image's record to the limit: that of its stamps, its position, or its number
+pub record IsAtLimit (more : ℕ) (image : Image) : Type 0 where
+  pub current : Record
+  pub has_record : HasRecord current image
+  pub reached : (COUNTER_LIMIT ≤ current.cp + more + 1 + STAMP_WINDOW) ⊎ (COUNTER_LIMIT ≤ current.position + more) ⊎ (COUNTER_LIMIT ≤ current.number + 1)
+
+-- Each crash between these two states leaves an image that stands at this position of the list, no fence failed, and a counter is at its limit.
+pub record RestsAtLimit (holder : Holder) (calls : List Call) (position next : ℕ) (old new : State) : Type 0 where
+  pub rests : Rests holder calls position old new
+  pub limit : (image : Image) → IsImage new.words image → IsAtLimit (next - position) image
+
+-- the event may ask for memory, so that its refusal ends the run. (A turn that is refused memory answers so, and the run goes on.)
+abbrev pub asks_memory : Event → Bool
+asks_memory Enter = true
+asks_memory (Feed c piece) = true
+asks_memory (Offer c) = true
+asks_memory CloseGroup = true
+asks_memory OpenLink = true
+asks_memory Send = true
+asks_memory (Deliver frame) = true
+asks_memory Apply = true
+asks_memory (Hold c) = true
+asks_memory (Write c n) = true
+asks_memory event = false
+
+-- An enabled event ended the run for this cause, and led the primary's device and the standby's so: memory was refused, and both rest; or a fence failed, or
+-- a counter is at its limit, on the one device that the event is about, and the other rests.
+abbrev pub EndsBy : Refusal → Event → (Stretch → Stretch → Type 0) → Type 0
+EndsBy Memory event Leads = (asks_memory event ≡ true) × Leads Resting Resting
+EndsBy Fault Commit Leads = Leads Breaks Resting
+EndsBy Fault Apply Leads = Leads Resting Breaks
+EndsBy Exhausted Commit Leads = Leads RestsAtLimit Resting
+EndsBy Exhausted Apply Leads = Leads Resting RestsAtLimit
+EndsBy refusal event Leads = ⊥

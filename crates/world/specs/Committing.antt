@@ -1,0 +1,119 @@
+-- What the committer and its engine stand for in the machine.
+use Rattle.std.specs.Prelude.{◌≡◌, ◌⊎◌, ℕ, ◌≤◌, Bool, false, nat_eq, if◌then◌else◌, List, [], ◌∷◌}
+use Rattle.pmem.specs.Device.{State}
+use Rattle.pmem.specs.Crash.{IsImage}
+use Rattle.pmem.specs.Runs.{LeavesOnly}
+use Rattle.model.specs.declared.call.Call.{Call}
+use Rattle.model.specs.declared.group.Group.{Group}
+use Rattle.model.specs.Call.{keyspace_after, cut_at}
+use Rattle.model.specs.Image.{Image, IsMapOf, entries_of_lines}
+use Rattle.model.specs.Group.{Contents, IsConsistent, IsGroup, after_group}
+use Rattle.model.specs.Standing.{Holder, StandsAt}
+use Rattle.model.specs.declared.record.Role.{Role}
+use Rattle.wbl_engine.specs.Contents.{IsDurable}
+use Rattle.wbl_engine.specs.Formatting.{IsFormatting}
+use Rattle.redis_core.specs.Sequencing.{Sequencing, Continues}
+use Rattle.machine.specs.Event.{Committer as Machine, Stage as MachineStage, Frame as Sent, World, committed_first}
+use Rattle.machine.specs.World as machine_stage
+use Rattle.world.specs.GroupSpan.{AreGroupsOf, IsGroupOf}
+use Rattle.world.specs.declared.committing.Stage.{Stage}
+use Rattle.world.specs.declared.committing.Stage.TheVariants.{Ready, Durable, Shown}
+use Rattle.world.specs.declared.committing.Committing.{Committing}
+
+-- ---- groups that wait
+
+-- each group is what a commit asks for, after those before it
+abbrev pub AreGroups : Contents → List Group → Type 0
+AreGroups contents [] = Unit {0}
+AreGroups contents (group ∷ groups) = IsGroup contents group × AreGroups (after_group contents group) groups
+
+-- the contents after all of the groups
+abbrev pub after_groups : Contents → List Group → Contents
+after_groups contents [] = contents
+after_groups contents (group ∷ groups) = after_groups (after_group contents group) groups
+
+-- groups lead from what an engine holds to what the sequencer stands for
+pub record Leads (contents : Contents) (groups : List Group) (s : Sequencing) : Type 0 where
+  pub groups_are : AreGroups contents groups
+  pub stands : Continues s (after_groups contents groups)
+
+-- what is left to commit leads to where it led before
+pub record LeadsOn (old : Contents) (groups : List Group) (new : Contents) (rest : List Group) : Type 0 where
+  pub groups_are : AreGroups new rest
+  pub same : after_groups new rest ≡ after_groups old groups
+
+-- ---- the engine
+
+-- the holder's contents are those of the list at this position
+pub record AreContentsAt (holder : Holder) (calls : List Call) (position : ℕ) (contents : Contents) : Type 0 where
+  pub at : contents.current.position ≡ position
+  pub role_is : contents.current.role ≡ holder.role
+  pub epoch_is : contents.current.epoch ≡ holder.epoch
+  pub lines_are : contents.lines ≡ holder.lines
+  pub consistent : IsConsistent contents
+  pub map : IsMapOf contents.versions (entries_of_lines contents.lines) (keyspace_after (cut_at calls position))
+
+-- a sound engine of this holder whose contents are those of the list at this position, over a device on which each crash leaves them
+pub record EngineStands (holder : Holder) (calls : List Call) (position : ℕ) (device : State) (contents : Contents) (is_faulted : Bool) : Type 0 where
+  pub contents_at : AreContentsAt holder calls position contents
+  pub sound : is_faulted ≡ false
+  pub durable : IsDurable device contents
+
+-- each crash now leaves an image that stands at this position of the list, as its holder's
+abbrev pub Stands : Holder → List Call → ℕ → State → Type 0
+Stands holder calls position device = (image : Image) → IsImage device.words image → StandsAt holder calls position image
+
+-- the image stands at one of these two positions of the list
+abbrev pub StandsAtEither : Holder → List Call → ℕ → ℕ → Image → Type 0
+StandsAtEither holder calls position next image = StandsAt holder calls position image ⊎ StandsAt holder calls next image
+
+-- each crash between these two states of a device leaves an image that stands at one of these two positions of the list
+abbrev pub NearOnly : Holder → List Call → ℕ → ℕ → State → State → Type 0
+NearOnly holder calls position next old new = LeavesOnly old new (StandsAtEither holder calls position next)
+
+-- each crash between these two states of a device leaves an image that stands at this position of the list, or at a later one
+abbrev pub FromOnly : Holder → List Call → ℕ → State → State → Type 0
+FromOnly holder calls position old new = LeavesOnly old new (λ image. (p : ℕ) × (position ≤ p) × StandsAt holder calls p image)
+
+-- each crash between these two states of a device leaves an image that stands at one of these two positions of the list, and no fence failed
+pub record Moves (holder : Holder) (calls : List Call) (from to : ℕ) (old new : State) : Type 0 where
+  pub leaves : NearOnly holder calls from to old new
+  pub failures : new.failures ≡ old.failures
+
+-- each crash between these two states of a device leaves an image that stands at this position of the list, and no fence failed
+pub record Rests (holder : Holder) (calls : List Call) (position : ℕ) (old new : State) : Type 0 where
+  pub leaves : LeavesOnly old new (StandsAt holder calls position)
+  pub failures : new.failures ≡ old.failures
+
+-- each crash between these two states of a device leaves what is there while it is formatted for this role
+abbrev pub FormattingOnly : Role → State → State → Type 0
+FormattingOnly role old new = LeavesOnly old new (IsFormatting old.words old.lines role)
+
+-- ---- the next positions
+
+-- where the primary stands after the group that it commits next
+abbrev pub next_primary : World → ℕ
+next_primary w = (committed_first w.primary.committer.waiting w.primary.committer).position
+
+abbrev pub next_from : ℕ → List Sent → ℕ
+next_from position [] = position
+next_from position (frame ∷ frames) = if nat_eq frame.span.before position then frame.span.after else position
+
+-- where the standby stands after the first frame that waits, which it takes if it begins where the standby stands
+abbrev pub next_standby : World → ℕ
+next_standby w = next_from w.standby.position w.standby.waiting
+
+-- ---- the committer
+
+-- the group in hand is the span in hand
+abbrev pub StageRefines : List Call → Stage → MachineStage → Type 0
+StageRefines calls Ready machine_stage.Ready = Unit {0}
+StageRefines calls (Durable group) (machine_stage.Durable span) = IsGroupOf calls group span
+StageRefines calls (Shown group) (machine_stage.Shown span) = IsGroupOf calls group span
+StageRefines calls _ _ = ⊥
+
+-- the committer's groups and mark
+pub record CommittingRefines (calls : List Call) (code : Committing) (machine : Machine) : Type 0 where
+  pub groups : AreGroupsOf calls code.waiting.items machine.waiting
+  pub stage_is : StageRefines calls code.stage machine.stage
+  pub local_is : code.local ≡ machine.local

@@ -1,0 +1,25 @@
+-- Groups and frames of the machine, and those of the code that stand for them.
+use Rattle.std.specs.Prelude.{◌≡◌, ℕ, ◌-◌, ◌≤◌, ◌<◌, List, [], ◌∷◌}
+use Rattle.model.specs.declared.call.Call.{Call}
+use Rattle.model.specs.declared.group.Group.{Group}
+use Rattle.model.specs.Call.{position_of}
+use Rattle.model.specs.Position.{changes_since}
+use Rattle.model.specs.Group.{changes_of_group, last_position}
+use Rattle.machine.specs.Event.{Span}
+
+-- the span lies within the list
+pub record IsWithin (calls : List Call) (span : Span) : Type 0 where
+  pub rising : span.before < span.after
+  pub within : span.after ≤ position_of calls
+
+-- the group has the changes of the list between the positions of the span
+pub record IsGroupOf (calls : List Call) (group : Group) (span : Span) : Type 0 where
+  pub span_within : IsWithin calls span
+  pub before : group.before ≡ span.before
+  pub after : last_position group.before group.parts.items ≡ span.after
+  pub changes : changes_of_group group ≡ changes_since calls span.before (span.after - span.before)
+
+abbrev pub AreGroupsOf : List Call → List Group → List Span → Type 0
+AreGroupsOf calls [] [] = Unit {0}
+AreGroupsOf calls (group ∷ groups) (span ∷ spans) = IsGroupOf calls group span × AreGroupsOf calls groups spans
+AreGroupsOf calls _ _ = ⊥

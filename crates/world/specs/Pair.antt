@@ -1,0 +1,90 @@
+-- What a pair of nodes with its connections stands for in the machine.
+use Rattle.std.specs.Prelude.{◌≡◌, ℕ, ◌<◌, ◌≤◌, Bool, true, [], length, slice_index_or, vec_capacity, Result, IfOk, IfErr}
+use Rattle.pmem.specs.Device.{State}
+use Rattle.kv_types.specs.declared.refusal.Refusal.{Refusal}
+use Rattle.model.specs.Group.{Contents}
+use Rattle.model.specs.Standing.{Holder}
+use Rattle.redis_core.specs.Sequencing.{Sequencing}
+use Rattle.machine.specs.declared.event.Event.{Event}
+use Rattle.machine.specs.declared.event.TheConstants.{SEATS}
+use Rattle.machine.specs.Event.{World, Step, is_enabled}
+use Rattle.machine.specs.Promise.{released_in}
+use Rattle.machine.specs.Sound.{Sound}
+use Rattle.world.specs.Cause.{EndsBy}
+use Rattle.world.specs.Committing.{EngineStands, Leads, Moves, CommittingRefines, next_primary, next_standby}
+use Rattle.world.specs.Link.{LinkRefines}
+use Rattle.world.specs.Session.{SessionsRefine, SequencerRefines, AddsOne, released_of}
+use Rattle.world.specs.Standby.{Node, StandbyStands, ArrivalsRefine}
+use Rattle.world.specs.declared.arrivals.Arrivals.{Arrivals}
+use Rattle.world.specs.declared.committing.Committing.{Committing}
+use Rattle.world.specs.declared.link.Link.{Link}
+use Rattle.world.specs.declared.sessions.Sessions.{Sessions}
+
+-- what a pair is made of
+pub record Pair : Type 0 where
+  pub sessions : Sessions
+  pub sequencer : Sequencing
+  pub committing : Committing
+  -- the primary's engine
+  pub device : State
+  pub contents : Contents
+  pub is_faulted : Bool
+  pub link : Link
+  pub arrivals : Arrivals
+  pub standby : Node
+
+-- Its parts stand for those of the machine. The primary's image is that of the first holder, the standby's that of the second.
+pub record PartsRefine (first second : Holder) (pair : Pair) (w : World) : Type 0 where
+  pub sessions : SessionsRefine pair.sessions w.primary.connections w.primary.calls
+  pub sequencer : SequencerRefines w.primary.calls w.primary.committer.closed pair.sequencer
+  pub committing : CommittingRefines w.primary.calls pair.committing w.primary.committer
+  pub engine : EngineStands first w.primary.calls w.primary.committer.position pair.device pair.contents pair.is_faulted
+  pub leads : Leads pair.contents pair.committing.waiting.items pair.sequencer
+  pub epoch : pair.link.epoch ≡ w.primary.epoch
+  pub link : LinkRefines w.primary.calls pair.link w.primary.link w.wire.frames
+  pub arrivals : ArrivalsRefine pair.link.epoch w.primary.calls pair.link.frames.items pair.arrivals w.standby.waiting w.wire.acknowledgements
+  pub standby : StandbyStands second pair.link.epoch w.primary.calls w.standby.position pair.standby
+
+-- it stands for a world that a run may reach
+pub record PairRefines (first second : Holder) (pair : Pair) (w : World) : Type 0 where
+  pub sound : Sound w
+  pub parts : PartsRefine first second pair w
+
+-- there is a world for which it stands
+pub record HasWorld (pair : Pair) : Type 0 where
+  pub first : Holder
+  pub second : Holder
+  pub world : World
+  pub stands : PairRefines first second pair world
+
+-- there is room for one call more
+pub record HasRoom (pair : Pair) : Type 0 where
+  pub room : length pair.sessions.calls.items < vec_capacity pair.sessions.calls
+
+-- An enabled event was cut for this cause: the list of calls and the released bytes are those of the world before it.
+pub record IsCut (first second : Holder) (event : Event) (refusal : Refusal) (old new : Pair) (w : World) : Type 0 where
+  pub enabled : is_enabled w event ≡ true
+  pub calls : new.sessions.calls.items ≡ w.primary.calls
+  pub released : (c : ℕ) → slice_index_or (released_of new.sessions.connections.items) c [] ≡ released_in w c
+  pub few : length new.sessions.connections.items ≤ SEATS
+  pub cause : EndsBy refusal event (λ first_last second_last.
+      first_last first w.primary.calls w.primary.committer.position (next_primary w) old.device new.device
+      × second_last second w.primary.calls w.standby.position (next_standby w) old.standby.device new.standby.device)
+
+-- what led from one pair to the other moved either device from where its node stands in one world to where it stands in the other
+pub record MovesBoth (first second : Holder) (old new : Pair) (w w' : World) : Type 0 where
+  pub primary : Moves first w'.primary.calls w.primary.committer.position w'.primary.committer.position old.device new.device
+  pub standby : Moves second w'.primary.calls w.standby.position w'.standby.position old.standby.device new.standby.device
+
+-- the machine's step, what the pair stands for after it, and what it did to the devices
+pub record Steps (first second : Holder) (w : World) (event : Event) (did : Bool) (old new : Pair) : Type 0 where
+  pub world : World
+  pub step : Step w event did world
+  pub stands : PairRefines first second new world
+  pub moves : MovesBoth first second old new w world
+
+-- what an event did to a pair: a step, or it was cut; it made one call at most, in the room that there was
+pub record Does (old : Pair) (event : Event) (result : Result Bool Refusal) (new : Pair) : Type 0 where
+  pub steps : IfOk result (λ did. (first second : Holder) (w : World) → PairRefines first second old w → Steps first second w event did old new)
+  pub cut : IfErr result (λ refusal. (first second : Holder) (w : World) → PairRefines first second old w → IsCut first second event refusal old new w)
+  pub calls : AddsOne old.sessions.calls new.sessions.calls

@@ -1,0 +1,50 @@
+-- What the standby, and what lies before it, stand for in the machine.
+use Rattle.std.specs.Prelude.{◌≡◌, ℕ, Bool, true, false, List, [], ◌∷◌, take, map}
+use Rattle.pmem.specs.Device.{State}
+use Rattle.extent_heap.specs.Room.{Room}
+use Rattle.model.specs.declared.call.Call.{Call}
+use Rattle.model.specs.Call.{keyspace_after, cut_at}
+use Rattle.model.specs.Group.{Contents}
+use Rattle.model.specs.Standing.{Holder}
+use Rattle.mv_keyspace.specs.Table.{Table, records}
+use Rattle.machine.specs.declared.event.Event.TheVariants.{Apply}
+use Rattle.machine.specs.Event.{Acknowledgement, World, Frame as Sent, Applies, may_happen}
+use Rattle.standby.specs.declared.frame.Ack.{Ack}
+use Rattle.standby.specs.declared.frame.Frame.{Frame}
+use Rattle.standby.specs.Following.{Follows}
+use Rattle.world.specs.Committing.{EngineStands, Moves}
+use Rattle.world.specs.Link.{AreFramesAt}
+use Rattle.world.specs.declared.arrivals.Arrivals.{Arrivals}
+
+-- what a standby is made of
+pub record Node : Type 0 where
+  pub device : State
+  pub contents : Contents
+  pub is_faulted : Bool
+  pub table : Table
+  pub room : Room
+  pub epoch : ℕ
+
+-- the standby of this epoch, which is that of its image, holds the list up to this position
+pub record StandbyStands (holder : Holder) (epoch : ℕ) (calls : List Call) (position : ℕ) (node : Node) : Type 0 where
+  pub engine : EngineStands holder calls position node.device node.contents node.is_faulted
+  pub follows : Follows node.contents node.table node.room
+  pub table : records node.table ≡ keyspace_after (cut_at calls position)
+  pub epoch_is : node.epoch ≡ epoch
+  pub epoch_held : epoch ≡ holder.epoch
+
+-- what an acknowledgement tells
+abbrev pub told_by : Ack → Acknowledgement
+told_by ack = record { epoch = ack.epoch; position = ack.position }
+
+-- the frames that came, by their places, and the acknowledgements that were made
+pub record ArrivalsRefine (epoch : ℕ) (calls : List Call) (frames : List Frame) (code : Arrivals) (waiting : List Sent) (told : List Acknowledgement) : Type 0 where
+  pub delivered : AreFramesAt epoch calls frames code.delivered.items waiting
+  pub acknowledged : map told_by code.acknowledgements.items ≡ told
+
+-- the standby took the first frame that came, or there was none
+pub record AppliesFirst (holder : Holder) (epoch : ℕ) (frames : List Frame) (w : World) (did : Bool) (arrivals : Arrivals) (old new : Node) : Type 0 where
+  pub done : did ≡ may_happen w Apply
+  pub goes : did ≡ true → (w' : World) × Applies w w' × ArrivalsRefine epoch w.primary.calls frames arrivals w'.standby.waiting w'.wire.acknowledgements × StandbyStands holder epoch w.primary.calls w'.standby.position new
+      × Moves holder w.primary.calls w.standby.position w'.standby.position old.device new.device
+  pub stays : did ≡ false → ArrivalsRefine epoch w.primary.calls frames arrivals w.standby.waiting w.wire.acknowledgements × (new ≡ old)
