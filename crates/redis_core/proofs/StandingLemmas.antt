@@ -17,7 +17,7 @@ use Rattle.placing.specs.Place.{TakesPlaces}
 use Rattle.placing.proofs.TakenLemmas.{All-map, All-append, IsFree, taken_within, places_within, places_free, places_taken, places_fitting, places_apart, AreAllApart-append, not_put_at, AreDistinct-from_apart}
 use Rattle.placing.proofs.LeftLemmas.{placed_of_free, unused_of_free, left_within, after_parts, left-after_parts}
 use Rattle.placing.proofs.PartsLemmas.{parts_versions-append, last_position-append, AreParts-append, puts_of_parts-append}
-use Rattle.redis_core.specs.Sequencing.{Sequencing, puts_of_parts, Continues, Underlies, HandsOut, starts}
+use Rattle.redis_core.specs.Sequencing.{Sequencing, puts_of_parts, IsAheadOf, Underlies, HandsOut, starts}
 use Rattle.redis_core.specs.Turn.{Moves}
 
 -- the entries of new puts hold nothing, also after the parts that wait
@@ -28,7 +28,7 @@ empty_of_free contents room waiting put left taken free =
 
 -- ---- a part begins to wait
 
-module _ (s : Sequencing) (contents : Contents) (stands : Continues s contents) (part : Part) (room : Room) (takes : TakesPlaces s.room (puts_of_part part) room) where
+module _ (s : Sequencing) (contents : Contents) (stands : IsAheadOf s contents) (part : Part) (room : Room) (takes : TakesPlaces s.room (puts_of_part part) room) where
   new_free : AllByRecursion (IsFree s.room) (puts_of_part part)
   new_free = places_free s.room (puts_of_part part) room takes
 
@@ -38,9 +38,9 @@ module _ (s : Sequencing) (contents : Contents) (stands : Continues s contents) 
   new_distinct : AreDistinct (puts_of_part part)
   new_distinct = AreDistinct-from_apart (puts_of_part part) (places_apart s.room (puts_of_part part) room takes)
 
-  pub Continues-part : (closed : List Bool) → part.position ≡ s.position + 1 → AreEnded part.position s.table part.changes.items part.ended.items
-      → Continues (record { table = place_all part.position s.table part.changes.items; room = room; position = part.position; before = s.before; waiting = s.waiting ++ part ∷ []; closed = closed }) contents
-  Continues-part closed next ended =
+  pub IsAheadOf-part : (closed : List Bool) → part.position ≡ s.position + 1 → AreEnded part.position s.table part.changes.items part.ended.items
+      → IsAheadOf (record { table = place_all part.position s.table part.changes.items; room = room; position = part.position; before = s.before; waiting = s.waiting ++ part ∷ []; closed = closed }) contents
+  IsAheadOf-part closed next ended =
       let old = puts_of_parts s.waiting in
       let new = puts_of_part part in
       let puts = puts_of_parts-append s.waiting part in
@@ -63,8 +63,8 @@ module _ (s : Sequencing) (contents : Contents) (stands : Continues s contents) 
       }
 
 -- the seats tell nothing of the contents
-pub Continues-closed : (s : Sequencing) (closed : List Bool) (contents : Contents) → Continues s contents → Continues (record s { closed = closed }) contents
-Continues-closed s closed contents stands = record {
+pub IsAheadOf-closed : (s : Sequencing) (closed : List Bool) (contents : Contents) → IsAheadOf s contents → IsAheadOf (record s { closed = closed }) contents
+IsAheadOf-closed s closed contents stands = record {
   before = stands.before;
   last = stands.last;
   parts = stands.parts;
@@ -78,8 +78,8 @@ Continues-closed s closed contents stands = record {
 }
 
 -- a new sequencer stands for the contents that its tables are of
-pub Continues-starts : (table : Table) (room : Room) (position : ℕ) (closed : List Bool) (contents : Contents) → Underlies contents table room position → Continues (starts table room position closed) contents
-Continues-starts table room position closed contents under = record {
+pub IsAheadOf-starts : (table : Table) (room : Room) (position : ℕ) (closed : List Bool) (contents : Contents) → Underlies contents table room position → IsAheadOf (starts table room position closed) contents
+IsAheadOf-starts table room position closed contents under = record {
   before = under.position_is;
   last = refl;
   parts = tt;
@@ -95,8 +95,8 @@ Continues-starts table room position closed contents under = record {
 -- ---- all parts leave
 
 -- what is handed out is what a commit asks for, and the sequencer stands for what the commit makes of the contents
-pub Continues-group : (old : Sequencing) (group : Group) (new : Sequencing) → HandsOut old group new → (contents : Contents) → Continues old contents → IsGroup contents group × Continues new (after_group contents group)
-Continues-group old group new hands contents stands =
+pub IsAheadOf-group : (old : Sequencing) (group : Group) (new : Sequencing) → HandsOut old group new → (contents : Contents) → IsAheadOf old contents → IsGroup contents group × IsAheadOf new (after_group contents group)
+IsAheadOf-group old group new hands contents stands =
     let parts = old.waiting in
     let is : (P : List Part → Type 0) → P parts → P group.parts.items = λ P h. subst P (sym hands.all) h in
     let group_is : IsGroup contents group = record {
@@ -109,7 +109,7 @@ Continues-group old group new hands contents stands =
       unused = is (λ items. AllByRecursion (IsUnused contents.versions contents.is_free) (puts_of_parts items)) stands.unused;
       apart = is (λ items. AreAllApart (puts_of_parts items)) stands.apart;
     } in
-    let later : Continues (record old { before = old.position; waiting = [] }) (after_parts contents parts) = record {
+    let later : IsAheadOf (record old { before = old.position; waiting = [] }) (after_parts contents parts) = record {
       before = sym stands.last ∙ ap (λ first. last_position first parts) stands.before;
       last = refl;
       parts = tt;
@@ -121,18 +121,18 @@ Continues-group old group new hands contents stands =
       left = left-after_parts contents old.room parts stands.left stands.taken;
       table = stands.table;
     } in
-    (group_is, subst (λ s. Continues s (after_group contents group)) (sym hands.after) (is (λ items. Continues (record old { before = old.position; waiting = [] }) (after_parts contents items)) later))
+    (group_is, subst (λ s. IsAheadOf s (after_group contents group)) (sym hands.after) (is (λ items. IsAheadOf (record old { before = old.position; waiting = [] }) (after_parts contents items)) later))
 
 -- whatever a call moved, the sequencer goes on standing for the contents
-pub Continues-moves : (changes : List Change) (old new : Sequencing) → Moves changes old new → new.before ≡ old.before → (contents : Contents) → Continues old contents → Continues new contents
-Continues-moves [] old new moves before contents stands =
-    subst (λ s. Continues s contents)
+pub IsAheadOf-moves : (changes : List Change) (old new : Sequencing) → Moves changes old new → new.before ≡ old.before → (contents : Contents) → IsAheadOf old contents → IsAheadOf new contents
+IsAheadOf-moves [] old new moves before contents stands =
+    subst (λ s. IsAheadOf s contents)
     (λ i. record { table = sym moves.table i; room = sym moves.room i; position = sym moves.position i; before = sym before i; waiting = sym moves.waiting i; closed = new.closed })
-    (Continues-closed old new.closed contents stands)
-Continues-moves (change ∷ changes) old new moves before contents stands =
+    (IsAheadOf-closed old new.closed contents stands)
+IsAheadOf-moves (change ∷ changes) old new moves before contents stands =
     let part = moves.0 in
     let adds = moves.1 in
     let performs = adds.performs in
-    subst (λ s. Continues s contents)
+    subst (λ s. IsAheadOf s contents)
     (λ i. record { table = sym performs.table_is i; room = new.room; position = sym adds.position i; before = sym before i; waiting = sym adds.waiting i; closed = new.closed })
-    (Continues-part old contents stands part new.room performs.places new.closed performs.position_is performs.ended)
+    (IsAheadOf-part old contents stands part new.room performs.places new.closed performs.position_is performs.ended)

@@ -37,7 +37,7 @@ puts_of_parts = flat_map puts_of_part
 
 -- The sequencer is ahead of an engine with these contents by the parts that wait, and by nothing else: what commits will ask of these parts
 -- holds, and the table is that of the versions after them.
-pub record Continues (s : Sequencing) (contents : Contents) : Type 0 where
+pub record IsAheadOf (s : Sequencing) (contents : Contents) : Type 0 where
   pub before : s.before ≡ contents.current.position
   pub last : last_position s.before s.waiting ≡ s.position
   pub parts : AreParts s.before contents.versions s.waiting

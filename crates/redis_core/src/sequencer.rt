@@ -7,7 +7,7 @@ ghost use Rattle.model.specs.Command.{closes};
 ghost use Rattle.model.specs.Group.{Contents, IsGroup, after_group};
 ghost use Rattle.placing.specs.Left.{IsBeside};
 ghost use Rattle.placing.specs.Place.{HasRoomFor};
-ghost use Rattle.redis_core.specs.Sequencing.{Continues, HandsOut, Underlies, is_closed, starts};
+ghost use Rattle.redis_core.specs.Sequencing.{IsAheadOf, HandsOut, Underlies, is_closed, starts};
 ghost use Rattle.redis_core.specs.Serving.{Serves, IsTooFull};
 ghost use Rattle.redis_core.specs.Serving as replies;
 ghost use Rattle.redis_core.specs.Turn.{Answers, Moves, OnServed, OnIdle, OnBlocked, OnGroupFull, OnEnded, OnUnserved};
@@ -72,7 +72,7 @@ impl<K: Keyspace + Drop> Sequencer<K> {
     ) -> Result<Sequencer<K>, Refusal>
         requires { IsBeside (K.table keyspace) heap }
         ensures ok { IfOk result (λ s. s ≡ starts (K.table keyspace) heap position (replicate MAX_SEATS false)) }
-        ensures stands { IfOk result (λ s. (contents : Contents) → Underlies contents (K.table keyspace) heap position → Continues s contents) }
+        ensures stands { IfOk result (λ s. (contents : Contents) → Underlies contents (K.table keyspace) heap position → IsAheadOf s contents) }
         ensures err { IfErr result (λ refusal. refusal ≡ Refusal.Memory) }
     {
         let waiting = Vec::with_capacity(alloc, MAX_PARTS)?;
@@ -128,7 +128,7 @@ impl<K: Keyspace> Sequencer<K> {
         ensures otherwise { is_closed self.old seat.now ≡ false → length (self.old).waiting < MAX_PARTS → 0 < O.known_room outlet.old
             → I.known_items inlet.old ≢ [] → result ≡ Turn.Served }
         ensures same { O.is_same outlet.old outlet.new }
-        ensures stands { (contents : Contents) → Continues self.old contents → Continues self.new contents }
+        ensures stands { (contents : Contents) → IsAheadOf self.old contents → IsAheadOf self.new contents }
     {
         if self.closed[seat.number()] {
             return Turn::Ended;
@@ -166,7 +166,7 @@ impl<K: Keyspace> Sequencer<K> {
         requires { (self.old).waiting ≢ [] }
         ensures ok { OnOk result ((group : Group) × (G.offered outlet.new ≡ G.offered outlet.old ++ group ∷ [])
             × HandsOut self.old group self.new
-            × ((contents : Contents) → Continues self.old contents → IsGroup contents group × Continues self.new (after_group contents group))) }
+            × ((contents : Contents) → IsAheadOf self.old contents → IsGroup contents group × IsAheadOf self.new (after_group contents group))) }
         ensures err { OnErr result ((self.new ≡ self.old) × (G.offered outlet.new ≡ G.offered outlet.old)) }
         ensures causes { IfErr result (λ refusal. (refusal ≡ Refusal.PipeFull) ⊎ (refusal ≡ Refusal.Memory)) }
         ensures full_only { IsErrOf result Refusal.PipeFull → G.known_room outlet.old ≡ 0 }
@@ -188,7 +188,7 @@ impl<K: Keyspace> Sequencer<K> {
     fn answer(&mut self, alloc: Global, seat: &Seat, item: &Item) -> Reply
         requires { length (self.old).waiting < MAX_PARTS }
         ensures answers { Answers self.old seat.now item.now result self.new }
-        ensures stands { (contents : Contents) → Continues self.old contents → Continues self.new contents }
+        ensures stands { (contents : Contents) → IsAheadOf self.old contents → IsAheadOf self.new contents }
     {
         let served = self.serve(alloc, item);
         self.closed[seat.number()] = is_fault(item);

@@ -13,7 +13,7 @@ use Rattle.extent_heap.specs.Room.{Room}
 use Rattle.mv_keyspace.specs.Table.{Table, records}
 use Rattle.wbl_engine.specs.Contents.{IsNew, IsDurable}
 use Rattle.wbl_engine.specs.Formatting.{IsFormatting}
-use Rattle.redis_core.specs.Sequencing.{Sequencing, Continues, Underlies, starts}
+use Rattle.redis_core.specs.Sequencing.{Sequencing, IsAheadOf, Underlies, starts}
 use Rattle.standby.proofs.NewLemmas.{HasAll, new-table, left-new, new-consistent, follows-new}
 use Rattle.machine.specs.Event.{start}
 use Rattle.machine.proofs.RunLemmas.{sound-start}
@@ -97,7 +97,7 @@ new-own lines lines' role contents same new =
 
 pub pair-starts : (first second : Holder) (pair : Pair) → SessionsRefine pair.sessions [] [] → SequencerRefines [] 0 pair.sequencer
     → CommittingRefines [] pair.committing start.primary.committer → pair.committing.waiting.items ≡ [] → EngineStands first [] 0 pair.device pair.contents pair.is_faulted
-    → Continues pair.sequencer pair.contents → LinkRefines [] pair.link start.primary.link [] → pair.link.epoch ≡ FIRST_EPOCH → pair.link.frames.items ≡ []
+    → IsAheadOf pair.sequencer pair.contents → LinkRefines [] pair.link start.primary.link [] → pair.link.epoch ≡ FIRST_EPOCH → pair.link.frames.items ≡ []
     → ((epoch : ℕ) → ArrivalsRefine epoch [] [] pair.arrivals [] []) → StandbyStands second pair.link.epoch [] 0 pair.standby → PairRefines first second pair start
 pair-starts first second pair sessions sequencer committing none engine ahead link epoch no_frame arrivals standby =
     record {

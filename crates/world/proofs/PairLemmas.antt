@@ -12,7 +12,7 @@ use Rattle.model.specs.declared.group.Group.{Group}
 use Rattle.model.specs.Call.{is_nonempty, position_of}
 use Rattle.model.specs.Group.{Contents}
 use Rattle.model.specs.Standing.{Holder}
-use Rattle.redis_core.specs.Sequencing.{Sequencing, Continues}
+use Rattle.redis_core.specs.Sequencing.{Sequencing, IsAheadOf}
 use Rattle.standby.specs.declared.frame.Frame.{Frame}
 use Rattle.standby.specs.declared.frame.Ack.{Ack}
 use Rattle.machine.specs.declared.event.Event.{Event}
@@ -218,7 +218,7 @@ with_turn sessions sequencer pair = record pair { sessions = sessions; sequencer
 
 called-parts : (first second : Holder) (old : Pair) (sessions : Sessions) (sequencer : Sequencing) (w : World) (c : ℕ) (call : Call) → PairRefines first second old w
     → SessionsRefine sessions (called c call w).primary.connections (w.primary.calls ++ call ∷ []) → SequencerRefines (w.primary.calls ++ call ∷ []) w.primary.committer.closed sequencer
-    → ((contents : Contents) → Continues old.sequencer contents → Continues sequencer contents)
+    → ((contents : Contents) → IsAheadOf old.sequencer contents → IsAheadOf sequencer contents)
     → PartsRefine first second (with_turn sessions sequencer old) (called c call w)
 called-parts first second old sessions sequencer w c call stands sessions_stand sequencer_stands goes_on =
     let parts = stands.parts in
@@ -235,7 +235,7 @@ called-parts first second old sessions sequencer w c call stands sessions_stand 
     }
 
 turn-steps : (first second : Holder) (old : Pair) (sessions : Sessions) (sequencer : Sequencing) (w : World) (c : ℕ) (did : Bool) → PairRefines first second old w
-    → TakesTurn w c did sessions old.sequencer sequencer → ((contents : Contents) → Continues old.sequencer contents → Continues sequencer contents)
+    → TakesTurn w c did sessions old.sequencer sequencer → ((contents : Contents) → IsAheadOf old.sequencer contents → IsAheadOf sequencer contents)
     → Steps first second w (events.Turn c) did old (with_turn sessions sequencer old)
 turn-steps first second old sessions sequencer w c true stands takes goes_on =
     let moved = takes.goes refl in
@@ -280,7 +280,7 @@ turn-steps first second old sessions sequencer w c false stands takes goes_on =
 pub turn-does : (old : Pair) (sessions : Sessions) (sequencer : Sequencing) (c : ℕ) (did : Bool)
     → ((w : World) → Sound w → SessionsRefine old.sessions w.primary.connections w.primary.calls → SequencerRefines w.primary.calls w.primary.committer.closed old.sequencer
     → TakesTurn w c did sessions old.sequencer sequencer)
-    → ((contents : Contents) → Continues old.sequencer contents → Continues sequencer contents)
+    → ((contents : Contents) → IsAheadOf old.sequencer contents → IsAheadOf sequencer contents)
     → AddsOne old.sessions.calls sessions.calls → Does old (events.Turn c) (Ok did) (with_turn sessions sequencer old)
 turn-does old sessions sequencer c did takes goes_on calls =
     record {
@@ -349,7 +349,7 @@ with_engine committing device contents is_faulted pair =
     record pair { committing = committing; device = device; contents = contents; is_faulted = is_faulted }
 
 leads_on : (old : Contents) (groups : List Group) (new : Contents) (rest : List Group) (sequencer : Sequencing) → LeadsOn old groups new rest → Leads old groups sequencer → Leads new rest sequencer
-leads_on old groups new rest sequencer on leads = record { groups_are = on.groups_are; stands = subst (Continues sequencer) (sym on.same) leads.stands }
+leads_on old groups new rest sequencer on leads = record { groups_are = on.groups_are; stands = subst (IsAheadOf sequencer) (sym on.same) leads.stands }
 
 commit-steps : (first second : Holder) (w : World) (did : Bool) (old new : Pair) → new.standby.device ≡ old.standby.device → Sound w
     → (did ≡ false → new.device ≡ old.device) → new.device.failures ≡ old.device.failures → NearOnly first w.primary.calls w.primary.committer.position (next_primary w) old.device new.device

@@ -20,7 +20,7 @@ use Rattle.model.specs.Position.{changes_at, changes_since}
 use Rattle.model.proofs.CallsLemmas.{changes_of-alike, keyspace_after-push, position_of-push, sessions_idle}
 use Rattle.model.proofs.PositionsLemmas.{changes_at-append, changes_at-push}
 use Rattle.model.proofs.ServesLemmas.{items_of-push_own, items_of-push_other}
-use Rattle.redis_core.specs.Sequencing.{HandsOut, Sequencing, Continues, state_of}
+use Rattle.redis_core.specs.Sequencing.{HandsOut, Sequencing, IsAheadOf, state_of}
 use Rattle.redis_core.specs.Turn.{Answers, Moves, call_of}
 use Rattle.machine.specs.declared.event.Event.TheVariants.{CloseGroup}
 use Rattle.machine.specs.declared.event.TheConstants.{PIPE_ITEMS}
@@ -202,12 +202,12 @@ after_groups-push contents (first ∷ groups) group = after_groups-push (after_g
 
 -- what is to be committed leads to the sequencer still
 pub Leads-push : (contents : Contents) (groups groups' : List Group) (group : Group) (old new : Sequencing) → Leads contents groups old → groups' ≡ groups ++ group ∷ []
-    → ((before : Contents) → Continues old before → IsGroup before group × Continues new (after_group before group)) → Leads contents groups' new
+    → ((before : Contents) → IsAheadOf old before → IsGroup before group × IsAheadOf new (after_group before group)) → Leads contents groups' new
 Leads-push contents groups groups' group old new leads pushed closes_group =
     let closed = closes_group (after_groups contents groups) leads.stands in
     subst (λ (xs : List Group). Leads contents xs new) (sym pushed) (record {
       groups_are = AreGroups-push contents groups group leads.groups_are closed.0;
-      stands = subst (Continues new) (sym (after_groups-push contents groups group)) closed.1;
+      stands = subst (IsAheadOf new) (sym (after_groups-push contents groups group)) closed.1;
     })
 
 -- ---- where a group may be closed

@@ -12,7 +12,7 @@ use Rattle.model.specs.Standing.{Holder, StandsAt}
 use Rattle.model.specs.declared.record.Role.{Role}
 use Rattle.wbl_engine.specs.Contents.{IsDurable}
 use Rattle.wbl_engine.specs.Formatting.{IsFormatting}
-use Rattle.redis_core.specs.Sequencing.{Sequencing, Continues}
+use Rattle.redis_core.specs.Sequencing.{Sequencing, IsAheadOf}
 use Rattle.machine.specs.Event.{Committer as Machine, Stage as MachineStage, Frame as Sent, World, committed_first}
 use Rattle.machine.specs.World as machine_stage
 use Rattle.world.specs.GroupSpan.{AreGroupsOf, IsGroupOf}
@@ -35,7 +35,7 @@ after_groups contents (group ∷ groups) = after_groups (after_group contents gr
 -- groups lead from what an engine holds to what the sequencer stands for
 pub record Leads (contents : Contents) (groups : List Group) (s : Sequencing) : Type 0 where
   pub groups_are : AreGroups contents groups
-  pub stands : Continues s (after_groups contents groups)
+  pub stands : IsAheadOf s (after_groups contents groups)
 
 -- what is left to commit leads to where it led before
 pub record LeadsOn (old : Contents) (groups : List Group) (new : Contents) (rest : List Group) : Type 0 where

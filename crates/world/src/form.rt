@@ -4,7 +4,7 @@ ghost use Rattle.model.specs.Group.{Contents};
 ghost use Rattle.model.specs.Standing.{new_holder};
 ghost use Rattle.machine.specs.Event.{start};
 ghost use Rattle.wbl_engine.specs.Contents.{IsNew};
-ghost use Rattle.redis_core.specs.Sequencing.{Continues};
+ghost use Rattle.redis_core.specs.Sequencing.{IsAheadOf};
 ghost use Rattle.world.specs.Cause.{UnformedBy};
 ghost use Rattle.world.specs.Committing.{CommittingRefines, FormattingOnly};
 ghost use Rattle.world.specs.Link.{LinkRefines};
@@ -51,7 +51,7 @@ fn make_between<K: Keyspace + Drop>(
     ensures sessions { IfOk result (λ between. SessionsRefine between.sessions [] []) }
     ensures room { IfOk result (λ between. calls ≤ vec_capacity between.sessions.calls) }
     ensures sequencer { IfOk result (λ between. SequencerRefines [] 0 between.sequencer) }
-    ensures underlies { IfOk result (λ between. (contents : Contents) → IsNew lines contents.current.role contents → Continues between.sequencer contents) }
+    ensures underlies { IfOk result (λ between. (contents : Contents) → IsNew lines contents.current.role contents → IsAheadOf between.sequencer contents) }
     ensures committing { IfOk result (λ between. CommittingRefines [] between.committing start.primary.committer) }
     ensures none { IfOk result (λ between. between.committing.waiting.items ≡ []) }
     ensures link { IfOk result (λ between. LinkRefines [] between.link start.primary.link []) }

@@ -6,7 +6,7 @@ ghost use Rattle.model.specs.declared.group.TheConstants.{MAX_PARTS};
 ghost use Rattle.machine.specs.declared.event.Event.TheVariants.{Enter, Feed, Offer, Hold, Read, Release, Write};
 ghost use Rattle.machine.specs.Event.{World, may_happen, new_connection, changed_at, with_inbound, with_outbound, fed_with, offered_next, held_first, having_read, having_released, written};
 ghost use Rattle.machine.specs.Sound.{Sound};
-ghost use Rattle.redis_core.specs.Sequencing.{Continues, is_closed};
+ghost use Rattle.redis_core.specs.Sequencing.{IsAheadOf, is_closed};
 ghost use Rattle.redis_core.specs.Turn.{call_of};
 ghost use Rattle.world.specs.Going.{Goes};
 ghost use Rattle.world.specs.Running.{Runs};
@@ -186,7 +186,7 @@ impl Sessions {
         ensures turns { (w : World) → Sound w → SessionsRefine self.old w.primary.connections w.primary.calls
             → SequencerRefines w.primary.calls w.primary.committer.closed sequencer.old
             → TakesTurn w c result self.new sequencer.old sequencer.new }
-        ensures stands { (contents : Contents) → Continues sequencer.old contents → Continues sequencer.new contents }
+        ensures stands { (contents : Contents) → IsAheadOf sequencer.old contents → IsAheadOf sequencer.new contents }
         ensures calls { AddsOne self.old.calls self.new.calls }
     {
         let Some(connection) = self.connections.get_mut(c as usize) else {
@@ -229,7 +229,7 @@ fn first_reply<K: Keyspace>(
     ensures stays { replies.old.items ≡ [] → IfNone result ((waiting.new.items ≡ waiting.old.items) × (sequencer.new ≡ sequencer.old)) }
     ensures otherwise { replies.old.items ≡ [] → is_closed sequencer.old seat.now ≡ false → length (sequencer.old).waiting < MAX_PARTS → waiting.old.items ≢ [] → IsSome result }
     ensures replies { replies.old.items ≡ [] → replies.new.items ≡ [] }
-    ensures stands { (contents : Contents) → Continues sequencer.old contents → Continues sequencer.new contents }
+    ensures stands { (contents : Contents) → IsAheadOf sequencer.old contents → IsAheadOf sequencer.new contents }
 {
     match sequencer.turn(alloc, seat, waiting, replies) {
         Turn::Served => replies.take(),

@@ -3,7 +3,7 @@ use Rattle.model.specs.Call.{changes_of}
 use Rattle.redis_core.specs.Sequencing.{Sequencing, state_of}
 use Rattle.redis_core.specs.Turn.{Answers, call_of}
 use Rattle.redis_core.proofs.AnswersLemmas.{answers_of}
-use Rattle.redis_core.proofs.StandingLemmas.{Continues-moves}
+use Rattle.redis_core.proofs.StandingLemmas.{IsAheadOf-moves}
 use Rattle.redis_core.proofs.sequencer.Sequencer.answer.Goals as goal
 
 pub returns-clause-answers : goal.returns-clause-answers
@@ -30,4 +30,4 @@ returns-clause-answers g c =
 pub returns-clause-stands : goal.returns-clause-stands
 returns-clause-stands g c =
     let answers = returns-clause-answers g c in
-    Continues-moves (changes_of (state_of c.args.self.now) (call_of c.args.seat.now c.args.item.now c.reply_of.result)) c.args.self.now _ answers.moves answers.before
+    IsAheadOf-moves (changes_of (state_of c.args.self.now) (call_of c.args.seat.now c.args.item.now c.reply_of.result)) c.args.self.now _ answers.moves answers.before

@@ -3,7 +3,7 @@ use Rattle.model.specs.declared.group.Group.{Group}
 use Rattle.model.specs.declared.group.Part.{Part}
 use Rattle.model.specs.declared.group.TheConstants.{MAX_PARTS}
 use Rattle.redis_core.specs.Sequencing.{Sequencing, HandsOut}
-use Rattle.redis_core.proofs.StandingLemmas.{Continues-group}
+use Rattle.redis_core.proofs.StandingLemmas.{IsAheadOf-group}
 use Rattle.redis_core.proofs.sequencer.Sequencer.close_group.Goals as goal
 
 some : (parts : List Part) → parts ≢ [] → 0 < length parts
@@ -23,4 +23,4 @@ returns-clause-ok g c =
       before = c.replace-before.ensures.value ∙ ap (λ (s : Sequencing). s.before) c.self.view_is;
       after = rw (c.replace-before.ensures.after, emptied) (ap (λ (s : Sequencing). record s { before = s.position; waiting = [] }) c.self.view_is);
     } in
-    (group, c.in-Ok.ensures.last ∙ ap (λ items. items ++ group ∷ []) c.room.ensures.unchanged, hands, Continues-group old group _ hands)
+    (group, c.in-Ok.ensures.last ∙ ap (λ items. items ++ group ∷ []) c.room.ensures.unchanged, hands, IsAheadOf-group old group _ hands)
