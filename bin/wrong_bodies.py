@@ -28,7 +28,7 @@ TAKEN_AWAY = re.compile(r"(\./)?proofs/.*(has no field|is not in scope|has no `|
 # The crates
 
 class Crates:
-    """The crates that crates.txt lists, in its order, each with those of them that it stands on."""
+    """The crates that crates.txt lists, in its order, each with those of them that it depends on."""
 
     def __init__(self, root):
         self.rows, self.uses = {}, {}
@@ -61,7 +61,7 @@ def version():
 
 
 def digest(root, crates, name, toolchain):
-    """Returns the sum of all that decides whether the crate's edits are refused. Which of its folders holds an edit does not."""
+    """Returns the checksum of all that decides whether the crate's edits are refused. Which of its folders holds an edit does not."""
     found = hashlib.sha256(f"{toolchain}\n{crates.rows[name]}\n".encode())
     files = [(root / "crates" / name, SOURCES)] + [(root / "crates" / it, SOURCES[:2]) for it in crates.below(name)]
     for folder, parts in files:
@@ -114,7 +114,7 @@ class Edit:
     bad: str = ""
 
     def apply(self, texts, folder):
-        """Puts the edit into these texts by their path, and answers why it cannot, if so."""
+        """Applies the edit to these texts, given by path, and returns why it cannot be applied, if so."""
         for path, old, new in self.pairs:
             text = texts.get(path) or (folder / path).read_text(encoding="utf-8")
             if text.count(old) != 1:
@@ -198,7 +198,7 @@ def named(known, crate, path, lines, line):
 
 
 def body_of(lines, span):
-    """Returns where the function's body begins: the line that opens it, and the column behind its brace."""
+    """Returns where the function's body begins: the line that opens it, and the column after its brace."""
     indent = len(lines[span[0]]) - len(lines[span[0]].lstrip())
     for at in range(span[0], span[1] + 1):
         if lines[at].rstrip() == " " * indent + "{" or at == span[0] and lines[at].rstrip().endswith("{"):

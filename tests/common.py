@@ -24,7 +24,7 @@ PROGRAMS = {
     "pmem_file_probe": ("WBL_FILE_PROBE", "cd crates/pmem_file_probe && rt run < /dev/null"),
 }
 
-# A program that takes longer is at fault.
+# A program that takes longer has failed.
 SECONDS = 300
 
 
@@ -120,7 +120,7 @@ def unquoted(text):
 class Cases(unittest.TestCase):
     """Tests whose cases are counted one by one."""
 
-    # A difference of long outputs says where they part, and no more.
+    # A difference of long outputs shows only where they begin to differ.
     maxDiff = 2_000
 
     @contextlib.contextmanager
@@ -130,7 +130,7 @@ class Cases(unittest.TestCase):
             yield
 
     def assert_bytes(self, found, wanted):
-        """Both are the same bytes; else the message shows them around the first place where they part."""
+        """Both are the same bytes; else the message shows them around the first byte where they differ."""
         if found == wanted:
             return
         shared = os.path.commonprefix([found, wanted])
@@ -141,6 +141,6 @@ class Cases(unittest.TestCase):
         )
 
     def assert_written(self, finished, wanted):
-        """The program wrote just these bytes, no message, and ended with status 0."""
+        """The program wrote exactly these bytes, no message, and ended with status 0."""
         self.assert_bytes(finished.output, wanted)
         self.assertEqual((finished.status, finished.errors), (0, b""))

@@ -44,7 +44,7 @@ class Script:
         self._fed = 0
 
     def take(self, count=None):
-        """The next bytes, so many at most, or all."""
+        """The next bytes, at most `count`, or all."""
         at, end = self._fed, len(self.text) if count is None else self._fed + count
         self._fed = min(end, len(self.text))
         return self.text[at:end]
@@ -56,7 +56,7 @@ def numbers(seed):
 
 
 def damaged(draws, data):
-    """A copy with one to three places changed, left out, repeated or put in."""
+    """A copy with one to three bytes changed, left out, repeated or put in."""
     for _ in range(draws.randint(1, 3)):
         at = draws.randrange(len(data) + 1)
         byte = bytes([draws.choice(TELLING) if draws.randrange(4) else draws.randrange(256)])

@@ -65,7 +65,7 @@ LIMITS = [
     ("docs/simulator.md", f"all changing calls that wait, 1 to {N}, become one group", PARTS),
     ("docs/simulator.md", f"fewer than {N} wait for their acknowledgement", KEPT),
     ("docs/simulator.md", f"At most {N} events are played", ("simulator", "MOST_EVENTS")),
-    ("docs/probe.md", f"so many lines of zeros, at most {N} ", ("probe", "MOST_LINES")),
+    ("docs/probe.md", f"a device of LINES lines of zeros, at most {N} ", ("probe", "MOST_LINES")),
     ("docs/probe.md", f"`done`; at most {N} lines", ("probe", "MOST_LINES")),
     ("docs/worked-cases.md", rf"at most {N} words of at most {N} bytes\.", SERVED_WORDS, SERVED_BYTES),
     ("docs/worked-cases.md", rf"images are new, of {N} lines \({N} entries", IMAGE_LINES, IMAGE_CHANGES),

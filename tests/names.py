@@ -1,6 +1,6 @@
 """Names that pages may give though no source has them, and public names that stand for one meaning in several places."""
 
-# Calls and definitions that pages say come later. Once one is there, the pages say so and it goes from here.
+# Calls and definitions that pages say come later. Once one is there, the pages say so and it is removed from here.
 LATER = [
     "Committer::turn", "IsFenced", "IsFrame", "IsRightDelta", "Promotes", "Reopens", "ReplyParser", "Sessions::call",
     "claim", "clear_gap", "delta", "inspect", "pin", "promote", "raise_round", "rejoin", "run_hash", "run_string",
@@ -12,7 +12,7 @@ OUTSIDE = {
     "HELLO", "Clone", "Copy", "bytes::BufMut", "io::Write", "slab", "indexmap", "clap", "crossbeam_utils", "KEY", "WBLIMG01",
 }
 
-# Public names that several items, calls or variants bear, and why that is one meaning. `TO BE RENAMED` marks those that
+# Public names that several items, calls or variants have, and why that is one meaning. `TO BE RENAMED` marks those that
 # still stand for two things.
 REPEATED = {
     "Clear": "everything is removed: a change, and the same change with its places",

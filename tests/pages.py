@@ -1,4 +1,4 @@
-"""The pages and what stands on them: backticked names, paths, sections, shown commands with their output."""
+"""The pages and what is on them: backticked names, paths, sections, shown commands with their output."""
 
 import re
 import typing
@@ -18,7 +18,7 @@ CODE = re.compile(r"`([^`\n]+)`")
 INDENTED = re.compile(r"(?m)^    .*\n?")
 LINK = re.compile(r"\]\(([^)\s]+)\)(?:, \"([^\"]+)\")?")
 PATH = re.compile(r"(?<![\w/.])(?:[\w*.-]+/)+[\w*.-]*|(?<![\w/.*-])[\w*]+\.(?:rt|antt|py|md|txt|edit)\b")
-# "`a`, `b` and `c` in FILE", where the file may stand in backticks.
+# "`a`, `b` and `c` in FILE", where the file may be in backticks.
 CITED = re.compile(r"((?:`[^`\n]+`(?:, | and |, and ))*`[^`\n]+`) in `?([\w/.]+\w)`?")
 
 
@@ -37,7 +37,7 @@ def prose(page):
 
 
 def codes(page):
-    """All that stands in backticks outside of the indented blocks."""
+    """All that is in backticks outside the indented blocks."""
     return CODE.findall(prose(page))
 
 
@@ -48,7 +48,7 @@ def paths(page):
 
 
 def links(page):
-    """The targets of the page's links, and of each the section that is named behind it, or an empty text."""
+    """The targets of the page's links, and of each the section that is named after it, or an empty text."""
     return LINK.findall(re.sub(r"\s+", " ", text_of(page)))
 
 
@@ -59,7 +59,7 @@ def sections(page):
 
 
 def citations(page):
-    """Pairs of names in backticks and of the file or the crate in which the page says they stand."""
+    """Pairs of names in backticks and of the file or the crate in which the page says they are."""
     return [(CODE.findall(names), place) for names, place in CITED.findall(prose(page))]
 
 
@@ -95,7 +95,7 @@ def blocks(page):
 
 
 def typed(page):
-    """The commands that stand behind a `$ ` on the page, with their output."""
+    """The commands that follow a `$ ` on the page, with their output."""
     shown = []
     for number, lines in blocks(page):
         for place, line in enumerate(lines):

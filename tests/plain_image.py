@@ -48,7 +48,7 @@ class Record(typing.NamedTuple):
 
 
 class Entry(typing.NamedTuple):
-    """The entry of one version, as its words stand."""
+    """The entry of one version, in the order of its words."""
 
     begin: int
     end: int
@@ -69,7 +69,7 @@ class Image:
 
 
 class Words:
-    """The words of a device of so many lines, by their places. Those that are not named are zero."""
+    """The words of a device of `lines` lines, by their indices. Those that are not given are zero."""
 
     def __init__(self, lines, words):
         self.lines = lines
@@ -157,7 +157,7 @@ def _read_version(device, record, entry):
 
 
 def lines_of(length):
-    """How many lines so many bytes take."""
+    """How many lines `length` bytes take: at least one."""
     return max(1, -(-length // 64))
 
 

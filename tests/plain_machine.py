@@ -22,7 +22,7 @@ class Fault(Exception):
 
 
 class Connection:
-    """One connection: what it sent, and its replies on their way through its gate. A reply stands beside its
+    """One connection: what it sent, and its replies on their way through its gate. A reply is beside its
     position."""
 
     def __init__(self):
@@ -65,7 +65,7 @@ class Node:
 
 
 class Machine:
-    """A run. `done` tells of each event whether it did its step, `calls` has each call as (connection, item, reply,
+    """A run. `done` says of each event whether it did its step, `calls` has each call as (connection, item, reply,
     position), and `ended` names the event at which a fence failed, "formatting", or None."""
 
     def __init__(self, lines=DEFAULT_LINES, fail=(0, 0)):
@@ -105,7 +105,7 @@ class Machine:
         return self
 
     def ended_line(self, lines_before):
-        """The line of the event that ended the run, where the events stand a line each."""
+        """The line of the event that ended the run, where the events are one on each line."""
         return self.ended + 1 + lines_before if isinstance(self.ended, int) else None
 
     def _connection(self, c):

@@ -46,14 +46,14 @@ class Probing(common.Cases):
     """Tests that are tables of lines and answers."""
 
     def show(self, table):
-        """Lines that keep nothing: each with its answer is a case."""
+        """Lines that keep nothing: each with its answer is one case."""
         table = list(table)
         for (line, wanted), answer in zip(table, answers(line for line, _ in table)):
             with self.case(line[:200]):
                 self.assertEqual(answer, wanted)
 
     def show_session(self, table, name="session"):
-        """Lines of which each goes on from those before it, all to one probe: together they are one case."""
+        """Lines of which each builds on those before it, all to one probe: together they are one case."""
         table = list(table)
         with self.case(name):
             found = answers(line for line, _ in table)

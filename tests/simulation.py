@@ -76,15 +76,15 @@ class Schedule:
         self.add(f"read {c} local", f"read {c} remote")
 
     def write_out(self, c, most=2**17):
-        """What the marks cover is released and written, if it is less than twice `most`: each power of two where so many
-        bytes are left."""
+        """What the marks cover is released and written, if it is less than twice `most` bytes: in powers of two, each where
+        that many bytes are left."""
         self.add(f"release {c}")
         while most:
             self.add(f"write {c} {most}")
             most //= 2
 
     def drain(self, connections, items, frames):
-        """All that was fed is served to its end: so many items of each connection at most, and so many frames in
+        """All that was fed is served to its end: at most `items` items of each connection, and `frames` frames in
         all."""
         for _ in range(items):
             for c in range(connections):
@@ -158,7 +158,7 @@ class Trace:
             raise AssertionError(f"line {self._at + 1} is out of place: {self._lines[self._at:][:1]}")
 
     def _all(self, pattern):
-        """The groups of the next lines, as many as there are of this kind."""
+        """The match groups of the next lines, as many as there are of this kind."""
         rows = []
         while found := pattern.fullmatch(self._lines[self._at]):
             rows.append(found.groups())

@@ -1,4 +1,4 @@
-"""What the sources name: the crates with what they stand on, their public names, their constants, and all words of their
+"""What the sources name: the crates with what they depend on, their public names, their constants, and all words of their
 code.
 
     python3 tests/sources.py    prints the public names by crate
@@ -20,7 +20,7 @@ WORD = re.compile(r"[A-Za-z_][\w'-]*")
 
 @functools.cache
 def crates():
-    """By crate of crates.txt the crates that it stands on, in the order of that file."""
+    """By crate of crates.txt the crates that it depends on, in the order of that file."""
     rows = {}
     for line in (common.ROOT / "crates.txt").read_text(encoding="utf-8").splitlines():
         name, colon, uses = line.partition("#")[0].partition(":")
@@ -34,7 +34,7 @@ def files(crate, folder, suffix):
 
 
 def without_comments(text, mark):
-    """The text without what stands behind the mark. No string of the sources has one."""
+    """The text without what follows the mark. No string of the sources has one."""
     return re.sub(rf"(?m)(^|\s){re.escape(mark)}.*$", "", text)
 
 
@@ -129,7 +129,7 @@ def public_names(crate):
 
 
 def places_of_names():
-    """By public name, without its type, where it stands: as `crate` an item, as `crate::Type` a call or a variant."""
+    """By public name, without its type, where it is declared: as `crate` an item, as `crate::Type` a call or a variant."""
     places = {}
     for crate in crates():
         for name in public_names(crate):
@@ -173,7 +173,7 @@ def value(crate, name):
 
 
 def below(crate):
-    """The crate and all that it stands on."""
+    """The crate and all that it depends on."""
     return [crate, *(it for use in crates()[crate] if use in crates() for it in below(use))]
 
 

@@ -29,7 +29,7 @@ def spell(*words):
 
 
 class Fault(typing.NamedTuple):
-    """A fault: the text of its reply, and the place of the byte at which it is decided."""
+    """A protocol fault: the text of its reply, and the index of the byte at which it is decided."""
 
     text: bytes
     place: int
@@ -109,7 +109,7 @@ def _is_number(digits, most):
 
 
 def _expect(data, at, byte, text):
-    """The byte at this place is this one, or it decides a fault."""
+    """The byte at this index is this one, or it decides a fault."""
     if at >= len(data):
         raise _GoesOn
     if data[at:at + 1] != byte:

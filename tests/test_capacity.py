@@ -11,7 +11,7 @@ IS_SLOW = True
 
 
 def changes(count, request_of):
-    """So many changes of one connection, each served to its end before the next one."""
+    """`count` changes of one connection, each served to its end before the next one."""
     schedule = Schedule(1)
     for number in range(count):
         schedule.feed(0, request_of(number))
@@ -33,7 +33,7 @@ class Capacity(Runs):
         return trace
 
     def check_room(self, lines, request_of):
-        """An image of so many lines takes a change for each of its entries, and then is full."""
+        """An image of `lines` lines takes a change for each of its entries, and then is full."""
         room = lines // 8
         schedule = changes(room, request_of)
         schedule.feed(0, request_of(room) + spell("GET", "a") + request_of(room + 1))

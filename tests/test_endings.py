@@ -85,7 +85,7 @@ class Messages(Cases):
 
 
 def serve_within(limit, data):
-    """Runs the server in an address space of so many bytes."""
+    """Runs the server in an address space of `limit` bytes."""
     return run_program("server", stdin=data, preexec_fn=lambda: resource.setrlimit(resource.RLIMIT_AS, (limit, limit)))
 
 

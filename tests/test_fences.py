@@ -97,7 +97,7 @@ GROUP = [SET_A, spell("SET", "b", "2"), spell("SET", "a", "3")]
 
 
 def sets(count):
-    """A connection sets a to 1 so many times, each served to its end."""
+    """A connection sets a to 1 `count` times, each served to its end."""
     schedule = Schedule(1)
     for number in range(count):
         schedule.feed(0, SET_A)

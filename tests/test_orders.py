@@ -18,20 +18,20 @@ LINES = 4_096
 
 
 class Order:
-    """Events drawn by a seed, and what the connections still have to send. A connection more than entered is drawn
-    too."""
+    """Events drawn by a seed, and what the connections still have to send. One connection more than have entered
+    is drawn too."""
 
     def __init__(self, seed):
         self.draws = draws.numbers(f"order {seed}")
         self.scripts = [draws.Script(self.draws, count) for count in REQUESTS_OF_EACH]
         self.schedule = Schedule(CONNECTIONS)
-        # so many times a frame was to be sent, and an acknowledgement to be made
+        # how many times a frame was to be sent, and an acknowledgement to be made
         self.frames = 0
         self.acknowledgements = 0
 
     def draw(self, events):
-        """So many events. Twenty times or so all frames come once more: else those that the standby lacks would seldom
-        come in their order."""
+        """Draws `events` events. About twenty times all frames come once more: otherwise those that the standby lacks would
+        seldom come in order."""
         for _ in range(events):
             if self.draws.randrange(events) < 20:
                 self.deliver_all()
@@ -103,7 +103,7 @@ class Orders(Runs):
         self.check_machine(trace, order.schedule.events)
 
     def check_calls(self, trace):
-        """Each call is answered as one Redis answers it at its place. Gives the position after each."""
+        """Each call is answered as one Redis answers it at that point of the list. Returns the position after each."""
         redis, positions = plain_redis.Redis(LINES // 8), []
         for call, (position, reply) in zip(trace.calls, trace.plain):
             with self.case("call", place=len(positions)):
@@ -114,7 +114,7 @@ class Orders(Runs):
         return positions
 
     def check_image(self, trace, node):
-        """The image is whole, and holds what one Redis holds after as many changes as its position says. Gives the
+        """The image is whole, and holds what one Redis holds after as many changes as its position says. Returns the
         position."""
         with self.case("image", node=node):
             image = plain_image.read_image(plain_image.Words(LINES, trace.words[node]))

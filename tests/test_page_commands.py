@@ -21,7 +21,7 @@ def lines_of(block):
 
 
 class Commands(common.Cases):
-    """Commands with what they print. Line ends of replies stand as line ends on the pages."""
+    """Commands with what they print. Line ends of replies are line ends on the pages."""
 
     @classmethod
     def setUpClass(cls):

@@ -33,7 +33,7 @@ def numbers(text):
 
 
 def scope_of(page):
-    """The crates whose words a page may name: all, or the crate of a README and those that it stands on."""
+    """The crates whose words a page may name: all, or the crate of a README and those that it depends on."""
     own = page.parent.name if page.parent.parent == sources.CRATES else None
     return sources.below(own) if own else list(sources.crates())
 
@@ -48,7 +48,7 @@ def folders_of(page):
 
 
 def bytes_of(cell):
-    """The bytes that stand in backticks in a cell, one after another, where `\\r` and `\\n` stand for a line end."""
+    """The bytes in backticks in a cell, one after another, where `\\r` and `\\n` stand for a line end."""
     return "".join(pages.CODE.findall(cell)).replace("\\r", "\r").replace("\\n", "\n").encode("ascii")
 
 
@@ -158,7 +158,7 @@ class Crates(common.Cases):
             with self.case("crate", crate=crate):
                 self.assertEqual(crate in sources.crates(), exists != "planned")
                 if crate in sources.crates():
-                    # (in brackets stand those that it only cites, and later ones)
+                    # (in brackets are those that it only cites, and later ones)
                     found = set(re.sub(r"\([^)]*\)", "", uses).replace(",", " ").split())
                     cited = set(pages.CODE.findall(uses))
                     self.assertLessEqual(found, set(sources.crates()[crate]))
@@ -175,7 +175,7 @@ class Crates(common.Cases):
                     self.assertTrue(name in known, "the crate has no such contract")
 
     def test_public_names_are_found(self):
-        # else the next test would look at nothing
+        # otherwise the next test would check nothing
         for crate in sources.crates():
             with self.case("crate", crate=crate):
                 is_library = (sources.CRATES / crate / "src" / "lib.rt").exists()

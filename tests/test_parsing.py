@@ -1,4 +1,4 @@
-"""What bytes ask for, in any pieces: each text is fed to connections of its own, cut at every place and in single
+"""What bytes ask for, in any pieces: each text is fed to connections of its own, cut at every position and in single
 bytes. The requests and the faults are written here by hand, from docs/protocol.md."""
 
 import plain_redis
@@ -26,7 +26,7 @@ REQUESTS = {
     "a_prefix_of_a_request": (SET_A[:-1], []),
 }
 
-# Texts that are at fault at their last byte, after so many whole requests.
+# Texts that are at fault at their last byte, by where that byte is.
 IN_COUNT = [b"*01", b"*-", b"*\r", b"*\n", b"*1\n", b"*1\r\r", b"*4", b"*9", b"*10", b"*1x"]
 IN_COUNT += [b"*+", b"*x", b"* ", b"*0\n", b"*00"]
 FIRST_BYTES = [b"P", b"*0\r\nP", b"\r", b"\n", b"\0", b"$", b"+", b"*0\r\n$"]

@@ -24,7 +24,7 @@ SCRIPT = ["store 0 1", "store 8 2", "flush 0", "store 0 3", "fence", "store 8 4"
 OLDEST, NEWEST, OLDEST_THEN_NEWEST, NEWEST_THEN_OLDEST = "crash", "crash 5 5", "crash 0 5", "crash 5 0"
 CRASHES = [OLDEST, NEWEST, OLDEST_THEN_NEWEST, NEWEST_THEN_OLDEST]
 
-# What words 0 and 8 hold where a crash comes after so many calls of the script, by each list of picks.
+# Row n: what words 0 and 8 hold where a crash comes after the first n calls of the script, for each list of picks.
 LEFT = [
     [(0, 0), (0, 0), (0, 0), (0, 0)],
     [(0, 0), (1, 0), (0, 0), (1, 0)],
@@ -90,7 +90,7 @@ class Crashes(Probing):
 
 class Fences(Probing):
     def test_fail_as_asked(self):
-        # Which fence is asked to fail, and what three of them answer.
+        # Which fence is told to fail, and what the first three return.
         cases = [(0, [OK, OK, OK]), (1, [FAULT, OK, OK]), (2, [OK, FAULT, OK]), (4, [OK, OK, OK])]
         for asked, wanted in cases:
             table = done("new 1", f"fail-at {asked}")

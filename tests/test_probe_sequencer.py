@@ -112,7 +112,7 @@ class Places(Probing):
         ])
 
     def test_a_refused_put_leaves_all_as_it_was(self):
-        # Four lines and three entries. The second value wants more lines than are left, and the last finds no entry.
+        # Four lines and three entries. The second value needs more lines than are left, and the last finds no entry.
         self.show_session([
             ("sequencer new 524 3", "done"),
             *asked((b"SET", b"a", 100 * b"x"), OK, 1),

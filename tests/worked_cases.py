@@ -1,4 +1,4 @@
-"""The cases of docs/worked-cases.md that the programs of today show, with the bytes in and out that stand on that page.
+"""The cases of docs/worked-cases.md that the programs of today show, with the bytes in and out that are on that page.
 Each has the name of its row."""
 
 SET_A = b"*3\r\n$3\r\nSET\r\n$1\r\na\r\n$1\r\n1\r\n"

@@ -1,4 +1,4 @@
--- What the definitions of a room say together.
+-- What the definitions of a room imply together.
 use Rattle.std.proofs.Common.{◌≡◌, ℕ, zero, suc, ◌+◌, ◌-◌, ◌<◌, ◌≤◌, Bool, true, false, not, ◌&&◌, nat_eq, nat_lt, nat_le, IsTrue, refl, sym, ◌∙◌, ap, subst, min, add-one, if◌then◌else◌, arith}
 use Rattle.std.proofs.lemmas.Bool.{and_parts}
 use Rattle.std.proofs.lemmas.Bool.Decides.{nat_tests}
@@ -6,14 +6,14 @@ use Rattle.kv_types.specs.declared.place.EntryNo.{EntryNo}
 use Rattle.kv_types.specs.declared.place.Extent.{Extent}
 use Rattle.extent_heap.specs.Room.{Room, is_free_line, is_line_of, is_free_entry, IsFreeRun, free_lines_below, TakesExtent, TakesEntry}
 
--- a line is free where it is from the next one up to the end
+-- a line is free if it is from the next one up to but not including the end
 pub free_line : (room : Room) (line : ℕ) → room.next_line ≤ line → line < room.end_line → IsTrue (is_free_line room line)
 free_line room line low high = grind (arith, nat_tests)
 
 pub free_line-bounds : (room : Room) (line : ℕ) → IsTrue (is_free_line room line) → (room.next_line ≤ line) × (line < room.end_line)
 free_line-bounds room line free = grind (arith, nat_tests)
 
--- what was handed out is what came next
+-- the lowest run begins at the next line
 pub TakesExtent-first : (old : Room) (extent : Extent) (new : Room) → 0 < extent.lines → TakesExtent old extent new → extent.first_line ≡ old.next_line
 TakesExtent-first old extent new some takes =
     let prefix = free_line-bounds old extent.first_line (takes.free extent.first_line (omega arith) (omega arith)) in
@@ -22,7 +22,7 @@ TakesExtent-first old extent new some takes =
     let low = takes.lowest old.next_line (λ line from below. free_line old line from (omega arith)) in
     omega arith
 
--- a room is known by what was handed out of it and what is left
+-- a room is determined by what was handed out of it and what is left
 pub room_before_extent : (old : Room) (extent : Extent) (new : Room) → 0 < extent.lines → TakesExtent old extent new → record new { next_line = extent.first_line } ≡ old
 room_before_extent old extent new some takes =
     ap (λ (room : Room). record room { next_line = extent.first_line }) takes.after
@@ -51,9 +51,9 @@ free_lines_below-is room (suc line) =
     let before = free_lines_below-is room line in
     rw before (below_more room.next_line room.end_line line (is_free_line room line) refl ∙ ap (λ n. min n room.end_line - room.next_line) (add-one line))
 
--- ---- a room hands out one place alone
+-- ---- a room hands out one entry and nothing else
 
--- what was taken is free no longer
+-- what was taken is no longer free
 pub TakesEntry-gone : (old : Room) (entry : EntryNo) (new : Room) → TakesEntry old entry new → is_free_entry new entry.0 ≡ false
 TakesEntry-gone old entry new takes = grind (arith, nat_tests, takes.taken entry.0)
 

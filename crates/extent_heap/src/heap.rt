@@ -1,4 +1,4 @@
-//! The free lines and entries of an image, which are handed out in rising order and never again.
+//! The free lines and entries of an image, which are handed out in rising order and, unless given back, never again.
 ghost use Rattle.std.specs.Prelude.{◌≡◌, ℕ, ◌+◌, ◌-◌, ◌<◌, ◌≤◌, ◌↔◌, false, IsTrue, IfOk, IfErr, OnErr};
 ghost use Rattle.extent_heap.specs.Room.{Room, fresh_room, is_free_line, is_free_entry, IsFreeRun, free_lines_below, TakesExtent, TakesEntry};
 
@@ -30,7 +30,7 @@ impl Model for ExtentHeap {
 }
 
 impl ExtentHeap {
-    /// All lines from `first` up to but not including `end` are free, and all entries below `entries`.
+    /// A heap in which all lines from `first` up to but not including `end` are free, and all entries below `entries`.
     pub fn new(first: u64, end: u64, entries: u64) -> ExtentHeap
         ensures room { result ≡ fresh_room first end entries }
         ensures lines { (line : ℕ) → IsTrue (is_free_line result line) ↔ ((first ≤ line) × (line < end)) }
@@ -44,7 +44,7 @@ impl ExtentHeap {
         }
     }
 
-    /// Hands out the lowest run of so many free lines. `Refusal::Full` where no run is long enough, and then nothing changed.
+    /// Hands out the lowest run of `lines` free lines. `Refusal::Full` if no run is long enough, and then nothing changed.
     pub fn take(&mut self, lines: u64) -> Result<Extent, Refusal>
         requires { 0 < lines }
         ensures count { IfOk result (λ extent. extent.lines ≡ lines) }
@@ -61,7 +61,7 @@ impl ExtentHeap {
         Ok(Extent { first_line, lines })
     }
 
-    /// Gives back the extent that was taken last. The heap is as it was before it was taken.
+    /// Gives back the extent that was taken last. The heap is again as it was before the extent was taken.
     pub fn give(&mut self, extent: Extent)
         requires some { 0 < extent.lines }
         requires last { (before : Room) × TakesExtent before extent self.old }
@@ -77,7 +77,7 @@ impl ExtentHeap {
         self.end_line.saturating_sub(self.next_line)
     }
 
-    /// Hands out the lowest free entry. `Refusal::Full` where none is free, and then nothing changed.
+    /// Hands out the lowest free entry. `Refusal::Full` if none is free, and then nothing changed.
     pub fn take_entry(&mut self) -> Result<EntryNo, Refusal>
         ensures ok { IfOk result (λ entry. TakesEntry self.old entry self.new) }
         ensures full { IfErr result (λ refusal. refusal ≡ Refusal.Full) }
@@ -92,7 +92,7 @@ impl ExtentHeap {
         Ok(entry)
     }
 
-    /// Gives back the entry that was taken last. The heap is as it was before it was taken.
+    /// Gives back the entry that was taken last. The heap is again as it was before the entry was taken.
     pub fn give_entry(&mut self, entry: EntryNo)
         requires { (before : Room) × TakesEntry before entry self.old }
         ensures { (before : Room) → TakesEntry before entry self.old → self.new ≡ before }

@@ -42,7 +42,7 @@ FaultsWith-broken limits bytes fault numbers e =
       says = b.place;
     }
 
--- where no request is read, none is spelled
+-- if no request is read, none is spelled
 none_spelled : (limits : Limits) (bytes : List ℕ) (stop : Stop) → HasNumbers limits → request_at limits bytes ≡ Err stop → (words : List (List ℕ)) (more : List ℕ) → IsWithin limits words → bytes ≢ spelling words ++ more
 none_spelled limits bytes stop numbers e words more within same =
     let whole : request_at limits bytes ≡ Ok (words, more) = ap (request_at limits) same ∙ request_at-again limits words more numbers within in

@@ -1,4 +1,4 @@
--- A decimal and its line end begin no other, whatever the numbers.
+-- A decimal with its line end begins no other, whatever the numbers.
 use Rattle.std.proofs.Common.{◌≡◌, ℕ, zero, suc, ◌+◌, ◌/◌, ◌%◌, ◌^◌, ◌<◌, ◌≤◌, true, false, cond, ◌==◌, nat_lt, inl, inr, List, [], ◌∷◌, ◌++◌, length, refl, ap, sym, ◌∙◌, lit≤, arith}
 use Rattle.std.proofs.lemmas.Bool.{cases_lt, ne_eqb, cond-false}
 use Rattle.std.proofs.lemmas.Nat.{le-div}
@@ -45,7 +45,7 @@ length-decimal_long : (n : ℕ) → 10 ^ 64 ≤ n → length (decimal n) ≡ 64
 unfolding digits
 length-decimal_long n h = length-onto 64 n [] h
 
--- numbers with one decimal are one, if one of them is below 2^64
+-- numbers with the same decimal are equal, if one of them is below 2^64
 decimal_same : (n m : ℕ) → m < 2 ^ 64 → decimal n ≡ decimal m → n ≡ m
 decimal_same n m small e =
     elim (cases_lt n (10 ^ 64)) [

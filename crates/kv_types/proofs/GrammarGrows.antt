@@ -1,4 +1,4 @@
--- What a reader answers stays when more bytes come: a value, with those bytes after it, and a fault. Only `Short` may change.
+-- What a reader answers remains when more bytes come: a value, with those bytes added to its rest, or a fault. Only `Short` may change.
 use Rattle.std.proofs.Common.{◌≡◌, ℕ, zero, suc, ◌+◌, ◌-◌, ◌*◌, ◌≤◌, Bool, true, false, cond, ◌&&◌, ◌==◌, nat_lt, nat_le, List, [], ◌∷◌, ◌++◌, length, take, drop, Result, Ok, Err, refl, arith}
 use Rattle.std.proofs.lemmas.List.{length-append, take-append-le, drop-append-le}
 use Rattle.std.proofs.lemmas.Bool.{ltb-false, le-ltb}
@@ -7,13 +7,13 @@ use Rattle.kv_types.specs.declared.item.ProtocolFault.{ProtocolFault}
 use Rattle.kv_types.specs.declared.item.ProtocolFault.TheVariants.{ExpectedArray, InvalidMultibulkLength, InvalidBulkLength, ExpectedLineEnd}
 use Rattle.kv_types.specs.Reading.{Stop, Short, Broken, Read, ◌>>=◌, is_digit, after_byte, with_line_feed, number_from, number_at, after_dollar, payload_at, word_at, with_first, words_at, request_at}
 
--- the later answer is the earlier one, where that was more than `Short`; `grow` puts the bytes that came after a value's rest
+-- the later answer is the earlier one, unless that was `Short`; `grow` appends the bytes that came to a value's rest
 abbrev pub Keeps : {A : Type 0} → (A → A) → Result A Stop → Result A Stop → Type 0
 Keeps grow (Ok x) later = later ≡ Ok (grow x)
 Keeps grow (Err Short) later = Unit {0}
 Keeps grow (Err (Broken fault)) later = later ≡ Err (Broken fault)
 
--- the bytes that came stand after the rest of what was read
+-- what was read, with the bytes that came appended to its rest
 abbrev pub with_more : {A : Type 0} → List ℕ → Read A → Read A
 with_more more read = (read.0, read.1 ++ more)
 
@@ -52,7 +52,7 @@ after_dollar-more : (more bytes : List ℕ) → Keeps (longer more) (after_dolla
 after_dollar-more more [] = tt
 after_dollar-more more (byte ∷ bytes) = Keeps-if (longer more) (byte == 36) _ _ _ _ refl refl
 
--- the line end after a word of so many bytes
+-- the line end after `word`
 abbrev line_end_after : List ℕ → List ℕ → Result (Read (List ℕ)) Stop
 line_end_after word bytes = after_byte 13 ExpectedLineEnd bytes >>= λ rest. after_byte 10 ExpectedLineEnd rest >>= λ after. Ok (word, after)
 

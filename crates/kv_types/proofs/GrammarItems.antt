@@ -15,7 +15,7 @@ items_from-same whole f g same (Ok request) h = ap (λ items. item_of request.0 
 items_from-same whole f g same (Err Short) h = refl
 items_from-same whole f g same (Err (Broken fault)) h = refl
 
--- any count that is no less than the number of bytes gives the same items
+-- any count of at least the number of bytes gives the same items
 items_within-same : (k m : ℕ) (limits : Limits) (bytes : List ℕ) → length bytes ≤ k → length bytes ≤ m → items_within k limits bytes ≡ items_within m limits bytes
 items_within-same zero zero limits bytes h j = refl
 items_within-same zero (suc m) limits [] h j = refl
@@ -28,7 +28,7 @@ items_within-same (suc k) (suc m) limits (byte ∷ bytes) h j =
     (λ rest end. items_within-same k m limits rest (omega (arith, length-IsEndOf end)) (omega (arith, length-IsEndOf end)))
     (request_at limits (byte ∷ bytes)) (request_at-leaves limits byte bytes)
 
--- the items of a text, by its first request
+-- the items of a text, from what its first request reads as
 pub items_at-step : (limits : Limits) (bytes : List ℕ) → items_at limits bytes ≡ items_from (items_at limits) (request_at limits bytes)
 unfolding items_at
 items_at-step limits [] = refl
@@ -37,7 +37,7 @@ items_at-step limits (byte ∷ bytes) =
     (λ rest end. items_within-same (length bytes) (length rest) limits rest (length-IsEndOf end) (omega arith))
     (request_at limits (byte ∷ bytes)) (request_at-leaves limits byte bytes)
 
--- What more bytes do to the items, by the first request: it is there, the bytes are too short for it, or they are broken.
+-- What more bytes do to the items, by what the first request reads as: it is whole, the bytes are too short for it, or they are broken.
 pub items_at-read : (limits : Limits) (text more : List ℕ) (words : List (List ℕ)) (rest : List ℕ) → request_at limits text ≡ Ok (words, rest) → items_at limits (text ++ more) ≡ item_of words ++ items_at limits (rest ++ more)
 items_at-read limits text more words rest e =
     items_at-step limits (text ++ more) ∙ ap (items_from (items_at limits)) (rw e at (request_at-more more limits text))
@@ -81,7 +81,7 @@ append_within limits more zero text = refl
 append_within limits more (suc most) text =
     append_from limits text more most (append_within limits more most) (request_at limits text) (request_at limits (text ++ more)) (request_at-more more limits text) (items_at-step limits (text ++ more))
 
--- More bytes leave the items that there were, and ask for those of what was left with the bytes after it.
+-- More bytes leave the items unchanged, and add those of the bytes that were left followed by the new bytes.
 pub items_at-append : (limits : Limits) (text more : List ℕ) → items_at limits (text ++ more) ≡ items_at limits text ++ later_items limits (unread_at limits text) more
 unfolding items_at unread_at
 items_at-append limits text more = append_within limits more (length text) text
@@ -127,12 +127,12 @@ sound_within : (limits : Limits) (unread : List ℕ) (fault : ProtocolFault) (mo
 sound_within limits unread fault zero text e h = absurd (omega (arith, h.1))
 sound_within limits unread fault (suc most) text e h = sound_from limits text unread fault most (sound_within limits unread fault most) (request_at limits text) e h
 
--- where something is left to be read, there is no fault
+-- if something is left to be read, there is no fault
 pub sound-unread_at : (limits : Limits) (text unread : List ℕ) (fault : ProtocolFault) → unread_at limits text ≡ Some unread → Contains (items_at limits text) (Fault fault) → ⊥
 unfolding items_at unread_at
 sound-unread_at limits text unread fault e h = sound_within limits unread fault (length text) text e h
 
--- what is left is the end of the text, and no whole request
+-- what is left is the end of the text, and holds no whole request
 pub record IsUnread (limits : Limits) (text unread : List ℕ) : Type 0 where
   pub end : IsEndOf text unread
   pub short : items_at limits unread ≡ []
@@ -169,7 +169,7 @@ after_fault_from limits text more fault h (Some unread) e = absurd (sound-unread
 pub items_at-after_fault : (limits : Limits) (text more : List ℕ) (fault : ProtocolFault) → Contains (items_at limits text) (Fault fault) → items_at limits (text ++ more) ≡ items_at limits text
 items_at-after_fault limits text more fault h = after_fault_from limits text more fault h (unread_at limits text) refl
 
--- Without a fault some end of the text is left that holds no whole request, and more bytes go on from there.
+-- Without a fault, an end of the text is left that holds no whole request, and the items of more bytes continue from it.
 abbrev pub Continues : Limits → List ℕ → Type 0
 Continues limits text = (given unread : List ℕ) × (text ≡ given ++ unread) × (items_at limits unread ≡ []) × ((more : List ℕ) → items_at limits (text ++ more) ≡ items_at limits text ++ items_at limits (unread ++ more))
 

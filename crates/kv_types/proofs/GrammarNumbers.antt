@@ -1,4 +1,4 @@
--- Numbers: what is read is spelled so, what is spelled so is read, and where the reading breaks.
+-- Numbers: what is read is spelled that way, what is spelled that way is read, and where the reading breaks.
 use Rattle.std.proofs.Common.{◌≡◌, ℕ, ◌+◌, ◌-◌, ◌*◌, ◌/◌, ◌%◌, ◌^◌, ◌<◌, ◌≤◌, true, false, ◌&&◌, ◌==◌, nat_lt, nat_le, ⊎_elim, List, [], ◌∷◌, ◌++◌, Ok, Err, refl, ap, sym, ◌∙◌, arith}
 use Rattle.std.proofs.lemmas.List.{append_assoc, append-nil}
 use Rattle.std.proofs.lemmas.Bool.{ltb-true, leb-true, eqb-true, lt-ltb, le-leb, ne_eqb, and_from, and_parts, cond-true, cond-false}
@@ -22,7 +22,7 @@ is_digit-value byte e =
     let high : byte ≤ 57 = leb-true _ _ parts.1 in
     (byte - 48, omega arith, omega arith, refl)
 
--- one digit more
+-- one more digit
 number_from-digit : (most : ℕ) (fault : ProtocolFault) (n d : ℕ) (bytes : List ℕ) → d < 10 → 0 < n → 10 * n + d ≤ most → number_from most fault n ((48 + d) ∷ bytes) ≡ number_from most fault (10 * n + d) bytes
 number_from-digit most fault n d bytes small positive fits =
     let value : (48 + d) - 48 ≡ d = omega arith in
@@ -35,7 +35,7 @@ number_at-digit most fault d bytes small fits =
     let value : (48 + d) - 48 ≡ d = omega arith in
     cond-true _ _ _ (and_from _ _ (is_digit-from d small) (le-leb ((48 + d) - 48) most (omega arith))) ∙ ap (λ k. number_from most fault k bytes) value
 
--- behind the digits of a number its value is read so far
+-- after the digits of a number, its value is what was read so far
 pub number_at-decimal : (most : ℕ) (fault : ProtocolFault) (n : ℕ) → n < 2 ^ 64 → n ≤ most → (bytes : List ℕ) → number_at most fault (decimal n ++ bytes) ≡ number_from most fault n bytes
 number_at-decimal most fault =
     decimal_by_steps (λ n ds. n ≤ most → (bytes : List ℕ) → number_at most fault (ds ++ bytes) ≡ number_from most fault n bytes)
@@ -45,7 +45,7 @@ number_at-decimal most fault =
     ∙ number_from-digit most fault (n / 10) (n % 10) bytes (omega arith) (omega arith) (omega arith)
     ∙ ap (λ k. number_from most fault k bytes) (omega arith))
 
--- what is spelled so is read
+-- what is spelled that way is read
 pub number_at-number_line : (most : ℕ) (fault : ProtocolFault) (n : ℕ) (rest : List ℕ) → most < 2 ^ 64 → n ≤ most → number_at most fault (number_line n ++ rest) ≡ Ok (n, rest)
 number_at-number_line most fault n rest small fits = ap (number_at most fault) (number_line-append n rest) ∙ number_at-decimal most fault n (omega arith) fits (13 ∷ 10 ∷ rest)
 
@@ -55,7 +55,7 @@ decimal-push n d small positive fits =
     let last : (10 * n + d) % 10 ≡ d = omega arith in
     decimal_step (10 * n + d) (omega arith) fits ∙ ap (λ k. decimal k ++ ((48 + (10 * n + d) % 10) ∷ [])) prefix ∙ ap (λ k. decimal n ++ ((48 + k) ∷ [])) last
 
--- a digit more, as a byte that was tested
+-- one more digit, as a byte that was tested
 decimal-byte : (n byte : ℕ) (bytes : List ℕ) → is_digit byte ≡ true → 0 < n → 10 * n + (byte - 48) < 2 ^ 64 → decimal n ++ (byte ∷ bytes) ≡ decimal (10 * n + (byte - 48)) ++ bytes
 decimal-byte n byte bytes digit positive fits =
     let d = is_digit-value byte digit in
@@ -88,7 +88,7 @@ IsFirstDigit-from most byte e =
     let value : 48 + (byte - 48) ≡ byte = omega (arith, d.2, d.3) in
     record { fits = leb-true (byte - 48) most parts.1; spelled = decimal_digit (byte - 48) small ∙ ap (λ b. b ∷ []) value }
 
--- ---- what is read is spelled so
+-- ---- what is read is spelled that way
 
 with_line_feed-takes : (fault : ProtocolFault) (n : ℕ) (bytes : List ℕ) (m : ℕ) (rest : List ℕ) → with_line_feed fault n bytes ≡ Ok (m, rest) → (bytes ≡ 10 ∷ rest) × (n ≡ m)
 with_line_feed-takes fault n bytes m rest e =
@@ -143,7 +143,7 @@ number_from-short most fault n (byte ∷ bytes) small fits e =
     (chosen (is_digit byte && nat_lt 0 n && nat_le (10 * n + (byte - 48)) most) (number_from most fault (10 * n + (byte - 48)) bytes) (Err (Broken fault)) (Err Short) go.1))
     (chosen (byte == 13) (with_line_feed fault n bytes) _ (Err Short) e)
 
--- what stands before the byte at which a number breaks
+-- the bytes before the one at which a number breaks
 abbrev pub InNumber : ℕ → List ℕ → ℕ → ProtocolFault → Type 0
 InNumber most prefix byte fault = (n : ℕ) × (n ≤ most) × IsProperPrefix prefix (number_line n)
 
@@ -186,7 +186,7 @@ number_from-breaks most fault n (byte ∷ bytes) said e =
     (chosen (is_digit byte && nat_lt 0 n && nat_le (10 * n + (byte - 48)) most) (number_from most fault (10 * n + (byte - 48)) bytes) (Err (Broken fault)) (Err (Broken said)) go.1))
     (chosen (byte == 13) (with_line_feed fault n bytes) _ (Err (Broken said)) e)
 
--- as `BreaksAt`, with the place that being too short gives
+-- `BreaksAt`, with the position that follows from the bytes before being too short
 placed : (most : ℕ) (fault said : ProtocolFault) (bytes : List ℕ) → most < 2 ^ 64 → BreaksAt (number_at most fault) Anywhere bytes said → BreaksAt (number_at most fault) (InNumber most) bytes said
 placed most fault said bytes small b =
     record { prefix = b.prefix; byte = b.byte; rest = b.rest; split = b.split; short = b.short; broken = b.broken; place = number_at-short most fault b.prefix small b.short }

@@ -1,4 +1,4 @@
--- Requests: what is read is spelled so, what is spelled so is read, and where the reading breaks.
+-- Requests: what is read is spelled that way, what is spelled that way is read, and where the reading breaks.
 use Rattle.std.proofs.Common.{◌≡◌, ℕ, zero, suc, ◌^◌, ◌<◌, ◌≤◌, inl, inr, List, [], ◌∷◌, ◌++◌, length, replicate, Result, Ok, Err, refl, ap, sym, ◌∙◌, arith}
 use Rattle.std.proofs.lemmas.List.{append_assoc, append-nil, length-replicate}
 use Rattle.std.specs.List.{AllByRecursion, flat_map}
@@ -23,7 +23,7 @@ AreShort limits words = AllByRecursion (λ word. length word ≤ limits.word_byt
 
 -- ---- words
 
--- the rest of the words behind one
+-- the words after the first, and the first put before them
 abbrev pub words_after : Limits → ℕ → Read (List ℕ) → Result (Read (List (List ℕ))) Stop
 words_after limits count word = words_at limits count word.1 >>= λ others. Ok (with_first word.0 others)
 
@@ -34,11 +34,11 @@ words_at-again limits (word ∷ words) rest numbers short =
     ∙ ap (λ r. r >>= words_after limits (length words)) (word_at-again limits word (flat_map bulk words ++ rest) numbers.word_bytes short.0)
     ∙ ap (λ r. r >>= λ others. Ok (with_first word others)) (words_at-again limits words rest numbers short.1)
 
--- behind words that are read well the others are read
+-- after a word that is spelled there, the others are read
 pub words_at-behind : (limits : Limits) (count : ℕ) (word after : List ℕ) → HasNumbers limits → length word ≤ limits.word_bytes → words_at limits (suc count) (bulk word ++ after) ≡ words_after limits count (word, after)
 words_at-behind limits count word after numbers short = ap (λ r. r >>= words_after limits count) (word_at-again limits word after numbers.word_bytes short)
 
--- these words, so many of them and none too long, are spelled at the prefix of the bytes
+-- the bytes begin with the spelling of these words: `count` of them, and none too long
 pub record TakesWords (limits : Limits) (count : ℕ) (bytes : List ℕ) (words : List (List ℕ)) (rest : List ℕ) : Type 0 where
   pub count_is : length words ≡ count
   pub short : AreShort limits words
@@ -60,7 +60,7 @@ words_at-takes limits (suc count) bytes words rest numbers e =
       spelled = word.1 ∙ ap (λ x. bulk first.0.0 ++ x) (others.spelled ∙ ap (λ x. flat_map bulk second.0.0 ++ x) parts.1) ∙ sym (append_assoc (bulk first.0.0) (flat_map bulk second.0.0) rest) ∙ ap (λ w. flat_map bulk w ++ rest) parts.0;
     }
 
--- some words, so many of them and none too long, begin with the bytes
+-- the bytes begin the spelling of some words: `count` of them, and none too long
 pub record BeginsWords (limits : Limits) (count : ℕ) (bytes : List ℕ) : Type 0 where
   pub words : List (List ℕ)
   pub count_is : length words ≡ count
@@ -94,7 +94,7 @@ words_at-short limits (suc count) bytes numbers e =
           }
     ]
 
--- what stands before the byte at which one of so many words breaks
+-- the bytes before the one at which one of `count` words breaks
 pub record InWords (limits : Limits) (count : ℕ) (prefix : List ℕ) (byte : ℕ) (fault : ProtocolFault) : Type 0 where
   pub words : List (List ℕ)
   pub inner : List ℕ
@@ -150,13 +150,13 @@ request_at-takes limits bytes words rest numbers e =
       after_byte-takes 42 ExpectedArray bytes first.0 first.1 ∙ ap (λ x. 42 ∷ x) (number.1 ∙ ap (λ x. number_line second.0.0 ++ x) found.spelled ∙ ap (λ n. number_line n ++ (flat_map bulk words ++ rest)) (sym found.count_is)) ∙ sym (spelling-append words rest),
     )
 
--- some request's spelling begins with the bytes
+-- the bytes begin some request's spelling
 pub record BeginsRequest (limits : Limits) (bytes : List ℕ) : Type 0 where
   pub words : List (List ℕ)
   pub within : IsWithin limits words
   pub prefix : IsProperPrefix bytes (spelling words)
 
--- bytes that end in the number of words, and behind it
+-- bytes that end within the number of words, and after it
 begun_in_number : (limits : Limits) (n : ℕ) (inside bytes : List ℕ) → n ≤ limits.words → bytes ≡ 42 ∷ inside → IsProperPrefix inside (number_line n) → BeginsRequest limits bytes
 begun_in_number limits n inside bytes fits whole p =
     let words : List (List ℕ) = replicate n [] in
@@ -195,7 +195,7 @@ request_at-short limits bytes numbers e =
           ]
     ]
 
--- the place of a byte in a request, from its place in the number or in the words
+-- the position of a byte in a request, from its position in the number or in the words
 placed_in_number : (limits : Limits) (said : ProtocolFault) (prefix : List ℕ) (byte : ℕ) → said ≡ InvalidMultibulkLength → InNumber limits.words prefix byte said → Says limits (42 ∷ prefix) byte said
 placed_in_number limits said prefix byte same p = rw same (prefix, p.0, p.1, p.2, refl)
 

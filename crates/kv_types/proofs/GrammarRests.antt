@@ -98,7 +98,7 @@ words_at-leaves limits (suc count) whole bytes end =
     (words_at limits count word.1) (words_at-leaves limits count whole word.1 k))
     (word_at limits bytes) (word_at-leaves limits whole bytes end)
 
--- what is left after a request does not have its first byte
+-- what is left after a request does not include the first byte
 pub request_at-leaves : (limits : Limits) (byte : ℕ) (bytes : List ℕ) → Leaves rest_of bytes (request_at limits (byte ∷ bytes))
 request_at-leaves limits byte bytes =
     Leaves-bind itself rest_of (λ rest. number_at limits.words InvalidMultibulkLength rest >>= λ count. words_at limits count.0 count.1) bytes

@@ -1,4 +1,4 @@
--- A spelling begins no other, and what begins a spelling has the words that it seems to have.
+-- No spelling begins another, and a prefix of a spelling has the words that it seems to have.
 use Rattle.std.proofs.Common.{◌≡◌, ℕ, ◌^◌, ◌<◌, ◌≤◌, List, [], ◌∷◌, ◌++◌, length, refl, ap, sym, ◌∙◌, arith}
 use Rattle.std.proofs.lemmas.List.{append_assoc}
 use Rattle.std.specs.List.{flat_map}
@@ -38,7 +38,7 @@ bulk-parted word other x y small e =
     let ends = parts.1 in
     (parts.0, cc)
 
--- fewer words at the prefix of some that are short are short, and another word comes next
+-- where short words begin with fewer words: these are short too, and another word comes next
 pub record HasNext (limits : Limits) (words : List (List ℕ)) (after : List ℕ) : Type 0 where
   pub short : AreShort limits words
   pub next : List ℕ
@@ -72,7 +72,7 @@ IsInside-begins limits n words inner numbers fewer b =
       next = HasNext-flat_map limits words all (inner ++ b.rest) numbers within.lengths (omega (arith, parts.0)) (sym (append_assoc (flat_map bulk words) inner b.rest) ∙ parts.1);
     }
 
--- a word of which the length is spelled is no longer than the limit
+-- a word whose length is spelled is no longer than the limit
 pub length-inside : (limits : Limits) (n : ℕ) (words : List (List ℕ)) (len : ℕ) (after : List ℕ) → HasNumbers limits → IsInside limits n words ((36 ∷ number_line len) ++ after) → len ≤ limits.word_bytes
 length-inside limits n words len after numbers inside =
     let next = inside.next in

@@ -36,7 +36,7 @@ after_byte-short expected fault [] e = refl
 after_byte-short expected fault (byte ∷ bytes) e =
     absurd (⊎_elim (λ h. cc) (λ h. cc) (chosen (byte == expected) (Ok bytes) (Err (Broken fault)) (Err Short) e))
 
--- The reading breaks with this fault at a byte: what stands before it is too short, and with it nothing helps. Place says where it stands.
+-- The reading breaks with this fault at a byte: the bytes before it are too short, and with it no further bytes help. `Place` says where it is.
 pub record BreaksAt {A : Type 0} (read : List ℕ → Result A Stop) (Place : List ℕ → ℕ → ProtocolFault → Type 0) (bytes : List ℕ) (fault : ProtocolFault) : Type 0 where
   pub prefix : List ℕ
   pub byte : ℕ
@@ -62,7 +62,7 @@ BreaksAt-first read f Place Place' bytes fault moves b =
       place = moves b.prefix b.byte b.place;
     }
 
--- it breaks behind bytes that are read well
+-- it breaks after bytes that are read without a fault
 pub BreaksAt-behind : {A : Type 0} (read read' : List ℕ → Result A Stop) (Place Place' : List ℕ → ℕ → ProtocolFault → Type 0) (before bytes : List ℕ) (fault : ProtocolFault) → ((after : List ℕ) → read' (before ++ after) ≡ read after) → ((prefix : List ℕ) (byte : ℕ) → Place prefix byte fault → Place' (before ++ prefix) byte fault) → BreaksAt read Place bytes fault → BreaksAt read' Place' (before ++ bytes) fault
 BreaksAt-behind read read' Place Place' before bytes fault same moves b =
     record {

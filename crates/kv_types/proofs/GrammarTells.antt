@@ -1,4 +1,4 @@
--- A byte that breaks the reading tells the fault of its place, and no other.
+-- A byte that breaks the reading gives the fault of its position, and no other.
 use Rattle.std.proofs.Common.{◌≡◌, ℕ, zero, suc, ◌^◌, ◌<◌, ◌≤◌, Bool, true, false, cond, ◌==◌, nat_lt, List, [], ◌∷◌, ◌++◌, length, Result, Ok, Err, refl, ap, sym, ◌∙◌, arith}
 use Rattle.std.proofs.lemmas.List.{append_assoc, append-nil, length-append}
 use Rattle.std.specs.List.{flat_map}
@@ -14,7 +14,7 @@ use Rattle.kv_types.proofs.GrammarWords.{line_end_after, payload_at-behind, rest
 use Rattle.kv_types.proofs.GrammarRequests.{HasNumbers, AreShort, words_after, words_at-behind, counted_words, counted_words-behind, regrouped}
 use Rattle.kv_types.proofs.GrammarSpellings.{IsInside, IsInside-begins, length-inside}
 
--- what a reader answers at the end of its bytes: if it broke, by this fault, and if it read something, nothing is left
+-- what a reader answers at the end of its bytes: if it broke, it was with this fault, and if it read something, nothing is left
 abbrev pub Tells : {A : Type 0} → ProtocolFault → Result (Read A) Stop → Type 0
 Tells fault (Ok x) = x.1 ≡ []
 Tells fault (Err Short) = Unit {0}
@@ -38,13 +38,13 @@ prefix_from most fault line byte rest n whole (Ok x) keeps =
 prefix_from most fault line byte rest n whole (Err Short) keeps = refl
 prefix_from most fault line byte rest n whole (Err (Broken other)) keeps = absurd (cc)
 
--- the prefix of a number is too short for one
+-- a proper prefix of a number's line is too short for a number
 number_at-prefix : (most : ℕ) (fault : ProtocolFault) (line : List ℕ) (n : ℕ) → most < 2 ^ 64 → n ≤ most → IsProperPrefix line (number_line n) → number_at most fault line ≡ Err Short
 number_at-prefix most fault line n small fits p =
     let whole : number_at most fault (line ++ p.byte ∷ p.rest) ≡ Ok (n, []) = ap (number_at most fault) (p.joined ∙ sym (append-nil (number_line n))) ∙ number_at-number_line most fault n [] small fits in
     prefix_from most fault line p.byte p.rest n whole (number_at most fault line) (number_at-more (p.byte ∷ p.rest) most fault line)
 
--- what begins the bytes with more than their last byte behind it begins them without that
+-- a prefix of the bytes that does not reach their last byte is a prefix of the bytes without it
 prefix_without_last : (p a : List ℕ) (byte d : ℕ) (rest : List ℕ) → p ++ byte ∷ [] ≡ a ++ d ∷ rest → (q : List ℕ) × (p ≡ a ++ q)
 prefix_without_last p [] byte d rest e = (p, refl)
 prefix_without_last [] (c ∷ a) byte d rest e = absurd (omega (arith, ap length e, length-append a (d ∷ rest)))
@@ -123,14 +123,14 @@ words_at-tells limits (suc count) (word ∷ words) inner byte fault numbers fewe
 
 -- ---- requests
 
--- behind the number of words
+-- after the number of words
 tells_in_words : (limits : Limits) (n : ℕ) (words : List (List ℕ)) (inner : List ℕ) (byte : ℕ) (fault : ProtocolFault) → HasNumbers limits → length words < n → IsInside limits n words inner → InWord limits inner byte fault → Tells fault (request_at limits (((42 ∷ number_line n) ++ (flat_map bulk words ++ inner)) ++ byte ∷ []))
 tells_in_words limits n words inner byte fault numbers fewer inside p =
     let whole : ((42 ∷ number_line n) ++ (flat_map bulk words ++ inner)) ++ byte ∷ [] ≡ (42 ∷ number_line n) ++ (flat_map bulk words ++ (inner ++ byte ∷ [])) = regrouped_words (42 ∷ number_line n) (flat_map bulk words) inner (byte ∷ []) in
     let read : request_at limits (((42 ∷ number_line n) ++ (flat_map bulk words ++ inner)) ++ byte ∷ []) ≡ words_at limits n (flat_map bulk words ++ (inner ++ byte ∷ [])) = ap (request_at limits) whole ∙ counted_words-behind limits n (flat_map bulk words ++ (inner ++ byte ∷ [])) numbers inside.count in
     rw read (words_at-tells limits n words inner byte fault numbers fewer inside.next.short p)
 
--- A byte tells the fault of its place.
+-- A byte gives the fault of its position.
 pub Says-tells : (limits : Limits) (prefix : List ℕ) (byte : ℕ) (fault : ProtocolFault) → HasNumbers limits → Begins limits prefix → Says limits prefix byte fault → Tells fault (request_at limits (prefix ++ byte ∷ []))
 Says-tells limits prefix byte ExpectedArray numbers b p =
     rw p (elim (byte == 42) as (λ t. Tells ExpectedArray (cond t (Ok []) (Err (Broken ExpectedArray)) >>= counted_words limits)) [ true ↦ tt | false ↦ refl ])

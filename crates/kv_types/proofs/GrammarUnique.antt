@@ -19,7 +19,7 @@ Begins-prefix : (limits : Limits) (a b : List ℕ) → Begins limits (a ++ b) �
 Begins-prefix limits a b h =
     record { rest = b ++ h.rest; words = h.words; spells = record { within = h.spells.within; whole = sym (append_assoc a b h.rest) ∙ h.spells.whole } }
 
--- the byte at which no spelling goes on breaks the reading, by the fault of its place
+-- the byte with which no spelling continues breaks the reading, with the fault of its position
 told_by : (limits : Limits) (bytes : List ℕ) (fault said : ProtocolFault) → HasNumbers limits → (f : FaultsWith limits bytes fault) → request_at limits bytes ≡ Err (Broken said) → (r : Result (Read (List (List ℕ))) Stop) → request_at limits (f.prefix ++ f.byte ∷ []) ≡ r → Tells fault r → fault ≡ said
 told_by limits bytes fault said numbers f e (Ok x) broken tells =
     let found = request_at-takes limits (f.prefix ++ f.byte ∷ []) x.0 x.1 numbers broken in

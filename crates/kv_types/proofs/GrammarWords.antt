@@ -1,4 +1,4 @@
--- Words: what is read is spelled so, what is spelled so is read, and where the reading breaks.
+-- Words: what is read is spelled that way, what is spelled that way is read, and where the reading breaks.
 use Rattle.std.proofs.Common.{◌≡◌, ℕ, ◌-◌, ◌^◌, ◌<◌, ◌≤◌, ◌==◌, nat_lt, inl, inr, List, [], ◌∷◌, ◌++◌, length, take, drop, replicate, Result, Ok, Err, refl, ap, sym, ◌∙◌, arith}
 use Rattle.std.proofs.lemmas.List.{append_assoc, length-append, length-replicate, length-take-le, take-append-drop, take_at, drop_at}
 use Rattle.std.proofs.lemmas.Bool.{eqb-true, ltb-true, ltb-false, le-ltb, cond-false}
@@ -46,11 +46,11 @@ line_end_after-short word bytes e =
       ]
     ]
 
--- the byte that should have been the next of a line end
+-- the byte where the next one of a line end should have been
 abbrev AtLineEnd : List ℕ → ℕ → ProtocolFault → Type 0
 AtLineEnd prefix byte fault = (prefix ≡ []) × (fault ≡ ExpectedLineEnd)
 
--- what stands before the byte at which the line end breaks
+-- the bytes before the one at which the line end breaks
 abbrev pub InLineEnd : List ℕ → ℕ → ProtocolFault → Type 0
 InLineEnd prefix byte fault = (fault ≡ ExpectedLineEnd) × IsProperPrefix prefix line_end
 
@@ -88,7 +88,7 @@ payload_at-takes len bytes word rest e =
           (ap length (sym found.0) ∙ length-take-le len bytes fits, sym (take-append-drop len bytes) ∙ ap (λ w. w ++ drop len bytes) found.0 ∙ ap (λ x. word ++ x) found.1)
     ]
 
--- a word of this length begins with the bytes that there are
+-- the bytes begin some word of this length and its line end
 filled : (bytes : List ℕ) (len : ℕ) → length bytes < len → (word : List ℕ) × (length word ≡ len) × IsProperPrefix bytes (word ++ line_end)
 filled bytes len h =
     let missing = len - length bytes - 1 in
@@ -104,7 +104,7 @@ payload_at-short len bytes e =
           (take len bytes, length-take-le len bytes fits, rw (take-append-drop len bytes) at found)
     ]
 
--- what stands before the byte at which a word of this length is not ended
+-- the bytes before the one at which a word of this length is not ended
 abbrev pub AfterWord : ℕ → List ℕ → ℕ → ProtocolFault → Type 0
 AfterWord len prefix byte fault = (fault ≡ ExpectedLineEnd) × ((word end : List ℕ) × (length word ≡ len) × IsProperPrefix end line_end × (prefix ≡ word ++ end))
 
@@ -141,7 +141,7 @@ after_dollar-short : (bytes : List ℕ) → after_dollar bytes ≡ Err Short →
 after_dollar-short [] e = refl
 after_dollar-short (byte ∷ bytes) e = absurd (elim (chosen (byte == 36) (Ok bytes) (Err (Broken (ExpectedBulk byte))) (Err Short) e) [ inl h ↦ cc | inr h ↦ cc ])
 
--- what stands before the byte at which a word breaks
+-- the bytes before the one at which a word breaks
 abbrev pub InWord : Limits → List ℕ → ℕ → ProtocolFault → Type 0
 InWord limits prefix byte ExpectedArray = ⊥
 InWord limits prefix byte InvalidMultibulkLength = ⊥
@@ -184,11 +184,11 @@ word_at-takes limits bytes word rest small e =
       after_dollar-takes bytes first.0 first.1 ∙ ap (λ x. 36 ∷ x) (number.1 ∙ ap (λ x. number_line second.0.0 ++ x) payload.1 ∙ ap (λ n. number_line n ++ (word ++ (13 ∷ 10 ∷ rest))) (sym payload.0)) ∙ sym (bulk-append word rest),
     )
 
--- a bulk, parted behind its number
+-- a bulk string, split after its number
 bulk-parts : (word : List ℕ) → (36 ∷ number_line (length word)) ++ (word ++ line_end) ≡ bulk word
 bulk-parts word = sym (append_assoc (36 ∷ number_line (length word)) word line_end)
 
--- bytes that end in the length of a word, and behind it
+-- bytes that end within the length of a word, and after it
 begun_in_length : (n : ℕ) (inside bytes : List ℕ) → bytes ≡ 36 ∷ inside → IsProperPrefix inside (number_line n) → IsProperPrefix bytes (bulk (replicate n 0))
 begun_in_length n inside bytes whole p =
     let word : List ℕ = replicate n 0 in
@@ -214,7 +214,7 @@ word_at-short limits bytes small e =
       ]
     ]
 
--- where a word breaks in its length, or behind it
+-- where a word breaks: in its length, or after it
 placed_in_length : (limits : Limits) (said : ProtocolFault) (prefix : List ℕ) (byte : ℕ) → said ≡ InvalidBulkLength → InNumber limits.word_bytes prefix byte said → InWord limits (36 ∷ prefix) byte said
 placed_in_length limits said prefix byte same p = rw same (prefix, p.0, p.1, p.2, refl)
 

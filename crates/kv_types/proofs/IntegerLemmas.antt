@@ -22,7 +22,7 @@ written_back number n written text same fits writes is differ =
 pub same_Ok : {A E : Type 0} (x y : A) (r : Result A E) → r ≡ Ok x → r ≡ Ok y → x ≡ y
 same_Ok x y r a b = cc
 
--- an integer is told by its text
+-- integers with the same text are equal
 pub signed_decimal-same : (m n : ℤ) → FitsSigned w64 m → FitsSigned w64 n → signed_decimal m ≡ signed_decimal n → m ≡ n
 signed_decimal-same m n fits_m fits_n = signed_decimal_injective m n fits_m.sfits fits_n.sfits
 

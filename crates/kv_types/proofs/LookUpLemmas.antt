@@ -1,4 +1,4 @@
--- What a look-up finds after a record was put or left out, and after each change.
+-- What a look-up finds after a record was put or removed, and after each change.
 use Rattle.std.proofs.Common.{◌≡◌, ◌≢◌, ℕ, List, Bool, true, false, cond, not, Some, None, nat_eq, refl, sym, ap, ap₂, ◌∙◌}
 use Rattle.std.proofs.lemmas.Bool.{false_from_ne_true}
 use Rattle.std.specs.Cmp.Lexicographic.{pointwise}
@@ -13,7 +13,7 @@ use Rattle.kv_types.specs.LookUp.{IsLookedUpAfter, PutsString, PutsField, DropsR
 use Rattle.kv_types.specs.Order.{record_cmp_total}
 use Rattle.kv_types.proofs.OrderLemmas.{record_cmp_equal, same_record, record_itself, same_key, key_itself, field_is_no_string, string_is_no_field}
 
--- whether two names are those of one record, and whether two keys are one
+-- whether two records are the same, and whether two keys are the same
 abbrev pub is_same : RecordId → RecordId → Bool
 is_same = eq_by_cmp record_cmp
 
@@ -44,7 +44,7 @@ value_at-put_string s key value q = value_at-with_record (without_key key s) (St
 pub value_at-put_field : (s : Keyspace) (key field value : List ℕ) (q : RecordId) → value_at (play s (Put (Field key field) value)) q ≡ cond (is_same q (Field key field)) (Some value) (cond (is_same q (Str key)) None (value_at s q))
 value_at-put_field s key field value q = value_at-with_record (without_record (Str key) s) (Field key field) value q ∙ ap (cond (is_same q (Field key field)) (Some value)) (value_at-without_record s (Str key) q)
 
--- the tests, told
+-- the outcomes of the tests
 pub is_other : (x y : RecordId) → x ≢ y → is_same x y ≡ false
 is_other x y differ = false_from_ne_true (is_same x y) (λ e. differ (same_record x y e))
 

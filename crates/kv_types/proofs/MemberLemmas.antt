@@ -1,4 +1,4 @@
--- A record stands in a keyspace exactly where the look-up finds it.
+-- A record is in a keyspace exactly when the look-up finds it.
 use Rattle.std.proofs.Common.{◌≡◌, ℕ, zero, suc, ◌<◌, List, [], ◌∷◌, length, get_or, Bool, true, false, IsTrue, cond, Some, None, Ordering, Less, Equal, Greater, Contains, refl, sym, ap, ap₂, ◌∙◌, is_eq, is_lt, arith}
 use Rattle.std.proofs.lemmas.Bool.{and_parts}
 use Rattle.std.specs.FinMap.Entries.{is_sorted, below_all}
@@ -18,7 +18,7 @@ value_at-below_all id (e ∷ s) h =
     let parts = and_parts (is_lt (record_cmp id e.0)) (below_all record_cmp id s) h in
     ap (λ b. cond b (Some e.1) (value_at s id)) (is_lt-no_eq (record_cmp id e.0) parts.0) ∙ value_at-below_all id s parts.1
 
--- the record at a place of a list in order
+-- the look-up finds the record at an index of a sorted list
 pub found_at : (s : Keyspace) (id : RecordId) (value : List ℕ) (k : ℕ) → IsTrue (is_sorted record_cmp s) → k < length s → get_or s k (id, value) ≡ (id, value) → value_at s id ≡ Some value
 found_at [] id value k h lt e = absurd (omega arith)
 found_at (x ∷ s) id value zero h lt e = ap₂ (λ (b : Bool) (v : List ℕ). cond b (Some v) (value_at s id)) (ap (λ (y : RecordId × List ℕ). is_same id y.0) e ∙ record_itself id) (ap (λ (y : RecordId × List ℕ). y.1) e)

@@ -17,7 +17,7 @@ both_equal Greater p e = cc
 pub bytes_cmp_equal : (xs ys : List ℕ) → bytes_cmp xs ys ≡ Equal → xs ≡ ys
 bytes_cmp_equal = slice_cmp-IsAntisymmetric nat_cmp-IsAntisymmetric
 
--- records that the order does not tell apart are one record
+-- records that the order does not tell apart are equal
 pub record_cmp_equal : (x y : RecordId) → record_cmp x y ≡ Equal → x ≡ y
 record_cmp_equal (Str a) (Str b) e = ap Str (bytes_cmp_equal a b (both_equal (bytes_cmp a b) Equal e).0)
 record_cmp_equal (Str a) (Field b g) e = let p = (both_equal (bytes_cmp a b) Less e).1 in cc
@@ -31,7 +31,7 @@ is_eq_Equal Less e = cc
 is_eq_Equal Equal e = refl
 is_eq_Equal Greater e = cc
 
--- the test by the order is the test whether they are one record
+-- the test by the order tests whether two records are equal
 pub same_record : (x y : RecordId) → eq_by_cmp record_cmp x y ≡ true → x ≡ y
 same_record x y e = record_cmp_equal x y (is_eq_Equal (record_cmp x y) e)
 
@@ -41,7 +41,7 @@ record_itself x = ap is_eq (tied_itself record_cmp_total x)
 pub tells_record : (b : Bool) (x y : RecordId) → (IsTrue b ↔ (x ≡ y)) → b ≡ eq_by_cmp record_cmp x y
 tells_record b x y says = both_ways b (eq_by_cmp record_cmp x y) (λ e. ap (eq_by_cmp record_cmp x) (sym (says.0 e)) ∙ record_itself x) (λ e. says.1 (same_record x y e))
 
--- the test of keys is the test whether they are one key
+-- the test of keys tests whether two keys are equal
 pub same_key : (xs ys : List ℕ) → pointwise nat_eq xs ys ≡ true → xs ≡ ys
 same_key xs ys e = (bytes_decides xs ys).0 e
 

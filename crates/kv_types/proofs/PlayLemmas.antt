@@ -94,7 +94,7 @@ pub play_all-append : (s : Keyspace) (xs ys : List Change) → play_all s (xs ++
 play_all-append s [] ys = refl
 play_all-append s (change ∷ xs) ys = play_all-append (play s change) xs ys
 
--- what a call leaves that played the change or left the keyspace as it was
+-- a call that played the change, or left the keyspace as it was, leaves a keyspace
 pub is_keyspace-played : {A E : Type 0} (r : Result A E) (old new : Keyspace) (change : Change) → IsKeyspace old → OnOk r (new ≡ play old change) → OnErr r (new ≡ old) → IsKeyspace new
 is_keyspace-played (Ok x) old new change ok played unchanged = subst IsKeyspace (sym played) (is_keyspace-play old change ok)
 is_keyspace-played (Err e) old new change ok played unchanged = subst IsKeyspace (sym unchanged) ok

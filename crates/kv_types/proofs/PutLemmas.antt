@@ -1,4 +1,4 @@
--- A record put into a list, by the place where it belongs.
+-- A record put into a list, by the index where it belongs.
 use Rattle.std.proofs.Common.{◌≡◌, ℕ, ◌+◌, ◌<◌, ◌≤◌, List, [], ◌∷◌, ◌++◌, length, take, drop, set, get_or, insert, Less, Equal, Greater, refl, sym, ap, ap₂, ◌∙◌, append_assoc, take-append-drop, drop_of_length-le, take_all}
 use Rattle.std.proofs.lemmas.List.{take-set, drop-set, drop_more, take_more, get_or_read}
 use Rattle.std.proofs.lemmas.List.Edits.{insert_end}
@@ -6,7 +6,7 @@ use Rattle.std.specs.FinMap.Entries.{by_order}
 use Rattle.kv_types.specs.declared.record_id.RecordId.{RecordId}
 use Rattle.kv_types.specs.Keyspace.{Keyspace, record_cmp, with_record}
 
--- the record goes below the prefix of n records
+-- the record is put after the first n records
 abbrev pub PassesPrefix : RecordId → Keyspace → ℕ → Type 0
 PassesPrefix id s n = (value : List ℕ) → with_record id value s ≡ take n s ++ with_record id value (drop n s)
 

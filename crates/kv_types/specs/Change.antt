@@ -6,11 +6,11 @@ use Rattle.kv_types.specs.declared.record_id.RecordId.TheVariants.{Str, Field}
 use Rattle.kv_types.specs.declared.change.Change.{Change}
 use Rattle.kv_types.specs.declared.change.Change.TheVariants.{Put, Drop, DropKey, Clear}
 
--- two bytes of length, and the bytes
+-- the length in two bytes, then the bytes
 abbrev pub short_bytes : List ℕ → List ℕ
 short_bytes bytes = to_be_bytes w16 (length bytes) ++ bytes
 
--- four bytes of length, and the bytes
+-- the length in four bytes, then the bytes
 abbrev pub long_bytes : List ℕ → List ℕ
 long_bytes bytes = to_be_bytes w32 (length bytes) ++ bytes
 
@@ -22,10 +22,10 @@ change_text (Drop (Field key field)) = 4 ∷ short_bytes key ++ short_bytes fiel
 change_text (DropKey key) = 5 ∷ short_bytes key
 change_text Clear = 6 ∷ []
 
--- the bytes of changes, one after another
+-- the bytes of the changes, concatenated in order
 abbrev pub changes_text : List Change → List ℕ
 changes_text = flat_map change_text
 
--- the number of bytes of changes
+-- how many bytes the changes have together
 abbrev pub changes_size : List Change → ℕ
 changes_size changes = length (changes_text changes)

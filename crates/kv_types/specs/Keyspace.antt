@@ -1,5 +1,5 @@
--- The keyspace: a finite map from keys to a string of bytes or to a nonempty map from fields to bytes (the key and hash pages of the
--- Redis documentation), kept as the list of its records in order.
+-- The keyspace: a finite map from each key to a byte string or to a nonempty map from fields to byte strings (the key and hash pages of the
+-- Redis documentation), kept as the sorted list of its records.
 use Rattle.std.specs.Prelude.{◌≡◌, ℕ, not, List, [], ◌∷◌, Option, None, Some, IsTrue, IsSome, nat_eq}
 use Rattle.std.specs.declared.cmp.Ordering.{Ordering}
 use Rattle.std.specs.Ordering.{nat_cmp, on, then_cmp, eq_by_cmp}
@@ -22,18 +22,18 @@ field_of (Field key field) = Some field
 abbrev pub bytes_cmp : List ℕ → List ℕ → Ordering
 bytes_cmp = slice_cmp nat_cmp
 
--- by the bytes of the key, then a string before fields, then by the bytes of the field
+-- by the bytes of the key; then a string comes before fields; then by the bytes of the field
 abbrev pub record_cmp : RecordId → RecordId → Ordering
 record_cmp = then_cmp (on key_of bytes_cmp) (on field_of (option_cmp bytes_cmp))
 
--- each record with its value, in order and each once
+-- the records with their values; `IsKeyspace` says that they are sorted, each once
 abbrev pub Keyspace : Type 0
 Keyspace = List (RecordId × List ℕ)
 
 abbrev pub value_at : Keyspace → RecordId → Option (List ℕ)
 value_at s id = find record_cmp id s
 
--- in order, each record once, and no key is both a string and a hash
+-- the records are sorted, each once, and no key is both a string and a hash
 pub record IsKeyspace (s : Keyspace) : Type 0 where
   pub sorted : IsTrue (is_sorted record_cmp s)
   pub one_kind : (key field : List ℕ) → IsSome (value_at s (Str key)) → value_at s (Field key field) ≡ None
@@ -55,7 +55,7 @@ play s (Drop id) = without_record id s
 play s (DropKey key) = without_key key s
 play s Clear = []
 
--- the keyspace after changes, one after another
+-- the keyspace after the changes, played in order
 abbrev pub play_all : Keyspace → List Change → Keyspace
 play_all s [] = s
 play_all s (change ∷ changes) = play_all (play s change) changes

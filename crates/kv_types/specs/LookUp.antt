@@ -1,5 +1,5 @@
--- What a look-up finds after each change, for every record: the meaning of the changes in the words of the Redis command pages (SET, HSET,
--- DEL, HDEL, FLUSHALL), with no list in it.
+-- What a look-up of any record finds after each change: the meaning of the changes as the Redis command pages (SET, HSET, DEL, HDEL,
+-- FLUSHALL) state it, without mention of a list.
 use Rattle.std.specs.Prelude.{◌≡◌, ◌≢◌, ℕ, List, Some, None}
 use Rattle.kv_types.specs.declared.record_id.RecordId.{RecordId}
 use Rattle.kv_types.specs.declared.record_id.RecordId.TheVariants.{Str, Field}
@@ -7,7 +7,7 @@ use Rattle.kv_types.specs.declared.change.Change.{Change}
 use Rattle.kv_types.specs.declared.change.Change.TheVariants.{Put, Drop, DropKey, Clear}
 use Rattle.kv_types.specs.Keyspace.{Keyspace, key_of, value_at}
 
--- every record that passes the test is found as it was
+-- a look-up of any record for which `Passes` holds finds the same in `new` as in `old`
 abbrev pub Keeps : (RecordId → Type 0) → Keyspace → Keyspace → Type 0
 Keeps Passes old new = (id : RecordId) → Passes id → value_at new id ≡ value_at old id
 
@@ -23,12 +23,12 @@ pub record PutsField (key field value : List ℕ) (old new : Keyspace) : Type 0 
   pub no_string : value_at new (Str key) ≡ None
   pub others : Keeps (λ id. (id ≢ Field key field) × (id ≢ Str key)) old new
 
--- the record is gone, and the others are as they were
+-- the record is gone, and the other records are as they were
 pub record DropsRecord (id : RecordId) (old new : Keyspace) : Type 0 where
   pub gone : value_at new id ≡ None
   pub others : Keeps (λ other. other ≢ id) old new
 
--- all records of the key are gone, and the others are as they were
+-- all records of the key are gone, and the other records are as they were
 pub record DropsKey (key : List ℕ) (old new : Keyspace) : Type 0 where
   pub gone : (id : RecordId) → key_of id ≡ key → value_at new id ≡ None
   pub others : Keeps (λ id. key_of id ≢ key) old new

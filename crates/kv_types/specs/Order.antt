@@ -1,4 +1,4 @@
--- The order of records is a total order, and ties only records of one name.
+-- The order of records is a total order, in which only equal records tie.
 use Rattle.std.specs.Cmp.{IsTotalOrder, then_total, on_total}
 use Rattle.std.specs.Cmp.Lexicographic.{nat_list_cmp_total, options_total}
 use Rattle.kv_types.specs.Keyspace.{key_of, field_of, record_cmp}

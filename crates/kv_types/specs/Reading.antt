@@ -1,4 +1,4 @@
--- The items of a text, computed. That they are those that the grammar asks for is the contract of `kv_types::items_are_asked_for`.
+-- The items of a text, computed. The contract of `kv_types::items_are_asked_for` says that they are those that the grammar asks for.
 use Rattle.std.specs.Prelude.{ℕ, zero, suc, ◌+◌, ◌-◌, ◌*◌, List, [], ◌∷◌, ◌++◌, length, take, drop, Bool, ◌&&◌, ◌||◌, ◌==◌, if◌then◌else◌, nat_lt, nat_le, Result, Ok, Err}
 use Rattle.kv_types.specs.declared.limits.Limits.{Limits}
 use Rattle.kv_types.specs.declared.item.ProtocolFault.{ProtocolFault}
@@ -7,7 +7,7 @@ use Rattle.kv_types.specs.declared.item.Item.{Item}
 use Rattle.kv_types.specs.declared.item.Item.TheVariants.{Fault}
 use Rattle.kv_types.specs.Request.{item_of}
 
--- why there is no whole spelling: more may come, or nothing that comes can make one
+-- why the bytes begin with no whole spelling: further bytes may complete one, or no further bytes can
 pub data Stop : Type 0 where
   Short : Stop
   Broken : (fault : ProtocolFault) → Stop
@@ -24,7 +24,7 @@ Read A = A × List ℕ
 abbrev pub is_digit : ℕ → Bool
 is_digit byte = nat_le 48 byte && nat_le byte 57
 
--- the rest after one byte that has to be there
+-- the bytes after a first byte, which must be `expected`
 abbrev pub after_byte : ℕ → ProtocolFault → List ℕ → Result (List ℕ) Stop
 after_byte expected fault [] = Err Short
 after_byte expected fault (byte ∷ bytes) = if byte == expected then Ok bytes else Err (Broken fault)
@@ -32,25 +32,25 @@ after_byte expected fault (byte ∷ bytes) = if byte == expected then Ok bytes e
 abbrev pub with_line_feed : ProtocolFault → ℕ → List ℕ → Result (Read ℕ) Stop
 with_line_feed fault n bytes = after_byte 10 fault bytes >>= λ rest. Ok (n, rest)
 
--- the number whose digits so far are n, up to its line end
+-- the number whose digits so far make n, read on through its line end: at most `most`
 abbrev pub number_from : ℕ → ProtocolFault → ℕ → List ℕ → Result (Read ℕ) Stop
 number_from most fault n [] = Err Short
 number_from most fault n (byte ∷ bytes) =
     if byte == 13 then with_line_feed fault n bytes
     else (if is_digit byte && nat_lt 0 n && nat_le (10 * n + (byte - 48)) most then number_from most fault (10 * n + (byte - 48)) bytes else Err (Broken fault))
 
--- a number of at most this much, and its line end
+-- a number of at most `most`, and its line end
 abbrev pub number_at : ℕ → ProtocolFault → List ℕ → Result (Read ℕ) Stop
 number_at most fault [] = Err Short
 number_at most fault (byte ∷ bytes) =
     if is_digit byte && nat_le (byte - 48) most then number_from most fault (byte - 48) bytes else Err (Broken fault)
 
--- the '$' of a word
+-- the bytes after the '$' of a word
 abbrev pub after_dollar : List ℕ → Result (List ℕ) Stop
 after_dollar [] = Err Short
 after_dollar (byte ∷ bytes) = if byte == 36 then Ok bytes else Err (Broken (ExpectedBulk byte))
 
--- so many bytes, and a line end
+-- `len` bytes, and a line end
 abbrev pub payload_at : ℕ → List ℕ → Result (Read (List ℕ)) Stop
 payload_at len bytes =
     if nat_lt (length bytes) len then Err Short
@@ -66,22 +66,22 @@ abbrev pub words_at : Limits → ℕ → List ℕ → Result (Read (List (List �
 words_at limits zero bytes = Ok ([], bytes)
 words_at limits (suc count) bytes = word_at limits bytes >>= λ word. words_at limits count word.1 >>= λ others. Ok (with_first word.0 others)
 
--- the words of the spelling at the prefix of the bytes, and the bytes after it
+-- the words of the spelling with which the bytes begin, and the bytes after it
 abbrev pub request_at : Limits → List ℕ → Result (Read (List (List ℕ))) Stop
 request_at limits bytes =
     after_byte 42 ExpectedArray bytes >>= λ rest. number_at limits.words InvalidMultibulkLength rest >>= λ count. words_at limits count.0 count.1
 
--- the items of a text whose prefix was read, where `following` gives those of the bytes after it
+-- the items of a text, given what its first request reads as; `following` gives the items of the bytes after that request
 abbrev pub items_from : (List ℕ → List Item) → Result (Read (List (List ℕ))) Stop → List Item
 items_from following (Ok request) = item_of request.0 ++ following request.1
 items_from following (Err Short) = []
 items_from following (Err (Broken fault)) = Fault fault ∷ []
 
--- the items of at most so many spellings
+-- the items of a text, from at most the given number of spellings
 abbrev pub items_within : ℕ → Limits → List ℕ → List Item
 items_within zero limits bytes = []
 items_within (suc most) limits bytes = items_from (items_within most limits) (request_at limits bytes)
 
--- The items that a text asks for. A spelling has at least one byte, so that there are no more of them than bytes.
+-- The items that a text asks for. A spelling has at least one byte, so a text has no more spellings than bytes.
 unfoldable pub items_at : Limits → List ℕ → List Item
 items_at limits bytes = items_within (length bytes) limits bytes

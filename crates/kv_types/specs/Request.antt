@@ -18,7 +18,7 @@ line_end = 13 ∷ 10 ∷ []
 abbrev pub number_line : ℕ → List ℕ
 number_line n = decimal n ++ line_end
 
--- '$', the length, the bytes of the word
+-- '$', the length and its line end, the bytes of the word and a line end
 abbrev pub bulk : List ℕ → List ℕ
 bulk word = 36 ∷ number_line (length word) ++ word ++ line_end
 
@@ -31,7 +31,7 @@ pub record Spells (limits : Limits) (text : List ℕ) (words : List (List ℕ)) 
   pub within : IsWithin limits words
   pub whole : text ≡ spelling words
 
--- some spelling begins so
+-- the prefix begins some spelling
 pub record Begins (limits : Limits) (prefix : List ℕ) : Type 0 where
   pub rest : List ℕ
   pub words : List (List ℕ)
@@ -43,7 +43,7 @@ pub record IsProperPrefix (prefix whole : List ℕ) : Type 0 where
   pub rest : List ℕ
   pub joined : prefix ++ byte ∷ rest ≡ whole
 
--- The fault of a byte, by where it stands: after a prefix that still begins a spelling.
+-- The fault that a byte makes, by its position: it comes after a prefix that still begins a spelling.
 abbrev pub Says : Limits → List ℕ → ℕ → ProtocolFault → Type 0
 -- the first byte of a request
 Says limits prefix byte ExpectedArray = prefix ≡ []
@@ -62,7 +62,7 @@ Says limits prefix byte ExpectedLineEnd =
     (n : ℕ) × (words : List (List ℕ)) × (word : List ℕ) × (end : List ℕ) × (length words < n) × IsProperPrefix end line_end
     × (prefix ≡ 42 ∷ number_line n ++ flat_map bulk words ++ 36 ∷ number_line (length word) ++ word ++ end)
 
--- the shortest prefix of the bytes that begins no spelling ends in this fault
+-- the last byte of the shortest prefix of the bytes that begins no spelling makes this fault
 pub record FaultsWith (limits : Limits) (bytes : List ℕ) (fault : ProtocolFault) : Type 0 where
   pub prefix : List ℕ
   pub byte : ℕ

@@ -15,7 +15,7 @@ pub type Field = BoundedBytes<MAX_KEY_BYTES>;
 /// A value, at most 65,536 bytes.
 pub type Value = BoundedBytes<MAX_VALUE_BYTES>;
 
-/// Bytes of any content, at most `MAX` of them. A clause sees them as the list of the bytes.
+/// At most `MAX` bytes of any content. A clause sees the list of the bytes.
 #[derive(Debug, PartialEq, Eq, PartialOrd, Ord, Drop)]
 pub struct BoundedBytes<const MAX: usize> {
     bytes: Bytes,
@@ -34,7 +34,7 @@ impl<const MAX: usize> Model for BoundedBytes<MAX> {
 }
 
 impl<const MAX: usize> BoundedBytes<MAX> {
-    /// These bytes, or `None` where there are more than `MAX`.
+    /// The given bytes, or `None` if there are more than `MAX`.
     pub fn new(bytes: Bytes) -> Option<BoundedBytes<MAX>>
         ensures same { IfSome result (λ b. b ≡ bytes) }
         ensures fits { IsSome result ↔ (length bytes ≤ MAX) }
@@ -74,7 +74,7 @@ impl<const MAX: usize> BoundedBytes<MAX> {
         bytes
     }
 
-    /// The shared bytes, as another owner of them.
+    /// Another owner of the shared bytes.
     pub fn to_bytes(&self) -> Result<Bytes, AllocError>
         ensures { IfOk result (λ b. b ≡ self.now) }
     {

@@ -10,11 +10,11 @@ use std::alloc::AllocError;
 /// One change of the keyspace.
 #[derive(Debug, PartialEq, Eq, Drop)]
 pub enum Change {
-    /// Sets a string, in place of whatever the key held; or sets a field, of a new hash where the key is absent or held a string.
+    /// Sets a string, replacing whatever the key held; or sets a field, in a new hash if the key is absent or held a string.
     Put(RecordId, Value),
-    /// Removes one record, and the key with its last field.
+    /// Removes one record. Removing a key's last field removes the key.
     Drop(RecordId),
-    /// Removes a key with all that it held.
+    /// Removes a key and all that it held.
     DropKey(Key),
     /// Removes all keys.
     Clear,
@@ -57,7 +57,7 @@ impl Clone for Change {
     }
 }
 
-/// How many bytes a key or a field has in a frame, with the two of its length.
+/// How many bytes a key or a field has in a frame, including the two of its length.
 fn short_size(name: &Key) -> usize
     ensures value { result ≡ length (short_bytes name.now) }
     ensures bound { result ≤ 2 + MAX_KEY_BYTES }
@@ -65,7 +65,7 @@ fn short_size(name: &Key) -> usize
     2 + name.len()
 }
 
-/// How many bytes a value has in a frame, with the four of its length.
+/// How many bytes a value has in a frame, including the four of its length.
 fn long_size(value: &Value) -> usize
     ensures value { result ≡ length (long_bytes value.now) }
     ensures bound { result ≤ 4 + MAX_VALUE_BYTES }

@@ -1,4 +1,4 @@
-//! What holds of the grammar of requests, whoever reads it.
+//! Laws of the grammar of requests, whatever parser reads it.
 ghost use Rattle.std.specs.Prelude.{◌≡◌, ◌↔◌, ℕ, ◌^◌, ◌<◌, List, [], ◌++◌, Contains};
 ghost use Rattle.kv_types.specs.declared.limits.Limits.{Limits};
 ghost use Rattle.kv_types.specs.declared.item.ProtocolFault.{ProtocolFault};
@@ -8,7 +8,7 @@ ghost use Rattle.kv_types.specs.Word.{IsWithin};
 ghost use Rattle.kv_types.specs.Request.{spelling, AsksFor};
 ghost use Rattle.kv_types.specs.Reading.{items_at};
 
-/// No spelling begins another: what is spelled can be read back in one way, whatever follows it.
+/// No spelling begins another: a spelling can be read back in only one way, whatever follows it.
 pub fn one_spelling()
     ensures { (limits : Limits) → limits.words < 2 ^ 64 → limits.word_bytes < 2 ^ 64 →
         (a b : List (List ℕ)) (x y : List ℕ) → IsWithin limits a → IsWithin limits b →
@@ -21,8 +21,8 @@ pub fn items_are_asked_for()
         (text : List ℕ) (items : List Item) → AsksFor limits text items ↔ (items ≡ items_at limits text) }
 {}
 
-/// What bytes ask for stays when more bytes come. After a fault nothing more is asked for; without one, it goes on with the bytes that are
-/// no whole request yet.
+/// The items that bytes ask for remain when more bytes come. After a fault nothing more is asked for; without one, further items come from
+/// the bytes that are not yet a whole request, followed by the new bytes.
 pub fn items_grow()
     ensures stays { (limits : Limits) (text more : List ℕ) →
         (later : List Item) × (items_at limits (text ++ more) ≡ items_at limits text ++ later) }

@@ -8,7 +8,7 @@ use itoa::Buffer;
 use std::alloc::{AllocError, Global};
 use std::str;
 
-/// The integer of this text, and `None` where no 64-bit signed integer is written so: `-0`, `01`, `+1` and an empty text are refused.
+/// The integer of this text, or `None` if no 64-bit signed integer is written that way: `-0`, `01`, `+1` and an empty text are refused.
 pub fn read_int(text: &[u8]) -> Option<i64>
     ensures found { IfSome result (λ n. text.now ≡ signed_decimal n) }
     ensures refused { IfNone result ((n : ℤ) → FitsSigned w64 n → text.now ≢ signed_decimal n) }

@@ -6,11 +6,11 @@ use crate::request::Request;
 use bytes::Bytes;
 use std::alloc::{AllocError, Global};
 
-/// One thing that a connection's bytes ask to be answered.
+/// One thing in a connection's bytes that has to be answered.
 #[derive(Debug, Drop)]
 pub enum Item {
     Request(Request),
-    /// The bytes begin no request. It is answered in its place, and the connection is over.
+    /// The bytes begin no request. The fault is answered in its turn, and the connection is over.
     Fault(ProtocolFault),
 }
 
@@ -27,16 +27,16 @@ impl Clone for Item {
     }
 }
 
-/// What is wrong with bytes that begin no request, by the place where the first wrong byte stands.
+/// What is wrong with bytes that begin no request, by the position of the first wrong byte.
 #[derive(Clone, Copy, Debug, PartialEq, Eq)]
 pub enum ProtocolFault {
     /// The first byte of a request is not `*`.
     ExpectedArray,
-    /// In the number of words, or its line end.
+    /// The first wrong byte is in the number of words or its line end.
     InvalidMultibulkLength,
-    /// The first byte of a word is not `$`. The byte that stood there.
+    /// The first byte of a word is not `$`. Holds the byte found instead.
     ExpectedBulk(u8),
-    /// In the length of a word, or its line end.
+    /// The first wrong byte is in the length of a word or its line end.
     InvalidBulkLength,
     /// A word is not followed by a line end.
     ExpectedLineEnd,
@@ -72,7 +72,7 @@ fn expected_bulk_message(alloc: Global, got: u8) -> Result<Bytes, AllocError>
     Ok(Bytes::from_vec(text)?)
 }
 
-/// The byte itself where it prints, and else `?`.
+/// The byte itself if it is printable, and otherwise `?`.
 fn shown_byte(byte: u8) -> u8
     ensures { result ≡ shown byte }
 {

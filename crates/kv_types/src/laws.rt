@@ -8,29 +8,29 @@ ghost use Rattle.kv_types.specs.LookUp.{IsLookedUpAfter};
 ghost use Rattle.kv_types.specs.Reply.{text_of};
 ghost use Rattle.kv_types.specs.Request.{number_line};
 
-/// Changes played in two parts are the changes played at once.
+/// Playing changes in two parts is the same as playing them at once.
 pub fn play_in_two_parts()
     ensures { (s : Keyspace) (first second : List Change) → play_all s (first ++ second) ≡ play_all (play_all s first) second }
 {}
 
-/// Whatever is played on the empty keyspace, or on any other, leaves a keyspace.
+/// The empty list is a keyspace, and playing one change or many on a keyspace leaves a keyspace.
 pub fn keyspace_stays()
     ensures empty { IsKeyspace [] }
     ensures change { (s : Keyspace) (change : Change) → IsKeyspace s → IsKeyspace (play s change) }
     ensures changes { (s : Keyspace) (changes : List Change) → IsKeyspace s → IsKeyspace (play_all s changes) }
 {}
 
-/// What a look-up finds after each change, for every record.
+/// What a look-up of any record finds after each change.
 pub fn look_up_after_change()
     ensures { (s : Keyspace) (change : Change) → IsLookedUpAfter change s (play s change) }
 {}
 
-/// Two keyspaces in which every look-up finds the same are one keyspace.
+/// Two keyspaces in which every look-up finds the same are equal.
 pub fn look_ups_tell_apart()
     ensures { (s t : Keyspace) → IsKeyspace s → IsKeyspace t → ((id : RecordId) → value_at s id ≡ value_at t id) → s ≡ t }
 {}
 
-/// A record stands in a keyspace exactly where the look-up finds it.
+/// A keyspace contains a record with a value exactly when the look-up of the record finds that value.
 pub fn records_are_found()
     ensures { (s : Keyspace) (id : RecordId) (value : List ℕ) → IsKeyspace s → (value_at s id ≡ Some value) ↔ Contains s (id, value) }
 {}

@@ -1,4 +1,4 @@
-//! The words that every crate shares: keys, values, changes, requests, replies, refusals, and what they mean.
+//! The vocabulary that every crate shares: keys, values, changes, requests, replies, refusals, and what they mean.
 #![tactic(auto)]
 
 mod bounded;

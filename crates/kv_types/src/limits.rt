@@ -1,4 +1,4 @@
-//! The limits that a client meets, each in one place.
+//! The limits that a client meets, each defined once.
 
 /// The longest key, and the longest field, in bytes.
 pub const MAX_KEY_BYTES: usize = 512;
@@ -21,7 +21,7 @@ pub struct Limits {
     pub word_bytes: u64,
 }
 
-/// The limits of the protocol: the type `Request` holds no longer request.
+/// The limits of the protocol: the type `Request` holds no request beyond them.
 pub const FULL_LIMITS: Limits = Limits {
     words: 1_024,
     word_bytes: 65_536,

@@ -31,7 +31,7 @@ impl<T> Listed<T> {
         }
     }
 
-    /// These elements.
+    /// The given elements.
     pub fn from_vec(items: Vec<T>) -> Listed<T>
         ensures { result ≡ items.items }
     {
@@ -52,7 +52,7 @@ impl<T> Listed<T> {
         self.items.len()
     }
 
-    /// The allocator that they were made with.
+    /// The allocator that the elements were allocated with.
     pub fn allocator(&self) -> Global {
         *self.items.allocator()
     }

@@ -65,7 +65,7 @@ impl PlainKeyspace {
         value_in(self.records.as_slice(), id)
     }
 
-    /// Plays one change. Only a put takes memory; where it is refused, the keyspace is as it was.
+    /// Plays one change. Only a put takes memory; if it is refused, the keyspace is as it was.
     pub fn play(&mut self, change: Change) -> Result<(), AllocError>
         ensures ok { OnOk result (self.new ≡ play self.old change) }
         ensures err { OnErr result (self.new ≡ self.old) }
@@ -73,7 +73,7 @@ impl PlainKeyspace {
         play_on(&mut self.records, change)
     }
 
-    /// Plays changes one after another. Where memory is refused, those before the refused one are played and no other.
+    /// Plays the changes in order. If memory is refused, exactly the changes before the refused one have been played.
     pub fn play_all(&mut self, changes: Vec<Change>) -> Result<(), AllocError>
         ensures ok { OnOk result (self.new ≡ play_all self.old changes.items) }
         ensures err { OnErr result ((n : ℕ) × (n < length changes.items) × (self.new ≡ play_all self.old (take n changes.items))) }
@@ -110,7 +110,7 @@ fn play_on(records: &mut Vec<(RecordId, Value)>, change: Change) -> Result<(), A
     Ok(())
 }
 
-/// Puts a record, in place of what its key held if that was of the other kind.
+/// Puts a record, replacing what its key held if that was of the other kind.
 fn put(records: &mut Vec<(RecordId, Value)>, id: RecordId, value: Value) -> Result<(), AllocError>
     ensures ok { OnOk result (records.new.items ≡ play records.old.items (Change.Put id value)) }
     ensures err { OnErr result (records.new.items ≡ records.old.items) }
@@ -124,7 +124,7 @@ fn put(records: &mut Vec<(RecordId, Value)>, id: RecordId, value: Value) -> Resu
     put_record(records, id, value)
 }
 
-/// Puts a record and leaves the others.
+/// Puts a record and leaves the others unchanged.
 fn put_record(
     records: &mut Vec<(RecordId, Value)>,
     id: RecordId,
@@ -140,7 +140,7 @@ fn put_record(
     Ok(())
 }
 
-/// Where the record stands, or where it would stand.
+/// `Ok` with the index of the record, or `Err` with the index at which it would be inserted.
 fn place_of(records: &[(RecordId, Value)], id: &RecordId) -> Result<usize, usize>
     ensures here { IfOk result (λ n. (n < length records.now) × ((value : List ℕ) (other : RecordId × List ℕ)
         → with_record id.now value records.now ≡ slice_set records.now n ((slice_index_or records.now n other).0, value))) }

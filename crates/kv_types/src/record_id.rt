@@ -38,7 +38,7 @@ impl RecordId {
         }
     }
 
-    /// The field of the record, and `None` for a string.
+    /// The field of the record, or `None` for a string.
     pub fn field(&self) -> Option<&Field>
         ensures { option_copied result ≡ field_of self.now }
     {

@@ -8,13 +8,13 @@ use std::fmt;
 /// Why a call was refused. Each has a number of its own and a text, which programs print.
 #[derive(Clone, Copy, Debug, PartialEq, Eq)]
 pub enum Refusal {
-    /// The device's failure count rose, in this call or in an earlier call of the same engine; or a file could not be opened, made or read.
+    /// The device's failure count rose, in this call or in an earlier call of the same engine; or a file could not be opened, created or read.
     Fault = 1,
     /// The image does not begin with the magic word.
     BadMagic,
-    /// The image is of another version.
+    /// The image has another version.
     BadVersion,
-    /// The device or file has not the number of lines that it should have.
+    /// The device or file does not have the number of lines that it should have.
     WrongSize,
     /// No free run of lines is long enough, or no entry is free.
     Full,
@@ -22,21 +22,21 @@ pub enum Refusal {
     Exhausted,
     /// The image breaks a rule of its format.
     Damaged,
-    /// 1,024 seats are taken.
+    /// All 1,024 seats are taken.
     SeatsFull,
-    /// The pipe held as many items as it can.
+    /// The pipe already held as many items as it can hold.
     PipeFull,
     /// No continuation of the bytes is a frame.
     FrameFault,
-    /// The epoch is another one.
+    /// The epoch is not the expected one.
     WrongEpoch,
     /// The frame does not begin at the standby's position.
     PositionGap,
-    /// An acknowledgement above the own position, or a delta that would go backwards.
+    /// An acknowledgement is above this node's own position, or a delta would go backwards.
     StandbyAhead,
-    /// Memory for a growth was refused.
+    /// Out of memory: an allocation was refused.
     Memory,
-    /// Nobody said that the old primary is stopped.
+    /// Nobody has said that the old primary is stopped.
     NotFenced,
     /// The image is to be served in the other role.
     WrongRole,

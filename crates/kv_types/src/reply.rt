@@ -46,7 +46,7 @@ impl Clone for Reply {
     }
 }
 
-/// A reply that waits until it is covered, with the position of the list of calls at which it was made.
+/// A reply that waits until it is covered, with the position in the list of calls at which it was made.
 #[derive(Debug, Drop)]
 pub struct Held {
     pub reply: Reply,

@@ -5,7 +5,7 @@ use bytes::Bytes;
 use std::alloc::AllocError;
 use std::marker::Model;
 
-/// The words of one command, 1 to 1,024 of them and each of at most 65,536 bytes. A clause sees the list of the words.
+/// The words of one command: 1 to 1,024 words of at most 65,536 bytes each. A clause sees the list of the words.
 #[derive(Debug, Drop)]
 pub struct Request {
     words: Vec<Bytes>,
@@ -26,7 +26,7 @@ impl Model for Request {
 impl Request {
     ghost use Rattle.kv_types.specs.Word.{AreWords};
 
-    /// A request of these words.
+    /// A request with the given words.
     pub fn new(words: Vec<Bytes>) -> Request
         requires { AreWords words.items }
         ensures { result ≡ words.items }

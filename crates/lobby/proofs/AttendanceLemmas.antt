@@ -1,4 +1,4 @@
--- The calls of an entrance, said of its book and of the connections that wait.
+-- The calls of an entrance, in terms of its book and of the connections that wait.
 use Rattle.std.proofs.Common.{◌≡◌, ℕ, ◌<◌, Bool, true, false, not, ◌||◌, eqb, IsTrue, List, [], ◌∷◌, ◌++◌, length, drop, Option, Some, None, Result, Ok, Err, IfOk, IfErr, IfSome, MatchOption, slice_get, refl, ap, sym, ◌∙◌, subst, arith}
 use Rattle.std.specs.List.{list_any}
 use Rattle.std.specs.Option.{option_to_list}
@@ -14,7 +14,7 @@ use Rattle.lobby.specs.Attendance.{Attendance, AreEachOnce, IsHeld, numbers_of, 
 use Rattle.lobby.proofs.Waiting.{WaitOnce, each_once_from_waits, waits_from_each_once, waiting-fit, waits-more, waits-fewer, held-then, waits-entered, waits-left}
 
 module _ {I O : Type 0} where
-  -- the same book and the same arrivals are the same attendance
+  -- attendances with the same book and the same arrivals are equal
   pub Attendance-same : (a b : Attendance I O) → a.book ≡ b.book → a.arrivals ≡ b.arrivals → a ≡ b
   Attendance-same a b book arrivals = λ i. record {
     book = book i;

@@ -1,4 +1,4 @@
--- The calls of a lobby, said of its book.
+-- The calls of a lobby, in terms of its book.
 use Rattle.std.proofs.Common.{◌≡◌, ◌≢◌, ℕ, zero, suc, ◌<◌, ◌↔◌, List, [], ◌∷◌, length, map, Option, Some, None, All, IfOk, IfErr, IsErrOf, slice_get, slice_set, set, get_or, refl, ap, sym, ◌∙◌, subst, arith}
 use Rattle.std.specs.Option.{ok_or}
 use Rattle.std.proofs.Props.{props}
@@ -11,7 +11,7 @@ use Rattle.lobby.specs.Book.{Book, Status, free, taken, IsEachOnce, Moves}
 use Rattle.lobby.specs.Slot.{status_of, IsSound, TakesLowest}
 use Rattle.lobby.proofs.SlotsLemmas.{All-taken, status-at, own-at}
 
--- books with the same statuses are the same
+-- books with the same statuses are equal
 pub Book-same : (a b : Book) → a.statuses ≡ b.statuses → a ≡ b
 Book-same a b e = λ i. record {
   statuses = e i;
@@ -19,11 +19,11 @@ Book-same a b e = λ i. record {
   each_once = is_prop→PathP (λ j. IsEachOnce (e j)) (λ j. hlevel props) a.each_once b.each_once i;
 }
 
--- the statuses that a view has
+-- equal books have the same statuses
 pub statuses-same : {a b : Book} → a ≡ b → b.statuses ≡ a.statuses
 statuses-same e = ap (λ book. book.statuses) (sym e)
 
--- a free number that is made free stays what it is
+-- freeing a number that is not taken changes nothing
 set-free : (statuses : List Status) (number : ℕ) → slice_get statuses number ≢ Some taken → set statuses number free ≡ statuses
 set-free [] number not_taken = refl
 set-free (free ∷ others) zero not_taken = refl

@@ -5,7 +5,7 @@ use Rattle.std.proofs.lemmas.List.Sums.{sum_by-append, sum_by-cons}
 use Rattle.pipes.specs.declared.limits.TheConstants.{MAX_SEATS}
 use Rattle.lobby.specs.Book.{Status, free, taken, free_numbers, taken_numbers, IsEachOnce}
 
--- how often a number stands in a list
+-- how often a number occurs in a list
 unfoldable pub occurrences : ℕ → List ℕ → ℕ
 occurrences number xs = count_by (λ n. eqb n number) xs
 
@@ -21,7 +21,7 @@ pub occurrences-append : (number : ℕ) (xs ys : List ℕ) → occurrences numbe
 unfolding occurrences
 occurrences-append number xs ys = sum_by-append (λ n. cond (eqb n number) 1 0) xs ys
 
--- 1 for the count numbers from first on, and else 0
+-- 1 for the `count` numbers from `first` on, and otherwise 0
 pub within : ℕ → ℕ → ℕ → ℕ
 within first count number = cond (leb first number && ltb number (first + count)) 1 0
 

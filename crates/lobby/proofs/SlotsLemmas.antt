@@ -7,7 +7,7 @@ use Rattle.lobby.specs.Book.{free, taken}
 use Rattle.lobby.specs.Slot.{status_of, IsSound, IsEmptyBelow, TakesLowest}
 use Rattle.lobby.proofs.Numbers.{each_once_from_complete}
 
--- after a write, a place has what was written, where it is that place, and else what it had
+-- after a write, an index has what was written, if it is the index written to, and otherwise what it had
 slice_get-set_cases : {X : Type 0} (xs : List X) (i k : ℕ) (x y : X) → slice_get (set xs i x) k ≡ Some y → ((x ≡ y) × (k ≡ i)) ⊎ (slice_get xs k ≡ Some y)
 slice_get-set_cases [] i k x y e = inr e
 slice_get-set_cases (z ∷ zs) zero zero x y e = let same : x ≡ y = cc in inl (same, refl)
@@ -16,7 +16,7 @@ slice_get-set_cases (z ∷ zs) (suc i) zero x y e = inr e
 slice_get-set_cases (z ∷ zs) (suc i) (suc k) x y e =
     elim (slice_get-set_cases zs i k x y e) [ inl h ↦ inl (h.0, ap suc h.1) | inr h ↦ inr h ]
 
--- nothing, or a seat at the place of its own number, may be put into a slot
+-- a slot may be set to nothing, or to the seat of its own number
 IsSound-set : (slots : List (Option ℕ)) (place : ℕ) (slot : Option ℕ) → ((seat : ℕ) → slot ≡ Some seat → seat ≡ place) → IsSound slots → IsSound (set slots place slot)
 IsSound-set slots place slot own sound = record {
   complete = length-set slots place slot ∙ sound.complete;
@@ -33,7 +33,7 @@ pub IsSound-taken : (slots : List (Option ℕ)) (seat : Option ℕ) (after : Lis
 IsSound-taken slots None after takes sound = subst IsSound (sym takes.1) sound
 IsSound-taken slots (Some seat) after takes sound = subst IsSound (sym takes.1.3) (IsSound-set slots takes.0 None (λ other e. cc) sound)
 
--- where all seats lie in the order of their numbers
+-- if all seats are there in the order of their numbers
 slot-is : (slots : List (Option ℕ)) (seats : List ℕ) → slots ≡ map Some seats → (place : ℕ) → place < length slots
     → (place < length seats) × (get_or slots place None ≡ Some (get_or seats place 0))
 slot-is slots seats are place low =
@@ -61,18 +61,18 @@ All-free slots seats are place default low =
     let low' : place < length slots = omega (arith, length-map slots status_of) in
     get_or-map status_of slots place None default low' ∙ ap status_of (slot-is slots seats are place low').1
 
--- where no seat lies anywhere
+-- if no slot holds a seat
 pub All-taken : (slots : List (Option ℕ)) → IsEmptyBelow slots (length slots) → All (λ status. status ≡ taken) (map status_of slots)
 All-taken slots none place default low =
     let low' : place < length slots = omega (arith, length-map slots status_of) in
     get_or-map status_of slots place None default low' ∙ ap status_of (none place low')
 
--- the status at a place
+-- the status of the number `place`
 pub status-at : (slots : List (Option ℕ)) (place : ℕ) (slot : Option ℕ) → place < length slots → get_or slots place None ≡ slot
     → slice_get (map status_of slots) place ≡ Some (status_of slot)
 status-at slots place slot low is =
     slice_get-map status_of slots place ∙ ap (option_map status_of) (slice_get-get_or slots place None low ∙ ap Some is)
 
--- a seat has the number of its place
+-- a seat has the number of its slot
 pub own-at : (slots : List (Option ℕ)) (place seat : ℕ) → IsSound slots → place < length slots → get_or slots place None ≡ Some seat → seat ≡ place
 own-at slots place seat sound low is = sound.own place seat (slice_get-get_or slots place None low ∙ ap Some is)

@@ -83,7 +83,7 @@ module _ (statuses : List Status) (waiting : List ℕ) (complete : length status
   pub waits_from_each_once : AreEachOnce statuses waiting → WaitOnce statuses waiting
   waits_from_each_once once number = waits_from number (each_once-occurs once number) (waits waiting number) refl
 
--- no number below the first stands in the list
+-- no number below `first` occurs in the list
 above : (first : ℕ) (statuses : List Status) (number : ℕ) → number < first → occurrences number (taken_numbers first statuses) ≡ 0
 above first [] number below = occurrences-none number
 above first (free ∷ others) number below = above (suc first) others number (omega arith)
@@ -117,14 +117,14 @@ occurs-taken first (taken ∷ others) (suc place) some =
     let rest : 1 ≤ occurrences (first + suc place) (taken_numbers (suc first) others) = grind (arith, nat_tests) in
     occurs-taken (suc first) others place (subst (λ n. 1 ≤ occurrences n (taken_numbers (suc first) others)) (omega arith) rest)
 
--- a taken number stands in the list, and nothing else
+-- a taken number occurs in the list, and no other number does
 is-there : (statuses : List Status) (number : ℕ) → slice_get statuses number ≡ Some taken → 1 ≤ occurrences number (taken_numbers 0 statuses)
 is-there statuses number is = subst (λ n. 1 ≤ occurrences n (taken_numbers 0 statuses)) (omega arith) (taken-occurs 0 statuses number is)
 
 there-is : (statuses : List Status) (number : ℕ) → 1 ≤ occurrences number (taken_numbers 0 statuses) → slice_get statuses number ≡ Some taken
 there-is statuses number some = occurs-taken 0 statuses number (subst (λ n. 1 ≤ occurrences n (taken_numbers 0 statuses)) (omega arith) some)
 
--- the status of the first number says nothing of the others
+-- the status of the first number has no effect on the others
 head-other : (first : ℕ) (status : Status) (others : List Status) (number : ℕ) → number ≢ first
     → occurrences number (taken_numbers first (status ∷ others)) ≡ occurrences number (taken_numbers (suc first) others)
 head-other first free others number differ = refl
@@ -151,7 +151,7 @@ set-there [] place old new is = absurd cc
 set-there (status ∷ others) zero old new is = refl
 set-there (status ∷ others) (suc place) old new is = set-there others place old new is
 
--- so many numbers, of which each is below a bound and stands once, are no more than the bound
+-- a list of numbers below a bound, in which none occurs twice, is no longer than the bound
 length-without : (number : ℕ) (xs : List ℕ) → length xs ≡ length (filter (λ n. not (eqb n number)) xs) + occurrences number xs
 length-without number [] = let none = occurrences-none number in omega arith
 length-without number (x ∷ xs) =
@@ -184,7 +184,7 @@ waiting-fit statuses waiting complete once = length-distinct MAX_SEATS waiting (
 pub waits-empty : (statuses : List Status) → WaitOnce statuses []
 waits-empty statuses number = let none = occurrences-none number in omega arith
 
--- a held number waits too
+-- a held number now waits too
 pub waits-more : (statuses : List Status) (waiting : List ℕ) (number : ℕ) → slice_get statuses number ≡ Some taken → waits waiting number ≡ false
     → WaitOnce statuses waiting → WaitOnce statuses (waiting ++ number ∷ [])
 waits-more statuses waiting number is apart once other =
@@ -200,7 +200,7 @@ waits-more statuses waiting number is apart once other =
       | inr differ ↦ grind (arith, nat_tests)
     ]
 
--- the oldest waits no more
+-- the oldest no longer waits
 pub waits-fewer : (statuses : List Status) (waiting : List ℕ) (number : ℕ) → WaitOnce statuses (number ∷ waiting) → WaitOnce statuses waiting
 waits-fewer statuses waiting number once other =
     let here = once other in
@@ -218,7 +218,7 @@ held-then statuses waiting number complete once =
     let none : occurrences number waiting ≡ 0 = grind (arith, nat_tests) in
     (there-is statuses number some, not_waits waiting number none (waits waiting number) refl)
 
--- a free number is taken
+-- a free number becomes taken
 pub waits-entered : (statuses : List Status) (waiting : List ℕ) (number : ℕ) → length statuses ≡ MAX_SEATS
     → slice_get statuses number ≡ Some free → WaitOnce statuses waiting → WaitOnce (set statuses number taken) waiting
 waits-entered statuses waiting number complete is once other =
@@ -232,7 +232,7 @@ waits-entered statuses waiting number complete is once other =
       | inr differ ↦ let rest = set-other 0 statuses number taken other (λ e. differ (omega (arith, e))) in omega arith
     ]
 
--- a number that does not wait is free
+-- a number that does not wait becomes free
 pub waits-left : (statuses : List Status) (waiting : List ℕ) (number : ℕ) → waits waiting number ≡ false
     → WaitOnce statuses waiting → WaitOnce (set statuses number free) waiting
 waits-left statuses waiting number apart once other =

@@ -5,7 +5,7 @@ use Rattle.pipes.specs.declared.limits.TheConstants.{MAX_SEATS}
 use Rattle.lobby.specs.declared.arrival.Arrival.{Arrival}
 use Rattle.lobby.specs.Book.{Book, Status, taken, free_numbers, taken_numbers}
 
--- whether this number is among those that wait
+-- whether the number is among those that wait
 abbrev pub waits : List ℕ → ℕ → Bool
 waits waiting number = list_any (λ other. other == number) waiting
 
@@ -28,7 +28,7 @@ pub record Attendance (I O : Type 0) : Type 0 where
   pub arrivals : List (Arrival I O)
   pub each_once : AreEachOnce book.statuses (numbers_of arrivals)
 
--- the seat of this number was given out, and does not wait
+-- the seat of this number was given out, and is not waiting
 abbrev pub IsHeld : {I O : Type 0} → Attendance I O → ℕ → Type 0
 IsHeld attendance number =
     (slice_get attendance.book.statuses number ≡ Some taken) × (waits (numbers_of attendance.arrivals) number ≡ false)

@@ -2,18 +2,18 @@
 use Rattle.std.specs.Prelude.{◌≡◌, ℕ, suc, ◌==◌, List, [], ◌∷◌, ◌++◌, length, Some, if◌then◌else◌, nat_lt, count_by, slice_get, slice_set}
 use Rattle.pipes.specs.declared.limits.TheConstants.{MAX_SEATS}
 
--- whether a number's seat lies in the lobby or is with the connection to which the lobby gave it
+-- whether a number's seat is in the lobby or with the connection to which the lobby gave it
 pub data Status : Type 0 where
   free : Status
   taken : Status
 
--- the free numbers, where the first status is that of the number first
+-- the free numbers, where the first status is that of the number `first`
 abbrev pub free_numbers : ℕ → List Status → List ℕ
 free_numbers first [] = []
 free_numbers first (free ∷ others) = first ∷ free_numbers (suc first) others
 free_numbers first (taken ∷ others) = free_numbers (suc first) others
 
--- the taken numbers alike
+-- the taken numbers, in the same way
 abbrev pub taken_numbers : ℕ → List Status → List ℕ
 taken_numbers first [] = []
 taken_numbers first (free ∷ others) = taken_numbers (suc first) others
@@ -30,7 +30,7 @@ pub record Book : Type 0 where
   pub complete : length statuses ≡ MAX_SEATS
   pub each_once : IsEachOnce statuses
 
--- this number, which had the one status, gets the other, and each other number keeps its own
+-- the number's status changes from `from` to `to`, and every other number keeps its own
 pub record Moves (before : Book) (number : ℕ) (from to : Status) (after : Book) : Type 0 where
   pub was : slice_get before.statuses number ≡ Some from
   pub becomes : after.statuses ≡ slice_set before.statuses number to

@@ -1,4 +1,4 @@
--- How a lobby keeps its book: at each number's place the seat itself while it is free, and nothing while it is taken.
+-- How a lobby keeps its book: the slot of each number holds the seat itself while it is free, and nothing while it is taken.
 use Rattle.std.specs.Prelude.{◌≡◌, ℕ, ◌<◌, List, length, map, Option, Some, None, slice_get, slice_index_or, slice_set}
 use Rattle.std.proofs.Common.{◌∙◌}
 use Rattle.std.proofs.lemmas.List.{length-map}
@@ -9,7 +9,7 @@ abbrev pub status_of : Option ℕ → Status
 status_of None = taken
 status_of (Some _) = free
 
--- there is a place for each number, a seat lies at the place of its own number, and so each number is free or taken
+-- there is a slot for each number, a seat is only ever in the slot of its own number, and so each number is free or taken
 pub record IsSound (slots : List (Option ℕ)) : Type 0 where
   pub complete : length slots ≡ MAX_SEATS
   pub own : (place seat : ℕ) → slice_get slots place ≡ Some (Some seat) → seat ≡ place
@@ -23,11 +23,11 @@ book_of slots sound = record {
   each_once = sound.each_once;
 }
 
--- no seat lies below this place
+-- no slot below `place` holds a seat
 abbrev pub IsEmptyBelow : List (Option ℕ) → ℕ → Type 0
 IsEmptyBelow slots place = (lower : ℕ) → lower < place → slice_index_or slots lower None ≡ None
 
--- the seat at the lowest place at which one lies is taken out
+-- the seat in the lowest slot that holds one is taken out, or no slot holds one and nothing changes
 abbrev pub TakesLowest : List (Option ℕ) → Option ℕ → List (Option ℕ) → Type 0
 TakesLowest before None after = IsEmptyBelow before (length before) × (after ≡ before)
 TakesLowest before (Some seat) after =

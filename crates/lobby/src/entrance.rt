@@ -14,14 +14,14 @@ use std::alloc::Global;
 use std::collections::VecDeque;
 use std::marker::Model;
 
-/// A lobby, and the connections that have arrived and wait to be served. A clause sees both, the one that waits longest first; each number
-/// is free, held by whoever was given its seat, or waits.
+/// A lobby, and the connections that have arrived and wait to be served. A clause sees both, the longest waiting first; each number is
+/// free, held by whoever was given its seat, or waiting.
 #[derive(Drop)]
 pub struct Entrance<I, O> {
     lobby: Lobby,
     arrivals: VecDeque<Arrival<I, O>>,
     ghost each_once: { AreEachOnce lobby.statuses (numbers_of arrivals.items) },
-    // The room is made with the entrance, so that no later call takes memory.
+    // The room is allocated with the entrance, so that no later call takes memory.
     ghost has_room: { MAX_SEATS ≤ deque_capacity arrivals },
 }
 
@@ -34,11 +34,11 @@ impl<I, O> Model for Entrance<I, O> {
 }
 
 impl<I, O> Entrance<I, O> {
-    /// An entrance whose seats are all free. It makes all the room that it will ever need.
+    /// An entrance whose seats are all free. It allocates all the memory that it will ever need.
     ///
     /// # Errors
     ///
-    /// `Memory` alone.
+    /// Only `Memory`.
     pub fn new(alloc: Global) -> Result<Entrance<I, O>, Refusal>
         ensures all_free { IfOk result (λ entrance. All (λ status. status ≡ free) entrance.book.statuses) }
         ensures none_wait { IfOk result (λ entrance. entrance.arrivals ≡ []) }
@@ -53,7 +53,7 @@ impl<I, O> Entrance<I, O> {
     ///
     /// # Errors
     ///
-    /// `SeatsFull` where no seat is free. Nothing changed then.
+    /// `SeatsFull` if no seat is free. Nothing has changed then.
     pub fn enter(&mut self) -> Result<Seat, Refusal>
         ensures moves { IfOk result (λ seat. Moves self.old.book seat free taken self.new.book) }
         ensures lowest { IfOk result (λ seat. (lower : ℕ) → lower < seat → slice_get self.old.book.statuses lower ≡ Some taken) }
@@ -64,11 +64,11 @@ impl<I, O> Entrance<I, O> {
         self.lobby.enter()
     }
 
-    /// Lets a connection wait behind all that wait. It takes no memory.
+    /// Lets a connection wait after all that already wait. It takes no memory.
     ///
     /// # Errors
     ///
-    /// The arrival, where its seat is not held from here. Nothing changed then.
+    /// The arrival, if its seat is not held from here. Nothing has changed then.
     pub fn arrive(&mut self, arrival: Arrival<I, O>) -> Result<(), Arrival<I, O>>
         ensures accepts { IsOk result ↔ IsHeld self.old arrival.seat }
         ensures last { OnOk result (self.new.arrivals ≡ self.old.arrivals ++ arrival ∷ []) }
@@ -82,7 +82,7 @@ impl<I, O> Entrance<I, O> {
         Ok(())
     }
 
-    /// Gives the connection that has waited longest. Its seat is held then. It takes no memory.
+    /// Takes out the connection that has waited longest. Its seat is held from then on. It takes no memory.
     pub fn waiting(&mut self) -> Option<Arrival<I, O>>
         ensures oldest { MatchOption result ((self.old.arrivals ≡ []) × (self.new ≡ self.old)) (λ arrival. self.old.arrivals ≡ arrival ∷ self.new.arrivals) }
         ensures held { IfSome result (λ arrival. IsHeld self.new arrival.seat) }
@@ -102,7 +102,7 @@ impl<I, O> Entrance<I, O> {
         }
     }
 
-    // Whether the seat of this number is out of the lobby and does not wait.
+    // Whether the seat of this number was given out and is not waiting.
     fn is_held(&self, seat: &Seat) -> bool
         ensures { IsTrue result ↔ IsHeld self.now seat.now }
     {

@@ -8,10 +8,10 @@ use pipes::{MAX_SEATS, Seat};
 use std::alloc::{AllocError, Global};
 use std::marker::Model;
 
-/// The 1,024 seats of a server, of which the free ones lie here. A clause sees whether each number is free or taken.
+/// The 1,024 seats of a server, of which it holds the free ones. A clause sees whether each number is free or taken.
 #[derive(Debug, Drop)]
 pub struct Lobby {
-    // At its number's place each seat that is free.
+    // Each free seat, in the slot of its number.
     slots: Vec<Option<Seat>>,
     ghost sound: { IsSound slots.items },
 }
@@ -26,11 +26,11 @@ impl Model for Lobby {
 }
 
 impl Lobby {
-    /// A lobby whose seats are all free. It makes all the room that it will ever need.
+    /// A lobby whose seats are all free. It allocates all the memory that it will ever need.
     ///
     /// # Errors
     ///
-    /// `Memory` alone.
+    /// Only `Memory`.
     pub fn new(alloc: Global) -> Result<Lobby, Refusal>
         ensures all_free { IfOk result (λ lobby. All (λ status. status ≡ free) lobby.statuses) }
         ensures err { IfErr result (λ refusal. refusal ≡ Refusal.Memory) }
@@ -43,7 +43,7 @@ impl Lobby {
     ///
     /// # Errors
     ///
-    /// `SeatsFull` where every seat is taken. Nothing changed then.
+    /// `SeatsFull` if every seat is taken. Nothing has changed then.
     pub fn enter(&mut self) -> Result<Seat, Refusal>
         ensures moves { IfOk result (λ seat. Moves self.old seat free taken self.new) }
         ensures lowest { IfOk result (λ seat. (lower : ℕ) → lower < seat → slice_get self.old.statuses lower ≡ Some taken) }
@@ -76,7 +76,7 @@ fn slots_of(alloc: Global, seats: Vec<Seat>) -> Result<Vec<Option<Seat>>, AllocE
     seats.into_iter().map(Some).collect(alloc)
 }
 
-// Takes out the seat at the lowest place at which one lies.
+// Takes out the seat in the lowest slot that holds one.
 fn take_lowest(slots: &mut Vec<Option<Seat>>) -> Option<Seat>
     ensures { TakesLowest slots.old.items result slots.new.items }
 {

@@ -20,7 +20,7 @@ answers_from-append s p c (call ∷ xs) ys =
     ∙ sym (append_assoc (answer_at s p c call) (answers_from after q c xs) (answers_from (state_from after xs) (q + position_from after xs) c ys))
     ∙ ap (λ n. (answer_at s p c call ++ answers_from after q c xs) ++ answers_from (state_from after xs) n c ys) same
 
--- ---- one call more
+-- ---- one more call
 
 pub answers_to-push : (c : ℕ) (calls : List Call) (call : Call) → answers_to c (calls ++ call ∷ []) ≡ answers_to c calls ++ answer_at (state_after calls) (position_of calls) c call
 answers_to-push c calls call =

@@ -1,4 +1,4 @@
--- What each event leaves of the committer: the groups that wait lead from its record's position to where groups were closed.
+-- The committer after each event: the waiting groups lead from its record's position to the position up to which groups were closed.
 use Rattle.std.proofs.Common.{◌≡◌, ℕ, ◌+◌, ◌-◌, ◌<◌, ◌≤◌, true, List, [], ◌∷◌, length, refl, sym, ◌∙◌, arith, length-append, le_refl}
 use Rattle.model.specs.Call.{is_nonempty}
 use Rattle.machine.specs.declared.event.TheConstants.{PIPE_ITEMS, OPEN_CHANGES}

@@ -1,4 +1,4 @@
--- Laws of the list of connections: what a change of one of them leaves of it and of the others.
+-- Laws of the list of connections: what a change to one of them does to it and to the others.
 use Rattle.std.proofs.Common.{◌≡◌, ◌≢◌, ℕ, zero, suc, ◌<◌, ◌≤◌, ◌+◌, true, cond, List, [], ◌∷◌, ◌++◌, length, All, refl, sym, ap, subst, arith}
 use Rattle.std.proofs.Common.{inl, inr}
 use Rattle.std.proofs.lemmas.Bool.{cases_eq}
@@ -24,7 +24,7 @@ length-changed_at c change [] = refl
 length-changed_at zero change (connection ∷ connections) = refl
 length-changed_at (suc c) change (connection ∷ connections) = ap suc (length-changed_at c change connections)
 
--- beyond the last there is one that nothing came from, and nothing came from one that enters
+-- beyond the last connection `get_connection` gives `no_connection`, and nothing has come from one that enters
 pub get-entered : {X : Type 0} (part : Connection → X) → part new_connection ≡ part no_connection → (connections : List Connection) (c : ℕ) → part (get_connection (connections ++ new_connection ∷ []) c) ≡ part (get_connection connections c)
 get-entered part new [] zero = new
 get-entered part new [] (suc c) = refl
@@ -36,7 +36,7 @@ get-past [] c le = refl
 get-past (connection ∷ connections) zero le = absurd (omega arith)
 get-past (connection ∷ connections) (suc c) le = get-past connections c (omega arith)
 
--- What holds of each connection, after a change of one of them: it holds of that one changed, and of each other as it stands.
+-- What holds of each connection after a change to one of them: it holds of that one changed, and of each other one unchanged.
 pub each-changed : (P : ℕ → Connection → Type 0) (c : ℕ) (change : Connection → Connection) (connections : List Connection) → c < length connections
     → P c (change (get_connection connections c)) → ((d : ℕ) → c ≢ d → P d (get_connection connections d)) → (d : ℕ) → P d (get_connection (changed_at c change connections) d)
 each-changed P c change connections lt own others d =
@@ -45,7 +45,7 @@ each-changed P c change connections lt own others d =
       | inr differ ↦ subst (P d) (sym (get-changed_other c d change connections differ)) (others d differ)
     ]
 
--- what a change leaves of the connection that it changes, it leaves of all
+-- a part that a change keeps of the connection that it changes is kept in all connections
 pub same-changed : {X : Type 0} (part : Connection → X) (c : ℕ) (change : Connection → Connection) (connections : List Connection) → ((connection : Connection) → part (change connection) ≡ part connection)
     → (d : ℕ) → part (get_connection (changed_at c change connections) d) ≡ part (get_connection connections d)
 same-changed part c change [] same d = refl

@@ -38,7 +38,7 @@ chain-above from (group ∷ groups) to position chain le =
           (rest.0, omega (arith, rest.1), rest.2)
     ] refl
   where
-    -- groups behind the position all stay
+    -- groups after the position all stay
     all-above : (from : ℕ) (groups : List Span) (to position : ℕ) → IsChain from groups to → position < from → IsChain from (above position groups) to
     all-above from [] to position chain lt = chain
     all-above from (group ∷ groups) to position chain lt =

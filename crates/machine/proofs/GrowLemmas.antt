@@ -1,4 +1,4 @@
--- What is there later: lists go on, and no number falls.
+-- What a later world has: lists only grow at the end, and no number falls.
 use Rattle.std.proofs.Common.{◌≡◌, ℕ, zero, suc, ◌≤◌, Bool, true, false, List, [], ◌∷◌, ◌++◌, take, drop, cond, nat_eq, Option, Some, None, slice_get, refl, sym, ap, subst, ◌∙◌, arith, le_refl, inl, inr}
 use Rattle.model.specs.declared.call.Call.{Call}
 use Rattle.model.specs.Call.{IsPrefix, cut_at, keyspace_after, position_of}

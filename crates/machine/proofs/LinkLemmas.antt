@@ -1,4 +1,4 @@
--- What each event leaves of the link: the groups that it keeps and those that wait are the committed ones that are not acknowledged.
+-- The link after each event: the groups that it keeps and those that wait are the committed ones that are not acknowledged.
 use Rattle.std.proofs.Common.{◌≡◌, ℕ, ◌<◌, ◌≤◌, true, not, nat_lt, List, [], ◌∷◌, ◌++◌, length, take, All, refl, sym, ap, subst, ◌∙◌, arith, append_assoc, append-nil, length-append, le_refl, ◌&&◌, ◌||◌}
 use Rattle.std.proofs.lemmas.Bool.{ltb-true}
 use Rattle.std.proofs.lemmas.List.Elements.{All-nil, All-cons, All-head, All-tail, filter-append}
@@ -110,7 +110,7 @@ all-middle : (P : Span → Type 0) (xs : List Span) (group : Span) (ys : List Sp
 all-middle P [] group ys all = All-head P group ys all
 all-middle P (x ∷ xs) group ys all = all-middle P xs group ys (All-tail P x (xs ++ group ∷ ys) all)
 
--- The link sent these groups: all that was sent by then ends at a position, which is that of before or a later one.
+-- The link sent these groups: all groups sent so far end at `after`, which is the position up to which groups were sent before, or a later one.
 pub record Sends (stage : Stage) (position sent : ℕ) (new : Link) (groups : List Span) : Type 0 where
   pub after : ℕ
   pub later : sent ≤ after

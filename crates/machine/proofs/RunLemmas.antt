@@ -1,4 +1,4 @@
--- Laws of runs: they go on, they are cut, and what holds between any two events.
+-- Laws of runs: how they are extended and cut, and what holds between any two events.
 use Rattle.std.proofs.Common.{◌≡◌, ℕ, zero, suc, Bool, true, false, List, [], ◌∷◌, ◌++◌, length, take, drop, All, refl, sym, ap, arith, inl, inr, true≢false}
 use Rattle.std.proofs.lemmas.List.Elements.{All-nil, All-cons}
 use Rattle.machine.specs.declared.event.Event.{Event}
@@ -20,7 +20,7 @@ step-does e h = record { done = sym e; happens = λ did. h; stands = λ did. abs
 pub step-stays : {old : World} {event : Event} → is_enabled old event ≡ false → Step old event false old
 step-stays e = record { done = sym e; happens = λ did. absurd (true≢false (sym did)); stands = λ did. refl }
 
--- ---- runs go on, and are cut
+-- ---- runs extended and cut
 
 pub run-append : (w : World) (first second : List Event) (done more : List Bool) (worlds later : List World) → Run w first done worlds → Run (last_world w worlds) second more later → Run w (first ++ second) (done ++ more) (worlds ++ later)
 run-append w [] second [] more [] later run next = next
@@ -31,7 +31,7 @@ pub last_world-append : (w : World) (worlds later : List World) → last_world w
 last_world-append w [] later = refl
 last_world-append w (new ∷ worlds) later = last_world-append new worlds later
 
--- one event more
+-- one more event
 pub run-push : (w : World) (events : List Event) (done : List Bool) (worlds : List World) (event : Event) (did : Bool) (new : World) → Run w events done worlds → Step (last_world w worlds) event did new
     → Run w (events ++ event ∷ []) (done ++ did ∷ []) (worlds ++ new ∷ [])
 run-push w events done worlds event did new run step = run-append w events (event ∷ []) done (did ∷ []) worlds (new ∷ []) run (step, tt)
@@ -46,7 +46,7 @@ run-take (suc n) w [] [] [] run = tt
 run-take (suc n) w (event ∷ events) (did ∷ done) (new ∷ worlds) run = (run.0, run-take n new events done worlds run.1)
 run-take (suc n) w events done worlds run = absurd run
 
--- and the others go on from there
+-- and the others are a run from where those end
 pub run-drop : (n : ℕ) (w : World) (events : List Event) (done : List Bool) (worlds : List World) → Run w events done worlds → Run (last_world w (take n worlds)) (drop n events) (drop n done) (drop n worlds)
 run-drop zero w events done worlds run = run
 run-drop (suc n) w [] [] [] run = tt

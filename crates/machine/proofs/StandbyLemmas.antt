@@ -1,11 +1,11 @@
--- What each event leaves of the standby and of the wire: frames are committed groups, and no acknowledgement is of a position above the standby's.
+-- The standby and the wire after each event: frames tell committed changes, and no acknowledgement has a position above the standby's.
 use Rattle.std.proofs.Common.{◌≡◌, ℕ, zero, suc, ◌≤◌, List, [], ◌∷◌, ◌++◌, take, All, slice_get, sym, subst, arith, le_refl, refl, inl, inr}
 use Rattle.std.proofs.lemmas.List.Elements.{All-nil, All-cons, All-append, All-head, All-tail, All-take, All-drop, All-weaker}
 use Rattle.machine.specs.Event.{Frame, Acknowledgement, Standby, Wire, Takes, acknowledgement_of, delivered, moved_to, without_first, option_items, start}
 use Rattle.machine.specs.Sound.{IsFrameWithin, IsToldWithin, SoundStandby, SoundWire}
 use Rattle.machine.proofs.GroupLemmas.{frames_within-weaker}
 
--- what holds of all holds of the one at a place, if there is one
+-- what holds of all elements holds of the one at an index, if there is one
 pub all-at : {X : Type 0} (P : X → Type 0) (xs : List X) (i : ℕ) → All P xs → All P (option_items (slice_get xs i))
 all-at P [] i all = All-nil P
 all-at P (x ∷ xs) zero all = All-cons P x [] (All-head P x xs all) (All-nil P)
@@ -26,7 +26,7 @@ standby-sent epoch sent sent' known standby le s = record {
   known = s.known;
 }
 
--- the link comes to know another position
+-- the link learns another position
 pub standby-known : (epoch sent known known' : ℕ) (standby : Standby) → known' ≤ standby.position → SoundStandby epoch sent known standby → SoundStandby epoch sent known' standby
 standby-known epoch sent known known' standby le s = record {
   epoch_is = s.epoch_is;
@@ -63,7 +63,7 @@ pub wire-sent : (epoch sent sent' position : ℕ) (frames : List Frame) (wire : 
 wire-sent epoch sent sent' position frames wire le within s =
     record { frames = All-append (IsFrameWithin epoch sent') wire.frames frames (frames_within-weaker epoch sent sent' wire.frames le s.frames) within; acknowledged = s.acknowledged }
 
--- the standby told its position, and stands there or further on
+-- the standby told its position, and is at that position or a later one
 pub wire-told : (epoch sent position position' : ℕ) (told : List Acknowledgement) (wire : Wire) → position ≤ position' → All (IsToldWithin epoch position') told → SoundWire epoch sent position wire
     → SoundWire epoch sent position' (record wire { acknowledgements = wire.acknowledgements ++ told })
 wire-told epoch sent position position' told wire le within s =
@@ -73,9 +73,9 @@ wire-told epoch sent position position' told wire le within s =
           (All-weaker (IsToldWithin epoch position) (IsToldWithin epoch position') (λ ack h. record { epoch_is = h.epoch_is; within = omega (arith, h.within) }) wire.acknowledgements s.acknowledged) within;
     }
 
--- ---- what the standby makes of a frame
+-- ---- what the standby does with a frame
 
--- it stands, and what it tells is its position or one below
+-- the standby stays sound, and what it tells is its position or one below it
 pub record TakesWell (epoch sent known : ℕ) (old new : Standby) (told : List Acknowledgement) : Type 0 where
   pub standby : SoundStandby epoch sent known new
   pub runs : new.life ≡ old.life

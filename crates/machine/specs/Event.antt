@@ -1,5 +1,5 @@
--- The pair of nodes as a machine (this project's profile): which event may happen, what it does, and what a run is. What stands where is in
--- `Worlds`, whose words this file passes on.
+-- The pair of nodes as a machine (this project's profile): which event may happen, what it does, and what a run is. The state is defined in
+-- `World`, whose definitions this file re-exports.
 pub use Rattle.machine.specs.World.{Inbound, Outbound, Connection, Span, Frame, Acknowledgement, Stage, Ready, Durable, Shown, Committer, Link, Life, Running, Stopped, Crashed, Primary, Standby, Wire, World, no_connection, new_connection, start_at, start, is_running, get_connection, connection_of, is_open, count_open, changed_at, with_inbound, with_outbound, with_primary, with_connections, on_inbound, on_outbound, with_committer, with_link, with_standby, with_sent, with_acknowledged, asked, is_closed_by, open_changes, has_room, is_ready, is_durable, is_shown, is_covered, covered_prefix, uncovered_rest, texts_of}
 use Rattle.std.specs.Prelude.{◌≡◌, ◌⊎◌, ℕ, ◌+◌, ◌<◌, ◌≤◌, Bool, true, false, not, ◌&&◌, ◌||◌, nat_lt, nat_le, nat_eq, if◌then◌else◌, max, List, [], ◌∷◌, ◌++◌, length, take, drop, map, filter, ◌≢◌, slice_get, Option, Some, None}
 use Rattle.kv_types.specs.declared.reply.Held.{Held}
@@ -13,14 +13,14 @@ use Rattle.machine.specs.declared.event.TheConstants.{SEATS, OPEN_CHANGES, KEPT_
 
 -- ---- which event may happen
 
--- the nodes that an event is of are running
+-- the nodes that take part in the event are running
 abbrev pub nodes_run : World → Event → Bool
 nodes_run w OpenLink = is_running w.primary.life && is_running w.standby.life
 nodes_run w (Deliver frame) = is_running w.standby.life
 nodes_run w Apply = is_running w.standby.life
 nodes_run w event = is_running w.primary.life
 
--- there is something for it to do, and room for what it makes
+-- there is something for the event to do, and room for what it makes
 abbrev pub may_happen : World → Event → Bool
 may_happen w Enter = nat_lt (count_open w.primary.connections) SEATS
 may_happen w (Feed c piece) = is_open w c && not (is_closed_by (connection_of w c).inbound.fed)
@@ -58,7 +58,7 @@ entered w = with_connections (w.primary.connections ++ new_connection ∷ []) w
 abbrev pub fed_with : List ℕ → Inbound → Inbound
 fed_with piece inbound = record inbound { fed = inbound.fed ++ piece }
 
--- the next item of those asked for waits
+-- the next of the items asked for joins those that wait
 abbrev pub offered_next : Inbound → Inbound
 offered_next inbound = record inbound { offered = inbound.offered + 1; waiting = inbound.waiting ++ take 1 (drop inbound.offered (asked inbound.fed)) }
 
@@ -71,13 +71,13 @@ with_made reply outbound = record outbound { made = outbound.made ++ reply ∷ [
 abbrev pub with_call : Call → World → World
 with_call call w = record w { primary = record w.primary { calls = w.primary.calls ++ call ∷ [] } }
 
--- the call is written, and its reply waits with the position of the list after it
+-- the call is appended to the list, and its reply waits with the position of the list after the call
 abbrev pub called : ℕ → Call → World → World
 called c call w =
     let w' = with_call call w in
     on_outbound c (with_made (record { reply = call.reply; position = position_of w'.primary.calls })) (on_inbound c taken_first w')
 
--- the first waiting item is run, and answered as it may be
+-- the first waiting item is run, and gets a reply that may be given at this state
 pub record Turns (w : World) (c : ℕ) (new : World) : Type 0 where
   pub call : Call
   pub connection : call.connection ≡ c
@@ -85,7 +85,7 @@ pub record Turns (w : World) (c : ℕ) (new : World) : Type 0 where
   pub reply : MayReply (state_after w.primary.calls) call
   pub now : new ≡ called c call w
 
--- all changing commands that wait, up to this position of the list, are a group
+-- all waiting changing commands, up to this position of the list, become a group
 abbrev pub closed_group : ℕ → Committer → Committer
 closed_group position committer =
     record committer { closed = position; waiting = committer.waiting ++ record { before = committer.closed; after = position } ∷ [] }
@@ -117,11 +117,11 @@ handed_to groups link = record link { waiting = link.waiting ++ groups }
 abbrev pub opened_link : Link → Link
 opened_link link = record link { again = link.kept }
 
--- what the standby tells of itself
+-- what the standby tells about itself
 abbrev pub acknowledgement_of : Standby → Acknowledgement
 acknowledgement_of standby = record { epoch = standby.epoch; position = standby.position }
 
--- what is sent next: a group that is to be sent again goes first, and else one that waits
+-- what is sent next: a group that is to be sent again, or, where there is none, one that waits
 abbrev pub next_to_send : Link → List Span
 next_to_send link = take 1 (link.again ++ link.waiting)
 
@@ -133,7 +133,7 @@ abbrev pub sent_next : List Span → Link → Link
 sent_next [] link = sent_waiting link.waiting link
 sent_next (group ∷ groups) link = record link { again = groups }
 
--- the frame of a group, as the primary sends it
+-- the frames of groups, as a primary of this epoch sends them
 abbrev pub framed : ℕ → List Span → List Frame
 framed epoch = map (λ group. record { epoch = epoch; span = group })
 
@@ -148,9 +148,9 @@ delivered frames standby = record standby { waiting = standby.waiting ++ frames 
 abbrev pub moved_to : ℕ → Standby → Standby
 moved_to position standby = record standby { position = position }
 
--- What the standby does with a frame, and what it acknowledges. One of another epoch is refused. One that ends at its position or below is acknowledged
--- again; one that begins there is applied whole and acknowledged, or, where the standby is full, refused; any other is refused. A refused frame changes
--- nothing and is not acknowledged.
+-- What the standby does with a frame, and what it acknowledges. One of another epoch is refused. One that ends at the standby's position or below is
+-- acknowledged again; one that begins there is applied whole and acknowledged, or refused (where the standby is full); any other is refused. A refused
+-- frame changes nothing and is not acknowledged.
 abbrev pub Takes : Frame → Standby → Standby → List Acknowledgement → Type 0
 Takes frame old new told =
     ((frame.epoch ≢ old.epoch) × (new ≡ old) × (told ≡ []))
@@ -162,7 +162,7 @@ Takes frame old new told =
 abbrev pub without_first : Standby → Standby
 without_first standby = record standby { waiting = drop 1 standby.waiting }
 
--- the first frame that waits is taken off, and applied or not
+-- the first waiting frame is removed, and applied, acknowledged again or refused as `Takes` says
 pub record Applies (w new : World) : Type 0 where
   pub frame : Frame
   pub first : take 1 w.standby.waiting ≡ frame ∷ []
@@ -175,11 +175,11 @@ pub record Applies (w new : World) : Type 0 where
 abbrev pub above : ℕ → List Span → List Span
 above position = filter (λ group. nat_lt position group.after)
 
--- the link knows the position: it keeps no group up to it
+-- the link learns this position, and no longer keeps the groups up to it
 abbrev pub knowing : ℕ → Link → Link
 knowing position link = record link { kept = above position link.kept; again = above position link.again; known = max link.known position }
 
--- an acknowledgement of another epoch is none
+-- an acknowledgement of another epoch is ignored
 abbrev pub told : ℕ → Option Acknowledgement → Link → Link
 told epoch None link = link
 told epoch (Some ack) link = if nat_eq ack.epoch epoch then knowing ack.position link else link
@@ -230,7 +230,7 @@ Happens w (Read c mark) new = new ≡ on_outbound c (having_read mark w) w
 Happens w (Release c) new = new ≡ on_outbound c having_released w
 Happens w (Write c n) new = new ≡ on_outbound c (written n) w
 
--- One event: it does its step exactly where it is enabled, and else changes nothing.
+-- One event: it does its step exactly where it is enabled, and otherwise changes nothing.
 pub record Step (old : World) (event : Event) (did : Bool) (new : World) : Type 0 where
   pub done : did ≡ is_enabled old event
   pub happens : did ≡ true → Happens old event new

@@ -1,4 +1,4 @@
--- Laws of every run, in words.
+-- The laws of every run, stated.
 use Rattle.std.specs.Prelude.{◌≡◌, ℕ, ◌≤◌, Bool, true, false, List, [], ◌∷◌, ◌++◌, length, take, drop, All}
 use Rattle.kv_types.specs.declared.limits.TheConstants.{SERVED_LIMITS}
 use Rattle.kv_types.specs.declared.reply.Held.{Held}
@@ -11,7 +11,7 @@ use Rattle.machine.specs.Event.{World, Step, Run, start, last_world, connection_
 use Rattle.machine.specs.Promise.{IsReleased, released_in, fed_to}
 use Rattle.machine.specs.Sound.{IsChain, IsFrameWithin, Sound, answers_to}
 
--- it holds after every run, and so of each world of one, since a prefix of a run is a run
+-- `P` holds of the world after every run, and so of each world of a run, since a prefix of a run is a run
 abbrev pub AfterEveryRun : (World → Type 0) → Type 0
 AfterEveryRun P = (events : List Event) (done : List Bool) (worlds : List World) → Run start events done worlds → P (last_world start worlds)
 
@@ -20,19 +20,19 @@ AfterEveryRun P = (events : List Event) (done : List Bool) (worlds : List World)
 abbrev pub EveryWorldIsSound : Type 0
 EveryWorldIsSound = (events : List Event) (done : List Bool) (worlds : List World) → Run start events done worlds → All Sound (start ∷ worlds)
 
--- a prefix of a run is a run, and the rest goes on from there
+-- a prefix of a run is a run, and the rest is a run from where the prefix ends
 abbrev pub PrefixesAreRuns : Type 0
 PrefixesAreRuns =
     (n : ℕ) (w : World) (events : List Event) (done : List Bool) (worlds : List World) → Run w events done worlds
     → Run w (take n events) (take n done) (take n worlds) × Run (last_world w (take n worlds)) (drop n events) (drop n done) (drop n worlds)
 
--- a run goes on by a step
+-- a run followed by a step is a run
 abbrev pub RunsGoOn : Type 0
 RunsGoOn =
     (w : World) (events : List Event) (done : List Bool) (worlds : List World) (event : Event) (did : Bool) (new : World)
     → Run w events done worlds → Step (last_world w worlds) event did new → Run w (events ++ event ∷ []) (done ++ did ∷ []) (worlds ++ new ∷ [])
 
--- what is there later: lists go on, and no number falls
+-- a later world: lists only grow at the end, and no number falls
 pub record Grows (old new : World) : Type 0 where
   pub calls : IsPrefix old.primary.calls new.primary.calls
   pub released : (c : ℕ) → IsPrefix (released_in old c) (released_in new c)
@@ -48,7 +48,7 @@ abbrev pub WorldsGrow : Type 0
 WorldsGrow =
     (n : ℕ) (events : List Event) (done : List Bool) (worlds : List World) → Run start events done worlds → Grows (last_world start (take n worlds)) (last_world start worlds)
 
--- the keyspace at a position that the list has reached stays, whatever happens later
+-- the keyspace at a position that the list has reached stays the same, whatever happens later
 abbrev pub CutsStay : Type 0
 CutsStay =
     (n : ℕ) (events : List Event) (done : List Bool) (worlds : List World) → Run start events done worlds
@@ -67,31 +67,31 @@ EveryListServes =
     (events : List Event) (done : List Bool) (worlds : List World) → Run start events done worlds
     → Serves (λ c. items_at SERVED_LIMITS (fed_to c events done)) (last_world start worlds).primary.calls
 
--- what was handed to the sequencer was called, or waits
+-- the items handed to the sequencer are those of the connection's calls and then those that wait
 abbrev pub ItemsComeInOrder : Type 0
 ItemsComeInOrder =
     AfterEveryRun (λ w. (c : ℕ) → let inbound = (connection_of w c).inbound in items_of c w.primary.calls ++ inbound.waiting ≡ take inbound.offered (asked inbound.fed))
 
 -- ---- replies
 
--- what was released and what waits, together, are the text of the replies of the connection's calls
+-- what was released and then what waits is the text of the replies to the connection's calls
 abbrev pub RepliesAddUp : Type 0
 RepliesAddUp =
     AfterEveryRun (λ w. (c : ℕ) → let outbound = (connection_of w c).outbound in
     outbound.released ++ (outbound.pending ++ (texts_of outbound.held ++ texts_of outbound.made)) ≡ replies_to c w.primary.calls)
 
--- the replies that wait are the last ones of the connection's calls, each with the position of the list after its call
+-- the waiting replies are those of the last of the connection's calls, each with the position of the list after its call
 abbrev pub RepliesBearPositions : Type 0
 RepliesBearPositions =
     AfterEveryRun (λ w. (c : ℕ) → let outbound = (connection_of w c).outbound in (out : List Held) × (out ++ (outbound.held ++ outbound.made) ≡ answers_to c w.primary.calls))
 
--- and these are they, call by call
+-- and `answers_to` has, for each call of the connection, its reply with that position
 abbrev pub AnswersBearPositions : Type 0
 AnswersBearPositions =
     (prefix : List Call) (call : Call) (rest : List Call)
     → IsPrefix (answers_to call.connection prefix ++ record { reply = call.reply; position = position_of (prefix ++ call ∷ []) } ∷ []) (answers_to call.connection (prefix ++ call ∷ rest))
 
--- both marks are at the position of whatever was released
+-- both marks are at least at the position of each released call
 abbrev pub ReleasedIsCovered : Type 0
 ReleasedIsCovered =
     AfterEveryRun (λ w. (prefix : List Call) (call : Call) → IsReleased w.primary.calls (released_in w) prefix call
@@ -99,7 +99,7 @@ ReleasedIsCovered =
 
 -- ---- positions
 
--- no mark is above what it shows, and the standby is not ahead
+-- no mark is above what it shows, and the standby is not ahead of the primary
 pub record IsInOrder (w : World) : Type 0 where
   pub local : w.primary.committer.local ≤ w.primary.committer.position
   pub primary : w.primary.committer.position ≤ w.primary.committer.closed
@@ -121,11 +121,11 @@ PositionsAreInOrder = AfterEveryRun IsInOrder
 
 -- ---- groups and frames
 
--- groups that wait for the committer lead from its record's position to where groups were closed
+-- the groups that wait for the committer lead from its record's position to the position up to which groups were closed
 abbrev pub GroupsAreInOrder : Type 0
 GroupsAreInOrder = AfterEveryRun (λ w. IsChain w.primary.committer.position w.primary.committer.waiting w.primary.committer.closed)
 
--- each frame, also one that comes to the standby, is a group that the primary committed
+-- each frame, sent or waiting at the standby, is of the primary's epoch and tells only changes that the primary committed
 abbrev pub FramesAreCommitted : Type 0
 FramesAreCommitted = AfterEveryRun (λ w. All (IsFrameWithin w.primary.epoch w.primary.committer.position) w.wire.frames × All (IsFrameWithin w.primary.epoch w.primary.committer.position) w.standby.waiting)
 
@@ -137,14 +137,14 @@ RaisesNoRemote (RaiseRemote ∷ events) (true ∷ done) = ⊥
 RaisesNoRemote (event ∷ events) (did ∷ done) = RaisesNoRemote events done
 RaisesNoRemote events done = Unit {0}
 
--- without it no reply goes out that rests on a change
+-- unless one did, no reply is released that rests on a change
 abbrev pub NothingIsReleasedUnacknowledged : Type 0
 NothingIsReleasedUnacknowledged =
     (events : List Event) (done : List Bool) (worlds : List World) → Run start events done worlds → RaisesNoRemote events done
     → let w = last_world start worlds in
     (prefix : List Call) (call : Call) → IsReleased w.primary.calls (released_in w) prefix call → position_of (prefix ++ call ∷ []) ≡ 0
 
--- a frame that was not sent does not come, and neither does an acknowledgement that was not made
+-- a frame that was not sent is not delivered, and neither is an acknowledgement that was not made
 abbrev pub OnlyWhatWasMadeIsDelivered : Type 0
 OnlyWhatWasMadeIsDelivered =
     (w : World) (n : ℕ) → (length w.wire.frames ≤ n → is_enabled w (Deliver n) ≡ false) × (length w.wire.acknowledgements ≤ n → is_enabled w (AckDelivered n) ≡ false)

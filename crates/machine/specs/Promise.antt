@@ -17,13 +17,13 @@ abbrev pub fed_to : ℕ → List Event → List Bool → List ℕ
 fed_to c (event ∷ events) (did ∷ done) = fed_by c event did ++ fed_to c events done
 fed_to c events done = []
 
--- A call stands in the list behind this prefix, and the first byte of its reply was written to its connection.
+-- The call comes right after this prefix of the list, and the first byte of its reply was written to its connection.
 pub record IsReleased (calls : List Call) (released : ℕ → List ℕ) (prefix : List Call) (call : Call) : Type 0 where
   pub rest : List Call
   pub stands : calls ≡ prefix ++ call ∷ rest
   pub written : length (replies_to call.connection prefix) < length (released call.connection)
 
--- one of the worlds has the fact
+-- `P` holds of one of the worlds
 abbrev pub SomeWorld : (World → Type 0) → List World → Type 0
 SomeWorld P [] = ⊥
 SomeWorld P (w ∷ worlds) = P w ⊎ SomeWorld P worlds
@@ -45,12 +45,12 @@ pub record Tells (w : World) (calls : List Call) (released : ℕ → List ℕ) (
   pub primary_position : primary ≡ w.primary.committer.position
   pub standby_position : standby ≡ w.standby.position
 
--- What is promised of the list of calls and the bytes released to each connection, where these events, or some of them, did their step.
+-- What is promised of the list of calls and the bytes released to each connection, where `done` says which of these events did their step.
 pub record IsPromised (events : List Event) (done : List Bool) (calls : List Call) (released : ℕ → List ℕ) (primary standby : ℕ) : Type 0 where
   -- the machine's run: the world after each event
   pub worlds : List World
   pub run : Run start events done worlds
-  -- what is told is the last of them
+  -- the list, the bytes and the positions are those of the last of them
   pub tells : Tells (last_world start worlds) calls released primary standby
   -- one sequential Redis answers this list
   pub legal : IsLegal calls

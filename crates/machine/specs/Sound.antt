@@ -32,12 +32,12 @@ pub record IsCoveredBy (local remote : ℕ) (reply : Held) : Type 0 where
 
 -- ---- groups
 
--- groups that follow one another from one position to another, each of one change or more
+-- groups that follow one another from one position to another, each with at least one change
 abbrev pub IsChain : ℕ → List Span → ℕ → Type 0
 IsChain from [] to = from ≡ to
 IsChain from (group ∷ groups) to = (group.before ≡ from) × (from < group.after) × IsChain group.after groups to
 
--- a group, of one change or more, that ends at this position or below
+-- a group with at least one change, which ends at this position or below
 pub record IsGroupWithin (position : ℕ) (group : Span) : Type 0 where
   pub rising : group.before < group.after
   pub within : group.after ≤ position
@@ -47,7 +47,7 @@ pub record IsFrameWithin (epoch position : ℕ) (frame : Frame) : Type 0 where
   pub epoch_is : frame.epoch ≡ epoch
   pub span : IsGroupWithin position frame.span
 
--- an acknowledgement of this epoch, of this position or one below
+-- an acknowledgement of this epoch, with this position or one below it
 pub record IsToldWithin (epoch position : ℕ) (acknowledgement : Acknowledgement) : Type 0 where
   pub epoch_is : acknowledgement.epoch ≡ epoch
   pub within : acknowledgement.position ≤ position
@@ -58,13 +58,13 @@ in_hand Ready = []
 in_hand (Durable group) = group ∷ []
 in_hand (Shown group) = group ∷ []
 
--- the local mark is the primary's position, but for a commit that is not shown yet
+-- the local mark is the primary's position, except while a commit is not shown yet
 abbrev pub IsShownUpTo : Stage → ℕ → ℕ → Type 0
 IsShownUpTo Ready position local = local ≡ position
 IsShownUpTo (Durable group) position local = local ≡ group.before
 IsShownUpTo (Shown group) position local = local ≡ position
 
--- while the committer has a group in hand there is room for it at the link
+-- while the committer has a group in hand, the link has room for it
 abbrev pub HasRoomFor : Stage → List Span → Type 0
 HasRoomFor Ready waiting = length waiting ≤ PIPE_ITEMS
 HasRoomFor (Durable group) waiting = length waiting < PIPE_ITEMS
@@ -72,13 +72,13 @@ HasRoomFor (Shown group) waiting = length waiting < PIPE_ITEMS
 
 -- ---- each part
 
--- the items that were handed to the sequencer are those of the connection's calls and those that wait
+-- the items that were handed to the sequencer are those of the connection's calls and then those that wait
 pub record SoundInbound (calls : List Call) (c : ℕ) (inbound : Inbound) : Type 0 where
   pub offered : inbound.offered ≤ length (asked inbound.fed)
   pub order : items_of c calls ++ inbound.waiting ≡ take inbound.offered (asked inbound.fed)
   pub few : length inbound.waiting ≤ PIPE_ITEMS
 
--- the replies of the connection's calls are those that were released and those that wait, and both marks cover what was released
+-- the replies to the connection's calls are those that were released and then those that wait, and both marks cover what was released
 pub record SoundOutbound (calls : List Call) (c : ℕ) (local remote : ℕ) (outbound : Outbound) : Type 0 where
   -- what was released
   pub out : List Held
@@ -89,7 +89,7 @@ pub record SoundOutbound (calls : List Call) (c : ℕ) (local remote : ℕ) (out
   pub remote_read : outbound.remote ≤ remote
   pub few : length outbound.made ≤ PIPE_ITEMS
 
--- beside the position of the list of calls
+-- what holds of the committer, given the position of the list of calls
 pub record SoundCommitter (position : ℕ) (committer : Committer) : Type 0 where
   pub waiting : IsChain committer.position committer.waiting committer.closed
   pub closed : committer.closed ≤ position
@@ -98,34 +98,34 @@ pub record SoundCommitter (position : ℕ) (committer : Committer) : Type 0 wher
   pub mark : committer.local ≤ committer.position
   pub shown : IsShownUpTo committer.stage committer.position committer.local
 
--- beside the committer's stage, the position of the primary's record, and the one up to which groups were sent
+-- what holds of the link, given the committer's stage, the position of the primary's record, and the one up to which groups were sent
 pub record SoundLink (stage : Stage) (position sent : ℕ) (link : Link) : Type 0 where
-  -- what is kept leads from what the link knows, or below, to what was sent
+  -- the kept groups lead from the position that the link knows, or one below it, to the one up to which groups were sent
   pub kept_from : ℕ
   pub known : kept_from ≤ link.known
   pub kept : IsChain kept_from link.kept sent
-  -- those that wait and the one in the committer's hand are the other groups that were committed
+  -- those that wait and the one in the committer's hand are the other committed groups
   pub waiting : IsChain sent (link.waiting ++ in_hand stage) position
-  -- what is to be sent again is the end of what is kept
+  -- the groups to be sent again are the last of the kept ones
   pub sent_again : List Span
   pub again : sent_again ++ link.again ≡ link.kept
   pub remote : link.remote ≤ link.known
   pub few : HasRoomFor stage link.waiting
   pub few_kept : length link.kept ≤ KEPT_GROUPS
 
--- beside the epoch of the pair, the position up to which the link has sent groups, and the one that it knows
+-- what holds of the standby, given the epoch of the pair, the position up to which the link has sent groups, and the one that it knows
 pub record SoundStandby (epoch sent link_knows : ℕ) (standby : Standby) : Type 0 where
   pub epoch_is : standby.epoch ≡ epoch
   pub frames : All (IsFrameWithin epoch sent) standby.waiting
   pub behind : standby.position ≤ sent
   pub known : link_knows ≤ standby.position
 
--- beside the epoch of the pair, the position up to which the link has sent groups, and that of the standby's record
+-- what holds of the wire, given the epoch of the pair, the position up to which the link has sent groups, and that of the standby's record
 pub record SoundWire (epoch sent position : ℕ) (wire : Wire) : Type 0 where
   pub frames : All (IsFrameWithin epoch sent) wire.frames
   pub acknowledged : All (IsToldWithin epoch position) wire.acknowledgements
 
--- no connection is over, and they have seats
+-- no connection is over, and there is a seat for each
 pub record SoundConnections (connections : List Connection) : Type 0 where
   pub are_open : All (λ connection. connection.is_open ≡ true) connections
   pub seats : length connections ≤ SEATS

@@ -1,4 +1,4 @@
--- The first worked case as a run written out: one connection sends SET a 1. Each event stands in it.
+-- The first worked case as a run written out: one connection sends SET a 1. Each kind of event happens in it.
 use Rattle.std.specs.Prelude.{◌≡◌, ℕ, Bool, true, false, List, [], ◌∷◌, take, codes, All}
 use Rattle.machine.specs.declared.event.Event.{Event}
 use Rattle.machine.specs.declared.event.Event.TheVariants.{Enter, Feed, Offer, Turn, CloseGroup, Commit, RaiseLocal, Hand, OpenLink, Send, Deliver, Apply, AckDelivered, RaiseRemote, Hold, Read, Release, Write}
@@ -11,7 +11,7 @@ set_request = codes "*3\r\n$3\r\nSET\r\n$1\r\na\r\n$1\r\n1\r\n"
 
 abbrev pub worked_events : List Event
 worked_events =
-    -- the request comes and is called: the list is at position 1
+    -- the request arrives and is called: the list is at position 1
     Enter ∷ Feed 0 set_request ∷ Offer 0 ∷ Turn 0
     -- its reply waits at the gate, and no mark covers it
     ∷ Hold 0 ∷ Read 0 Local ∷ Read 0 Remote ∷ Release 0 ∷ Write 0 5
@@ -31,7 +31,7 @@ worked_done =
     ∷ true ∷ true ∷ true ∷ true ∷ true ∷ true ∷ true
     ∷ true ∷ true ∷ true ∷ []
 
--- Its reply is released once both marks are 1, and nothing before.
+-- Its reply is released once both marks are 1, and nothing is released before.
 pub record FirstCaseIsARun : Type 0 where
   pub worlds : List World
   pub run : Run start worked_events worked_done worlds

@@ -1,5 +1,5 @@
--- What stands where in the pair of nodes and their connections (this project's profile), and the words on it. The list of calls is written
--- as the sequencer runs them; groups and frames are named by the positions of the list that they lie between.
+-- The state of the pair of nodes and their connections (this project's profile), and definitions on it. Calls are appended to the list as the
+-- sequencer runs them; groups and frames are named by the positions of the list that they lie between.
 use Rattle.std.specs.Prelude.{ℕ, zero, suc, Bool, true, false, ◌&&◌, nat_lt, nat_le, if◌then◌else◌, List, [], ◌∷◌, ◌++◌, length, ◌+◌, ◌-◌}
 use Rattle.std.specs.List.{flat_map, list_any}
 use Rattle.kv_types.specs.declared.item.Item.{Item}
@@ -13,9 +13,9 @@ use Rattle.model.specs.Call.{position_of, up_to_closing}
 use Rattle.machine.specs.declared.event.TheConstants.{PIPE_ITEMS}
 use Rattle.model.specs.declared.record.TheConstants.{FIRST_EPOCH}
 
--- ---- what stands where
+-- ---- the state
 
--- what stands before a connection's gate: bytes that came in, and what was made of them
+-- the inbound side of a connection: the bytes that came in, and the items made of them
 pub record Inbound : Type 0 where
   -- all bytes fed to it
   pub fed : List ℕ
@@ -34,27 +34,27 @@ pub record Outbound : Type 0 where
   pub pending : List ℕ
   -- bytes that were written to the connection
   pub released : List ℕ
-  -- the marks, as the gate has read them last
+  -- the marks, as the gate last read them
   pub local : ℕ
   pub remote : ℕ
 
--- A connection of a client. It is open until it is over, and keeps its number for ever: its seat goes to another connection then.
+-- A client's connection. It is open until it is over; then its seat goes to another connection, but its number stays its own for ever.
 pub record Connection : Type 0 where
   pub is_open : Bool
   pub inbound : Inbound
   pub outbound : Outbound
 
--- a group, or what a frame tells: the changes of the list between two positions, one call after another
+-- a group, or what a frame tells: the changes of the list between two positions, call by call
 pub record Span : Type 0 where
   pub before : ℕ
   pub after : ℕ
 
--- what is sent to the standby: a span of the list, under an epoch
+-- what is sent to the standby: a span of the list, with an epoch
 pub record Frame : Type 0 where
   pub epoch : ℕ
   pub span : Span
 
--- what the standby answers: the position of its record, under its epoch
+-- what the standby answers: the position of its record, with its epoch
 pub record Acknowledgement : Type 0 where
   pub epoch : ℕ
   pub position : ℕ
@@ -88,15 +88,15 @@ pub record Link : Type 0 where
   pub kept : List Span
   -- those of them that are to be sent again
   pub again : List Span
-  -- the highest position that came acknowledged
+  -- the highest position of an acknowledgement that arrived
   pub known : ℕ
   -- the remote mark
   pub remote : ℕ
 
--- how a node fares
+-- the condition of a node
 pub data Life : Type 0 where
   Running : Life
-  -- a fence of it failed
+  -- one of its fences failed: a device fault
   Stopped : Life
   Crashed : Life
 
@@ -114,12 +114,12 @@ pub record Primary : Type 0 where
 pub record Standby : Type 0 where
   pub life : Life
   pub epoch : ℕ
-  -- frames that came and were not taken
+  -- frames that arrived and have not been taken yet
   pub waiting : List Frame
   -- the position of its record
   pub position : ℕ
 
--- what was ever sent between the two nodes, in order, whatever became of them since
+-- all that was ever sent between the two nodes, in order, whatever has become of it since
 pub record Wire : Type 0 where
   pub frames : List Frame
   pub acknowledgements : List Acknowledgement
@@ -129,9 +129,9 @@ pub record World : Type 0 where
   pub standby : Standby
   pub wire : Wire
 
--- ---- how it begins
+-- ---- the start
 
--- a connection that nothing came from: no open one has this number
+-- a connection that nothing came from, which `connection_of` gives for a number that no connection has
 abbrev pub no_connection : Connection
 no_connection = record {
   is_open = false;
@@ -142,7 +142,7 @@ no_connection = record {
 abbrev pub new_connection : Connection
 new_connection = record no_connection { is_open = true }
 
--- two nodes that were formatted together under this epoch
+-- two nodes that were formatted together, with this epoch
 abbrev pub start_at : ℕ → World
 start_at epoch = record {
   primary = record {
@@ -160,7 +160,7 @@ start_at epoch = record {
 abbrev pub start : World
 start = start_at FIRST_EPOCH
 
--- ---- words on it
+-- ---- definitions on it
 
 abbrev pub is_running : Life → Bool
 is_running Running = true
@@ -172,7 +172,7 @@ get_connection [] c = no_connection
 get_connection (connection ∷ connections) zero = connection
 get_connection (connection ∷ connections) (suc c) = get_connection connections c
 
--- connection c, and one that nothing came from where there is none
+-- connection c, or `no_connection` where there is none
 abbrev pub connection_of : World → ℕ → Connection
 connection_of w c = get_connection w.primary.connections c
 
@@ -224,7 +224,7 @@ with_sent frames w = record w { wire = record w.wire { frames = w.wire.frames ++
 abbrev pub with_acknowledged : List Acknowledgement → World → World
 with_acknowledged acknowledgements w = record w { wire = record w.wire { acknowledgements = w.wire.acknowledgements ++ acknowledgements } }
 
--- the items that the bytes of a connection ask for, up to and with the one that closes it
+-- the items that the bytes of a connection ask for, up to and including the one that closes it
 abbrev pub asked : List ℕ → List Item
 asked fed = up_to_closing (items_at SERVED_LIMITS fed)
 
@@ -232,7 +232,7 @@ asked fed = up_to_closing (items_at SERVED_LIMITS fed)
 abbrev pub is_closed_by : List ℕ → Bool
 is_closed_by fed = list_any closes (items_at SERVED_LIMITS fed)
 
--- how many changing commands wait to be closed
+-- how many changing commands wait to be closed into a group
 abbrev pub open_changes : World → ℕ
 open_changes w = position_of w.primary.calls - w.primary.committer.closed
 
@@ -257,12 +257,12 @@ is_shown (Shown group) = true
 abbrev pub is_covered : ℕ → ℕ → Held → Bool
 is_covered local remote reply = nat_le reply.position local && nat_le reply.position remote
 
--- the longest prefix of replies that are all covered
+-- the longest prefix of the replies in which all are covered
 abbrev pub covered_prefix : ℕ → ℕ → List Held → List Held
 covered_prefix local remote [] = []
 covered_prefix local remote (reply ∷ replies) = if is_covered local remote reply then reply ∷ covered_prefix local remote replies else []
 
--- the replies behind it
+-- the replies after it
 abbrev pub uncovered_rest : ℕ → ℕ → List Held → List Held
 uncovered_rest local remote [] = []
 uncovered_rest local remote (reply ∷ replies) = if is_covered local remote reply then uncovered_rest local remote replies else reply ∷ replies

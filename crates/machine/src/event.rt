@@ -24,7 +24,7 @@ pub enum Mark {
     Remote,
 }
 
-/// One turn of one actor. A connection is named by its number: they count from 0, in the order in which they entered.
+/// One turn of one actor. A connection is named by its number: connections count from 0, in the order in which they entered.
 #[derive(Debug, Drop)]
 pub enum Event {
     /// A new connection takes a seat.
@@ -33,13 +33,13 @@ pub enum Event {
     Feed(u64, Bytes),
     /// The next item of a connection's bytes is handed to the sequencer.
     Offer(u64),
-    /// The sequencer runs the first item that waits.
+    /// The sequencer runs the first waiting item of a connection.
     Turn(u64),
     /// All changing commands that wait are handed to the committer as one group.
     CloseGroup,
     /// The committer commits the first group that waits.
     Commit,
-    /// The committer shows its commit.
+    /// The committer shows its commit by raising the local mark.
     RaiseLocal,
     /// The committer hands the group to the link.
     Hand,
@@ -47,20 +47,20 @@ pub enum Event {
     OpenLink,
     /// The link sends one frame.
     Send,
-    /// A frame that was sent comes to the standby. Frames are numbered from 0, in the order of their sending.
+    /// A frame that was sent arrives at the standby. Frames are numbered from 0, in the order in which they were sent.
     Deliver(u64),
-    /// The standby takes the first frame that came.
+    /// The standby takes the first waiting frame.
     Apply,
-    /// An acknowledgement that was made comes to the link. They are numbered from 0.
+    /// An acknowledgement that was made arrives at the link. Acknowledgements are numbered from 0.
     AckDelivered(u64),
-    /// The link shows what was acknowledged.
+    /// The link shows what was acknowledged by raising the remote mark.
     RaiseRemote,
-    /// A connection's gate takes the first reply that waits.
+    /// A connection's gate takes the first waiting reply.
     Hold(u64),
     /// A connection's gate reads a mark.
     Read(u64, Mark),
     /// A connection's gate releases the replies that both its numbers cover.
     Release(u64),
-    /// So many bytes of what was released are written to the connection.
+    /// The given number of released bytes is written to the connection.
     Write(u64, u64),
 }

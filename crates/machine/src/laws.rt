@@ -32,14 +32,14 @@ pub fn every_world_is_sound()
     ensures { EveryWorldIsSound }
 {}
 
-/// A prefix of a run is a run, the rest goes on from there, and a step more makes a longer one.
+/// A prefix of a run is a run, the rest is a run from where the prefix ends, and a run followed by a step is a run.
 pub fn runs_are_made_of_steps()
     ensures prefix { PrefixesAreRuns }
     ensures longer { RunsGoOn }
 {}
 
-/// The list of calls, the released bytes, frames and acknowledgements only go on; no position and no mark falls; and the keyspace at a position
-/// that the list has reached stays.
+/// The list of calls, the released bytes, frames and acknowledgements only grow at the end; no position and no mark falls; and the keyspace at a
+/// position that the list has reached stays the same.
 pub fn worlds_grow()
     ensures grows { WorldsGrow }
     ensures cuts { CutsStay }
@@ -60,25 +60,25 @@ pub fn replies_add_up()
     ensures covered { ReleasedIsCovered }
 {}
 
-/// The numbers stand in this order. The local mark, the primary's position, the groups that were closed, the list; and the remote mark, what
-/// the link knows, the standby's position, the primary's position.
+/// Each of these numbers is at most the next: the local mark, the primary's position, that of the closed groups, the list's; and the remote mark,
+/// what the link knows, the standby's position, the primary's position.
 pub fn positions_are_in_order()
     ensures { PositionsAreInOrder }
 {}
 
-/// Groups follow one another, and each frame is one that was committed.
+/// Groups follow one another, and each frame tells only changes that were committed.
 pub fn frames_are_committed_groups()
     ensures groups { GroupsAreInOrder }
     ensures frames { FramesAreCommitted }
 {}
 
-/// Without the remote mark nothing goes out that rests on a change, and nothing comes that was not made.
+/// Unless the remote mark is raised, no reply is released that rests on a change; and nothing is delivered that was not sent or made.
 pub fn nothing_comes_of_nothing()
     ensures released { NothingIsReleasedUnacknowledged }
     ensures delivered { OnlyWhatWasMadeIsDelivered }
 {}
 
-/// The run of one `SET a 1`, with each event in it: `+OK` goes out once both marks are 1, and nothing before.
+/// The run of one `SET a 1`, with each event in it: `+OK` is released once both marks are 1, and nothing before.
 pub fn first_case_is_a_run()
     ensures { FirstCaseIsARun }
 {}

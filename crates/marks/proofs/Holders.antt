@@ -1,4 +1,4 @@
--- The seat that raises a word is still there after a change of one view.
+-- After a change of one view there is still a seat that raises the word.
 use Rattle.std.proofs.Common.{◌≡◌, ◌≢◌, ℕ, zero, suc, Bool, true, false, true≢false, List, [], ◌∷◌, set, sym, refl, ap, ◌∙◌, subst}
 use mathlib.Core.Option.{some, some-ne-none, some-injective}
 use mathlib.Core.Logic.{dite}
@@ -17,7 +17,7 @@ set_at [] i a b e = absurd (some-ne-none a (sym e))
 set_at (x ∷ xs) zero a b e = refl
 set_at (x ∷ xs) (suc i) a b e = set_at xs i a b e
 
--- a seat that has the raise has it still, whichever seat's view changes, if that view has it as before
+-- a seat that has the raise still has it after any seat's view changes, if that view has the raise exactly when it had it before
 pub has_after : (raise : MarkView → Bool) (views : List MarkView) (own raiser : ℕ) (v w : MarkView) → get_elem? views own ≡ some v → raise w ≡ raise v → Has raise views raiser → Has raise (set views own w) raiser
 has_after raise views own raiser v w at same has = dite (ℕ_discrete raiser own)
     (λ (here : raiser ≡ own).

@@ -14,19 +14,19 @@ use Rattle.marks.specs.Rule.{Suits, Marked, RaisesLocal, RaisesRemote, FindsLoca
 off : {X : Type 0} → (b : Bool) → b ≡ false → b ≡ true → X
 off b unset is_set = absurd (true≢false (sym is_set ∙ unset))
 
--- by whether the flag is set
+-- by cases on whether the flag is set
 by_flag : {X : Type 0} (b : Bool) → (b ≡ true → X) → (b ≡ false → X) → X
 by_flag true if_set if_unset = if_set refl
 by_flag false if_set if_unset = if_unset refl
 
--- a word that only the seat `own` raises has grown: a seat that is not `own` still knows all of it, if it raises it
+-- the seat `own` may have raised a word: a seat other than `own` that raises the word still knows it exactly
 still : (own raiser seat known old new : ℕ) (owns raises : Bool) → seat ≢ own → (owns ≡ true → own ≡ raiser) → (owns ≡ false → new ≡ old)
     → (raises ≡ true → (seat ≡ raiser) × (known ≡ old)) → raises ≡ true → (seat ≡ raiser) × (known ≡ new)
 still own raiser seat known old new owns raises apart mine same was is = by_flag owns
     (λ owns_it. absurd (apart ((was is).0 ∙ sym (mine owns_it))))
     (λ unset. ((was is).0, (was is).1 ∙ sym (same unset)))
 
--- what every seat but `own` knows suits words that have grown by it
+-- what every seat but `own` knows suits the words that `own` has raised
 others : (committer link local remote stop own : ℕ) (v : MarkView) → Suits committer link local remote stop own v
     → (l r s : ℕ) → local ≤ l → remote ≤ r → stop ≤ s → (v.raises_local ≡ false → l ≡ local) → (v.raises_remote ≡ false → r ≡ remote)
     → (seat : ℕ) (u : MarkView) → seat ≢ own → Suits committer link local remote stop seat u → Suits committer link l r s seat u
@@ -51,7 +51,7 @@ pub record Stepped (committer link local remote stop own : ℕ) (v : MarkView) (
   pub same_raises : (w.raises_local ≡ v.raises_local) × (w.raises_remote ≡ v.raises_remote)
   pub told : tells w
 
--- A step on the word i keeps the rule, if it does whatever suiting numbers the words are
+-- A step on the word i keeps the rule, if it does so for all numbers of the words that suit its seat
 pub allows : (slots own : ℕ) (v : MarkView) (held : List (ℕ × Unit {0})) (i : ℕ) (f : ℕ → ℕ) (tells : ℕ → Me (Unit {0}) MarkView → Type 0)
     → ((committer link l r s : ℕ) → s ≤ 1 → Suits committer link l r s own v
     → Stepped committer link l r s own v (slice_set (l ∷ r ∷ s ∷ []) i (f (slice_index (l ∷ r ∷ s ∷ []) i))) (λ w. tells (slice_index (l ∷ r ∷ s ∷ []) i) (w, held)))

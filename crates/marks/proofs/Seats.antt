@@ -9,7 +9,7 @@ use Rattle.marks.specs.declared.view.MarkView.{MarkView}
 use Rattle.marks.specs.View.{keeping, taking, number_of_both, joined, spent}
 use Rattle.marks.specs.Rule.{Suits, Has, Marked}
 
--- who raises a word knows all of it
+-- a seat that raises a word knows it exactly
 abbrev Raises : ℕ → ℕ → ℕ → ℕ → Bool → Type 0
 Raises raiser word seat known raises = raises ≡ true → (seat ≡ raiser) × (known ≡ word)
 

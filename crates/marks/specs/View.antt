@@ -14,7 +14,7 @@ keeping takes_local takes_remote v = record v { raises_local = v.raises_local &&
 abbrev pub taking : Bool → Bool → MarkView → MarkView
 taking takes_local takes_remote v = record v { raises_local = v.raises_local && takes_local; raises_remote = v.raises_remote && takes_remote }
 
--- of two numbers for one word, the one of the seat that raises it, and else the greater
+-- of what two seats know of one word: the number of the seat that raises it, and otherwise the greater number
 abbrev pub number_of_both : Bool → Bool → ℕ → ℕ → ℕ
 number_of_both a_raises b_raises a b = if a_raises then a else (if b_raises then b else max a b)
 
@@ -27,6 +27,6 @@ joined v w = record {
   raises_remote = v.raises_remote || w.raises_remote;
 }
 
--- a seat that was joined to another knows nothing more
+-- a seat that was joined into another no longer knows anything
 abbrev pub spent : MarkView
 spent = record { local = 0; remote = 0; stop = 0; raises_local = false; raises_remote = false }

@@ -21,8 +21,8 @@ const STOP: usize = 2;
 
 /// How far the list of calls is durable on this node, how far the standby has acknowledged it, and whether to stop.
 ///
-/// Each is a word that threads read and raise in single steps through a `&`, and no word ever falls. A thread steps with
-/// a seat of these marks. No call but `new` takes memory, and none waits.
+/// Each is a word that threads read and raise in single steps through a `&`, and no word ever falls. A thread takes a step
+/// with a seat of these marks. No call but `new` takes memory, and none blocks.
 #[derive(Drop)]
 pub struct Marks {
     table: Table<(), MarkView, u64, MarkRule, Global>,
@@ -40,11 +40,11 @@ impl Model for Marks {
 }
 
 impl Marks {
-    /// Marks that stand at the engine's position and at 0, with the seat that raises both.
+    /// Marks that begin at the engine's position (local) and at 0 (remote), with the seat that raises both.
     ///
     /// # Errors
     ///
-    /// `Memory` alone.
+    /// Only `Memory`.
     pub fn new(alloc: Global, local: u64) -> Result<(Marks, MarkSeat), Refusal>
         ensures marks { IfOk result (λ made. made.1.marks ≡ made.0) }
         ensures knows { IfOk result (λ made. made.1.knows ≡ opening local) }
@@ -54,7 +54,7 @@ impl Marks {
         Ok((Marks { table }, MarkSeat { seat }))
     }
 
-    /// Makes a seat that knows what this one does. `C` says which raises go over to it.
+    /// Makes a second seat that knows what this one knows. `C` says which raises move to it.
     pub fn split_seat<C: Cut>(&self, seat: &mut MarkSeat) -> MarkSeat
         requires marks { seat.old.marks ≡ self.now }
         ensures marks { (seat.new.marks ≡ seat.old.marks) × (result.marks ≡ seat.old.marks) }
@@ -76,7 +76,7 @@ impl Marks {
         self.table.shared.join_seat::<Both>(&mut seat.seat, other);
     }
 
-    /// Raises the local mark to the position of a commit. A position below the mark leaves it. The seat is the committer's.
+    /// Raises the local mark to the position of a commit. A position below the mark leaves it unchanged. The seat is the committer's.
     pub fn raise_local(&self, seat: MarkSeat, committed: &Committed) -> MarkSeat
         requires marks { seat.marks ≡ self.now }
         requires raises { seat.knows.raises_local ≡ true }
@@ -90,7 +90,7 @@ impl Marks {
         MarkSeat { seat }
     }
 
-    /// Raises the remote mark to the position that the standby acknowledged. A position below the mark leaves it. The seat is the link's.
+    /// Raises the remote mark to the position that the standby acknowledged. A position below the mark leaves it unchanged. The seat is the link's.
     pub fn raise_remote(&self, seat: MarkSeat, ack: Ack) -> MarkSeat
         requires marks { seat.marks ≡ self.now }
         requires raises { seat.knows.raises_remote ≡ true }
@@ -104,7 +104,7 @@ impl Marks {
         MarkSeat { seat }
     }
 
-    /// Both marks, the local one read first. Neither is below what the seat had seen, and one that the seat raises is just what it knew.
+    /// Both marks, the local one read first. Neither is below what the seat had seen, and one that the seat raises is exactly what it knew.
     pub fn read(&self, seat: MarkSeat) -> (MarkSeat, Seen)
         requires marks { seat.marks ≡ self.now }
         ensures marks { result.0.marks ≡ seat.marks }
@@ -143,7 +143,7 @@ impl Marks {
         MarkSeat { seat }
     }
 
-    /// Whether somebody has asked to stop: yes wherever the seat knew it, and only where the stop word is 1.
+    /// Whether somebody has asked to stop: yes whenever the seat knew it, and only if the stop word is 1.
     pub fn stopped(&self, seat: MarkSeat) -> (MarkSeat, bool)
         requires marks { seat.marks ≡ self.now }
         ensures marks { result.0.marks ≡ seat.marks }

@@ -1,8 +1,8 @@
-//! The rule of the three words, and what each step on one of them tells.
+//! The rule of the three words, and what each step on one of them tells its seat.
 use crate::view::MarkView;
 use atomic_table::{Play, TableRule};
 
-/// The rule that each step keeps, from the engine's position on.
+/// The rule that each step keeps, beginning with the engine's position.
 pub(crate) struct MarkRule;
 
 impl TableRule<(), MarkView, u64> for MarkRule {

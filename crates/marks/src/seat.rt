@@ -1,9 +1,9 @@
-//! The token with which a thread steps on the marks.
+//! The token with which a thread takes steps on the marks.
 use crate::view::MarkView;
 use atomic_table::Seat;
 use std::marker::Model;
 
-/// A token of no bytes. A clause sees to which marks it belongs and what it knows of them.
+/// A zero-sized token. A clause sees the marks to which it belongs and what it knows of them.
 #[derive(Drop)]
 pub struct MarkSeat {
     pub(crate) seat: Seat<(), MarkView>,

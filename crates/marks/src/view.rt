@@ -1,8 +1,8 @@
-//! What a seat knows, and how that is cut in two and put together.
+//! What a seat knows, and how that is split and joined.
 use atomic_table::{Join, Split};
 use std::marker::PhantomData;
 
-/// What a seat knows of the three words, and which of them it raises. No value of it is made: it stands in clauses alone.
+/// What a seat knows of the three words, and which of them it raises. No value of this type is made: it occurs only in clauses.
 pub struct MarkView {
     /// What it has seen of the local word.
     pub local: u64,
@@ -10,13 +10,13 @@ pub struct MarkView {
     pub remote: u64,
     /// What it has seen of the stop word: 0 or 1.
     pub stop: u64,
-    /// It is the committer's: what it knows of the local word is all of it.
+    /// Whether the seat is the committer's, which knows the local word exactly.
     pub raises_local: bool,
-    /// It is the link's: what it knows of the remote word is all of it.
+    /// Whether the seat is the link's, which knows the remote word exactly.
     pub raises_remote: bool,
 }
 
-/// Which raises a split hands to the new seat, where the old one has them.
+/// Which raises a split hands to the new seat, if the old one has them.
 pub trait Cut {
     ghost use Rattle.std.specs.Prelude.{Bool};
 
@@ -58,7 +58,7 @@ impl Cut for Link {
     ghost takes_remote = { true };
 }
 
-// How a table cuts the view of a seat.
+// How a table splits the view of a seat.
 pub(crate) struct Halves<C: Cut> {
     cut: PhantomData<C>,
 }
@@ -71,7 +71,7 @@ impl<C: Cut> Split<MarkView> for Halves<C> {
     ghost right = { taking C.takes_local C.takes_remote };
 }
 
-// How a table puts the views of two seats together.
+// How a table joins the views of two seats.
 pub(crate) struct Both;
 
 impl Join<MarkView> for Both {

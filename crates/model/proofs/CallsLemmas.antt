@@ -10,7 +10,7 @@ use Rattle.model.specs.State.{idle_session, State, start_state}
 use Rattle.model.specs.Call.{MayStand, MayReply, unless_error, outcome_at, changes_of, after_call, IsLegalFrom, IsLegal, state_from, state_after, keyspace_after, is_nonempty, is_changing, AreAlike, position_from, position_of, cut_changing, cut_from, cut_at, IsPrefix}
 use Rattle.model.proofs.PrefixLemmas.{IsPrefix-itself, IsPrefix-none, IsPrefix-cons}
 
--- ---- one call more
+-- ---- one more call
 
 pub state_from-append : (s : State) (xs ys : List Call) → state_from s (xs ++ ys) ≡ state_from (state_from s xs) ys
 state_from-append s [] ys = refl
@@ -39,7 +39,7 @@ IsKeyspace-state_from s (call ∷ calls) lawful = IsKeyspace-state_from (after_c
 pub IsKeyspace-keyspace_after : (calls : List Call) → IsKeyspace (keyspace_after calls)
 IsKeyspace-keyspace_after calls = IsKeyspace-state_from start_state calls is_keyspace-empty
 
--- what one call more changes of the whole list
+-- what one more call changes about the whole list
 
 pub state_after-push : (calls : List Call) (call : Call) → state_after (calls ++ call ∷ []) ≡ after_call (state_after calls) call
 state_after-push calls call = state_from-append start_state calls (call ∷ [])
@@ -110,7 +110,7 @@ changes_of_unchanging s call e = no_elements (changes_of s call) e
 pub after_call_unchanging : (s : State) (call : Call) → is_changing s call ≡ false → (after_call s call).keyspace ≡ s.keyspace
 after_call_unchanging s call e = ap (play_all s.keyspace) (changes_of_unchanging s call e)
 
--- and so does one that was answered an error
+-- and so does one that was answered with an error
 pub after_call_error : (s : State) (call : Call) (text : List ℕ) → call.reply ≡ Error text → (after_call s call).keyspace ≡ s.keyspace
 after_call_error s call text e = ap (λ reply. play_all s.keyspace (unless_error reply (outcome_at s call.connection call.item).changes)) e
 
@@ -220,7 +220,7 @@ cut_at-all calls p le = cut_from-all start_state calls p le
 pub keyspace_after-cut_at-position : (calls : List Call) → keyspace_after (cut_at calls (position_of calls)) ≡ keyspace_after calls
 keyspace_after-cut_at-position calls = ap keyspace_after (cut_at-all calls (position_of calls) (omega arith))
 
--- and so has it while the list grows
+-- and it still has it when the list has grown
 pub keyspace_after-cut_at-prefix : (xs ys : List Call) → keyspace_after (cut_at (xs ++ ys) (position_of xs)) ≡ keyspace_after xs
 keyspace_after-cut_at-prefix xs ys = keyspace_after-cut_at-append xs ys (position_of xs) (omega arith) ∙ keyspace_after-cut_at-position xs
 
@@ -230,20 +230,20 @@ keyspace_after-cut_at-zero calls = state_from-cut_zero start_state calls
 pub position_of-cut_at : (calls : List Call) (p : ℕ) → position_of (cut_at calls p) ≡ min p (position_of calls)
 position_of-cut_at calls p = position_from-cut start_state calls p
 
--- a prefix whose position is at most p is in the cut at p
+-- a prefix whose position is at most p is a prefix of the cut at p
 pub IsPrefix-of_append-cut_at : (prefix rest : List Call) (p : ℕ) → position_of prefix ≤ p → IsPrefix prefix (cut_at (prefix ++ rest) p)
 IsPrefix-of_append-cut_at prefix rest p le = record { rest = cut_from (state_after prefix) rest (p - position_of prefix); joined = sym (cut_from-append start_state prefix rest p le) }
 
 pub IsPrefix-into-cut_at : {prefix calls : List Call} (p : ℕ) → IsPrefix prefix calls → position_of prefix ≤ p → IsPrefix prefix (cut_at calls p)
 IsPrefix-into-cut_at {prefix} p a le = let P : List Call → Type 0 = λ whole. IsPrefix prefix (cut_at whole p) in subst P a.joined (IsPrefix-of_append-cut_at prefix a.rest p le)
 
--- cuts of one list go one into the other
+-- the cut at a lower position is a prefix of the cut at a higher one
 pub IsPrefix-cuts : (calls : List Call) (p q : ℕ) → p ≤ q → IsPrefix (cut_at calls p) (cut_at calls q)
 IsPrefix-cuts calls p q le = IsPrefix-into-cut_at q (IsPrefix-cut_at calls p) (omega (arith, position_of-cut_at calls p))
 
 -- ---- how many calls
 
--- no more calls are changing than there are
+-- a list has at most as many changing calls as calls
 pub position_from_le : (s : State) (calls : List Call) → position_from s calls ≤ length calls
 position_from_le s [] = omega arith
 position_from_le s (call ∷ calls) =

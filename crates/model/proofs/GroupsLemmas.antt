@@ -47,7 +47,7 @@ IsBeside puts put = is_put_at put.entry.0 puts ≡ false
 beside_more : (x : Put) (xs : List Put) (put : Put) → IsApartFrom x put → IsBeside xs put → IsBeside (x ∷ xs) put
 beside_more x xs put apart beside = ap (λ b. b || is_put_at put.entry.0 xs) (ne_eqb put.entry.0 x.entry.0 (λ e. apart.entries (sym e))) ∙ beside
 
--- the later puts are beside the earlier ones
+-- none of the earlier puts is at the entry of a later one
 AllBeside : (xs ys : List Put) → AreAllApart (xs ++ ys) → AllByRecursion (IsBeside xs) ys
 AllBeside [] ys h = nothing ys
   where
@@ -70,7 +70,7 @@ is_put_at-append i (x ∷ xs) ys = ap (λ b. nat_eq i x.entry.0 || b) (is_put_at
 
 -- ---- entries that hold nothing
 
--- an entry without a version gets one by a put alone
+-- an entry without a version gets one only from a put
 pub change_versions-none : (position : ℕ) (versions : Versions) (placed_change : PlacedChange) (i : ℕ) → versions i ≡ None → is_put_at i (put_of placed_change) ≡ false → change_versions position versions placed_change i ≡ None
 change_versions-none position versions (placed.Put put) i none beside =
     let c = change_of (placed.Put put) in
@@ -138,7 +138,7 @@ pub IsMapOf-after_group : (contents : Contents) (group : Group) (s : Keyspace) �
 IsMapOf-after_group contents group s consistent lawful map =
     IsMapOf-parts contents.versions (entries_of_lines contents.lines) s group.parts.items (rooms_of_group contents (puts_of_group group) consistent lawful.placed lawful.unused) lawful.apart map
 
--- no put of a group is behind the directory
+-- no put of a group has an entry beyond the directory
 not_beyond : (lines : ℕ) (puts : List Put) (i : ℕ) → AllByRecursion (IsPlaced lines) puts → entries_of_lines lines ≤ i → is_put_at i puts ≡ false
 not_beyond lines [] i placed le = refl
 not_beyond lines (put ∷ puts) i placed le = ap (λ b. b || is_put_at i puts) (ne_eqb i put.entry.0 (too_low placed.0.entry)) ∙ not_beyond lines puts i placed.1 le

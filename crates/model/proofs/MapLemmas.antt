@@ -1,4 +1,4 @@
--- The map of versions: it is one at most, it depends on the versions alone, and it is computed entry by entry.
+-- The map of versions: there is at most one, it depends on the versions alone, and it is computed entry by entry.
 use Rattle.std.proofs.Common.{◌≡◌, ℕ, zero, suc, ◌<◌, ◌≤◌, Bool, true, false, cond, List, [], IsTrue, Option, Some, None, IsSome, refl, sym, ap, subst, ◌∙◌, arith, ⊎_elim}
 use Rattle.std.proofs.lemmas.Bool.{cases_lt}
 use Rattle.std.specs.FinMap.Entries.{is_sorted}
@@ -104,7 +104,7 @@ more_live versions n s version begun going once map = record {
   once = once;
 }
 
--- the version of one entry more is added
+-- the version of one more entry is added
 pub more_version : (versions : ℕ → Option Version) (n : ℕ) (s : Keyspace) (entry : Option Version) → versions n ≡ entry → OnceBelow versions (suc n) → IsMapOf versions n s → IsMapOf versions (suc n) (with_version entry s)
 more_version versions n s None e once map = more_idle versions n s (λ id value live. not_live e live) once map
 more_version versions n s (Some version) e once map =

@@ -101,7 +101,7 @@ changes_at-push calls call e =
     ap (changes_at (calls ++ call ∷ [])) (sym (add-zero (position_of calls))) ∙ changes_at_from-later start_state calls (call ∷ []) 0
     ∙ ap (λ b. cond b (changes_of (state_after calls) call) []) e
 
--- the changes of so many positions take the keyspace of one cut to that of another
+-- the changes of `count` positions from `p` on take the keyspace of the cut at `p` to that of the cut at `p + count`
 pub keyspace_after-cut_at-since : (calls : List Call) (p count : ℕ) → p + count ≤ position_of calls → keyspace_after (cut_at calls (p + count)) ≡ play_all (keyspace_after (cut_at calls p)) (changes_since calls p count)
 keyspace_after-cut_at-since calls p zero le = ap (λ n. keyspace_after (cut_at calls n)) (add-zero p)
 keyspace_after-cut_at-since calls p (suc count) le =
@@ -115,7 +115,7 @@ changes_since-append xs ys p zero le = refl
 changes_since-append xs ys p (suc count) le =
     ap (λ first. first ++ changes_since (xs ++ ys) (p + 1) count) (changes_at-append xs ys p (omega arith)) ∙ ap (λ rest. changes_at xs p ++ rest) (changes_since-append xs ys (p + 1) count (omega arith))
 
--- one position more
+-- one more position
 pub changes_since-push : (calls : List Call) (p count : ℕ) → changes_since calls p (suc count) ≡ changes_since calls p count ++ changes_at calls (p + count)
 changes_since-push calls p zero = append-nil (changes_at calls p) ∙ ap (changes_at calls) (sym (add-zero p))
 changes_since-push calls p (suc count) =

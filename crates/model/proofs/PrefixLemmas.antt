@@ -24,7 +24,7 @@ IsPrefix-append {ys = ys} more a = IsPrefix-trans a (IsPrefix-of_append ys more)
 pub IsPrefix-cons : {X : Type 0} {xs ys : List X} (x : X) → IsPrefix xs ys → IsPrefix (x ∷ xs) (x ∷ ys)
 IsPrefix-cons x a = record { rest = a.rest; joined = ap (λ whole. x ∷ whole) a.joined }
 
--- both go on after the same prefix
+-- both with the same prefix put in front
 pub IsPrefix-same_prefix : {X : Type 0} {xs ys : List X} (prefix : List X) → IsPrefix xs ys → IsPrefix (prefix ++ xs) (prefix ++ ys)
 IsPrefix-same_prefix {xs = xs} prefix a = record { rest = a.rest; joined = append_assoc prefix xs a.rest ∙ ap (λ whole. prefix ++ whole) a.joined }
 

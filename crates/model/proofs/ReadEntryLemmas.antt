@@ -11,7 +11,7 @@ words_from-suc image first (suc count) =
     let same : first + 1 + count ≡ first + suc count = omega arith in
     ap (λ words. image first ∷ words) (words_from-suc image (first + 1) count ∙ ap (λ n. words_from image (first + 1) count ++ image n ∷ []) same)
 
--- one word more
+-- one more word
 pub words_from-more : (image : Image) (first count : ℕ) → words_from image first (count + 1) ≡ words_from image first count ++ image (first + count) ∷ []
 words_from-more image first count = rw add-one (words_from-suc image first count)
 
@@ -23,7 +23,7 @@ pub length-word_bytes : (words : List ℕ) → length (flat_map (to_le_bytes w64
 length-word_bytes [] = refl
 length-word_bytes (word ∷ words) = let rest = length-word_bytes words in omega (arith, length-append (to_le_bytes w64 word) (flat_map (to_le_bytes w64) words))
 
--- the bytes of one word more
+-- the bytes of one more word
 pub word_bytes-more : (image : Image) (first count : ℕ) → flat_map (to_le_bytes w64) (words_from image first (count + 1)) ≡ flat_map (to_le_bytes w64) (words_from image first count) ++ to_le_bytes w64 (image (first + count))
 word_bytes-more image first count =
     ap (flat_map (to_le_bytes w64)) (words_from-more image first count) ∙ flat_map-append (to_le_bytes w64) (words_from image first count) (image (first + count) ∷ [])

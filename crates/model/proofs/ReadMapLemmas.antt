@@ -99,7 +99,7 @@ some_is : {X : Type 0} (o : Option X) → IsSome o → (x : X) × (o ≡ Some x)
 some_is None e = cc
 some_is (Some x) e = (x, refl)
 
--- records of one keyspace that clash are one
+-- records of one keyspace that clash are the same
 clash_apart : (t : Keyspace) → IsKeyspace t → (other id : RecordId) (v w : List ℕ) → value_at t other ≡ Some v → value_at t id ≡ Some w → is_clash other id ≡ true → other ≡ id
 clash_apart t lawful (Str a) (Str b) v w there here clash = ap Str (same_key a b (both_are (is_same_key a b) _ clash).0)
 clash_apart t lawful (Str a) (Field b g) v w there here clash =
@@ -178,7 +178,7 @@ below_or_last versions n old fresh map i j id v w lt lt' a b =
     (cases_lt j n))
     (cases_lt i n)
 
--- one entry more
+-- one more entry
 pub IsMapOf-added : (versions : ℕ → Option Version) (n : ℕ) (old new : Keyspace) → AddsEntry versions n old new → IsMapOf versions n old → IsMapOf versions (n + 1) new
 IsMapOf-added versions n old new adds map =
     let more = more_version versions n old (versions n) refl (below_or_last versions n old adds.fresh map) map in

@@ -56,7 +56,7 @@ gaps_from-suc image first (suc count) =
     let same : first + 2 + 2 * count ≡ first + 2 * suc count = omega arith in
     ap (λ gaps. pair_at image first ∷ gaps) (gaps_from-suc image (first + 2) count ∙ ap (λ n. gaps_from image (first + 2) count ++ pair_at image n ∷ []) same)
 
--- one pair more
+-- one more pair
 pub gaps_from-more : (image : Image) (first count : ℕ) → gaps_from image first (count + 1) ≡ gaps_from image first count ++ pair_at image (first + 2 * count) ∷ []
 gaps_from-more image first count = let same : count + 1 ≡ suc count = omega arith in ap (gaps_from image first) same ∙ gaps_from-suc image first count
 
@@ -94,7 +94,7 @@ gaps_words-pairs gaps few =
 abbrev pub slot_word : ℕ → ℕ
 slot_word root = first_word (slot_line root)
 
--- the record stands in its slot, word by word
+-- the record is in its slot, word by word
 pub record StandsInSlot (image : Image) (first : ℕ) (r : Record) : Type 0 where
   pub root : image root_word ≡ r.number
   pub slot : first ≡ slot_word r.number

@@ -45,7 +45,7 @@ same_role Standby Standby e = refl
 same_gap : (a b : Gap) → a.first ≡ b.first → a.last ≡ b.last → a ≡ b
 same_gap a b first last = λ i. record { first = first i; last = last i }
 
--- the pairs tell the gaps, where there is room for all of them
+-- the pairs determine the gaps, where there is room for all of them
 same_gaps : (xs ys : List Gap) (room : ℕ) → length xs ≡ length ys → 2 * length xs ≤ room → take room (flat_map gap_words xs ++ replicate 16 0) ≡ take room (flat_map gap_words ys ++ replicate 16 0) → xs ≡ ys
 same_gaps [] [] room e le same = refl
 same_gaps [] (y ∷ ys) room e le same = absurd (omega arith)
@@ -70,7 +70,7 @@ same_prefixes (x ∷ xs) (y ∷ ys) us vs e same =
     let tails = same_prefixes xs ys us vs (omega arith) more in
     (λ i. head i ∷ tails.0 i, tails.1)
 
--- two records with the same words are one, where the gaps have room in them
+-- two records with the same words are equal, where there is room for their gaps
 same_record_words : (a b : Record) → length a.gaps.items ≤ MAX_GAPS → record_words a ≡ record_words b → a ≡ b
 same_record_words a b few same =
     let number : a.number ≡ b.number = cc in

@@ -21,7 +21,7 @@ right_or_too_large : (outcome : Outcome) (b : Bool) → nat_le (changes_size out
 right_or_too_large outcome true e = inr (inr (inl (leb-true (changes_size outcome.changes) MAX_CHANGE_TEXT_BYTES e, refl)))
 right_or_too_large outcome false e = inr (inl (leb-false (changes_size outcome.changes) MAX_CHANGE_TEXT_BYTES e, refl))
 
--- the right reply may stand
+-- the right reply may be given
 pub MayReply-right : (s : State) (connection : ℕ) (item : Item) → MayReply s (right_call s connection item)
 MayReply-right s connection item = let outcome = outcome_at s connection item in right_or_too_large outcome (nat_le (changes_size outcome.changes) MAX_CHANGE_TEXT_BYTES) refl
 
@@ -40,7 +40,7 @@ outcome_of_reading-error : (s : Keyspace) (reading : Result Command Misuse) → 
 outcome_of_reading-error s (Ok command) = does-error s command
 outcome_of_reading-error s (Err misuse) = refl
 
--- the outcome of an item that is answered an error has no changes
+-- the outcome of an item that is answered with an error has no changes
 pub outcome_of-error : (s : Keyspace) (item : Item) → unless_error (outcome_of s item).reply (outcome_of s item).changes ≡ (outcome_of s item).changes
 outcome_of-error s (Request words) = outcome_of_reading-error s (read_command words)
 outcome_of-error s (Fault fault) = refl

@@ -114,7 +114,7 @@ Serves-prefix asked a serves = λ connection. IsPrefix-trans (IsPrefix-items_of 
 pub Serves-none : (asked : ℕ → List Item) → Serves asked []
 Serves-none asked = λ connection. IsPrefix-none (up_to_closing (asked connection))
 
--- the next item of its connection may be called
+-- a call may take the next item of its connection
 pub Serves-push : (asked : ℕ → List Item) (calls : List Call) (call : Call) → Serves asked calls
     → IsPrefix (items_of call.connection calls ++ call.item ∷ []) (up_to_closing (asked call.connection)) → Serves asked (calls ++ call ∷ [])
 Serves-push asked calls call serves next = λ connection.

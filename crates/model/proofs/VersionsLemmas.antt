@@ -15,7 +15,7 @@ use Rattle.model.specs.declared.group.PlacedChange.TheVariants as placed
 use Rattle.model.specs.Group.{change_of, put_of, Versions, ends_record, ended_by, ended_where_begun, version_of_put, with_puts, change_versions}
 use Rattle.model.proofs.MapLemmas.{live_version, not_live}
 
--- ---- what a look-up finds after a change, in the words of versions
+-- ---- what a look-up finds after a change, in terms of versions
 
 -- a change takes out the records that it ends
 abbrev pub without_ended : Change → Keyspace → RecordId → Option (List ℕ)
@@ -71,7 +71,7 @@ live_after versions c i id value spared live = record {
   value_is = live.value_is;
 }
 
--- a version that is live after the change was so before it, and the change does not end its record
+-- a version that is live after the change was live before it, and the change does not end its record
 pub live_before : (versions : Versions) (c : Change) (i : ℕ) (id : RecordId) (value : List ℕ) → IsLive (λ j. ended_where_begun c (versions j)) i id value → IsLive versions i id value × (ends_record c id ≡ false)
 live_before versions c i id value live =
     let before = begun_before (versions i) c live.version live.begun in
@@ -125,7 +125,7 @@ live_with_put position versions put i id value false e live =
 pub live_put : (position : ℕ) (versions : Versions) (put : Put) → IsLive (with_put position put versions) put.entry.0 put.id put.value
 live_put position versions put = record { version = version_of_put position put; begun = with_put-own position put versions; not_ended = refl; id_is = refl; value_is = refl }
 
--- a version that was live stays so where the put's entry held none
+-- a version that was live stays live where the put's entry held none
 pub live_beside : (position : ℕ) (versions : Versions) (put : Put) (i : ℕ) (id : RecordId) (value : List ℕ) → versions put.entry.0 ≡ None → IsLive versions i id value → IsLive (with_put position put versions) i id value
 live_beside position versions put i id value empty live =
     let apart : nat_eq i put.entry.0 ≡ false = ne_eqb i put.entry.0 (λ at. not_live empty (subst (λ k. IsLive versions k id value) at live)) in

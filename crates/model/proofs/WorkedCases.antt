@@ -46,7 +46,7 @@ set_with_option = refl
 unknown_name : outcome_of [] (Request (codes "NOSUCH" ∷ codes "a" ∷ [])) ≡ refusing (codes "ERR unknown command")
 unknown_name = refl
 
--- a key of 512 bytes is a key, one of 513 is too long; its length is looked at after the number of words
+-- a key of 512 bytes is a key, one of 513 is too long; its length is checked after the number of arguments
 long_key : outcome_of [] (Request (codes "GET" ∷ replicate 513 107 ∷ [])) ≡ refusing (codes "ERR key or field is longer than 512 bytes")
 long_key = refl
 
@@ -104,6 +104,6 @@ replies_of_one : replies_to 1 worked_list ≡ codes "$1\r\n1\r\n"
 unfolding digits
 replies_of_one = refl
 
--- nothing is asked after a fault
+-- nothing is asked for after a protocol fault
 nothing_after_fault : up_to_closing (Request (codes "GET" ∷ codes "a" ∷ []) ∷ Fault (ExpectedBulk 7) ∷ Request (codes "GET" ∷ codes "a" ∷ []) ∷ []) ≡ Request (codes "GET" ∷ codes "a" ∷ []) ∷ Fault (ExpectedBulk 7) ∷ []
 nothing_after_fault = refl

@@ -21,7 +21,7 @@ image_with (pair ∷ pairs) w = if nat_eq w pair.0 then pair.1 else image_with p
 
 -- ---- maps of at most one entry
 
--- the first so many entries hold no version, but for entry 0
+-- no entry below this number holds a version, except entry 0
 abbrev only_first : (ℕ → Option Version) → ℕ → Bool
 only_first versions zero = true
 only_first versions (suc i) = (nat_eq i 0 || is_none (versions i)) && only_first versions i
@@ -84,7 +84,7 @@ set_holds = record {
   map = map_of_first (version_at record_two set_image) 512 ((Str (codes "a"), codes "1") ∷ []) refl set_map;
 }
 
--- the primary of the first epoch, with the least image
+-- the primary of the first epoch, with the smallest image
 abbrev first_primary : Holder
 first_primary = record { lines = 4096; role = Primary; epoch = 1 }
 
@@ -111,7 +111,7 @@ lost_holds = record {
   map = map_of_first (version_at record_one lost_image) 512 [] refl lost_map;
 }
 
--- it stands at the position before
+-- it stands at the position before the call
 lost_stands : StandsAt first_primary set_list 0 lost_image
 lost_stands = record { current = record_one; position = refl; role = refl; epoch = refl; holds = lost_holds }
 
@@ -129,6 +129,6 @@ field_map = refl
 abbrev reopened : Record
 reopened = record { number = 3; position = 3; cp = 4100; cd = 8197; epoch = 1; role = Primary; gaps = record { items = record { first = 4; last = 4099 } ∷ [] } }
 
--- after a reopening the stamps of the three commands count, those of the gap do not, and the stamp limit of before it counts
+-- after a reopening the stamps of the three commands count, those in the gap do not, and the stamp limit from before the reopening does
 stamps_count : (counts reopened 0 ≡ false) × (counts reopened 3 ≡ true) × (counts reopened 4 ≡ false) × (counts reopened 4099 ≡ false) × (counts reopened 4100 ≡ true) × (counts reopened 4101 ≡ false)
 stamps_count = (refl, refl, refl, refl, refl, refl)

@@ -34,8 +34,8 @@ full_reply = Error (codes "ERR store is full")
 abbrev pub too_large_reply : Reply
 too_large_reply = Error (codes "ERR change is too large")
 
--- What may be answered where this is the outcome. Memory may be refused for any call. Else a change text above the limit is refused; else
--- the right reply stands, or, for a command that writes, that there was no room.
+-- The replies that may be given where this is the outcome. Memory may be refused for any call. Otherwise a change text above the limit is
+-- refused; otherwise the reply is the outcome's own or, for a command that writes, that there was no room.
 abbrev pub MayStand : Outcome → Reply → Type 0
 MayStand outcome reply =
     (reply ≡ memory_reply)
@@ -59,15 +59,15 @@ unless_error NullArray changes = changes
 abbrev pub outcome_at : State → ℕ → Item → Outcome
 outcome_at state connection item = outcome_of state.keyspace item
 
--- the call, made at this state, may have been answered so
+-- the call's reply is one that may be given at this state
 abbrev pub MayReply : State → Call → Type 0
 MayReply state call = MayStand (outcome_at state call.connection call.item) call.reply
 
--- what a call changed, made at this state
+-- what a call made at this state changed
 abbrev pub changes_of : State → Call → List Change
 changes_of state call = unless_error call.reply (outcome_at state call.connection call.item).changes
 
--- What a call leaves of the session of a connection. No command opens a transaction, queues a request or watches a key yet, so every session
+-- The session of a connection after a call. No command opens a transaction, queues a request or watches a key yet, so every session
 -- is idle, and there is no watched key for the call's changes to mark.
 abbrev pub session_after : State → Call → ℕ → Session
 session_after state call connection = idle_session
@@ -83,8 +83,8 @@ is_nonempty (x ∷ xs) = true
 abbrev pub is_changing : State → Call → Bool
 is_changing state call = is_nonempty (changes_of state call)
 
--- Two calls, each made at a state of its own, that are the same but for the number of the connection: the keyspace, the session of the
--- connection that calls, the item and the reply.
+-- Two calls, each made at a state of its own, that agree in all but the number of the connection: in the keyspace, the session of the
+-- calling connection, the item and the reply.
 pub record AreAlike (s : State) (a : Call) (t : State) (b : Call) : Type 0 where
   pub keyspace : s.keyspace ≡ t.keyspace
   pub session : s.sessions a.connection ≡ t.sessions b.connection
@@ -93,7 +93,7 @@ pub record AreAlike (s : State) (a : Call) (t : State) (b : Call) : Type 0 where
 
 -- ---- the list
 
--- each call was answered as it may be at its place in the list
+-- the reply of each call is one that may be given after the calls before it
 abbrev pub IsLegalFrom : State → List Call → Type 0
 IsLegalFrom state [] = Unit {0}
 IsLegalFrom state (call ∷ calls) = MayReply state call × IsLegalFrom (after_call state call) calls
@@ -122,7 +122,7 @@ position_from state (call ∷ calls) = (if is_changing state call then 1 else 0)
 abbrev pub position_of : List Call → ℕ
 position_of = position_from start_state
 
--- a changing call, and what follows it where one change fewer is left
+-- a changing call and the cut of what follows it, with one change fewer left; nothing where no change is left
 abbrev pub cut_changing : Call → (ℕ → List Call) → ℕ → List Call
 cut_changing call following zero = []
 cut_changing call following (suc p) = call ∷ following p
@@ -150,7 +150,7 @@ items_of connection calls = map (λ call. call.item) (calls_of connection calls)
 abbrev pub replies_to : ℕ → List Call → List ℕ
 replies_to connection calls = flat_map (λ call. text_of call.reply) (calls_of connection calls)
 
--- the items up to and with the first that closes the connection
+-- the items up to and including the first that closes the connection
 abbrev pub up_to_closing : List Item → List Item
 up_to_closing [] = []
 up_to_closing (item ∷ items) = if closes item then item ∷ [] else item ∷ up_to_closing items
@@ -159,6 +159,6 @@ pub record IsPrefix {X : Type 0} (prefix whole : List X) : Type 0 where
   pub rest : List X
   pub joined : prefix ++ rest ≡ whole
 
--- The calls of each connection take the items that its bytes ask for, in order, each once. `asked` gives them by connection.
+-- The calls of each connection take the items that its bytes ask for, in order, each once. `asked` gives the items of each connection.
 abbrev pub Serves : (ℕ → List Item) → List Call → Type 0
 Serves asked calls = (connection : ℕ) → IsPrefix (items_of connection calls) (up_to_closing (asked connection))

@@ -13,10 +13,10 @@ use Rattle.kv_types.specs.declared.reply.Reply.{Reply, Simple, Error, Bulk, Null
 use Rattle.kv_types.specs.Keyspace.{Keyspace, value_at}
 use Rattle.kv_types.specs.Fault.{fault_message}
 
--- a request that names a command, with as many words as it takes and no key that is too long
+-- a request that names a command, with the right number of arguments and no key that is too long
 pub data Command : Type 0 where
   Get : (key : List ℕ) → Command
-  -- the words after the value are options
+  -- the arguments after the value are options
   Set : (key value : List ℕ) (options : List (List ℕ)) → Command
 
 -- why a request is refused before it runs
@@ -31,7 +31,7 @@ misuse_message UnknownName = codes "ERR unknown command"
 misuse_message (WrongNumberOfWords name) = codes "ERR wrong number of arguments for '" ++ name ++ codes "' command"
 misuse_message LongKey = codes "ERR key or field is longer than 512 bytes"
 
--- a name in any ASCII case
+-- the name is the expected one, in any ASCII case
 abbrev pub is_named : List ℕ → List ℕ → Bool
 is_named expected name = pointwise nat_eq (str_to_ascii_lowercase name) expected
 
@@ -46,7 +46,7 @@ abbrev pub read_set : List (List ℕ) → Result Command Misuse
 read_set (key ∷ value ∷ options) = with_key key (Set key value options)
 read_set _ = Err (WrongNumberOfWords (codes "set"))
 
--- First the name, then the number of words, then the length of the key.
+-- The name is checked first, then the number of arguments, then the length of the key.
 abbrev pub read_command : List (List ℕ) → Result Command Misuse
 read_command [] = Err UnknownName
 read_command (name ∷ arguments) =
@@ -76,7 +76,7 @@ abbrev pub outcome_of_reading : Keyspace → Result Command Misuse → Outcome
 outcome_of_reading s (Ok command) = does s command
 outcome_of_reading s (Err misuse) = refusing (misuse_message misuse)
 
--- the meaning of one item: a command, or a fault, which is answered in its place
+-- the meaning of one item: a request, or a protocol fault, which is answered in its turn
 abbrev pub outcome_of : Keyspace → Item → Outcome
 outcome_of s (Request words) = outcome_of_reading s (read_command words)
 outcome_of s (Fault fault) = refusing (fault_message fault)

@@ -1,4 +1,4 @@
--- What a group does to the versions of an image, and all that a commit asks of it.
+-- What a group does to the versions of an image, and all that a commit requires of it.
 use Rattle.std.specs.Prelude.{◌≡◌, ℕ, ◌+◌, ◌<◌, ◌≤◌, Bool, true, false, not, ◌&&◌, ◌||◌, ◌⊎◌, ◌↔◌, nat_eq, if◌then◌else◌, List, [], ◌∷◌, length, map, Contains, Option, Some, None, IsTrue}
 use Rattle.std.specs.List.{flat_map, AllByRecursion}
 use Rattle.std.specs.Ordering.{eq_by_cmp}
@@ -50,7 +50,7 @@ puts_of_group group = flat_map puts_of_part group.parts.items
 abbrev pub Versions : Type 0
 Versions = ℕ → Option Version
 
--- the change ends a live version of this record: it writes over it or removes it
+-- the change ends a live version of this record: it overwrites it or removes it
 abbrev pub ends_record : Change → RecordId → Bool
 ends_record (change.Put (Str key) value) id = pointwise nat_eq (key_of id) key
 ends_record (change.Put (Field key field) value) id = eq_by_cmp record_cmp id (Field key field) || eq_by_cmp record_cmp id (Str key)
@@ -79,12 +79,12 @@ abbrev pub version_of_put : ℕ → Put → Version
 version_of_put position put =
     record { id = put.id; value = put.value; position = position; first_line = put.extent.first_line; lines = put.extent.lines; is_ended = false }
 
--- the versions with the new one of a put
+-- the versions with the new ones of the puts
 abbrev pub with_puts : ℕ → List Put → Versions → Versions
 with_puts position [] versions = versions
 with_puts position (put ∷ puts) versions = λ i. if nat_eq i put.entry.0 then Some (version_of_put position put) else with_puts position puts versions i
 
--- the versions after one change, made at this position: the live versions of the records that it writes over or removes are ended, and a put makes one
+-- the versions after one change, made at this position: the live versions of the records that it overwrites or removes are ended, and a put makes one
 abbrev pub change_versions : ℕ → Versions → PlacedChange → Versions
 change_versions position versions change = with_puts position (put_of change) (λ i. ended_where_begun (change_of change) (versions i))
 
@@ -100,7 +100,7 @@ abbrev pub parts_versions : Versions → List Part → Versions
 parts_versions versions [] = versions
 parts_versions versions (part ∷ parts) = parts_versions (part_versions versions part) parts
 
--- ---- what a commit asks
+-- ---- what a commit requires
 
 -- entry i has a version that is not ended
 abbrev pub is_live_version : Option Version → Bool
@@ -111,7 +111,7 @@ abbrev pub is_ended_version : Option Version → Bool
 is_ended_version None = false
 is_ended_version (Some version) = version.is_ended
 
--- the place of a put: an entry of the directory, and an extent behind it that is just as long as the record wants
+-- the place of a put is in the image: its entry in the directory, and its extent after the directory
 pub record IsPlaced (lines : ℕ) (put : Put) : Type 0 where
   pub entry : put.entry.0 < entries_of_lines lines
   pub above : first_extent_line lines ≤ put.extent.first_line
@@ -121,7 +121,7 @@ abbrev pub bytes_of_id : RecordId → ℕ
 bytes_of_id (Str key) = length key
 bytes_of_id (Field key field) = length key + length field
 
--- the extent has just the lines that the record wants
+-- the extent has exactly as many lines as the record needs
 abbrev pub HasItsLines : Put → Type 0
 HasItsLines put = put.extent.lines ≡ lines_of_bytes (bytes_of_id put.id + length put.value)
 
@@ -129,7 +129,7 @@ HasItsLines put = put.extent.lines ≡ lines_of_bytes (bytes_of_id put.id + leng
 abbrev pub AreApart : ℕ → ℕ → ℕ → ℕ → Type 0
 AreApart first lines first' lines' = (first + lines ≤ first') ⊎ (first' + lines' ≤ first)
 
--- neither the entry nor the lines of a put are those of another
+-- the two puts share neither their entry nor a line
 pub record IsApartFrom (put other : Put) : Type 0 where
   pub entries : put.entry.0 ≡ other.entry.0 → ⊥
   pub lines : AreApart put.extent.first_line put.extent.lines other.extent.first_line other.extent.lines
@@ -139,7 +139,7 @@ abbrev pub AreAllApart : List Put → Type 0
 AreAllApart [] = Unit {0}
 AreAllApart (put ∷ puts) = AllByRecursion (IsApartFrom put) puts × AreAllApart puts
 
--- the entry was never begun or is freed, and no version that was begun has one of the lines
+-- the entry was never begun or has been freed, and no version that was begun has one of the lines
 pub record IsUnused (versions : Versions) (is_free : ℕ → Bool) (put : Put) : Type 0 where
   pub entry : IsTrue (is_free put.entry.0)
   pub lines : (i : ℕ) (version : Version) → versions i ≡ Some version → AreApart put.extent.first_line put.extent.lines version.first_line version.lines
@@ -149,7 +149,7 @@ abbrev pub is_put_at : ℕ → List Put → Bool
 is_put_at i [] = false
 is_put_at i (put ∷ puts) = nat_eq i put.entry.0 || is_put_at i puts
 
--- The part names just the entries that its changes ended: those that were live, or that it made, and are ended after it.
+-- The part names exactly the entries that its changes ended: those that were live before it, or that it made, and are ended after it.
 abbrev pub NamesEnded : Versions → Part → Type 0
 NamesEnded versions part =
     (i : ℕ) → Contains (map (λ entry. entry.0) part.ended.items) i
@@ -171,7 +171,7 @@ pub record Contents : Type 0 where
   -- the entry's begin is 0
   pub is_free : ℕ → Bool
 
--- all that a commit asks of a group
+-- all that a commit requires of a group
 pub record IsGroup (contents : Contents) (group : Group) : Type 0 where
   pub before : group.before ≡ contents.current.position
   pub some : 0 < length group.parts.items
@@ -209,7 +209,7 @@ after_group contents group =
       is_free = λ i. contents.is_free i && not (is_put_at i (puts_of_group group));
     }
 
--- a free entry has no version, and neither has one beyond the directory
+-- a free entry has no version, and neither does one beyond the directory
 pub record IsConsistent (contents : Contents) : Type 0 where
   pub free : (i : ℕ) → IsTrue (contents.is_free i) → contents.versions i ≡ None
   pub beyond : (i : ℕ) → entries_of_lines contents.lines ≤ i → contents.versions i ≡ None

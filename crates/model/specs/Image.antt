@@ -1,5 +1,5 @@
 -- What the words of an image mean (this project's profile of write-behind logging: Arulraj, Perron, Pavlo, PVLDB 10(4), 2016).
--- An image gives each word by its number. Where its parts lie is said by its layout.
+-- An image maps the number of each word to its value. Its layout says where its parts lie.
 use Rattle.std.specs.Prelude.{◌≡◌, ℕ, zero, suc, ◌+◌, ◌-◌, ◌/◌, ◌%◌, ◌<◌, Bool, false, not, ◌&&◌, ◌==◌, nat_lt, nat_le, if◌then◌else◌, List, [], ◌∷◌, ◌++◌, length, take, drop, replicate, Option, Some, None, codes}
 use Rattle.std.specs.List.{list_any, flat_map}
 use Rattle.std.specs.Int.{w64, to_le_bytes, from_le_bytes}
@@ -16,12 +16,12 @@ use Rattle.model.specs.declared.record.Role.TheVariants.{Primary, Standby}
 abbrev pub Image : Type 0
 Image = ℕ → ℕ
 
--- the image has these values, one after another from this word on
+-- the words of the image from `first` on have these values
 abbrev pub HasWords : Image → ℕ → List ℕ → Type 0
 HasWords image first [] = Unit {0}
 HasWords image first (value ∷ values) = (image first ≡ value) × HasWords image (first + 1) values
 
--- so many words, one after another from the first
+-- `count` consecutive words, starting at `first`
 abbrev pub words_from : Image → ℕ → ℕ → List ℕ
 words_from image first zero = []
 words_from image first (suc count) = image first ∷ words_from image (first + 1) count
@@ -32,7 +32,7 @@ words_from image first (suc count) = image first ∷ words_from image (first + 1
 abbrev pub magic_number : ℕ
 magic_number = from_le_bytes w64 (codes "WBLIMG01")
 
--- how many entries the directory of an image of so many lines has
+-- how many entries the directory of an image of `lines` lines has
 abbrev pub entries_of_lines : ℕ → ℕ
 entries_of_lines lines = layouts.entries_of_lines LAYOUT lines
 
@@ -66,7 +66,7 @@ gap_words gap = gap.first ∷ gap.last ∷ []
 abbrev pub gap_room : ℕ
 gap_room = layouts.gap_room LAYOUT
 
--- the pairs of the gaps, and zeros up to the most pairs
+-- the pairs of the gaps, and zeros in the rest of the room for gaps
 abbrev pub gaps_words : List Gap → List ℕ
 gaps_words gaps = take gap_room (flat_map gap_words gaps ++ replicate gap_room 0)
 
@@ -87,7 +87,7 @@ is_in_gap stamp gap = nat_le gap.first stamp && nat_le stamp gap.last
 abbrev pub counts : Record → ℕ → Bool
 counts r stamp = nat_lt 0 stamp && nat_le stamp r.cp && not (list_any (is_in_gap stamp) r.gaps.items)
 
--- ---- the directory, one entry a line, and the extents behind it
+-- ---- the directory, one entry per line, and the extents after it
 
 -- the line of entry i, and its word k
 abbrev pub entry_line : ℕ → ℕ
@@ -100,11 +100,11 @@ entry_word i k = layouts.line_word (entry_line i) k
 abbrev pub first_extent_line : ℕ → ℕ
 first_extent_line lines = layouts.first_extent_line LAYOUT lines
 
--- how many lines so many bytes take: at least one
+-- how many lines `bytes` bytes take: at least one
 abbrev pub lines_of_bytes : ℕ → ℕ
 lines_of_bytes bytes = if bytes == 0 then 1 else (bytes + (LINE_BYTES - 1)) / LINE_BYTES
 
--- so many bytes from a line on, the lowest byte of a word first
+-- `count` bytes from the start of `line` on, the lowest byte of each word first
 abbrev pub bytes_at : Image → ℕ → ℕ → List ℕ
 bytes_at image line count = take count (flat_map (to_le_bytes w64) (words_from image (layouts.first_word line) ((count + (WORD_BYTES - 1)) / WORD_BYTES)))
 
@@ -131,7 +131,7 @@ key_bytes image i = image (entry_word i 6) % FIELD_LENGTH_UNIT
 abbrev pub field_bytes : Image → ℕ → ℕ
 field_bytes image i = image (entry_word i 6) / FIELD_LENGTH_UNIT
 
--- how many bytes entry i has: key, field and value
+-- how many bytes the record in entry i has: key, field and value
 abbrev pub entry_bytes : Image → ℕ → ℕ
 entry_bytes image i = key_bytes image i + field_bytes image i + image (entry_word i 7)
 
@@ -154,7 +154,7 @@ version_at r image i = if counts r (image (entry_word i 0)) then Some (version_i
 
 -- ---- the map of an image
 
--- entry i holds the record's value now
+-- entry i holds a live version of this record, with this value
 pub record IsLive (versions : ℕ → Option Version) (i : ℕ) (id : RecordId) (value : List ℕ) : Type 0 where
   pub version : Version
   pub begun : versions i ≡ Some version
@@ -162,18 +162,18 @@ pub record IsLive (versions : ℕ → Option Version) (i : ℕ) (id : RecordId) 
   pub id_is : version.id ≡ id
   pub value_is : version.value ≡ value
 
--- The keyspace is the map from records to values of all versions that are live, and no record is live twice.
+-- The keyspace maps the records of all live versions to their values, and no record is live twice.
 pub record IsMapOf (versions : ℕ → Option Version) (entries : ℕ) (s : Keyspace) : Type 0 where
   pub held : (id : RecordId) (value : List ℕ) → value_at s id ≡ Some value → (i : ℕ) × (i < entries) × IsLive versions i id value
   pub found : (i : ℕ) (id : RecordId) (value : List ℕ) → i < entries → IsLive versions i id value → value_at s id ≡ Some value
   pub once : (i j : ℕ) (id : RecordId) (v w : List ℕ) → i < entries → j < entries → IsLive versions i id v → IsLive versions j id w → i ≡ j
 
--- the records of a version, if it is live
+-- the keyspace with the record of a version added, if the version is live
 abbrev pub with_version : Option Version → Keyspace → Keyspace
 with_version None s = s
 with_version (Some version) s = if version.is_ended then s else with_record version.id version.value s
 
--- the map, computed from the first so many entries
+-- the map, computed from the entries below this number
 unfoldable pub map_below : (ℕ → Option Version) → ℕ → Keyspace
 map_below versions zero = []
 map_below versions (suc i) = with_version (versions i) (map_below versions i)

@@ -1,4 +1,4 @@
--- What a Redis keeps beside its calls.
+-- What a Redis keeps besides its calls.
 use Rattle.std.specs.Prelude.{◌≡◌, ℕ, List}
 use Rattle.kv_types.specs.Keyspace.{Keyspace}
 use Rattle.model.specs.declared.call.Call.{Call}

@@ -3,14 +3,14 @@ use Rattle.std.specs.Prelude.{ℕ, ◌+◌, ◌*◌, ◌/◌, ◌%◌}
 use Rattle.model.specs.declared.layout.Layout.{Layout}
 use Rattle.model.specs.declared.layout.TheConstants.{LINE_WORDS}
 
--- the first word of a line, and word k of it and of those behind it
+-- the first word of a line, and the word that is `k` words after it
 abbrev pub first_word : ℕ → ℕ
 first_word line = LINE_WORDS * line
 
 abbrev pub line_word : ℕ → ℕ → ℕ
 line_word line k = first_word line + k
 
--- how many entries the directory has, in an image of so many lines
+-- how many entries the directory has in an image of `lines` lines
 abbrev pub entries_of_lines : Layout → ℕ → ℕ
 entries_of_lines layout lines = lines / layout.entry_share
 
@@ -18,7 +18,7 @@ entries_of_lines layout lines = lines / layout.entry_share
 abbrev pub entry_line : Layout → ℕ → ℕ
 entry_line layout i = layout.directory_line + i
 
--- the first line of the extents, which stand behind the directory
+-- the first line of the extents, which follow the directory
 abbrev pub first_extent_line : Layout → ℕ → ℕ
 first_extent_line layout lines = entry_line layout (entries_of_lines layout lines)
 

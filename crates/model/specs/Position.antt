@@ -5,7 +5,7 @@ use Rattle.model.specs.declared.call.Call.{Call}
 use Rattle.model.specs.State.{State, start_state}
 use Rattle.model.specs.Call.{changes_of, after_call, is_changing}
 
--- what a changing call changed, or, where it is not the one asked for, what a later one did
+-- the changes of a changing call at position 0, and at a later position those of a later call
 abbrev pub changes_or : List Change → (ℕ → List Change) → ℕ → List Change
 changes_or changes following zero = changes
 changes_or changes following (suc p) = following p
@@ -20,7 +20,7 @@ changes_at_from state (call ∷ calls) p =
 abbrev pub changes_at : List Call → ℕ → List Change
 changes_at = changes_at_from start_state
 
--- the changes of so many positions, from this one on
+-- the changes of `count` consecutive positions, starting at `p`
 abbrev pub changes_since : List Call → ℕ → ℕ → List Change
 changes_since calls p zero = []
 changes_since calls p (suc count) = changes_at calls p ++ changes_since calls (p + 1) count

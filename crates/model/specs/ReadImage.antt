@@ -1,4 +1,4 @@
--- What the plain reader of an image asks of its words.
+-- What the plain reader of an image requires of its words.
 use Rattle.std.specs.Prelude.{◌≡◌, ℕ, zero, suc, ◌+◌, ◌-◌, ◌*◌, ◌/◌, ◌<◌, ◌≤◌, Bool, false, ◌&&◌, ◌||◌, ◌⊎◌, Option, Some, None, IsSome, List, [], ◌∷◌, length, drop, replicate, IsTrue, nat_eq, is_none, slice_index}
 use Rattle.std.specs.Ordering.{eq_by_cmp}
 use Rattle.std.specs.Cmp.Lexicographic.{pointwise}
@@ -11,30 +11,30 @@ use Rattle.model.specs.declared.record.TheConstants.{MAX_GAPS}
 use Rattle.model.specs.declared.layout.TheConstants.{GAPS_WORD, LAYOUT, LINE_WORDS}
 use Rattle.model.specs.Image.{Image, Version, HasSuperblock, HasWords, HasRecord, IsMapOf, version_at, with_version, counts, gap_room, entry_word, key_bytes, field_bytes, entry_bytes, bytes_at, id_of, entries_of_lines, lines_of_bytes}
 
--- the image that the words are, with zeros behind them
+-- the image that the words make up, with zeros after them
 abbrev pub image_of : List ℕ → Image
 image_of words = λ w. slice_index words w
 
--- how many whole lines the words have
+-- how many whole lines the words make up
 abbrev pub line_count : List ℕ → ℕ
 line_count words = length words / LINE_WORDS
 
--- so many pairs, one after another from this word on
+-- `count` gaps, each a pair of words, starting at word `first`
 abbrev pub gaps_from : Image → ℕ → ℕ → List Gap
 gaps_from image first zero = []
 gaps_from image first (suc count) = record { first = image first; last = image (first + 1) } ∷ gaps_from image (first + 2) count
 
--- so many words from this one on are zero
+-- the `count` words from `first` on are zero
 abbrev pub AreZero : Image → ℕ → ℕ → Type 0
 AreZero image first count = HasWords image first (replicate count 0)
 
--- a slot with this first word has this record number, and zeros where so many gaps leave room and in its last word
+-- the slot that begins at word `first` has this record number, and zeros in the room after `gaps` gaps and in its last word
 pub record IsFilled (image : Image) (first number gaps : ℕ) : Type 0 where
   pub number_is : image first ≡ number
   pub last : image (first + (LAYOUT.role_word + 1)) ≡ 0
   pub unused : AreZero image (first + GAPS_WORD + 2 * gaps) (gap_room - 2 * gaps)
 
--- the record has no more gaps than there is room for
+-- the image has this record, which has no more gaps than there is room for
 pub record IsRecordOf (image : Image) (r : Record) : Type 0 where
   pub has_record : HasRecord r image
   pub few : length r.gaps.items ≤ MAX_GAPS
@@ -52,7 +52,7 @@ record_in image i =
     let bytes = bytes_at image (image (entry_word i 3)) (entry_bytes image i) in
     (id_of (image (entry_word i 5)) (key_bytes image i) (field_bytes image i) bytes, drop (key_bytes image i + field_bytes image i) bytes)
 
--- no keyspace has both records apart: they are one, or a string and a field of one key
+-- no keyspace has both as two records: they are the same record, or a string and a field of one key
 abbrev pub is_clash : RecordId → RecordId → Bool
 is_clash other id = pointwise nat_eq (key_of other) (key_of id) && (eq_by_cmp record_cmp other id || is_none (field_of other) || is_none (field_of id))
 
@@ -74,14 +74,14 @@ pub record IsWhole (words : List ℕ) : Type 0 where
   pub is_record : IsRecordOf (image_of words) current
   pub has_map : HasMap (line_count words) current (image_of words)
 
--- ---- one entry after another
+-- ---- one entry at a time
 
--- the version of entry i is added, and its record was not there
+-- the version of entry i is added; if it is live, its record was not there before
 pub record AddsEntry (versions : ℕ → Option Version) (i : ℕ) (old new : Keyspace) : Type 0 where
   pub added : new ≡ with_version (versions i) old
   pub fresh : (version : Version) → versions i ≡ Some version → version.is_ended ≡ false → value_at old version.id ≡ None
 
--- entry i is live, and the keyspace has a record that clashes with its
+-- entry i is live, and the keyspace has a record that clashes with the entry's
 pub record ClashesAt (versions : ℕ → Option Version) (i : ℕ) (s : Keyspace) : Type 0 where
   pub version : Version
   pub begun : versions i ≡ Some version

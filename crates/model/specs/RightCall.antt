@@ -21,7 +21,7 @@ right_outcome state connection item = within_limit (outcome_at state connection 
 abbrev pub right_call : State → ℕ → Item → Call
 right_call state connection item = record { connection = connection; item = item; reply = (right_outcome state connection item).reply }
 
--- what was computed is this reply and these changes
+-- what was computed has this reply and these changes
 pub record Gives (computed : Computed) (outcome : Outcome) : Type 0 where
   pub reply : computed.reply ≡ outcome.reply
   pub changes : computed.changes.items ≡ outcome.changes

@@ -4,7 +4,7 @@ use Rattle.model.specs.declared.image_entries.Shape.{Shape}
 use Rattle.model.specs.Image.{Image, entry_word, key_bytes, field_bytes}
 use Rattle.model.specs.ReadImage.{IsInFormat}
 
--- entry i is in the format, and these are its numbers
+-- entry i is in the format, and this is its shape
 pub record IsShape (lines : ℕ) (image : Image) (i : ℕ) (shape : Shape) : Type 0 where
   pub in_format : IsInFormat lines image i
   pub key : shape.key ≡ key_bytes image i

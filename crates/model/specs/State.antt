@@ -9,13 +9,13 @@ pub record Watch : Type 0 where
   -- a call has modified the key since it was watched
   pub is_modified : Bool
 
--- what a connection has begun
+-- what a connection has set up: its transaction and the keys that it watches
 pub record Session : Type 0 where
   -- a transaction is open
   pub is_open : Bool
   -- the requests that wait in it, oldest first, each as its words
   pub queue : List (List (List ℕ))
-  -- a request of it was refused, so it will not run
+  -- a request in it was refused, so the transaction will not run
   pub is_spoiled : Bool
   pub watched : List Watch
 
@@ -25,7 +25,7 @@ idle_session = record { is_open = false; queue = []; is_spoiled = false; watched
 
 pub record State : Type 0 where
   pub keyspace : Keyspace
-  -- by the connection's number
+  -- indexed by the connection's number
   pub sessions : ℕ → Session
 
 -- this keyspace, and every session idle

@@ -3,10 +3,10 @@
 /// Word 0 of an image: the bytes `WBLIMG01`, the first one lowest.
 pub const MAGIC: u64 = 0x3130_474d_494c_4257;
 
-/// An image has at least so many lines of 64 bytes.
+/// The smallest image, in lines of 64 bytes.
 pub const MIN_LINES: u64 = 4_096;
 
-/// An image has at most so many lines of 64 bytes.
+/// The largest image, in lines of 64 bytes.
 pub const MAX_LINES: u64 = 2_147_483_648;
 
 /// How many stamps a commit reserves beyond its own.

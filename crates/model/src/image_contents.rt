@@ -19,7 +19,7 @@ pub struct ImageContents {
 }
 
 /// Reads the words of an image: its current record, and the map of all versions whose begin counts and whose end does not. `None` where they
-/// are no whole image: the superblock is not that of so many lines, the root's slot holds no record, or the entries have no map.
+/// are not a whole image: the superblock is not the one for their number of lines, the root's slot holds no record, or the entries have no map.
 pub fn read_image(alloc: Global, words: &[u64]) -> Result<Option<ImageContents>, AllocError>
     ensures whole { IfOk result (λ o. IfSome o (λ c. Holds (line_count words.now) c.record c.keyspace (image_of words.now))) }
     ensures refused { IfOk result (λ o. IfNone o (¬ IsWhole words.now)) }
@@ -54,7 +54,7 @@ fn read_map(
     Ok(Some(keyspace))
 }
 
-/// Adds what entry `i` holds, and says whether it could.
+/// Adds what entry `i` holds, and returns whether it could.
 fn add_entry(
     alloc: Global,
     words: &[u64],
@@ -82,7 +82,7 @@ fn add_entry(
     Ok(true)
 }
 
-/// Whether the keyspace has a record that cannot stand beside this one.
+/// Whether the keyspace has a record that clashes with this one.
 fn has_clash(keyspace: &PlainKeyspace, id: &RecordId) -> bool
     ensures { result ≡ list_any (λ entry. the_clash entry.0 id.now) keyspace.now }
 {
@@ -92,7 +92,7 @@ fn has_clash(keyspace: &PlainKeyspace, id: &RecordId) -> bool
         .any(|entry| is_clash(&entry.0, id))
 }
 
-/// Whether the two are one record, or a string and a field of one key.
+/// Whether the two are the same record, or a string and a field of one key.
 fn is_clash(other: &RecordId, id: &RecordId) -> bool
     ensures { result ≡ the_clash other.now id.now }
 {

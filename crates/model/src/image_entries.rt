@@ -20,7 +20,7 @@ struct Shape {
     line: u64,
 }
 
-/// How many lines so many bytes take: at least one.
+/// How many lines the given number of bytes takes: at least one.
 fn lines_of_bytes(bytes: u64) -> u64
     requires { bytes < 1_000_000 }
     ensures { result ≡ images.lines_of_bytes bytes }
@@ -32,7 +32,7 @@ fn lines_of_bytes(bytes: u64) -> u64
     }
 }
 
-/// The shape of the record in entry `i`, or `None` where its lengths pass the limits, or its extent the image.
+/// The shape of the record in entry `i`, or `None` where its lengths exceed the limits or its extent runs past the end of the image.
 fn shape_of(words: &[u64], i: u64) -> Option<Shape>
     requires { i < images.entries_of_lines (line_count words.now) }
     ensures { MatchOption result (¬ IsInFormat (line_count words.now) (image_of words.now) i) (λ shape. IsShape (line_count words.now) (image_of words.now) i shape) }
@@ -59,7 +59,7 @@ fn shape_of(words: &[u64], i: u64) -> Option<Shape>
     Some(shape)
 }
 
-/// So many bytes from a line on, the lowest byte of a word first.
+/// `count` bytes from the start of `line` on, the lowest byte of each word first.
 fn bytes_at(alloc: Global, words: &[u64], line: u64, count: u64) -> Result<Vec<u8>, AllocError>
     requires { first_word line + (count + (WORD_BYTES - 1)) / WORD_BYTES ≤ length words.now }
     ensures bytes { IfOk result (λ v. v.items ≡ images.bytes_at (image_of words.now) line count) }
@@ -92,7 +92,7 @@ fn id_of(alloc: Global, kind: u64, shape: Shape, bytes: &[u8]) -> Result<RecordI
     Ok(RecordId::Field(key, field))
 }
 
-/// The name and the value of the record in entry `i`, or `None` where its lengths pass the limits, or its extent the image.
+/// The name and the value of the record in entry `i`, or `None` where its lengths exceed the limits or its extent runs past the end of the image.
 pub fn read_entry(
     alloc: Global,
     words: &[u64],

@@ -10,7 +10,7 @@ use crate::layout::{GAPS_WORD, LAYOUT, LINE_WORDS};
 use crate::record::{Gap, MAX_GAPS, Record, Role};
 use arrayvec::ArrayVec;
 
-/// The word of this number, and 0 behind the last one.
+/// The word at index `at`, or 0 past the last one.
 pub fn word_at(words: &[u64], at: u64) -> u64
     ensures { result ≡ slice_index words.now at }
 {
@@ -26,7 +26,7 @@ pub fn entry_word(i: u64, k: u64) -> u64
     LINE_WORDS * LAYOUT.entry_line(i) + k
 }
 
-/// Whether the words begin with the superblock of an image of just their number of whole lines.
+/// Whether the words begin with the superblock of an image of exactly their number of whole lines.
 pub fn has_superblock(words: &[u64]) -> bool
     ensures { IsTrue result ↔ HasSuperblock (line_count words.now) (image_of words.now) }
 {
@@ -60,7 +60,7 @@ pub fn read_record(words: &[u64]) -> Option<Record>
     })
 }
 
-/// The gaps of so many pairs of words, or `None` where there are more than a record holds.
+/// `count` gaps, each a pair of words, from `first` on, or `None` where a record cannot hold that many.
 fn read_gaps(words: &[u64], first: u64, count: u64) -> Option<ArrayVec<Gap, MAX_GAPS>>
     requires { first < 1000 }
     ensures { MatchOption result (MAX_GAPS < count) (λ gaps. (count ≤ MAX_GAPS) × (gaps.items ≡ gaps_from (image_of words.now) first count)) }
@@ -78,7 +78,7 @@ fn read_gaps(words: &[u64], first: u64, count: u64) -> Option<ArrayVec<Gap, MAX_
     Some(gaps)
 }
 
-/// Whether the slot has this number, and zeros behind so many gaps and in its last word.
+/// Whether the slot has this number, and zeros in the room after `gaps` gaps and in its last word.
 fn is_filled(words: &[u64], first: u64, number: u64, gaps: u64) -> bool
     requires slot { first < 100 }
     requires few { gaps ≤ MAX_GAPS }
@@ -90,7 +90,7 @@ fn is_filled(words: &[u64], first: u64, number: u64, gaps: u64) -> bool
         && are_zero(words, first + GAPS_WORD + 2 * gaps, room)
 }
 
-/// Whether so many words are zero.
+/// Whether the `count` words from `first` on are zero.
 fn are_zero(words: &[u64], first: u64, count: u64) -> bool
     requires { first + count < 1000 }
     ensures { IsTrue result ↔ AreZero (image_of words.now) first count }
@@ -103,7 +103,7 @@ fn are_zero(words: &[u64], first: u64, count: u64) -> bool
     true
 }
 
-/// The role of a number, or `None` where it is no role's.
+/// The role with this number, or `None` where no role has it.
 fn read_role(number: u64) -> Option<Role>
     ensures { MatchOption result ((role : NodeRole) → role_number role ≢ number) (λ role. role_number role ≡ number) }
 {

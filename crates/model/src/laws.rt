@@ -14,8 +14,8 @@ ghost use Rattle.model.specs.Standing.{Holder, StandsAt};
 
 use crate::record::MAX_GAPS;
 
-/// What one call more makes of a list: it is legal where the call's reply may stand at its place, its state is that after the call, its keyspace
-/// the one that the call's changes make, and its position rises by one exactly where there are any. A prefix of a legal list is legal.
+/// A list with one more call: it is legal where the call's reply may be given at its end, its state is that after the call, its keyspace the one
+/// that the call's changes lead to, and its position is higher by one exactly where there are any. A prefix of a legal list is legal.
 pub fn list_grows()
     ensures legal { (calls : List Call) (call : Call) → IsLegal calls → MayReply (state_after calls) call → IsLegal (calls ++ call ∷ []) }
     ensures prefix { (prefix rest : List Call) → IsLegal (prefix ++ rest) → IsLegal prefix }
@@ -26,7 +26,7 @@ pub fn list_grows()
         → position_of (calls ++ call ∷ []) ≡ position_of calls + (if is_changing (state_after calls) call then 1 else 0) }
 {}
 
-/// A call that was answered an error changes nothing, and neither does any that is not counted in the position.
+/// A call that is answered with an error changes nothing, and neither does one that the position does not count.
 pub fn refused_calls_change_nothing()
     ensures error { (state : State) (call : Call) (text : List ℕ) → call.reply ≡ Error text → (after_call state call).keyspace ≡ state.keyspace }
     ensures uncounted { (state : State) (call : Call) → is_changing state call ≡ false → (after_call state call).keyspace ≡ state.keyspace }
@@ -40,7 +40,7 @@ pub fn calls_see_their_own_session()
     ensures session { (s t : State) (a b : Call) → AreAlike s a t b → (after_call s a).sessions a.connection ≡ (after_call t b).sessions b.connection }
 {}
 
-/// The cut at a position is the longest prefix of the list with at most so many changing calls: it is one, and every other begins it.
+/// The cut at position `p` is the longest prefix of the list with at most `p` changing calls: it is such a prefix, and begins with every other.
 pub fn cut_is_the_longest_prefix()
     ensures prefix { (calls : List Call) (p : ℕ) → IsPrefix (cut_at calls p) calls }
     ensures few { (calls : List Call) (p : ℕ) → position_of (cut_at calls p) ≤ p }
@@ -63,12 +63,12 @@ pub fn changes_lead_from_position_to_position()
     ensures stable { (calls more : List Call) (p : ℕ) → p < position_of calls → changes_at (calls ++ more) p ≡ changes_at calls p }
 {}
 
-/// After a list of calls there is a keyspace: its records in order, each once, and no key both a string and a hash.
+/// A list of calls leaves a keyspace: its records are in order, each once, and no key is both a string and a hash.
 pub fn lists_leave_keyspaces()
     ensures { (calls : List Call) → IsKeyspace (keyspace_after calls) }
 {}
 
-/// Versions have one map at most, an image one record and one keyspace at most.
+/// Versions have at most one map, and an image at most one record and one keyspace.
 pub fn images_hold_one_keyspace()
     ensures map { (versions : ℕ → Option Version) (entries : ℕ) (s t : Keyspace) → IsKeyspace s → IsKeyspace t
         → IsMapOf versions entries s → IsMapOf versions entries t → s ≡ t }
@@ -86,7 +86,7 @@ pub fn map_is_computed()
         → IsMapOf versions entries [] }
 {}
 
-/// A group moves the map by just its changes, in their order, and free entries stay without versions.
+/// A group moves the map by exactly its changes, in their order, and free entries stay without versions.
 pub fn map_moves_by_the_group()
     ensures map { (contents : Contents) (group : Group) (s : Keyspace) → IsConsistent contents → IsGroup contents group
         → IsMapOf contents.versions (entries_of_lines contents.lines) s

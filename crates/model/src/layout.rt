@@ -13,10 +13,10 @@ pub const LINE_BYTES: u64 = LINE_WORDS * WORD_BYTES;
 /// The word of a record where the pairs of its gaps begin.
 pub const GAPS_WORD: u64 = 6;
 
-/// An entry's word of lengths is the length of the key and so many times that of the field.
+/// An entry's word of lengths is the key's length plus this many times the field's.
 pub const FIELD_LENGTH_UNIT: u64 = 65_536;
 
-/// Where the parts of an image lie, in lines. Line 0 is the superblock, and the extents begin right behind the directory.
+/// Where the parts of an image lie, in lines. Line 0 is the superblock, and the extents begin right after the directory.
 #[derive(Clone, Copy, Debug, PartialEq, Eq)]
 pub struct Layout {
     /// The version, which is word 1 of the image.
@@ -29,11 +29,11 @@ pub struct Layout {
     pub slot_lines: u64,
     /// How many gaps a record holds at most.
     pub max_gaps: usize,
-    /// The word of a record that has its role, behind the gaps. The word after it is zero.
+    /// The word of a record that holds its role, after the gaps. The word after it is zero.
     pub role_word: u64,
     /// The line of entry 0.
     pub directory_line: u64,
-    /// An image has so many lines to each entry of its directory.
+    /// How many lines an image has for each entry of its directory.
     pub entry_share: u64,
 }
 
@@ -56,7 +56,7 @@ impl Layout {
     ghost use Rattle.std.specs.Prelude.{◌≡◌, ◌+◌, ◌<◌, ◌^◌};
     ghost use Rattle.model.specs.Layout as layouts;
 
-    /// How many entries the directory has, in an image of so many lines.
+    /// How many entries the directory has in an image of `lines` lines.
     pub fn entries_of_lines(self, lines: u64) -> u64
         requires { 0 < self.entry_share }
         ensures { result ≡ layouts.entries_of_lines self lines }
@@ -72,7 +72,7 @@ impl Layout {
         self.directory_line + i
     }
 
-    /// The first line of the extents, in an image of so many lines.
+    /// The first line of the extents in an image of `lines` lines.
     pub fn first_extent_line(self, lines: u64) -> u64
         requires share { 0 < self.entry_share }
         requires range { layouts.first_extent_line self lines < 2 ^ 64 }

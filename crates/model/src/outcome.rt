@@ -112,7 +112,7 @@ fn set(alloc: Global, keyspace: &PlainKeyspace, arguments: &[Bytes]) -> Result<O
     }
 }
 
-/// A string is written. No option is served yet.
+/// Writes a string. No option is served yet.
 fn written(
     alloc: Global,
     keyspace: &PlainKeyspace,

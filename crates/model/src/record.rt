@@ -21,21 +21,21 @@ pub struct Gap {
     pub last: u64,
 }
 
-/// What a commit makes durable at one stroke.
+/// What a commit makes durable in one step.
 #[derive(Debug, Drop)]
 pub struct Record {
-    /// Its number, from 1. Record `n` stands in slot `n mod 2`.
+    /// Its number, from 1. Record `n` is in slot `n mod 2`.
     pub number: u64,
     /// The position of the list of calls: how many calls changed something.
     pub position: u64,
-    /// Each stamp up to this one is durable, but for those in a gap.
+    /// Each stamp up to this one is durable, except those in a gap.
     pub cp: u64,
     /// Each stamp that was given out before the next record is below this one.
     pub cd: u64,
     /// Which primary of the pair wrote it, from 1.
     pub epoch: u64,
     pub role: Role,
-    /// At most eight, by rising stamps.
+    /// At most eight, in order of stamps.
     pub gaps: ArrayVec<Gap, MAX_GAPS>,
 }
 

@@ -69,7 +69,7 @@ impl Redis {
         self.position
     }
 
-    /// Answers one item of a connection. Where memory is refused, nothing changed.
+    /// Answers one item of a connection. Where memory is refused, nothing changes.
     pub fn call(&mut self, alloc: Global, connection: u64, item: Item) -> Result<(), AllocError>
         ensures ok { OnOk result (self.new ≡ self.old ++ right_call (state_after self.old) connection item ∷ []) }
         ensures err { OnErr result (self.new ≡ self.old) }
@@ -87,7 +87,7 @@ impl Redis {
     }
 }
 
-/// Plays the changes of a call, one at most, and says whether there was one.
+/// Plays the changes of a call, at most one, and returns whether there was one.
 fn played(keyspace: &mut PlainKeyspace, changes: Vec<Change>) -> Result<bool, AllocError>
     requires { length changes.items ≤ 1 }
     ensures ok { OnOk result (keyspace.new ≡ play_all keyspace.old changes.items) }

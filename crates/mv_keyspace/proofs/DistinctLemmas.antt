@@ -1,4 +1,4 @@
--- Numbers of entries that stand once each.
+-- Distinct numbers of entries.
 use Rattle.std.proofs.Common.{◌≡◌, ℕ, suc, false, List, [], ◌∷◌, ◌++◌, Some, Contains, IsTrue, nat_eq, refl, sym, ap, subst, ◌∙◌, ne_eqb, arith}
 use Rattle.std.proofs.lemmas.Bool.{and_parts}
 use Rattle.std.proofs.lemmas.Option.{none-some}
@@ -47,7 +47,7 @@ distinct-append (x ∷ xs) ys distinct distinct' apart =
 
 -- ---- the entries of a table
 
--- no two rows have one entry
+-- no two rows share an entry
 abbrev pub HasEachOnce : Table → Type 0
 HasEachOnce table = (id other : RecordId) (cell cell' : Cell) → cell_at table id ≡ Some cell → cell_at table other ≡ Some cell' → cell.entry ≡ cell'.entry → id ≡ other
 

@@ -42,7 +42,7 @@ cell_at-spared c table q =
     find-where_key record_cmp (λ x. not (ends_record c x)) q (λ x e. ap (λ y. not (ends_record c y)) (sym (record_cmp_equal q x e))) table
     ∙ cond_not (ends_record c q) (cell_at table q) None
 
--- a put's own record is not among those that it leaves
+-- the record of a put is not in the rows that the put leaves
 pub absent-spared : (put : Put) (table : Table) → cell_at (spared_rows (change_of (placed.Put put)) table) put.id ≡ None
 absent-spared put table = cell_at-spared (change_of (placed.Put put)) table put.id ∙ ap (λ b. cond b None (cell_at table put.id)) (ends_record-own put.id put.value)
 
@@ -77,7 +77,7 @@ none_spared (row ∷ table) = none_spared table
 pub place-made : (position : ℕ) (put : Put) (table : Table) → IsSortedTable table → with_cell put.id (cell_of_put position put) (spared_rows (change_of (placed.Put put)) table) ≡ place position table (placed.Put put)
 place-made position put table h = place-put put.id (cell_of_put position put) put.value table h
 
--- what a change makes, at most one row
+-- the change makes no row
 abbrev pub MakesNone : PlacedChange → Type 0
 MakesNone c = put_of c ≡ []
 
@@ -87,7 +87,7 @@ place-spared position (placed.Drop id) table e = refl
 place-spared position (placed.DropKey key) table e = refl
 place-spared position placed.Clear table e = none_spared table
 
--- ---- a record that stands after a change was made by it, or stood before and was spared
+-- ---- a record that is there after a change was made by it, or was there before and was spared
 
 pub data Stands (position : ℕ) (c : PlacedChange) (table : Table) (id : RecordId) (cell : Cell) : Type 0 where
   made : (put : Put) (makes : put_of c ≡ put ∷ []) (id_is : id ≡ put.id) (cell_is : cell ≡ cell_of_put position put) → Stands position c table id cell
@@ -281,7 +281,7 @@ named_row c table id cell is_ended found =
 
 -- the entries that a change ends, and those that the later changes end
 module _ (position : ℕ) (c : PlacedChange) (changes : List PlacedChange) (table : Table) (lawful : IsLawful table) (fresh : AreFresh table (puts_of (c ∷ changes))) (i : ℕ) where
-  -- an entry of a row that the change ends is of no row after it
+  -- the entry of a row that the change ends is in no row after it
   gone_then : (row : EndedRow c table i) (id : RecordId) (cell : Cell) → cell.entry ≡ i → Stands position c table id cell → ⊥
   gone_then row id cell at (made put makes id_is cell_is) = apart position c changes table lawful fresh put row.id cell row.cell makes cell_is row.found (at ∙ sym row.at)
   gone_then row id cell at (spared is_spared found) =
@@ -323,7 +323,7 @@ module _ (position : ℕ) (c : PlacedChange) (changes : List PlacedChange) (tabl
   ended_or_standing of true e = inl (subst (λ k. Contains (entries_of (ended_rows (change_of c) table)) k) of.entry (named_row c table of.id of.cell e of.found))
   ended_or_standing of false e = inr (subst (λ k. Contains (entries_of (place position table c)) k) of.entry (entry-from_found (place position table c) of.id of.cell (found_spared position c table of.id of.cell e of.found)))
 
-  -- where an entry from before goes: it is ended now, or it is there for the later changes
+  -- what becomes of an entry from before: it is ended now, or it is there for the later changes
   goes : Before → Contains (entries_of (ended_rows (change_of c) table)) i ⊎ (Contains (entries_of (place position table c)) i ⊎ IsTrue (is_put_at i (puts_of changes)))
   goes (inl m) =
       let of = found-from_entry table i (sorted-lawful table lawful) m in
@@ -332,7 +332,7 @@ module _ (position : ℕ) (c : PlacedChange) (changes : List PlacedChange) (tabl
   goes (inr t) =
       ⊎_elim (λ (h : IsTrue (is_put_at i (put_of c))). inr (inl (standing_own h))) (λ (h : IsTrue (is_put_at i (puts_of changes))). inr (inr h)) (put_at-split c changes i t)
 
--- the entries of the rows that the change ends stand once each
+-- the entries of the rows that the change ends are distinct
 ended_once : (c : PlacedChange) (table : Table) → IsLawful table → IsDistinct nat_eq (entries_of (ended_rows (change_of c) table))
 ended_once c table lawful =
     entries-distinct (ended_rows (change_of c) table) (true_from _ (sorted-where (ends_record (change_of c)) table (sorted-lawful table lawful)))

@@ -1,4 +1,4 @@
--- Rows that are filtered, and rows put among others.
+-- Rows that are filtered, and rows inserted among others.
 use Rattle.std.proofs.Common.{◌≡◌, ℕ, suc, ◌+◌, ◌<◌, Bool, true, false, cond, not, List, [], ◌∷◌, ◌++◌, map, length, take, drop, insert, get_or, Option, Some, None, refl, sym, ap, ◌∙◌, append_assoc, length-append, arith}
 use Rattle.std.proofs.lemmas.List.{map-append, take-map, drop-map, get_or-map, drop_more, take_more}
 use Rattle.std.proofs.lemmas.List.Filters.{length-filter_both}
@@ -43,9 +43,9 @@ table_of-filter p (row ∷ rows) =
 pub length-spared : (c : Change) (table : Table) → length (ended_rows c table) + length (spared_rows c table) ≡ length table
 length-spared c table = length-filter_both (λ row. ends_record c row.0) (λ row. not (ends_record c row.0)) (λ row. refl) table
 
--- ---- the place of a record
+-- ---- where a record goes
 
--- the record goes below the prefix of n rows, and is in none of the others
+-- the record goes after the first n rows, and is not among the others
 pub record PassesPrefix (id : RecordId) (table : Table) (n : ℕ) : Type 0 where
   pub passes : (cell : Cell) → with_cell id cell table ≡ take n table ++ with_cell id cell (drop n table)
   pub absent : cell_at (drop n table) id ≡ None
@@ -135,7 +135,7 @@ length-ended before after gone is =
     let whole = ap (λ (xs : List ℕ). length xs) is in
     omega (arith, a, b, g, sum, whole)
 
--- a change moves rows out, and as many entries in
+-- a change removes rows, and adds as many entries to those ended
 pub length-moved : (c : Change) (rows left : List Row) (before after : List EntryNo) → table_of left ≡ spared_rows c (table_of rows) → numbers_of after ≡ numbers_of before ++ entries_of (ended_rows c (table_of rows))
     → length after + length left ≡ length before + length rows
 length-moved c rows left before after spared named =

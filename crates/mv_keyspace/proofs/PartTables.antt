@@ -18,7 +18,7 @@ use Rattle.mv_keyspace.proofs.TableLemmas.{value_at-records}
 use Rattle.mv_keyspace.proofs.TableMembers.{IsSortedTable, entry-from_found, found-from_entry, is_sorted-records}
 use Rattle.mv_keyspace.proofs.VersionTables.{AreEmpty, IsTable-change, cell-of_live}
 
--- no two of the puts have one entry
+-- no two of the puts share an entry
 abbrev pub AreDistinct : List Put → Type 0
 AreDistinct [] = Unit {0}
 AreDistinct (put ∷ puts) = (is_put_at put.entry.0 puts ≡ false) × AreDistinct puts
@@ -30,7 +30,7 @@ neither false b e = (refl, e)
 other_way : (a b : ℕ) → nat_eq a b ≡ false → nat_eq b a ≡ false
 other_way a b e = ne_eqb b a (λ same. let t : nat_eq a b ≡ true = eq-eqb a b (sym same) in cc)
 
--- ---- entries that hold no version go on so
+-- ---- entries that hold no version keep holding none
 
 still_empty : (c : PlacedChange) (position : ℕ) (versions : Versions) (i : ℕ) → is_put_at i (put_of c) ≡ false → versions i ≡ None → change_versions position versions c i ≡ None
 still_empty (placed.Put put) position versions i apart empty =

@@ -10,7 +10,7 @@ use Rattle.mv_keyspace.specs.Table.{Cell, Table, cell_at, with_cell, entries_of,
 use Rattle.mv_keyspace.specs.Row.{ended_rows, spared_rows, rows_of_puts}
 use Rattle.mv_keyspace.proofs.EndedLemmas.{sorted-lawful, absent-spared, place-made, MakesNone, place-spared, lawful-place, fresh-place, none-ended, ended-first}
 
--- Of all changes, from the table at the start, those before the rest are made: the table is this one, the rows of the rest are staged, and these entries were ended.
+-- From `start` on, all changes before `rest` have been made: the table is now `table`, the rows of `rest` are staged, and `ended` were ended so far.
 pub record Playing (position : ℕ) (start : Table) (all : List PlacedChange) (table : Table) (rest : List PlacedChange) (waiting : Table) (ended : List ℕ) : Type 0 where
   pub lawful : IsLawful table
   pub fresh : AreFresh table (puts_of rest)

@@ -1,4 +1,4 @@
--- A row stands in a table exactly where the look-up finds it.
+-- A row is in a table exactly where the look-up finds it.
 use Rattle.std.proofs.Common.{◌≡◌, ℕ, zero, suc, ◌<◌, [], ◌∷◌, length, get_or, true, false, ◌&&◌, IsTrue, cond, Some, None, Contains, refl, ap, ◌∙◌, arith}
 use Rattle.std.proofs.lemmas.Bool.{and_parts}
 use Rattle.std.specs.FinMap.Entries.{is_sorted, below_all}
@@ -16,7 +16,7 @@ is_lt-no_eq Less e = refl
 is_lt-no_eq Equal e = cc
 is_lt-no_eq Greater e = refl
 
--- a table in order as a list of its own
+-- the rows of the table are in order
 abbrev pub IsSortedTable : Table → Type 0
 IsSortedTable table = IsTrue (is_sorted record_cmp table)
 
@@ -30,7 +30,7 @@ is_sorted-records (row ∷ table) =
     ap (λ b. b && is_sorted record_cmp (records table)) (below_all-records row.0 table)
     ∙ ap (λ b. below_all record_cmp row.0 table && b) (is_sorted-records table)
 
--- a record below all of a table is none of it
+-- a record below all records of a table is not in it
 pub missed-below : (id : RecordId) (table : Table) → IsTrue (below_all record_cmp id table) → cell_at table id ≡ None
 missed-below id [] h = refl
 missed-below id (row ∷ table) h =
@@ -48,7 +48,7 @@ found-later row table id cell below found =
       | false ↦ λ t. found
     ] refl
 
--- an entry is that of a row
+-- the entry is that of a row of the table
 pub record IsEntryOf (table : Table) (i : ℕ) : Type 0 where
   pub id : RecordId
   pub cell : Cell

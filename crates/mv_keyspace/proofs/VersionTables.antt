@@ -41,7 +41,7 @@ cell_at-placed_at table (Field key field) cell value q =
 
 -- ---- cells and versions
 
--- an entry has one version at most, so that the position of any will do
+-- an entry has at most one version, so the position of any will do
 cell-of : (versions : Versions) (id : RecordId) (cell : Cell) → IsLive versions cell.entry id cell.value → (version : Version) → versions cell.entry ≡ Some version → cell.position ≡ version.position → IsCellOf versions id cell
 cell-of versions id cell live version begun at =
     let both : Some version ≡ Some live.version = sym begun ∙ live.begun in
@@ -56,13 +56,13 @@ version_before : (entry : Option Version) (c : Change) (after : Version) → end
 version_before None c after e = cc
 version_before (Some version) c after e = let same : ended_by c version ≡ after = cc in (version, refl, ap (λ (v : Version). v.position) same)
 
--- a cell of a record that the change does not end stays one
+-- the cell of a record that the change does not end stays its cell
 cell-after : (versions : Versions) (c : Change) (id : RecordId) (cell : Cell) → ends_record c id ≡ false → IsCellOf versions id cell → IsCellOf (λ j. ended_where_begun c (versions j)) id cell
 cell-after versions c id cell spared is =
     cell-of (λ j. ended_where_begun c (versions j)) id cell (live_after versions c cell.entry id cell.value spared is.live)
     (ended_by c is.live.version) (ap (ended_where_begun c) is.live.begun) is.position_is
 
--- a cell after the change was one before it, and the change does not end its record
+-- a record's cell after the change was its cell before it, and the change does not end the record
 cell-before : (versions : Versions) (c : Change) (id : RecordId) (cell : Cell) → IsCellOf (λ j. ended_where_begun c (versions j)) id cell → IsCellOf versions id cell × (ends_record c id ≡ false)
 cell-before versions c id cell is =
     let before = live_before versions c cell.entry id cell.value is.live in
@@ -85,7 +85,7 @@ cell-beside position versions put id cell empty is =
     cell-of (with_put position put versions) id cell (live_beside position versions put cell.entry id cell.value empty is.live)
     is.live.version (with_put-other position put versions cell.entry apart ∙ is.live.begun) is.position_is
 
--- a cell is that of the put, or it was one before
+-- a record's cell is that of the put, or it was its cell before
 data CellWithPut (position : ℕ) (versions : Versions) (put : Put) (id : RecordId) (cell : Cell) : Type 0 where
   own : (same_id : put.id ≡ id) (same : cell_of_put position put ≡ cell) → CellWithPut position versions put id cell
   other : (is : IsCellOf versions id cell) → CellWithPut position versions put id cell

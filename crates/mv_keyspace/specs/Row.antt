@@ -26,6 +26,6 @@ numbers_of entries = map (λ entry. entry.0) entries
 abbrev pub ended_rows : Change → Table → Table
 ended_rows change = where_key record_cmp (ends_record change)
 
--- the rows that it leaves
+-- the rows that a change leaves
 abbrev pub spared_rows : Change → Table → Table
 spared_rows change = where_key record_cmp (λ id. not (ends_record change id))

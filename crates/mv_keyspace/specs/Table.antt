@@ -15,7 +15,7 @@ use Rattle.model.specs.declared.group.PlacedChange.TheVariants as placed
 use Rattle.model.specs.Image.{IsLive}
 use Rattle.model.specs.Group.{Versions, put_of, is_put_at}
 
--- what a live record has
+-- what a table has for a live record
 pub record Cell : Type 0 where
   pub value : List ℕ
   -- the number of its entry
@@ -26,7 +26,7 @@ pub record Cell : Type 0 where
 abbrev pub Table : Type 0
 Table = List (RecordId × Cell)
 
--- the records of a table, without their places
+-- the records of a table, without their entries and positions
 abbrev pub records : Table → Keyspace
 records table = map (λ row. (row.0, row.1.value)) table
 
@@ -42,7 +42,7 @@ without_row id = where_key record_cmp (λ other. not (eq_by_cmp record_cmp other
 abbrev pub without_rows : List ℕ → Table → Table
 without_rows key = where_key record_cmp (λ other. not (pointwise nat_eq (key_of other) key))
 
--- what a put at this position makes
+-- the cell that a put at this position makes
 abbrev pub cell_of_put : ℕ → Put → Cell
 cell_of_put position put = record { value = put.value; entry = put.entry.0; position = position }
 
@@ -51,7 +51,7 @@ abbrev pub placed_at : RecordId → Cell → Table → Table
 placed_at (Str key) cell table = with_cell (Str key) cell (without_rows key table)
 placed_at (Field key field) cell table = with_cell (Field key field) cell (without_row (Str key) table)
 
--- the table after a change that is made at this position: as `play` of keyspaces, with the places
+-- the table after a change that is made at this position: as `play` for keyspaces, with entries and positions
 abbrev pub place : ℕ → Table → PlacedChange → Table
 place position table (placed.Put put) = placed_at put.id (cell_of_put position put) table
 place position table (placed.Drop id) = without_row id table
@@ -71,7 +71,7 @@ entries_of table = map (λ row. row.1.entry) table
 abbrev pub puts_of : List PlacedChange → List Put
 puts_of = flat_map put_of
 
--- a table whose records are in order, with one kind a key, and whose entries are each of one record
+-- a table whose records are in order, with one kind per key, and in which no two records share an entry
 pub record IsLawful (table : Table) : Type 0 where
   pub keyspace : IsKeyspace (records table)
   pub once : (id other : RecordId) (cell cell' : Cell) → cell_at table id ≡ Some cell → cell_at table other ≡ Some cell' → cell.entry ≡ cell'.entry → id ≡ other
@@ -82,23 +82,23 @@ AreFresh table [] = Unit {0}
 AreFresh table (put ∷ puts) =
     (¬ Contains (entries_of table) put.entry.0) × (¬ IsTrue (is_put_at put.entry.0 puts)) × AreFresh table puts
 
--- Of the numbers of entries each is named once, and they are just those that the changes ended: those that were live before, or that the changes
--- made, and are not live after them.
+-- The numbers of entries are distinct, and they are exactly those that the changes ended: those that were live before, or that the changes made,
+-- and are not live after them.
 pub record AreNumbersEnded (position : ℕ) (table : Table) (changes : List PlacedChange) (numbers : List ℕ) : Type 0 where
   pub once : IsDistinct nat_eq numbers
   pub these : (i : ℕ) → Contains numbers i
       ↔ ((Contains (entries_of table) i ⊎ IsTrue (is_put_at i (puts_of changes))) × (¬ Contains (entries_of (place_all position table changes)) i))
 
--- These are just the entries that the changes ended, each named once.
+-- These are exactly the entries that the changes ended, each named once.
 abbrev pub AreEnded : ℕ → Table → List PlacedChange → List EntryNo → Type 0
 AreEnded position table changes ended = AreNumbersEnded position table changes (map (λ entry. entry.0) ended)
 
--- the cell's entry holds the record now: it has a live version of this value, made at this position
+-- the cell's entry holds a live version of this record, with the cell's value, made at the cell's position
 pub record IsCellOf (versions : Versions) (id : RecordId) (cell : Cell) : Type 0 where
   pub live : IsLive versions cell.entry id cell.value
   pub position_is : cell.position ≡ live.version.position
 
--- The table has just the versions that are live, each with its entry and its position.
+-- The table has exactly the live versions, each with its entry and its position.
 pub record IsTable (versions : Versions) (table : Table) : Type 0 where
   pub keyspace : IsKeyspace (records table)
   pub live : (id : RecordId) (cell : Cell) → cell_at table id ≡ Some cell → IsCellOf versions id cell

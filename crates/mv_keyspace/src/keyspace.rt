@@ -1,4 +1,4 @@
-//! What a sequencer and a standby know of a keyspace.
+//! The keyspace as a sequencer and a standby see it.
 ghost use Rattle.std.specs.Prelude.{◌≡◌, OnOk, OnErr, IfOk, IfErr};
 ghost use Rattle.std.specs.Option.{option_copied};
 ghost use Rattle.kv_types.specs.declared.record_id.RecordId.TheVariants.{Str};
@@ -19,8 +19,8 @@ pub trait Keyspace {
     fn get(&self, key: &[u8]) -> Option<&Value>
         ensures { option_copied result ≡ value_at (records (table self.now)) (Str key.now) };
 
-    /// Makes all changes of a command or of a frame, made at this position of the list, and answers the entries that they ended, each once.
-    /// Refused with `Memory` where a growth was refused, and then nothing changed.
+    /// Makes all changes of a command or of a frame at this position of the list, and returns the entries that they ended, each once.
+    /// Refused with `Memory` where a growth was refused, and then nothing has changed.
     fn apply(
         &mut self,
         alloc: Global,

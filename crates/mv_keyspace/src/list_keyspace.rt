@@ -13,17 +13,17 @@ use kv_types::{EntryNo, RecordId, Refusal, Value};
 use model::{PlacedChange, Put};
 use std::alloc::{AllocError, Global};
 
-/// A live record, and where it stands.
+/// A live record, with the entry that holds it.
 #[derive(Debug, Drop)]
 struct Row {
     id: RecordId,
     value: Value,
     entry: EntryNo,
-    /// The position of the list that it was put at.
+    /// The position of the list at which it was put.
     position: u64,
 }
 
-/// The live records of a node, as a list in their order. Each change goes once through the list.
+/// The live records of a node, as a list in their order. Each change goes through the whole list.
 #[derive(Debug, Drop)]
 pub struct ListKeyspace {
     rows: Vec<Row>,
@@ -127,7 +127,7 @@ fn row_of(put: &Put, position: u64) -> Result<Row, AllocError>
     })
 }
 
-/// Makes the changes, whose puts have their rows staged. There is room for all that they add.
+/// Makes the changes, whose puts have their rows staged. There is room for everything that they add.
 fn play(rows: &mut Vec<Row>, changes: &[PlacedChange], staged: Vec<Row>, ended: &mut Vec<EntryNo>)
     requires lawful { IsLawful (table_of rows.old.items) }
     requires fresh { AreFresh (table_of rows.old.items) (puts_of changes.now) }
@@ -150,7 +150,7 @@ fn play(rows: &mut Vec<Row>, changes: &[PlacedChange], staged: Vec<Row>, ended: 
     }
 }
 
-/// Takes out the rows that a change ends, and names their entries.
+/// Removes the rows that a change ends, and appends their entries to `ended`.
 fn end_rows(rows: &mut Vec<Row>, change: &PlacedChange, ended: &mut Vec<EntryNo>)
     requires room { vec_len ended.old + vec_len rows.old ≤ vec_capacity ended.old }
     ensures table { table_of rows.new.items ≡ spared_rows (change_of change.now) (table_of rows.old.items) }
@@ -188,7 +188,7 @@ fn ends(change: &PlacedChange, id: &RecordId) -> bool
     }
 }
 
-/// Whether a put of one record ends another: a string ends all of its key, a field itself and the string.
+/// Whether a put of one record ends another: a string ends all records of its key, a field ends itself and the string of its key.
 fn replaces(put: &RecordId, id: &RecordId) -> bool
     ensures { (value : List ℕ) → result ≡ ends_record (kinds.Put put.now value) id.now }
 {
@@ -198,7 +198,7 @@ fn replaces(put: &RecordId, id: &RecordId) -> bool
     }
 }
 
-/// Puts a row of a record that the list has not.
+/// Inserts the row of a record that the list does not have.
 fn put_row(rows: &mut Vec<Row>, row: Row)
     requires absent { cell_at (table_of rows.old.items) row.id ≡ None }
     requires room { vec_len rows.old < vec_capacity rows.old }
@@ -210,7 +210,7 @@ fn put_row(rows: &mut Vec<Row>, row: Row)
     rows.insert(place, row).unwrap();
 }
 
-/// Where a record goes that the list has not.
+/// The index at which a record that the list does not have goes in.
 fn place_for(rows: &[Row], id: &RecordId) -> usize
     requires absent { cell_at (table_of rows.now) id.now ≡ None }
     ensures within { result ≤ length rows.now }

@@ -16,7 +16,7 @@ module _ {T : Type 0} where
   abbrev pub taken_at : RingInlet T → List T
   taken_at inlet = received inlet.consumer
 
-  -- the items that the inlet knows to wait, oldest first
+  -- the items that the inlet knows are waiting, oldest first
   abbrev pub known_at : RingInlet T → List T
   known_at inlet = known_items inlet.consumer
 
@@ -30,14 +30,14 @@ module _ {T : Type 0} where
   abbrev pub IsSameInlet : RingInlet T → RingInlet T → Type 0
   IsSameInlet before after = SameConsumer before.consumer after.consumer
 
-  -- the oldest item leaves, and is the last of all that was taken; or none was known, and none found
+  -- the oldest item is taken, and is the last of all that was taken; or none was known, and none was found
   abbrev pub RingTakes : RingInlet T → Option T → RingInlet T → Type 0
   RingTakes before None after =
       IsSameInlet before after × (taken_at after ≡ taken_at before) × (known_at before ≡ []) × (known_at after ≡ [])
   RingTakes before (Some item) after =
       IsSameInlet before after × (taken_at after ≡ taken_at before ++ item ∷ []) × IsPrefix (known_at before) (item ∷ known_at after)
 
-  -- the oldest of the items that are left leaves, if any is
+  -- the oldest of the items that are left is taken, if there is one
   abbrev pub LeftTakes : List T → Option T → List T → Type 0
   LeftTakes before None after = (before ≡ []) × (after ≡ [])
   LeftTakes before (Some item) after = before ≡ item ∷ after

@@ -5,13 +5,13 @@ use Rattle.std.proofs.lemmas.List.{append-nil}
 use mathlib.Core.List.{IsPrefix}
 use Rattle.pipes.specs.declared.limits.TheConstants.{PIPE_ITEMS}
 
--- what waits in a pipe, oldest first: never more than a pipe holds
+-- the items that wait in a pipe, oldest first: at most `PIPE_ITEMS`
 pub record Waiting (T : Type 0) : Type 0 where
   pub items : List T
   pub within : length items ≤ PIPE_ITEMS
 
 module _ {T : Type 0} where
-  -- the oldest item leaves, if any waits
+  -- the oldest item is taken, if one waits
   abbrev pub LocalTakes : Waiting T → Option T → Waiting T → Type 0
   LocalTakes before None after = (before.items ≡ []) × (after.items ≡ [])
   LocalTakes before (Some item) after = before.items ≡ item ∷ after.items

@@ -1,4 +1,4 @@
-//! The two ends of a pipe between threads once they have finished, and what is left in the pipe where they come together again.
+//! The two ends of a pipe between threads once they have finished, and what is left in the pipe when they are joined.
 ghost use Rattle.std.specs.Prelude.{◌≡◌, ◌==◌, List, [], ◌++◌, length};
 ghost use mathlib.Core.List.{IsPrefix};
 ghost use Rattle.pipes.specs.Ring.{AreEndsOfOne, offered_at, taken_at};
@@ -8,7 +8,7 @@ use crate::ring_pipe::{RingInlet, RingOutlet};
 use rtrb::Consumer;
 use std::marker::Model;
 
-/// An outlet that offers no more. A clause sees the outlet that it was.
+/// An outlet that offers nothing more. A clause sees the outlet that it was.
 #[derive(Drop)]
 pub struct FinishedOutlet<T> {
     pub(crate) outlet: RingOutlet<T>,
@@ -22,7 +22,7 @@ impl<T> Model for FinishedOutlet<T> {
     ghost view = { λ finished. finished.outlet };
 }
 
-/// An inlet that takes no more. A clause sees the inlet that it was.
+/// An inlet that takes nothing more. A clause sees the inlet that it was.
 #[derive(Drop)]
 pub struct FinishedInlet<T> {
     pub(crate) inlet: RingInlet<T>,
@@ -51,7 +51,7 @@ impl<T> Model for LeftItems<T> {
     ghost view = { λ left. known_items left.consumer };
 }
 
-/// Brings the two ends of one pipe together. What was taken, and then what is left, is what was offered: in order, and each once. So what
+/// Joins the two ends of one pipe. What was taken, followed by what is left, is what was offered: in order, and each item once. So what
 /// had been taken at any earlier moment was a prefix of what was offered.
 pub fn join<T: Drop>(outlet: FinishedOutlet<T>, inlet: FinishedInlet<T>) -> LeftItems<T>
     requires { AreEndsOfOne outlet inlet }

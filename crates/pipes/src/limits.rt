@@ -1,7 +1,7 @@
-//! The limits of pipes and of a lobby, each in one place.
+//! The limits of pipes and of a lobby, each defined once.
 
-/// How many items a pipe holds.
+/// How many items a pipe can hold.
 pub const PIPE_ITEMS: usize = 256;
 
-/// How many seats a lobby has, which are numbered from 0.
+/// How many seats a lobby has. They are numbered from 0.
 pub const MAX_SEATS: usize = 1_024;

@@ -14,7 +14,7 @@ use std::marker::Model;
 pub struct LocalPipe<T> {
     waiting: VecDeque<T>,
     ghost within: { length waiting.items ≤ PIPE_ITEMS },
-    // The room is made with the pipe, so that no later call takes memory.
+    // The room is allocated with the pipe, so that no later call takes memory.
     ghost has_room: { PIPE_ITEMS ≤ deque_capacity waiting },
 }
 
@@ -31,7 +31,7 @@ impl<T> LocalPipe<T> {
     ///
     /// # Errors
     ///
-    /// `AllocError` alone, where that room was refused.
+    /// Only `AllocError`, if memory for that room is refused.
     pub fn new(alloc: Global) -> Result<LocalPipe<T>, AllocError>
         ensures { IfOk result (λ pipe. pipe.items ≡ []) }
     {

@@ -10,7 +10,7 @@ use crate::limits::PIPE_ITEMS;
 use rtrb::{Consumer, Producer, PushError, RingBuffer};
 use std::alloc::{AllocError, Global};
 
-/// A new pipe between two threads: its two ends, of which each may go to a thread of its own. No end waits for the other.
+/// A new pipe between two threads: its two ends, each of which may go to a thread of its own. Neither end waits for the other.
 #[derive(Drop)]
 pub struct RingPipe<T> {
     /// The end at which items go in.
@@ -24,7 +24,7 @@ impl<T: Drop> RingPipe<T> {
     ///
     /// # Errors
     ///
-    /// `AllocError` alone, where that room was refused.
+    /// Only `AllocError`, if memory for that room is refused.
     pub fn new(alloc: Global) -> Result<RingPipe<T>, AllocError>
         ensures ends { IfOk result (λ pipe. AreEndsOfOne pipe.outlet pipe.inlet) }
         ensures empty { IfOk result (λ pipe. (offered_at pipe.outlet ≡ []) × (taken_at pipe.inlet ≡ [])) }
@@ -45,7 +45,7 @@ pub struct RingOutlet<T> {
 }
 
 impl<T> RingOutlet<T> {
-    /// Offers no more. What this end was is kept, for `join`.
+    /// Stops offering. The state of this end is kept for `join`.
     pub fn finish(self) -> FinishedOutlet<T>
         ensures { result ≡ self }
     {
@@ -87,7 +87,7 @@ pub struct RingInlet<T> {
 }
 
 impl<T> RingInlet<T> {
-    /// Takes no more here. What this end was is kept, for `join`, which gives what is left.
+    /// Stops taking here. The state of this end is kept for `join`, which gives what is left.
     pub fn finish(self) -> FinishedInlet<T>
         ensures { result ≡ self }
     {

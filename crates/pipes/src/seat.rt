@@ -5,8 +5,8 @@ use crate::limits::MAX_SEATS;
 use std::alloc::{AllocError, Global};
 use std::marker::Model;
 
-/// A connection's seat, which is its number, 0 to 1,023. It can be neither copied nor made of a number, so where one lobby gives the seats
-/// out, each number is in one hand at a time. A clause sees the number.
+/// A connection's seat, which is its number, 0 to 1,023. It can be neither copied nor made from a number, so if one lobby gives the seats
+/// out, each number has one holder at a time. A clause sees the number.
 #[derive(Debug, Drop)]
 pub struct Seat {
     number: u16,
@@ -28,7 +28,7 @@ impl Seat {
     ///
     /// # Errors
     ///
-    /// `AllocError` alone, where room for them was refused.
+    /// Only `AllocError`, if memory for them is refused.
     pub fn all(alloc: Global) -> Result<Vec<Seat>, AllocError>
         ensures count { IfOk result (λ seats. vec_len seats ≡ MAX_SEATS) }
         ensures each_once { IfOk result (λ seats. EachIndex seats.items (λ n. slice_index seats.items n ≡ n)) }

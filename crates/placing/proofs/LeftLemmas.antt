@@ -80,13 +80,13 @@ module _ (Good : ℕ → ℕ → Type 0) where
   good_change position versions (placed.DropKey key) good new i version begun = good_where_begun versions (placed.DropKey key) good i (versions i) version refl begun
   good_change position versions placed.Clear good new i version begun = good_where_begun versions placed.Clear good i (versions i) version refl begun
 
-  -- versions have lines that they had before, or those of a put
+  -- if the lines of all versions and of all new puts are good, so are those of the versions after the changes
   pub good_changes : (position : ℕ) (versions : Versions) (changes : List PlacedChange) → AllGood versions → AllByRecursion HasGood (puts_of changes) → AllGood (changes_versions position versions changes)
   good_changes position versions [] good new = good
   good_changes position versions (c ∷ changes) good new =
       good_changes position (change_versions position versions c) changes (good_change position versions c good (All-prefix HasGood (put_of c) (puts_of changes) new)) (All-rest HasGood (put_of c) (puts_of changes) new)
 
-  -- and so have they after parts
+  -- and so are those of the versions after parts
   pub good_parts : (versions : Versions) (parts : List Part) → AllGood versions → AllByRecursion HasGood (flat_map puts_of_part parts) → AllGood (parts_versions versions parts)
   good_parts versions [] good new = good
   good_parts versions (part ∷ parts) good new =
@@ -115,7 +115,7 @@ after_parts contents parts =
 pub still_free : (a b : Bool) → IsTrue a → b ≡ false → IsTrue (a && not b)
 still_free a b free none = ap (λ x. x && not b) free ∙ ap not none
 
--- what is left beside the parts is free after them
+-- what the heap has left besides the parts is free after them
 pub left-after_parts : (contents : Contents) (room : Room) (parts : List Part) → IsLeftOf contents room → AllByRecursion (IsTaken room) (flat_map puts_of_part parts) → IsLeftOf (after_parts contents parts) room
 left-after_parts contents room parts left taken =
     let puts = flat_map puts_of_part parts in

@@ -1,4 +1,4 @@
--- Parts with one more behind them, and a part as a group of its own.
+-- Parts with one more after them, and a part as a group of its own.
 use Rattle.std.proofs.Common.{◌≡◌, ℕ, ◌<◌, ◌≤◌, List, [], ◌∷◌, ◌++◌, length, refl, sym, ap, subst, ◌∙◌, arith, append-nil}
 use Rattle.std.proofs.lemmas.Grind.{flat_map-append}
 use Rattle.std.specs.List.{flat_map, AllByRecursion}
@@ -8,7 +8,7 @@ use Rattle.model.specs.declared.group.Put.{Put}
 use Rattle.model.specs.declared.group.TheConstants.{MAX_PARTS}
 use Rattle.model.specs.Group.{Contents, Versions, IsGroup, puts_of_part, part_versions, parts_versions, AreParts, NamesEnded, last_position, IsPlaced, IsUnused, AreAllApart, HasItsLines}
 
--- ---- one part more
+-- ---- one more part
 
 pub parts_versions-append : (versions : Versions) (parts : List Part) (part : Part) → parts_versions versions (parts ++ part ∷ []) ≡ part_versions (parts_versions versions parts) part
 parts_versions-append versions [] part = refl
@@ -27,7 +27,7 @@ puts_of_parts-append parts part = flat_map-append puts_of_part parts (part ∷ [
 
 -- ---- a part alone
 
--- the puts of a part are those of a list of it alone
+-- the puts of a part are those of the list that has only this part
 pub puts_alone : (P : Put → Type 0) (part : Part) → AllByRecursion P (puts_of_part part) → AllByRecursion P (flat_map puts_of_part (part ∷ []))
 puts_alone P part h = subst (AllByRecursion P) (sym (append-nil (puts_of_part part))) h
 
@@ -35,7 +35,7 @@ module _ (contents : Contents) (part : Part) (group : Group) (one : group.parts.
   all_of_group : (P : Put → Type 0) → AllByRecursion P (puts_of_part part) → AllByRecursion P (flat_map puts_of_part group.parts.items)
   all_of_group P h = subst (λ items. AllByRecursion P (flat_map puts_of_part items)) (sym one) (puts_alone P part h)
 
-  -- it is a group that a commit asks for
+  -- the part alone is a group that a commit takes
   pub IsGroup-alone : contents.current.position < part.position → NamesEnded contents.versions part → AllByRecursion (IsPlaced contents.lines) (puts_of_part part) → AllByRecursion HasItsLines (puts_of_part part)
       → AllByRecursion (IsUnused contents.versions contents.is_free) (puts_of_part part) → AreAllApart (puts_of_part part) → IsGroup contents group
   IsGroup-alone later names placed fitting unused apart = record {

@@ -1,4 +1,4 @@
--- Places are taken in turn, and a heap hands out one place alone.
+-- Places are taken in turn, and for each put a heap can hand out only one place.
 use Rattle.std.proofs.Common.{◌≡◌, ℕ, ◌+◌, ◌/◌, ◌<◌, ◌==◌, if◌then◌else◌, true, false, List, [], ◌∷◌, ◌++◌, map, length, refl, sym, ap, subst, ◌∙◌, arith}
 use Rattle.std.proofs.lemmas.Bool.{eqb-false}
 use Rattle.std.proofs.lemmas.Grind.{flat_map-append}
@@ -84,7 +84,7 @@ no_places old id value none (Drop other) left e takes = cc
 no_places old id value none (DropKey key) left e takes = cc
 no_places old id value none Clear left e takes = cc
 
--- a record has a line at least
+-- a record has at least one line
 pub some_lines : (put : Put) → HasItsLines put → 0 < put.extent.lines
 some_lines put fitting = subst (λ n. 0 < n) (sym fitting) (one_at_least (bytes_of_id put.id + length put.value))
   where
@@ -107,7 +107,7 @@ more_places old placed between next new prefix one =
     let puts : puts_of (placed ++ next ∷ []) ≡ puts_of placed ++ (put_of next ++ []) = flat_map-append put_of placed (next ∷ []) in
     subst (λ puts. TakesPlaces old puts new) (sym puts) (TakesPlaces-append old (puts_of placed) (put_of next ++ []) between new prefix (TakesPlaces-append between (put_of next) [] new new one refl))
 
--- where the next change finds no place behind those before it, there is no room for all of them
+-- where the next change finds no place after those before it, there is no room for all of them
 module _ (next : Change) (rest : List Change) where
   no_room_from : (room : Room) (prefix : List PlacedChange) (between : Room) (placed : List PlacedChange) (left : Room) → TakesPlaces room (puts_of prefix) between
       → ((p : PlacedChange) (after : Room) → change_of p ≡ next → ¬ TakesPlaces between (put_of p) after)

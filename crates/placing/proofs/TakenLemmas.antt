@@ -35,7 +35,7 @@ All-append P (x ∷ xs) ys h k = (h.0, All-append P xs ys h.1 k)
 
 -- ---- one place
 
--- an entry and lines that are free, as many as the record wants
+-- the entry of the put is free, and so are its lines, of which there is at least one
 pub record IsFree (room : Room) (put : Put) : Type 0 where
   pub entry : IsTrue (is_free_entry room put.entry.0)
   pub some : 0 < put.extent.lines
@@ -133,7 +133,7 @@ places_apart old [] new takes = tt
 places_apart old (put ∷ puts) new takes =
     (All-map (IsFree takes.0) (IsApartFrom put) (λ other. apart_from takes.0 put other (place_taken old put takes.0 takes.1)) puts (places_free takes.0 puts new takes.2), places_apart takes.0 puts new takes.2)
 
--- puts of a larger room's time, and later ones
+-- puts whose places are taken and puts whose places are still free are apart from each other
 pub AreAllApart-append : (room : Room) (xs ys : List Put) → AreAllApart xs → AreAllApart ys → AllByRecursion (IsTaken room) xs → AllByRecursion (IsFree room) ys → AreAllApart (xs ++ ys)
 AreAllApart-append room [] ys apart apart' taken free = apart'
 AreAllApart-append room (x ∷ xs) ys apart apart' taken free = (
@@ -141,7 +141,7 @@ AreAllApart-append room (x ∷ xs) ys apart apart' taken free = (
   AreAllApart-append room xs ys apart.1 apart' taken.1 free,
 )
 
--- an entry that is free is none of those that are taken
+-- a free entry is not the entry of a put whose place is taken
 pub not_put_at : (room : Room) (puts : List Put) (i : ℕ) → AllByRecursion (IsTaken room) puts → IsTrue (is_free_entry room i) → is_put_at i puts ≡ false
 not_put_at room [] i taken free = refl
 not_put_at room (put ∷ puts) i taken free =

@@ -1,4 +1,4 @@
--- What a heap has left, beside the contents of an image and beside a table.
+-- What a heap has left, compared with the contents of an image and with a table.
 use Rattle.std.specs.Prelude.{◌≡◌, ℕ, ◌+◌, ◌<◌, ◌≤◌, false, None, Some, IsTrue}
 use Rattle.model.specs.declared.group.Put.{Put}
 use Rattle.model.specs.Image.{Version, entries_of_lines, first_extent_line}
@@ -6,7 +6,7 @@ use Rattle.model.specs.Group.{Contents, Versions}
 use Rattle.extent_heap.specs.Room.{Room, is_free_entry, is_free_line}
 use Rattle.mv_keyspace.specs.Table.{Table, IsTable}
 
--- there are lines, and none of them is free
+-- the run has at least one line, and none of its lines is free
 pub record HasNoFreeLine (room : Room) (first lines : ℕ) : Type 0 where
   pub some : 0 < lines
   pub none : (line : ℕ) → first ≤ line → line < first + lines → is_free_line room line ≡ false
@@ -22,7 +22,7 @@ pub record IsLeftOf (contents : Contents) (room : Room) : Type 0 where
   pub lines : (line : ℕ) → IsTrue (is_free_line room line) → (first_extent_line contents.lines ≤ line) × (line < contents.lines)
   pub apart : (i : ℕ) (version : Version) → contents.versions i ≡ Some version → HasNoFreeLine room version.first_line version.lines
 
--- the table is that of some versions, and no free entry has one
+-- the table is that of some versions, and no free entry of the heap has a version
 pub record IsBeside (table : Table) (room : Room) : Type 0 where
   pub versions : Versions
   pub table_is : IsTable versions table

@@ -1,4 +1,4 @@
--- Changes that are made on a table with places from a heap, as one part.
+-- Changes that are made on a table, with places from a heap, as one part.
 use Rattle.std.specs.Prelude.{◌≡◌, ℕ, List}
 use Rattle.kv_types.specs.declared.change.Change.{Change}
 use Rattle.model.specs.declared.group.Part.{Part}

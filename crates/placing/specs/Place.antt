@@ -7,7 +7,7 @@ use Rattle.model.specs.Group.{change_of, HasItsLines}
 use Rattle.extent_heap.specs.Room.{Room, TakesEntry, TakesExtent}
 use Rattle.mv_keyspace.specs.Table.{puts_of}
 
--- The put has the lowest free entry, and then the lowest run of as many free lines as its record wants.
+-- The put has the lowest free entry, and then the lowest run of as many free lines as its record needs.
 pub record TakesPlace (old : Room) (put : Put) (new : Room) : Type 0 where
   pub between : Room
   pub entry : TakesEntry old put.entry between

@@ -1,4 +1,4 @@
-//! Changes made on a keyspace, with places from a heap for what they put: moved together, or not at all.
+//! Changes made on a keyspace, with places from a heap for their puts: keyspace and heap move together, or not at all.
 #![tactic(auto)]
 
 mod performing;

@@ -11,11 +11,11 @@ use model::Part;
 use mv_keyspace::Keyspace;
 use std::alloc::Global;
 
-/// Makes the changes at this position of the list, and answers the part that they are.
+/// Makes the changes at this position of the list, and returns them as a part.
 ///
 /// # Errors
 ///
-/// `Full` where the heap has no room for all that they put, `Memory` where a growth was refused. Keyspace and heap are then as they were.
+/// `Full` where the heap has no room for all their puts, `Memory` where a growth was refused. Keyspace and heap are then as they were.
 pub fn perform<K: Keyspace>(
     alloc: Global,
     keyspace: &mut K,

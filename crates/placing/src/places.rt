@@ -13,7 +13,7 @@ use kv_types::{Change, RecordId, Refusal, Value};
 use model::{PlacedChange, Put};
 use std::alloc::Global;
 
-/// A line of an image has so many bytes.
+/// How many bytes a line of an image has.
 const LINE_BYTES: usize = 64;
 
 /// The changes, each put with a place taken from the heap, in turn. `Refusal::Full` where the heap has no room for all of them, `Refusal::Memory`
@@ -58,7 +58,7 @@ fn place(heap: &mut ExtentHeap, change: Change) -> Result<PlacedChange, Refusal>
     }
 }
 
-/// The lowest free entry and the lowest run of lines that the record wants.
+/// The put of a record, with the lowest free entry and the lowest run of as many free lines as the record needs.
 fn place_put(heap: &mut ExtentHeap, id: RecordId, value: Value) -> Result<Put, Refusal>
     ensures same { IfOk result (λ put. (put.id ≡ id) × (put.value ≡ value)) }
     ensures place { IfOk result (λ put. TakesPlace heap.old put heap.new) }
@@ -81,7 +81,7 @@ fn place_put(heap: &mut ExtentHeap, id: RecordId, value: Value) -> Result<Put, R
     }
 }
 
-/// Gives the places back, last first. The heap is as it was before they were taken.
+/// Gives the places back, last first. The heap is then as it was before they were taken.
 pub(crate) fn give_back(heap: &mut ExtentHeap, mut placed: Vec<PlacedChange>)
     requires { (before : Room) × TakesPlaces before (puts_of placed.items) heap.old }
     ensures { (before : Room) → TakesPlaces before (puts_of placed.items) heap.old → heap.new ≡ before }

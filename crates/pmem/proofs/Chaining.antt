@@ -31,7 +31,7 @@ Runs-none d =
       moments = none_leaves d (IsImage d.words) (λ image is. is);
     }
 
--- a run goes on where what it left before may still be left
+-- a run continues, if what it could leave before can still be left
 pub Runs-then : {a b c : State} {u v : ℕ → Word} → Runs a b u → Runs b c v
     → ((image : ℕ → ℕ) → IsImage u image → IsImage v image) → Runs a c v
 Runs-then {a} {b} {c} {u} {v} first second grows =
@@ -67,17 +67,17 @@ Runs-step_flush {a} {b} line step =
           (λ image is. subst (λ (w : ℕ → Word). IsImage w image) step.words is);
     }
 
--- a run goes on by stores
+-- a run continues with stores
 pub Runs-stores : {a b c : State} {u : ℕ → Word} (pairs : List (ℕ × ℕ)) → Runs a b u → Runs b c (stores pairs b.words) → Runs a c (stores pairs u)
 Runs-stores {a} {b} {c} {u} pairs first second =
     Runs-then first (subst (λ (w : ℕ → Word). Runs b c (stores pairs w)) first.words second) (IsImage-stores pairs u)
 
--- and by flushes
+-- and with flushes
 pub Runs-flushes : {a b c : State} {u : ℕ → Word} (lines : List ℕ) → Runs a b u → Runs b c (flushes lines b.words) → Runs a c (flushes lines u)
 Runs-flushes {a} {b} {c} {u} lines first second =
     Runs-then first (subst (λ (w : ℕ → Word). Runs b c (flushes lines w)) first.words second) (flushes-IsImage lines u)
 
--- the loop over the pairs goes on by one
+-- one more turn of the loop over the pairs
 pub Runs-next_store : {a b c : State} (pairs : List (ℕ × ℕ)) (i : ℕ) → i < length pairs → Runs a b (stores (take i pairs) a.words)
     → Steps b c (store_at (get_or pairs i (0, 0)).0 (get_or pairs i (0, 0)).1 b.words) b.failures b.fences
     → Runs a c (stores (take (i + 1) pairs) a.words)
@@ -87,7 +87,7 @@ Runs-next_store {a} {b} {c} pairs i below run step =
     (sym (stores-append (take i pairs) (pair ∷ []) a.words) ∙ ap (λ (p : List (ℕ × ℕ)). stores p a.words) (sym (take_more pairs i (0, 0) below)))
     (Runs-stores (pair ∷ []) run (Runs-step_store pair.0 pair.1 step))
 
--- and the loop over the lines
+-- and of the loop over the lines
 pub Runs-next_flush : {a b c : State} (lines : List ℕ) (i : ℕ) → i < length lines → Runs a b (flushes (take i lines) a.words)
     → Steps b c (flush_at (get_or lines i 0) b.words) b.failures b.fences
     → Runs a c (flushes (take (i + 1) lines) a.words)
@@ -96,7 +96,7 @@ Runs-next_flush {a} {b} {c} lines i below run step =
     (sym (flushes-append (take i lines) (get_or lines i 0 ∷ []) a.words) ∙ ap (λ (l : List ℕ). flushes l a.words) (sym (take_more lines i 0 below)))
     (Runs-flushes (get_or lines i 0 ∷ []) run (Runs-step_flush (get_or lines i 0) step))
 
--- the loops have come to the end
+-- the loops end
 pub Runs-all_stored : {a b : State} (pairs : List (ℕ × ℕ)) (i : ℕ) → length pairs ≤ i → Runs a b (stores (take i pairs) a.words)
     → Runs a b (stores pairs a.words)
 Runs-all_stored {a} {b} pairs i all run =
@@ -164,7 +164,7 @@ or_cases : (a b : Bool) → (a || b) ≡ true → (a ≡ true) ⊎ (b ≡ true)
 or_cases true b e = inl refl
 or_cases false b e = inr e
 
--- Where the fence after a run was asked to fail, or the device was starved, it does.
+-- If the fence after a run was asked to fail, or the device was starved, it fails.
 pub stage_must_fail : {a b : State} {u : ℕ → Word} → Runs a b u → must_fail a ≡ true → must_fail b ≡ true
 stage_must_fail {a} {b} run asked =
     let go : (starved : Bool) → a.starved ≡ starved → (starved || is_asked a.fences) ≡ true → must_fail b ≡ true =
@@ -174,7 +174,7 @@ stage_must_fail {a} {b} run asked =
     ] in
     go a.starved refl asked
 
--- Where it failed, it had a cause.
+-- If it failed, it had a cause.
 pub stage_cause : {a b c : State} {u v : ℕ → Word} {failures : ℕ} {fences : Fences} → Runs a b u → Steps b c v failures fences → may_fail b ≡ true
     → HasCause a.fences c
 stage_cause {a} {b} {c} run step may =

@@ -93,7 +93,7 @@ last-push pool c line =
     ∙ ap (λ (x : Candidate). cond (x.word / 8 == line) (Some (length pool)) (last_below (at (pool ++ c ∷ [])) line (length pool))) (at-pushed pool c)
     ∙ ap (λ (rest : Option ℕ). cond (c.word / 8 == line) (Some (length pool)) rest) (last_below-push pool c line (length pool) (omega arith))
 
--- the head of its line leads to a new candidate, and that to the one before
+-- the head of its line leads to a new candidate, which leads to the previous one
 pub IsChained-push : (heads : List (Option ℕ)) (pool : List Candidate) (c : Candidate) → IsChained heads pool → c.word / 8 < length heads
     → c.next ≡ get_or heads (c.word / 8) None → IsChained (set heads (c.word / 8) (Some (length pool))) (pool ++ c ∷ [])
 IsChained-push heads pool c chained below next =
@@ -222,7 +222,7 @@ HoldsIn-starved_store newest heads pool words starved at' x below holds =
           (store_at-MayBe at' x words word y (may_be-MayBe (words word) y (holds.within word y is)));
     }
 
--- the same of what the code reads and writes
+-- the same, in terms of what the code reads and writes
 pub HoldsIn-stored : (newest : List ℕ) (heads : List (Option ℕ)) (pool pool' : List Candidate) (words : ℕ → Word) (starved : Bool) (at' x value place : ℕ)
     (next : Option ℕ) → at' < length newest → value ≡ get_or newest at' 0 → next ≡ get_or heads (at' / 8) None → place ≡ length pool
     → pool' ≡ pool ++ record { word = at'; value = value; passed = false; next = next } ∷ []

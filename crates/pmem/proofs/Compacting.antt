@@ -109,7 +109,7 @@ filter-unpassed c word e =
     elim (word == c.word) as (λ b. filter unpassed (cond b (o ∷ []) []) ≡ cond b (o ∷ []) [])
     [ true ↦ ap (λ (p : Bool). cond (not p) (o ∷ []) []) e | false ↦ refl ]
 
--- one candidate more has been looked at
+-- one more candidate has been looked at
 filter-next : (pool : List Candidate) (word i : ℕ) (c : Candidate) → c ≡ at pool i
     → filter unpassed (older_below (at pool) word (i + 1)) ≡ filter unpassed (older_below (at pool) word i) ++ filter unpassed (older_of c word)
 filter-next pool word i c is =
@@ -184,7 +184,7 @@ HoldsIn-fence newest heads heads' pool pool' chained lines kept words holds =
           (inr (subst (λ (os : List Older). IsOlder os x) (exact word) (is_older-IsOlder (older_in pool' word) x is)));
     }
 
--- Turns of the loop, of what the code reads and writes
+-- Turns of the loop, in terms of what the code reads and writes
 
 read_at : (pool pool' : List Candidate) (i : ℕ) (c : Candidate) → length pool' ≡ length pool → i < length pool → c ≡ get_or pool' i c → c ≡ at pool' i
 read_at pool pool' i c size below read =

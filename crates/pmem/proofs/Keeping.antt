@@ -12,12 +12,12 @@ use Rattle.pmem.specs.History.{words_of, past_of}
 use Rattle.pmem.specs.Cell.{Holds, HoldsIn}
 use Rattle.pmem.specs.Keep.{HoldsCopy, HoldsKept}
 
--- at the moment that it is, and later, there are the words of now
+-- the words at the present moment, and at any later one, are the present words
 pub words_at-now : (now : ℕ → Word) (past : List (ℕ → Word)) (t : ℕ) → length past ≤ t → words_at now past t ≡ now
 words_at-now now [] t come = refl
 words_at-now now (words ∷ past) t come = cond-false (nat_le t (length past)) _ _ (lt-leb t (length past) come)
 
--- a moment before the last call was there before it
+-- the words at a moment before the last call are those that they were before that call
 pub words_at-before : (now words : ℕ → Word) (past : List (ℕ → Word)) (t : ℕ) → t ≤ length past → words_at now (words ∷ past) t ≡ words_at words past t
 words_at-before now words past t low = cond-true (nat_le t (length past)) _ _ (le-leb t (length past) low)
 
@@ -48,7 +48,7 @@ HoldsKept-weaken (Awaited more) lines now a b kept = tt
 HoldsKept-weaken (Kept cells after) lines now a b kept = HoldsCopy-weaken a b kept
 HoldsKept-weaken (Forgotten after) lines now a b kept = ap (λ (c : Bool). c || b) kept
 
--- a copy of the cells as they are
+-- a copy of the present cells
 pub HoldsCopy-now : (cells copy : Cells) (after now : History) (lines : ℕ) (starved : Bool) → after ≡ now
     → copy.newest.items ≡ cells.newest.items → copy.heads.items ≡ cells.heads.items → copy.pool.items ≡ cells.pool.items
     → length cells.heads.items ≡ lines → Holds cells (words_of now) starved → HoldsCopy copy after lines now (starved || false)

@@ -6,18 +6,18 @@ use Rattle.pmem.specs.Device.{Word, State, moment}
 use Rattle.pmem.specs.Crash.{IsImage, HadImage, MayLeave, words_at, words_to_crash}
 use Rattle.pmem.specs.Runs.{LeavesOnly}
 
--- nothing of the past is of this moment or later
+-- no past words are of the present moment or later
 HadImage-none : (past : List (ℕ → Word)) (t : ℕ) (image : ℕ → ℕ) → length past ≤ t → HadImage past t image → ⊥
 HadImage-none [] t image late had = had
 HadImage-none (words ∷ past) t image late (inl now) = omega (arith, now.0)
 HadImage-none (words ∷ past) t image late (inr had) = HadImage-none past t image (omega arith) had
 
--- since this moment there is what is there now
+-- since the present moment a crash may only leave an image of the present words
 pub MayLeave-now : (d : State) (image : ℕ → ℕ) → MayLeave d (moment d) image → IsImage d.words image
 MayLeave-now d image (inl now) = now
 MayLeave-now d image (inr had) = absurd (HadImage-none d.past (moment d) image (omega arith) had)
 
--- one call more in the past
+-- one more call in the past
 MayLeave-step : (old : State) (now : ℕ → Word) (past : List (ℕ → Word)) (t : ℕ) (image : ℕ → ℕ) → past ≡ old.words ∷ old.past
     → IsImage now image ⊎ HadImage past t image → MayLeave old t image ⊎ IsImage now image
 MayLeave-step old now past t image e (inl is) = inr is
@@ -72,7 +72,7 @@ LeavesOnly-then {a} {b} {c} {P} first second =
           ];
     }
 
--- What has P also has Q.
+-- What satisfies P also satisfies Q.
 pub LeavesOnly-weaken : {a b : State} {P : (ℕ → ℕ) → Type 0} (Q : (ℕ → ℕ) → Type 0) → ((image : ℕ → ℕ) → P image → Q image)
     → LeavesOnly a b P → LeavesOnly a b Q
 LeavesOnly-weaken {a} {b} {P} Q so run =
@@ -82,7 +82,7 @@ LeavesOnly-weaken {a} {b} {P} Q so run =
       before = λ t image le may. elim (run.before t image le may) [ inl was ↦ inl was | inr is ↦ inr (so image is) ];
     }
 
--- What a crash picks from is of a moment since t, if the moment that was asked for is.
+-- A crash picks from the words of a moment since t, if the requested moment is since t.
 words_at-MayLeave : (now : ℕ → Word) (past : List (ℕ → Word)) (moment' t : ℕ) (image : ℕ → ℕ) → t ≤ moment' → IsImage (words_at now past moment') image
     → IsImage now image ⊎ HadImage past t image
 words_at-MayLeave now [] moment' t image since is = inl is
@@ -100,7 +100,7 @@ words_at-MayLeave now (words ∷ past) moment' t image since is =
     ] in
     go (nat_le moment' (length past)) refl is
 
--- A crash leaves an image of a moment since t, if no moment was asked for or one since t.
+-- A crash leaves an image of a moment since t, if no moment was requested or one since t was.
 pub crash_leaves : (d : State) (t : ℕ) (image : ℕ → ℕ) → ForSome d.kept (λ moment'. t ≤ moment')
     → IsImage (words_to_crash d d.kept) image ⊎ IsImage d.words image → MayLeave d t image
 crash_leaves d t image since (inr now) = inl now

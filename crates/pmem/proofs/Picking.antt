@@ -12,7 +12,7 @@ use Rattle.pmem.proofs.Staging.{same_or_other, unequal}
 use Rattle.pmem.proofs.Walks.{end_of, last_below-found, last_below-again, end_of-last_below, older_of-hit, older_of-miss, below_or_past}
 
 module _ (f : ℕ → Candidate) (word line : ℕ) (of_line : word / 8 ≡ line) where
-  -- nothing of the word stands between the last candidate of its line and n
+  -- no candidate of the word lies between the last candidate of its line and n
   pub older_below-skip : (n : ℕ) → older_below f word n ≡ older_below f word (end_of (last_below f line n))
   older_below-skip zero = refl
   older_below-skip (suc n) =
@@ -42,7 +42,7 @@ length-older_below f word (suc n) =
 pub length-older_in : (pool : List Candidate) (word : ℕ) → length (older_in pool word) ≤ length pool
 length-older_in pool word = length-older_below (at pool) word (length pool)
 
--- Where a walk along the chain of the word's line stands
+-- The state of a walk along the chain of the word's line
 pub record Walking (pool : List Candidate) (word : ℕ) (place : Option ℕ) : Type 0 where
   pub chain : place ≡ last_below (at pool) (word / 8) (end_of place)
   pub inside : end_of place ≤ length pool
@@ -61,7 +61,7 @@ Walking-start heads pool word chained below place read =
           (sym (older_below-skip (at pool) word (word / 8) refl (length pool))),
     )
 
--- the walk goes on to the candidate before
+-- the walk goes on to the previous candidate
 pub Walking-next : (heads : List (Option ℕ)) (pool : List Candidate) (word : ℕ) (place : Option ℕ) (k : ℕ) (c : Candidate) → IsChained heads pool
     → Walking pool word place → place ≡ Some k → c ≡ get_or pool k c
     → Walking pool word c.next × (end_of c.next < end_of place) × (c ≡ at pool k)
@@ -87,19 +87,19 @@ Walking-next heads pool word place k c chained going is_k read =
           ∙ ap (λ (x : Candidate). older_below (at pool) word (end_of c.next) ++ older_of x word) (sym is)),
     )
 
--- The walk looks for the older candidate of this number, which stands among the first n of the pool and has so many newer ones there
+-- The walk looks for the word's older candidate with index `number`, which is among the first n of the pool and has `newer` newer ones there
 pub record Seeking (pool : List Candidate) (word n number newer : ℕ) : Type 0 where
   pub same : get_or (map (λ o. o.value) (older_below (at pool) word n)) number 0 ≡ get_or (map (λ o. o.value) (older_in pool word)) number 0
   pub left : number + 1 + newer ≡ length (older_below (at pool) word n)
 
--- The count goes on at a candidate of the word
+-- The count rises by one at a candidate of the word
 pub count-hit : (os rest : List Older) (c : Candidate) (word count total : ℕ) → os ≡ rest ++ older_of c word → c.word ≡ word
     → count + length os ≡ total → (count + 1) + length rest ≡ total
 count-hit os rest c word count total split hit counted =
     let one : length (older_of c word) ≡ 1 = ap length (older_of-hit c word (sym hit)) in
     omega (arith, ap length split, length-append rest (older_of c word), one, counted)
 
--- and stays at any other
+-- and stays the same at any other
 pub count-miss : (os rest : List Older) (c : Candidate) (word count total : ℕ) → os ≡ rest ++ older_of c word → (c.word ≡ word → ⊥)
     → count + length os ≡ total → count + length rest ≡ total
 count-miss os rest c word count total split miss counted =

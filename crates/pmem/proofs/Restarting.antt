@@ -35,7 +35,7 @@ picked-MayBe words picks word =
     ∙ ap (λ (k : ℕ). k + 1) (length-map (words word).older (λ o. o.value)) in
     pick-MayBe (words word).older (words word).newest (get_or picks (several_below words word) 0 % n) (omega arith)
 
--- what the cells hold are candidates of the words that they stand for
+-- the cells hold candidates of the words that they represent
 held-MayBe : (cells : Cells) (words : ℕ → Word) (starved : Bool) (word x : ℕ) → Holds cells words starved → MayBe (held cells word) x → MayBe (words word) x
 held-MayBe cells words starved word x holds (inl newest) = inl (newest ∙ holds.newest word)
 held-MayBe cells words starved word x holds (inr older) =
@@ -45,7 +45,7 @@ held-exact : (cells : Cells) (words : ℕ → Word) → Holds cells words false 
 held-exact cells words holds =
     same_words {u = held cells} {v = words} (λ word. λ i. record { newest = holds.newest word i; older = holds.exact refl word i })
 
--- The words that the crash picks from are those of the moment that was asked for, or where that copy was lost those of now.
+-- The words that the crash picks from are those of the requested moment, or the present words if there was no memory for that copy.
 kept-words : (keep : Keep) (lines : ℕ) (now : History) (starved : Bool) (d : State) → d.words ≡ words_of now → d.past ≡ past_of now
     → HoldsKept keep lines now starved
     → (words_to_crash d (kept_moment keep (length (past_of now))) ≡ words_kept keep now) ⊎ ((starved ≡ true) × (words_kept keep now ≡ words_of now))

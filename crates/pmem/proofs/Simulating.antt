@@ -1,4 +1,4 @@
--- A call of the simulated device keeps what it knows of itself.
+-- A call of the simulated device maintains its invariants.
 use Rattle.std.proofs.Common.{◌≡◌, ◌⊎◌, ℕ, Bool, true, false, ◌||◌, is_err, OnOk, OnErr, Result, Ok, Err, refl, inl, inr, sym, subst, ap, ◌∙◌}
 use Rattle.std.specs.declared.alloc.AllocError.{AllocError}
 use Rattle.pmem.specs.declared.cells.Cells.{Cells}
@@ -27,7 +27,7 @@ forgotten-starved (Awaited more) lines now starved kept e = cc
 forgotten-starved (Kept cells after) lines now starved kept e = cc
 forgotten-starved (Forgotten after) lines now starved kept e = kept
 
--- the moment that was asked for may be kept now
+-- the requested moment may be kept now
 pub starves_cases : (starved forgotten : Bool) (keep keep' : Keep) (lines : ℕ) (now : History) → HoldsKept keep lines now starved
     → forgotten ≡ is_forgotten keep' → (is_forgotten keep' ≡ true → (is_forgotten keep ≡ true) ⊎ (keep ≡ Awaited 0))
     → (starved || forgotten) ≡ true → (starved ≡ true) ⊎ ((keep ≡ Awaited 0) × (is_forgotten keep' ≡ true))

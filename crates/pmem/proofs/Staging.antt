@@ -104,7 +104,7 @@ MayBe-stores (pair ∷ pairs) words word y may =
       | inr later ↦ inr (inr later)
     ]
 
--- words that no pair stores to stay as they are
+-- words that no pair stores to stay unchanged
 pub stores-outside : (pairs : List (ℕ × ℕ)) (words : ℕ → Word) (word : ℕ) → IsOutside pairs word → stores pairs words word ≡ words word
 stores-outside [] words word out = refl
 stores-outside (pair ∷ pairs) words word out =
@@ -121,7 +121,7 @@ written-same (pair ∷ pairs) f h word e =
     written-same pairs (λ w. cond (w == pair.0) pair.1 (f w)) (λ w. cond (w == pair.0) pair.1 (h w)) word
     (λ w. ap (λ (x : ℕ). cond (w == pair.0) pair.1 x) (e w))
 
--- what loads give after the stores
+-- what loads return after the stores
 pub newest-stores : (pairs : List (ℕ × ℕ)) (words : ℕ → Word) (word : ℕ) → (stores pairs words word).newest ≡ written pairs (image_of words) word
 newest-stores [] words word = refl
 newest-stores (pair ∷ pairs) words word =
@@ -180,12 +180,12 @@ flushes-append (line ∷ a) b words = flushes-append a b (flush_at line words)
 
 -- A stage: stores, flushes and a fence
 
--- what loads give after it
+-- what loads return after it
 pub image_of-staged : (pairs : List (ℕ × ℕ)) (lines : List ℕ) (words : ℕ → Word) (word : ℕ)
     → image_of (flushes lines (stores pairs words)) word ≡ written pairs (image_of words) word
 image_of-staged pairs lines words word = newest-flushes lines (stores pairs words) word ∙ newest-stores pairs words word
 
--- of a line that was flushed a crash leaves just that
+-- in a flushed line a crash leaves exactly that
 pub Only-staged : (pairs : List (ℕ × ℕ)) (lines : List ℕ) (words : ℕ → Word) (word : ℕ) → IsLine lines (word / 8)
     → Only (fenced (flushes lines (stores pairs words)) word) (written pairs (image_of words) word)
 Only-staged pairs lines words word line =
@@ -193,13 +193,13 @@ Only-staged pairs lines words word line =
     subst (λ (x : ℕ). Only (fence_word after) x) (image_of-staged pairs lines words word)
     (Only-alone (fence_word after) (older-fence_word after (IsNoted-flushed lines (stores pairs words) word line)))
 
--- until the fence a crash leaves each word as it might before, or as one of the pairs stores it
+-- until the fence a crash leaves each word as it could before, or as one of the pairs stores it
 pub IsPartlyStored-staged : (pairs : List (ℕ × ℕ)) (lines : List ℕ) (words : ℕ → Word) (image : ℕ → ℕ)
     → IsImage (flushes lines (stores pairs words)) image → IsPartlyStored pairs words image
 IsPartlyStored-staged pairs lines words image is word =
     MayBe-stores pairs words word (image word) (IsImage-flushes lines (stores pairs words) image is word)
 
--- where no pair stores, a crash leaves after it nothing that it did not before
+-- where no pair stores, a crash after it leaves nothing that it could not leave before
 pub MayBe-staged : (pairs : List (ℕ × ℕ)) (lines : List ℕ) (words : ℕ → Word) (word y : ℕ) → IsOutside pairs word
     → MayBe (fenced (flushes lines (stores pairs words)) word) y → MayBe (words word) y
 MayBe-staged pairs lines words word y out may =
@@ -209,11 +209,11 @@ MayBe-staged pairs lines words word y out may =
       | inr stored ↦ absurd (out y stored)
     ]
 
--- words of one candidate each have one image
+-- words with one candidate each have one image
 pub IsImage-settled : (words : ℕ → Word) (image : ℕ → ℕ) → IsSettled words → IsImage words image → (word : ℕ) → image word ≡ image_of words word
 IsImage-settled words image alone is word = MayBe-alone (words word) (image word) (alone word) (is word)
 
--- Values one after another
+-- Values in consecutive words
 
 pub length-pairs_from : (first : ℕ) (values : List ℕ) → length (pairs_from first values) ≡ length values
 length-pairs_from first [] = refl
@@ -262,7 +262,7 @@ pairs_from-IsStored first (v ∷ values) (suc i) below =
     let e : (first + 1) + i ≡ first + suc i = omega arith in
     inr (subst (λ (w : ℕ). IsStored (pairs_from (first + 1) values) w (get_or values i 0)) e (pairs_from-IsStored (first + 1) values i (omega arith)))
 
--- a line of the run of lines
+-- a line among consecutive lines
 pub IsLine-lines_from : (first count line : ℕ) → first ≤ line → line < first + count → IsLine (lines_from first count) line
 IsLine-lines_from first zero line low high = absurd (omega arith)
 IsLine-lines_from first (suc n) line low high =
@@ -277,7 +277,7 @@ lines_from-IsLine first (suc n) line (inl here) = (omega arith, omega arith)
 lines_from-IsLine first (suc n) line (inr later) =
     let more = lines_from-IsLine (first + 1) n line later in (omega (arith, more.0), omega (arith, more.1))
 
--- Lists one after another
+-- Concatenated lists
 
 pub IsStored-append : (a b : List (ℕ × ℕ)) (word x : ℕ) → IsStored (a ++ b) word x → IsStored a word x ⊎ IsStored b word x
 IsStored-append [] b word x h = inr h
@@ -348,7 +348,7 @@ written-stored pairs image word x stored one =
       | inr is ↦ one (written pairs image word) is
     ]
 
--- values one after another stand where they were stored
+-- values in consecutive words are read where they were stored
 pub written-pairs_from : (first : ℕ) (values : List ℕ) (image : ℕ → ℕ) (i : ℕ) → i < length values
     → written (pairs_from first values) image (first + i) ≡ get_or values i 0
 written-pairs_from first values image i below =

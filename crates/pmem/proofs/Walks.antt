@@ -9,7 +9,7 @@ use Rattle.pmem.proofs.Words.{IsOlder-passed, flush_word-MayBe}
 use Rattle.pmem.proofs.Staging.{same_or_other, unequal, flush_at-same, flush_at-other, newest-flush_at}
 use Rattle.pmem.proofs.Chains.{last_below-same, is_older-IsOlder, IsOlder-is_older, may_be-MayBe, MayBe-may_be}
 
--- how many places there are up to this one
+-- how many indexes there are up to and including this one
 abbrev pub end_of : Option ℕ → ℕ
 end_of None = 0
 end_of (Some k) = suc k
@@ -33,7 +33,7 @@ module _ (f : ℕ → Candidate) (line : ℕ) where
             let more = last_below-found n k (sym (last_below-miss n no_hit) ∙ e) in (omega (arith, more.0), more.1)
       ]
 
-  -- nothing of the line stands between it and n
+  -- no candidate of the line lies between it and n
   pub last_below-gap : (n j : ℕ) → end_of (last_below f line n) ≤ j → j < n → (f j).word / 8 ≢ line
   last_below-gap zero j after below = omega arith
   last_below-gap (suc n) j after below =
@@ -48,7 +48,7 @@ module _ (f : ℕ → Candidate) (line : ℕ) where
             ]
       ]
 
-  -- up to it, it is the last one too
+  -- it is also the last candidate among those up to it
   pub last_below-again : (n : ℕ) → last_below f line n ≡ last_below f line (end_of (last_below f line n))
   last_below-again zero = refl
   last_below-again (suc n) =
@@ -231,11 +231,11 @@ Flushing-start heads pool line chained below place is =
       inside = subst (λ (p : Option ℕ). end_of p ≤ length pool) (sym head) (end_of-last_below (at pool) line (length pool));
     }
 
--- where the loop stands is a candidate of the line
+-- the loop is at a candidate of the line
 pub Flushing-here : {pool pool' : List Candidate} {line k : ℕ} → Flushing pool pool' line (Some k) → (at pool k).word / 8 ≡ line
 Flushing-here {pool} {pool'} {line} {k} going = (last_below-found (at pool) line (suc k) k (sym going.chain)).1
 
--- and it goes on to the one before
+-- and it goes on to the previous one
 pub Flushing-next : (heads : List (Option ℕ)) (pool pool' : List Candidate) (line k : ℕ) (c : Candidate) → IsChained heads pool
     → Flushing pool pool' line (Some k) → c ≡ at pool' k
     → Flushing pool (set pool' k (record { word = c.word; value = c.value; passed = true; next = c.next })) line c.next
@@ -273,7 +273,7 @@ Flushing-next heads pool pool' line k c chained going is =
       inside = omega arith;
     }
 
--- which is nearer to the end of the chain
+-- which is closer to the end of the chain
 pub Flushing-smaller : (heads : List (Option ℕ)) (pool pool' : List Candidate) (line k : ℕ) (c : Candidate) → IsChained heads pool
     → Flushing pool pool' line (Some k) → c ≡ at pool' k → end_of c.next < end_of (Some k)
 Flushing-smaller heads pool pool' line k c chained going is =
@@ -289,7 +289,7 @@ pub Flushing-end : {pool pool' : List Candidate} {line : ℕ} → Flushing pool 
     → (k : ℕ) → k < length pool → at pool' k ≡ passed_at line (at pool k)
 Flushing-end {pool} {pool'} {line} done k under = done.beyond k (omega arith) under
 
--- a turn of the loop, of what the code reads
+-- a turn of the loop, in terms of what the code reads
 pub Flushing-turn : (heads : List (Option ℕ)) (pool pool' : List Candidate) (line : ℕ) (place : Option ℕ) (k : ℕ) (c : Candidate) → IsChained heads pool
     → Flushing pool pool' line place → place ≡ Some k → c ≡ get_or pool' k c
     → Flushing pool (set pool' k (record { word = c.word; value = c.value; passed = true; next = c.next })) line c.next × (end_of c.next < end_of place)

@@ -88,7 +88,7 @@ none-passed (o ∷ older) h =
 pub older-fence_word : (word : Word) → IsNoted word → (fence_word word).older ≡ []
 older-fence_word word h = none-passed word.older h.all
 
--- a word of one candidate is noted
+-- a word with one candidate is noted
 pub IsNoted-alone : (word : Word) → word.older ≡ [] → IsNoted word
 IsNoted-alone word e = record { all = subst AllPassed (sym e) tt }
 
@@ -100,6 +100,6 @@ MayBe-alone word x e (inr older) = absurd (subst (λ (older : List Older). IsOld
 pub Only-alone : (word : Word) → word.older ≡ [] → Only word word.newest
 Only-alone word e = record { only = λ y may. MayBe-alone word y e may }
 
--- a load gives the value that a crash leaves
+-- a load returns the only value that a crash leaves
 pub newest-only : (word : Word) (x : ℕ) → Only word x → word.newest ≡ x
 newest-only word x only = only.only word.newest (inl refl)

@@ -4,11 +4,11 @@ use Rattle.pmem.specs.declared.cells.Candidate.{Candidate}
 use Rattle.pmem.specs.declared.cells.Cells.{Cells}
 use Rattle.pmem.specs.Device.{Older, Word}
 
--- the candidate at this place of the pool
+-- the candidate at this index of the pool
 abbrev pub at : List Candidate → ℕ → Candidate
 at pool k = slice_index_or pool k (record { word = 0; value = 0; passed = false; next = None })
 
--- the place of the last candidate of the line among the first n
+-- the index of the last candidate of the line among the first n
 abbrev pub last_below : (ℕ → Candidate) → ℕ → ℕ → Option ℕ
 last_below pool line zero = None
 last_below pool line (suc n) = if (pool n).word / 8 == line then Some n else last_below pool line n
@@ -25,13 +25,13 @@ older_below pool word (suc n) = older_below pool word n ++ older_of (pool n) wor
 abbrev pub older_in : List Candidate → ℕ → List Older
 older_in pool word = older_below (at pool) word (length pool)
 
--- each line has a head, which leads from its last candidate to the one before, and so on
+-- each line has a head, which leads to its last candidate, from there to the previous one, and so on
 pub record IsChained (heads' : List (Option ℕ)) (pool : List Candidate) : Type 0 where
   pub heads : (line : ℕ) → line < length heads' → slice_index_or heads' line None ≡ last_below (at pool) line (length pool)
   pub nexts : (k : ℕ) → k < length pool → (at pool k).next ≡ last_below (at pool) ((at pool k).word / 8) k
   pub lines : (k : ℕ) → k < length pool → (at pool k).word / 8 < length heads'
 
--- whether the value is one of these
+-- whether one of the older candidates has this value
 abbrev pub is_older : List Older → ℕ → Bool
 is_older [] x = false
 is_older (o ∷ older) x = (x == o.value) || is_older older x
@@ -39,7 +39,7 @@ is_older (o ∷ older) x = (x == o.value) || is_older older x
 abbrev pub may_be : Word → ℕ → Bool
 may_be word x = (x == word.newest) || is_older word.older x
 
--- the lists hold these words: just their candidates, or where the device is starved some of them
+-- the lists hold these words: exactly their candidates, or only some of them if the device is starved
 pub record HoldsIn (newest' : List ℕ) (heads : List (Option ℕ)) (pool : List Candidate) (words : ℕ → Word) (starved : Bool) : Type 0 where
   pub sizes : length newest' ≡ 8 * length heads
   pub chained : IsChained heads pool

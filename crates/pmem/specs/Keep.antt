@@ -9,7 +9,7 @@ use Rattle.pmem.specs.History.{words_of, past_of}
 use Rattle.pmem.specs.Cell.{Holds}
 use Rattle.pmem.specs.declared.cells.Cells.{Cells}
 
--- the moment that is kept or will be, counted from now
+-- the moment that is or will be kept, if the present moment is `now`
 abbrev pub kept_moment : Keep → ℕ → Option ℕ
 kept_moment Unasked now = None
 kept_moment (Awaited more) now = Some (now + 1 + more)
@@ -30,14 +30,14 @@ is_forgotten (Awaited more) = false
 is_forgotten (Kept cells after) = false
 is_forgotten (Forgotten after) = true
 
--- a copy of so many lines holds the candidates of a moment that the device has gone through
+-- a copy with `lines'` lines holds the candidates of a moment that the device has gone through
 pub record HoldsCopy (cells : Cells) (after : History) (lines' : ℕ) (now : History) (starved : Bool) : Type 0 where
   pub held : Holds cells (words_of after) starved
   pub lines : length cells.heads.items ≡ lines'
   pub before : length (past_of after) ≤ length (past_of now)
   pub went : (word : ℕ) → words_at (words_of now) (past_of now) (length (past_of after)) word ≡ words_of after word
 
--- what is kept is true of the device, which is starved where there was no memory for a copy
+-- what is kept is true of the device, which is starved if there was no memory for a copy
 abbrev pub HoldsKept : Keep → ℕ → History → Bool → Type 0
 HoldsKept Unasked lines now starved = Unit {0}
 HoldsKept (Awaited more) lines now starved = Unit {0}

@@ -1,4 +1,4 @@
--- What a simulated device knows of itself is a fact with one proof at most.
+-- The invariants of a simulated device are propositions: each has at most one proof.
 use Rattle.std.specs.Prelude.{ℕ, Bool, true, List, refl}
 use Rattle.std.specs.Coded.{Coded, Coded-set, code_by, coded×, coded_ℕ, coded_bool, coded_list, coded_option, Unit-prop, le_prop}
 use Rattle.pmem.specs.declared.cells.Cells.{Cells}

@@ -13,12 +13,12 @@ abbrev pub flushes : List ℕ → (ℕ → Word) → ℕ → Word
 flushes [] words = words
 flushes (line ∷ lines) words = flushes lines (flush_at line words)
 
--- these values and the words that they go to, one after another from the first
+-- the words that these values go to, each with its value: consecutive words, starting at `first`
 abbrev pub pairs_from : ℕ → List ℕ → List (ℕ × ℕ)
 pairs_from first [] = []
 pairs_from first (x ∷ values) = (first, x) ∷ pairs_from (first + 1) values
 
--- so many lines, one after another from the first
+-- the given number of consecutive lines, starting at `first`
 abbrev pub lines_from : ℕ → ℕ → List ℕ
 lines_from first zero = []
 lines_from first (suc n) = first ∷ lines_from (first + 1) n
@@ -41,7 +41,7 @@ written (pair ∷ pairs) image = written pairs (λ word. if word == pair.0 then 
 abbrev pub IsPartlyStored : List (ℕ × ℕ) → (ℕ → Word) → (ℕ → ℕ) → Type 0
 IsPartlyStored pairs words image = (word : ℕ) → MayBe (words word) (image word) ⊎ IsStored pairs word (image word)
 
--- a line is one of these
+-- the line is one of these
 abbrev pub IsLine : List ℕ → ℕ → Type 0
 IsLine [] line = ⊥
 IsLine (l ∷ lines) line = (l ≡ line) ⊎ IsLine lines line
@@ -54,7 +54,7 @@ AllPassed (o ∷ older) = (o.passed ≡ true) × AllPassed older
 pub record IsNoted (word : Word) : Type 0 where
   pub all : AllPassed word.older
 
--- each word that a pair stores to is of one of these lines
+-- each word that a pair stores to belongs to one of these lines
 abbrev pub IsCovered : List (ℕ × ℕ) → List ℕ → Type 0
 IsCovered pairs lines = (word x : ℕ) → IsStored pairs word x → IsLine lines (word / 8)
 
@@ -64,14 +64,14 @@ pub record Stays (old new : State) : Type 0 where
   pub kept : new.kept ≡ old.kept
   pub starved : old.starved ≡ true → new.starved ≡ true
 
--- A crash at any moment since old leaves an image that has P.
+-- A crash at any moment since `old` leaves an image that satisfies P.
 pub record LeavesOnly (old new : State) (P : (ℕ → ℕ) → Type 0) : Type 0 where
   pub later : moment old ≤ moment new
   pub each : (image : ℕ → ℕ) → MayLeave new (moment old) image → P image
   -- for a run that began earlier
   pub before : (t : ℕ) (image : ℕ → ℕ) → t ≤ moment old → MayLeave new t image → MayLeave old t image ⊎ P image
 
--- A fence that failed had a cause: the device is starved, or the fence was asked to fail, or each may fail.
+-- A fence that failed had a cause: the device is starved, or the fence was asked to fail, or any fence may fail.
 abbrev pub HasCause : Fences → State → Type 0
 HasCause fences new = (new.starved ≡ true) ⊎ ((is_asked fences ≡ true) ⊎ (is_unsure fences ≡ true))
 
@@ -85,11 +85,11 @@ pub record Runs (old new : State) (words' : ℕ → Word) : Type 0 where
 
 -- Stores of these pairs, flushes of these lines and a fence that succeeded led from old to new.
 pub record Staged (old new : State) (pairs : List (ℕ × ℕ)) (lines' : List ℕ) : Type 0 where
-  -- what loads give
+  -- what loads return
   pub newest : (word : ℕ) → image_of new.words word ≡ written pairs (image_of old.words) word
-  -- of the lines that were flushed a crash leaves just that
+  -- in the flushed lines a crash leaves exactly that
   pub certain : (word : ℕ) → IsLine lines' (word / 8) → Only (new.words word) (written pairs (image_of old.words) word)
-  -- elsewhere it leaves nothing that it did not leave before
+  -- elsewhere it leaves nothing that it could not leave before
   pub elsewhere : (word y : ℕ) → IsOutside pairs word → MayBe (new.words word) y → MayBe (old.words word) y
   pub failures : new.failures ≡ old.failures
   pub fences : new.fences ≡ fences_after old.fences

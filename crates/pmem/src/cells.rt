@@ -11,9 +11,9 @@ use std::alloc::{AllocError, Global};
 pub struct Candidate {
     pub word: u64,
     pub value: u64,
-    /// A flush has noted a newer candidate of the word since.
+    /// Whether a flush has since noted a newer candidate of the word.
     pub passed: bool,
-    /// Where the candidate of the same line stands that came before this one.
+    /// The index in the pool of the previous candidate of the same line.
     pub next: Option<usize>,
 }
 
@@ -22,16 +22,16 @@ pub struct Candidate {
 pub struct Cells {
     /// The newest value of each word.
     pub newest: Vec<u64>,
-    /// For each line, where its last older candidate stands in the pool.
+    /// For each line, the index in the pool of its last older candidate.
     pub heads: Vec<Option<usize>>,
-    /// The older candidates of all words, in the order in which they came.
+    /// The older candidates of all words, in the order in which they were added.
     pub pool: Vec<Candidate>,
 }
 
 impl Cells {
     ghost use Rattle.pmem.specs.Cell.{Holds, held};
 
-    /// Lines of zeros.
+    /// The cells of `lines` lines, all zero.
     pub fn new(alloc: Global, lines: usize) -> Result<Cells, AllocError>
         requires { 8 * lines < 2 ^ 64 }
         ensures { IfOk result (λ cells. (vec_len cells.heads ≡ lines) × Holds cells (λ word. settled 0) false) }
@@ -43,7 +43,7 @@ impl Cells {
         })
     }
 
-    /// Stores a value. An `Err` stores it too, but the value before it is no candidate any more.
+    /// Stores a value. On `Err` it is stored too, but the previous value is no longer a candidate.
     pub fn store(&mut self, word: u64, value: u64) -> Result<(), AllocError>
         requires sizes { vec_len self.old.newest ≡ 8 * vec_len self.old.heads }
         requires in_range { word < vec_len self.old.newest }
@@ -51,7 +51,7 @@ impl Cells {
             Holds self.old words starved → Holds self.new (store_at word value words) starved) }
         ensures err { OnErr result ((words : ℕ → Word) (starved : Bool) →
             Holds self.old words starved → Holds self.new (store_at word value words) true) }
-        // memory was asked for, as there was no room for one more candidate, and not given
+        // the pool had no room for one more candidate, and was refused memory to grow
         ensures refused { OnErr result ((vec_capacity self.old.pool ≤ vec_len self.old.pool)
             × (vec_len self.new.pool ≡ vec_len self.old.pool)) }
         ensures lines { vec_len self.new.heads ≡ vec_len self.old.heads }
@@ -96,7 +96,7 @@ impl Cells {
         compact(&mut self.heads, &mut self.pool);
     }
 
-    /// Leaves one candidate of each word: the i-th word with several, in rising order, gets candidate `picks[i]` modulo their number.
+    /// Leaves one candidate of each word: the i-th word with several, in ascending order, gets candidate `picks[i]` modulo their number.
     pub fn crash(&mut self, picks: &[u64])
         requires sizes { vec_len self.old.newest ≡ 8 * vec_len self.old.heads }
         requires chained { IsChained self.old.heads.items self.old.pool.items }
@@ -109,7 +109,7 @@ impl Cells {
         self.pool.clear();
     }
 
-    /// A copy of them.
+    /// A copy of the cells.
     pub fn try_clone(&self) -> Result<Cells, AllocError>
         ensures { IfOk result (λ cells. (cells.newest.items ≡ self.now.newest.items)
             × (cells.heads.items ≡ self.now.heads.items) × (cells.pool.items ≡ self.now.pool.items)) }
@@ -133,7 +133,7 @@ fn unlink(heads: &mut Vec<Option<usize>>, pool: &Vec<Candidate>)
     }
 }
 
-/// Keeps the candidates that are not passed, in their order, and chains them.
+/// Keeps the candidates that are not passed, in order, and chains them.
 fn compact(heads: &mut Vec<Option<usize>>, pool: &mut Vec<Candidate>)
     requires unlinked { (line : ℕ) → slice_index_or heads.old.items line None ≡ None }
     requires lines { (k : ℕ) → k < vec_len pool.old → (at pool.old.items k).word / 8 < vec_len heads.old }
@@ -157,7 +157,7 @@ fn compact(heads: &mut Vec<Option<usize>>, pool: &mut Vec<Candidate>)
     pool.truncate(kept);
 }
 
-/// Gives each word the candidate that is picked.
+/// Gives each word its picked candidate.
 fn pick_all(newest: &mut Vec<u64>, heads: &Vec<Option<usize>>, pool: &Vec<Candidate>, picks: &[u64])
     requires sizes { vec_len newest.old ≡ 8 * vec_len heads.now }
     requires chained { IsChained heads.now.items pool.now.items }
@@ -179,14 +179,14 @@ fn pick_all(newest: &mut Vec<u64>, heads: &Vec<Option<usize>>, pool: &Vec<Candid
     }
 }
 
-/// The pick at a place, or 0 past their end.
+/// The pick at an index, or 0 past the end.
 fn pick_at(picks: &[u64], place: usize) -> u64
     ensures { result ≡ slice_index picks.now place }
 {
     picks.get(place).copied().unwrap_or(0)
 }
 
-/// The candidate of a word that a pick names: the pick modulo their number, the oldest being 0 and the newest the last.
+/// The candidate of a word that a pick selects: the pick modulo the number of candidates, where 0 is the oldest and the last the newest.
 fn candidate_at(
     heads: &Vec<Option<usize>>,
     pool: &Vec<Candidate>,
@@ -227,7 +227,7 @@ fn older_count(heads: &Vec<Option<usize>>, pool: &Vec<Candidate>, word: u64) -> 
     count
 }
 
-/// The value of an older candidate of a word, of which this many are newer.
+/// The value of one of a word's older candidates: the one with `newer` newer ones among them.
 fn older_value(heads: &Vec<Option<usize>>, pool: &Vec<Candidate>, word: u64, newer: usize) -> u64
     requires chained { IsChained heads.now.items pool.now.items }
     requires in_range { word < 8 * vec_len heads.now }

@@ -21,9 +21,9 @@ impl fmt::Display for Fault {
 
 impl Error for Fault {}
 
-/// Lines of eight words of 64 bits behind a cache that writes lines back in any order.
+/// Lines of eight 64-bit words behind a cache that writes lines back in any order.
 ///
-/// A word is named by its number, 0 to 8 * lines - 1, and word w is of line w / 8. A store adds a candidate to its word; a crash leaves any
+/// A word is named by its number, 0 to 8 * lines - 1, and word w belongs to line w / 8. A store adds a candidate to its word; a crash leaves any
 /// one candidate of each word; a flush of the line and then a fence that succeeds make the newest the only one.
 pub trait Pmem {
     /// What the device has gone through: the candidates of each word now and at each earlier moment.
@@ -46,7 +46,7 @@ pub trait Pmem {
         ensures { Steps (state self.old) (state self.new)
             (flush_at line (state self.old).words) (state self.old).failures (state self.old).fences };
 
-    /// Drops the candidates that are older than one noted by a flush. An `Err` drops none, and one more fence has failed.
+    /// Drops the candidates that are older than one noted by a flush. On `Err` none is dropped, and one more fence has failed.
     fn fence(&mut self) -> Result<(), Fault>
         ensures ok { OnOk result (Steps (state self.old) (state self.new)
             (fenced (state self.old).words) (state self.old).failures (fences_after (state self.old).fences)) }
@@ -60,7 +60,7 @@ pub trait Pmem {
         ensures count { result ≡ (state self.now).lines }
         ensures bound { 8 * result < 2 ^ 64 };
 
-    /// How many fences have failed, or 2^64 - 1 where more have.
+    /// How many fences have failed, or 2^64 - 1 if more have.
     fn failures(&self) -> u64
         ensures { result ≡ min (state self.now).failures (2 ^ 64 - 1) };
 
@@ -68,24 +68,24 @@ pub trait Pmem {
     ghost countable: { (device : Self) → 8 * (state device).lines < 2 ^ 64 };
 }
 
-/// A device that fails and crashes as it is told to.
+/// A device that fails and crashes as told.
 pub trait Crashing: Pmem {
-    /// Whether growth of the device's own lists was ever refused. Loads are still right; each later fence fails, and a crash leaves some of
+    /// Whether growth of the device's own lists was ever refused. Loads are still right; each later fence fails, and a crash leaves one of
     /// the images that it may leave.
     fn starved(&self) -> bool
         ensures { result ≡ (Self.state self.now).starved };
 
-    /// Lets the n-th fence from now fail, counted from 1, in place of one that was asked to before. At 0 none is asked to.
+    /// Makes the n-th fence from now fail, counted from 1; this replaces an earlier request. With 0 no fence is asked to fail.
     fn fail_at(&mut self, n: u64)
         ensures { Self.state self.new ≡ record (Self.state self.old) { fences = Sure (if n == 0 then None else Some n) } };
 
-    /// Lets the next crash pick from the candidates as they will be after `k` more calls of `store`, `flush` and `fence`, if so many
-    /// come, in place of a moment that was asked for before. Where there is no memory for the copy, the device is starved.
+    /// Makes the next crash pick from the candidates as they will be after `k` more calls of `store`, `flush` and `fence`, if that many
+    /// are made; this replaces an earlier request. If there is no memory for the copy, the device is starved.
     fn keep_at(&mut self, k: u64)
         ensures { Keeps (Self.state self.old) (Self.state self.new) (moment (Self.state self.old) + k) };
 
-    /// Crashes: the i-th word with several candidates, in rising order, gets candidate `picks[i]` modulo their number, the oldest being
-    /// 0, and the oldest where the list ends.
+    /// Crashes: the i-th word with several candidates, in ascending order, gets candidate `picks[i]` modulo their number, where 0 is the
+    /// oldest; past the end of the list, it gets the oldest.
     fn crash(&mut self, picks: &[u64])
         ensures restarts { Restarts (Self.state self.old) (Self.state self.new) }
         ensures picked { (Self.state self.old).starved ≡ false → (word : ℕ) →
@@ -95,6 +95,6 @@ pub trait Crashing: Pmem {
         ensures within { IsImage (words_to_crash (Self.state self.old) (Self.state self.old).kept) (image_of (Self.state self.new).words)
             ⊎ IsImage (Self.state self.old).words (image_of (Self.state self.new).words) };
 
-    /// No fence fails but one that was asked to, and each where the device is starved.
+    /// A fence fails only if it was asked to or the device is starved.
     ghost sure: { (device : Self) → is_unsure (Self.state device).fences ≡ false };
 }

@@ -1,11 +1,11 @@
-// The calls that a device has gone through, for contracts alone.
+// The calls that a device has gone through, for contracts only.
 ghost use Rattle.std.specs.Prelude.{◌≡◌, [], ◌∷◌, suc, slice_index};
 ghost use Rattle.pmem.specs.Device.{store_at, flush_at, fenced, settled};
 ghost use Rattle.pmem.specs.History.{words_of, past_of, failures_of};
 
 use std::snapshot::Snapshot;
 
-/// What a device has gone through since it was made, the newest call outermost. It takes no memory but its tag: a snapshot has no bytes.
+/// What a device has gone through since it was made, the newest call outermost. It takes no memory beyond its tag: a snapshot has no bytes.
 #[derive(Drop)]
 pub enum History {
     /// Nothing yet: all words are 0.

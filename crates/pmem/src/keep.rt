@@ -12,18 +12,18 @@ use std::snapshot::Snapshot;
 /// What the next crash picks from.
 #[derive(Drop)]
 pub enum Keep {
-    /// The candidates of its own moment.
+    /// The candidates at the moment of the crash.
     Unasked,
-    /// Those of the moment after the next call and this many more.
+    /// The candidates after the next call and this many more.
     Awaited(u64),
-    /// This copy, of the candidates after that history.
+    /// This copy of the candidates after that history.
     Kept(Cells, Snapshot<History>),
-    /// Those after that history, of which there was no memory for a copy.
+    /// The candidates after that history, but there was no memory for a copy.
     Forgotten(Snapshot<History>),
 }
 
 impl Keep {
-    /// The candidates as they will be after `k` more calls, which is a copy of them as they are where `k` is 0.
+    /// Keeps the candidates as they will be after `k` more calls: a copy of the present ones if `k` is 0.
     pub fn after(k: u64, cells: &Cells, history: &History) -> Keep
         ensures moment { kept_moment result (length (past_of history.now)) ≡ Some (length (past_of history.now) + k) }
         ensures held { (starved : Bool) → Holds cells.now (words_of history.now) starved
@@ -37,7 +37,7 @@ impl Keep {
         }
     }
 
-    /// A copy of the cells as they are, or where memory is refused the note that there is none.
+    /// A copy of the present cells, or `Forgotten` if memory for it is refused.
     fn copy_of(cells: &Cells, history: &History) -> Keep
         ensures moment { (now : ℕ) → kept_moment result now ≡ Some (length (past_of history.now)) }
         ensures held { (starved : Bool) → Holds cells.now (words_of history.now) starved
@@ -56,8 +56,8 @@ impl Keep {
         matches!(self, Keep::Forgotten(_))
     }
 
-    /// One more call has been made, after which the device holds these cells: a moment that was awaited may have come. Answers whether
-    /// there was no memory for the copy.
+    /// Takes note of one more call, after which the device holds these cells: an awaited moment may have come. Returns whether there
+    /// was no memory for the copy.
     pub fn advance(&mut self, cells: &Cells, history: &History) -> bool
         ensures answer { result ≡ is_forgotten self.new }
         ensures moment { (now : ℕ) → length (past_of history.now) ≡ suc now
@@ -65,7 +65,7 @@ impl Keep {
         ensures held { (before : History) (starved : Bool) → past_of history.now ≡ words_of before ∷ past_of before
             → Holds cells.now (words_of history.now) starved → HoldsKept self.old (vec_len cells.now.heads) before starved
             → HoldsKept self.new (vec_len cells.now.heads) history.now (starved || is_forgotten self.new) }
-        // memory is asked for only where the moment has come
+        // memory is requested only when the awaited moment has come
         ensures forgets { is_forgotten self.new ≡ true → (is_forgotten self.old ≡ true) ⊎ (self.old ≡ Keep.Awaited 0) }
     {
         match self {
@@ -76,7 +76,7 @@ impl Keep {
         self.is_forgotten()
     }
 
-    /// Gives the cells what is kept, if anything is. Nothing is kept any more.
+    /// Replaces the cells by the kept copy, if there is one. Nothing is kept afterwards.
     pub fn restore(&mut self, cells: &mut Cells)
         ensures unasked { self.new ≡ Keep.Unasked }
         ensures held { (now : History) (starved : Bool) → Holds cells.old (words_of now) starved

@@ -15,7 +15,7 @@ pub fn store_all<P: Pmem>(device: &mut P, pairs: &[(u64, u64)])
     }
 }
 
-/// Stores these values one after another, from the word `first` on.
+/// Stores these values in consecutive words, starting at word `first`.
 pub fn store_words<P: Pmem>(device: &mut P, first: u64, values: &[u64])
     requires { first + length values.now ≤ 8 * (P.state device.old).lines }
     ensures { Runs (P.state device.old) (P.state device.new)
@@ -36,7 +36,7 @@ pub fn flush_all<P: Pmem>(device: &mut P, lines: &[u64])
     }
 }
 
-/// Flushes `count` lines, from the line `first` on.
+/// Flushes `count` consecutive lines, starting at line `first`.
 pub fn flush_lines<P: Pmem>(device: &mut P, first: u64, count: u64)
     requires { first + count ≤ (P.state device.old).lines }
     ensures { Runs (P.state device.old) (P.state device.new) (flushes (lines_from first count) (P.state device.old).words) }
@@ -46,7 +46,7 @@ pub fn flush_lines<P: Pmem>(device: &mut P, first: u64, count: u64)
     }
 }
 
-/// Stores each pair of a word and a value, flushes these lines, and fences. After an `Err` the values may be lost, each by itself.
+/// Stores each pair of a word and a value, flushes these lines, and fences. On `Err` any of the values may be lost, each independently.
 pub fn persist<P: Pmem>(device: &mut P, pairs: &[(u64, u64)], lines: &[u64]) -> Result<(), Fault>
     requires words_in_range { All (λ pair. pair.0 < 8 * (P.state device.old).lines) pairs.now }
     requires lines_in_range { All (λ line. line < (P.state device.old).lines) lines.now }

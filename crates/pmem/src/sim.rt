@@ -1,4 +1,4 @@
-// A simulated device, which fails and crashes as it is told to.
+// A simulated device, which fails and crashes as told.
 ghost use Rattle.std.specs.Prelude.{◌≡◌, ◌*◌, ◌^◌, ◌<◌, ◌-◌, min, vec_len, IfOk};
 ghost use Rattle.pmem.specs.Cell.{Holds};
 ghost use Rattle.pmem.specs.Keep.{HoldsKept};
@@ -18,7 +18,7 @@ use std::alloc::{AllocError, Global};
 pub struct SimPmem {
     cells: Cells,
     keep: Keep,
-    /// The fence that was asked to fail, counted from the next one.
+    /// Which fence was asked to fail, where 1 is the next one.
     fail_in: Option<u64>,
     starved: bool,
     failures: u64,
@@ -32,7 +32,7 @@ pub struct SimPmem {
 impl SimPmem {
     ghost use Rattle.pmem.specs.Sim.{state_of, fresh};
 
-    /// A device of so many lines of zeros, which was not asked to fail or to keep anything.
+    /// A device with `lines` lines, all zero, that was not asked to fail or to keep anything.
     pub fn new(alloc: Global, lines: u64) -> Result<SimPmem, AllocError>
         requires { 8 * lines < 2 ^ 64 }
         ensures { IfOk result (λ device. state_of device ≡ fresh lines) }
@@ -63,7 +63,7 @@ impl Pmem for SimPmem {
         requires { word < 8 * (state_of self.old).lines }
         ensures steps { Steps (state_of self.old) (state_of self.new)
             (store_at word value (state_of self.old).words) (state_of self.old).failures (state_of self.old).fences }
-        // it is starved only where memory was asked for and not given
+        // it becomes starved only if it was refused memory
         ensures starves { (state_of self.new).starved ≡ true
             → ((state_of self.old).starved ≡ true) ⊎ (IsRefusedGrowth self.old self.new ⊎ IsRefusedCopy self.old self.new) }
     {
@@ -119,7 +119,7 @@ impl Pmem for SimPmem {
     ghost countable = { λ device. device.countable };
 }
 
-/// Whether the next fence was asked to fail. It is counted.
+/// Whether the next fence was asked to fail. Counts that fence.
 fn pass_fence(fail_in: &mut Option<u64>) -> bool
     ensures asked { result ≡ is_asked (Sure fail_in.old) }
     ensures after { Sure fail_in.new ≡ fences_after (Sure fail_in.old) }

@@ -12,7 +12,7 @@ use std::{env, io};
 
 const WORDS_A_LINE: u64 = 8;
 
-/// Values to store, each of so many lines, on a device of so many lines.
+/// How many values to store, how many lines each of them takes, and how many lines the device has.
 #[derive(Clone, Copy)]
 struct Load {
     values: u32,
@@ -39,7 +39,7 @@ const LARGE: [Load; 2] = [
     },
 ];
 
-/// Stores eight words in each of the first lines.
+/// Stores `value` in all eight words of each of the first `count` lines.
 fn store_lines<P: Pmem>(device: &mut P, count: u64, value: u64)
     requires { count ≤ (P.state device.old).lines }
     ensures { (P.state device.new).lines ≡ (P.state device.old).lines }
@@ -49,7 +49,7 @@ fn store_lines<P: Pmem>(device: &mut P, count: u64, value: u64)
     }
 }
 
-/// Flushes each of the first lines by a call of its own.
+/// Flushes each of the first `count` lines with a call of its own.
 fn flush_each<P: Pmem>(device: &mut P, count: u64)
     requires { count ≤ (P.state device.old).lines }
     ensures { (P.state device.new).lines ≡ (P.state device.old).lines }
@@ -59,7 +59,7 @@ fn flush_each<P: Pmem>(device: &mut P, count: u64)
     }
 }
 
-/// Stores to the first lines, flushes each of them and fences.
+/// Stores to the first `count` lines, flushes each of them and fences.
 fn run_round<P: Pmem>(
     rt: &(impl Print + Clock),
     device: &mut P,
@@ -84,7 +84,7 @@ fn run_round<P: Pmem>(
     Ok(())
 }
 
-/// Makes the calls twice, so that the second stores go over those of the first.
+/// Makes the calls twice, so that the second round's stores overwrite the first's.
 fn run(rt: &(impl Print + Clock), alloc: Global, load: Load, timed: bool) -> io::Result<()> {
     let count = u64::from(load.values) * u64::from(load.lines_a_value);
     let mut device = SimPmem::new(alloc, u64::from(load.device_lines))?;

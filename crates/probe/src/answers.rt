@@ -4,7 +4,7 @@ use kv_types::{RecordId, Refusal, Reply};
 use resp_codec::write_reply;
 use std::alloc::{AllocError, Global};
 
-/// The answer of a call that answers nothing.
+/// The answer of a call that returns nothing.
 pub fn done(alloc: Global) -> Result<String, Cause> {
     word(alloc, "done")
 }
@@ -32,7 +32,7 @@ pub fn hexed(alloc: Global, bytes: &[u8]) -> Result<String, AllocError> {
     }
 }
 
-/// As `hexed`, or `none`.
+/// As `hexed`, or `none` for `None`.
 pub fn hexed_or_none(alloc: Global, bytes: Option<&[u8]>) -> Result<String, Cause> {
     match bytes {
         Some(bytes) => Ok(hexed(alloc, bytes)?),
@@ -40,7 +40,7 @@ pub fn hexed_or_none(alloc: Global, bytes: Option<&[u8]>) -> Result<String, Caus
     }
 }
 
-/// A key, or a key and a field with a point between them.
+/// A key, or a key and a field with a dot between them.
 pub fn record_text(alloc: Global, id: &RecordId) -> Result<String, AllocError> {
     let key = hexed(alloc, id.key().as_slice())?;
     match id.field() {

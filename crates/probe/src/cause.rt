@@ -3,12 +3,12 @@ use std::alloc::{AllocError, AllocFailed};
 use std::error::Error;
 use std::fmt;
 
-/// Why a line is not answered. What the calls of it did so far stands.
+/// Why a line is not answered. What its calls did so far is not undone.
 #[derive(Clone, Copy, Debug, PartialEq, Eq)]
 pub enum Cause {
-    /// The line is no UTF-8.
+    /// The line is not UTF-8.
     NotText,
-    /// No call has this name and so many words.
+    /// No call has this name and this number of words.
     NoCall,
     /// A word should be a number in decimal.
     NotNumber,
@@ -16,9 +16,9 @@ pub enum Cause {
     NotBytes,
     /// A word should be one of those that `docs/probe.md` names.
     NotWord,
-    /// A word is above a limit, or names what is not there.
+    /// A word is above a limit, or names something that does not exist.
     OutOfRange,
-    /// What the line calls was not made yet.
+    /// What the line calls has not been made yet.
     NotMade,
     /// Memory for the call was refused.
     Memory,

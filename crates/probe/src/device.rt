@@ -8,7 +8,7 @@ use pmem::{
 };
 use std::alloc::Global;
 
-/// The most lines of a device that is made.
+/// The most lines that a device is made with.
 const MOST_LINES: u64 = 65_536;
 
 #[derive(Default, Drop)]
@@ -46,7 +46,7 @@ impl DeviceProbe {
     }
 }
 
-/// The calls that answer nothing.
+/// The calls that return nothing.
 fn change(alloc: Global, device: &mut SimPmem, words: &[&str]) -> Result<(), Cause> {
     match words {
         ["store", word, value] => store(device, number(word)?, number(value)?),
@@ -67,7 +67,7 @@ fn change(alloc: Global, device: &mut SimPmem, words: &[&str]) -> Result<(), Cau
     }
 }
 
-/// The calls that store or flush several.
+/// The calls that store several words or flush several lines.
 fn change_many(alloc: Global, device: &mut SimPmem, words: &[&str]) -> Result<(), Cause> {
     match words {
         ["store-all", words @ ..] => store_pairs(device, &pairs(alloc, words)?),
@@ -87,7 +87,7 @@ fn new_device(alloc: Global, lines: u64) -> Result<SimPmem, Cause> {
     Ok(SimPmem::new(alloc, lines)?)
 }
 
-/// The words that commas part.
+/// The words that are separated by commas.
 fn split<'a>(alloc: Global, words: &'a str) -> Result<Vec<&'a str>, Cause> {
     Ok(words.split(',').collect(alloc)?)
 }

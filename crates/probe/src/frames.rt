@@ -52,7 +52,7 @@ fn ack_text(alloc: Global, answer: Result<Ack, Refusal>) -> Result<String, Cause
     }
 }
 
-/// What a device holds, as its words are loaded.
+/// What a device holds, read from its loaded words.
 fn device_text(alloc: Global, device: &SimPmem) -> Result<String, Cause> {
     let mut words = Vec::new(alloc);
     for word in 0..8 * device.lines() {
@@ -61,7 +61,7 @@ fn device_text(alloc: Global, device: &SimPmem) -> Result<String, Cause> {
     contents_text(alloc, read_image(alloc, &words)?)
 }
 
-/// An engine over a new image of a standby.
+/// An engine over a new standby's image.
 fn new_engine(alloc: Global) -> Result<WblEngine<SimPmem>, Refusal>
     ensures new { IfOk result (λ engine. IsNew MIN_LINES Role.Standby (⟦<WblEngine<SimPmem> as Durable>⟧.contents engine)) }
     ensures durable { IfOk result (λ engine. IsDurable (⟦<WblEngine<SimPmem> as Durable>⟧.device engine) (⟦<WblEngine<SimPmem> as Durable>⟧.contents engine)) }
@@ -73,7 +73,7 @@ fn new_engine(alloc: Global) -> Result<WblEngine<SimPmem>, Refusal>
     }
 }
 
-/// All entries and extents of a new image of so many lines are free.
+/// The heap of a new image with `lines` lines: all its entries and extents are free.
 fn heap_of(lines: u64) -> ExtentHeap
     ensures lines { (line : ℕ) → IsTrue (is_free_line result line) ↔ ((first_extent_line lines ≤ line) × (line < lines)) }
     ensures entries { (i : ℕ) → IsTrue (is_free_entry result i) ↔ (i < entries_of_lines lines) }

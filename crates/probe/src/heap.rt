@@ -35,7 +35,7 @@ impl HeapProbe {
     }
 }
 
-/// How many lines an extent is to have: at least one.
+/// How many lines an extent should have: at least one.
 fn lines_of(word: &str) -> Result<u64, Cause>
     ensures { IfOk result (λ lines. 0 < lines) }
 {
@@ -68,7 +68,7 @@ fn given_text(alloc: Global, given: Result<(), Refusal>) -> Result<String, Cause
     }
 }
 
-/// Takes two extents and gives both back, the last first. Where the second is refused, the first stays taken.
+/// Takes two extents and gives both back, the last first. If the second is refused, the first stays taken.
 fn take_and_give(heap: &mut ExtentHeap, first: u64, second: u64) -> Result<(), Refusal>
     requires first { 0 < first }
     requires second { 0 < second }

@@ -6,7 +6,7 @@ use crate::words::{number, pairs};
 use model::{ImageContents, read_image};
 use std::alloc::Global;
 
-/// The most lines of an image that is made.
+/// The most lines that an image is made with.
 const MOST_LINES: u64 = 65_536;
 
 #[derive(Default, Drop)]
@@ -48,7 +48,7 @@ fn set(image: &mut Vec<u64>, pairs: &[(u64, u64)]) -> Result<(), Cause> {
     Ok(())
 }
 
-/// The record's number, position, `cp`, `cd`, epoch, role and number of gaps, and the keyspace; or `none` where it is no whole image.
+/// The record's number, position, `cp`, `cd`, epoch, role and number of gaps, and the keyspace; or `none` if it is not a whole image.
 pub fn contents_text(alloc: Global, contents: Option<ImageContents>) -> Result<String, Cause> {
     let Some(ImageContents { record, keyspace }) = contents else {
         return none(alloc);
@@ -61,7 +61,7 @@ pub fn contents_text(alloc: Global, contents: Option<ImageContents>) -> Result<S
     )?)
 }
 
-/// Whether a stamp counts under the image's record, and whether it is in a gap of it.
+/// Whether a stamp counts under the image's record, and whether it is in one of the record's gaps.
 fn counts(alloc: Global, image: &[u64], stamp: u64) -> Result<String, Cause> {
     match read_image(alloc, image)? {
         Some(contents) => {

@@ -6,7 +6,7 @@ use bytes::Bytes;
 use kv_types::{Key, PlainKeyspace, Value, changes_fit};
 use std::alloc::Global;
 
-/// The most bytes that are made for a key or a value.
+/// The most bytes that a key or a value is made of.
 const MOST_BYTES: u64 = 1 << 20;
 
 pub fn answer_bytes(alloc: Global, words: &[&str]) -> Result<String, Cause> {

@@ -24,7 +24,7 @@ mod words;
 use crate::run::{RunError, run};
 use std::process::ExitCode;
 
-/// The status where a line is not understood.
+/// The exit status if a line is not understood.
 const MISUSED: u8 = 2;
 
 fn main(rt: HostRuntime) -> ExitCode {

@@ -1,4 +1,4 @@
-//! What the lines have made so far, by the first word that names it.
+//! What the lines have made so far, selected by a line's first word.
 use crate::cause::Cause;
 use crate::device::DeviceProbe;
 use crate::gate::GateProbe;
@@ -29,7 +29,7 @@ pub struct Probe {
 }
 
 impl Probe {
-    /// Makes the call that the words name, and answers what it came to.
+    /// Makes the call that the words name, and returns its answer.
     pub fn answer(&mut self, alloc: Global, words: &[&str]) -> Result<String, Cause> {
         let Some((subject, words)) = words.split_first() else {
             return Err(Cause::NoCall);
@@ -50,7 +50,7 @@ impl Probe {
     }
 }
 
-/// The calls that keep nothing.
+/// The calls that keep nothing for later lines.
 fn answer_alone(alloc: Global, subject: &str, words: &[&str]) -> Result<String, Cause> {
     match subject {
         "integer" => integers::answer(alloc, words),

@@ -20,7 +20,7 @@ pub fn answer(alloc: Global, words: &[&str]) -> Result<String, Cause> {
     }
 }
 
-/// The bytes of the replies, behind these.
+/// The bytes `before`, followed by those of the replies.
 fn behind(alloc: Global, before: &[u8], replies: Vec<Reply>) -> Result<String, Cause> {
     let mut out = Vec::from_slice(alloc, before)?;
     for reply in &replies {
@@ -38,7 +38,7 @@ fn copies(alloc: Global, replies: Vec<Reply>) -> Result<String, Cause> {
     Ok(hexed(alloc, out.as_slice())?)
 }
 
-/// Whether each reply found room where there is room for so many bytes, and the bytes written.
+/// Whether every reply fits if there is room for `most` bytes, and the bytes written.
 fn within(alloc: Global, most: usize, replies: Vec<Reply>) -> Result<String, Cause> {
     let mut out = Vec::new(alloc).limit(most);
     let mut is_whole = true;
@@ -63,7 +63,7 @@ pub fn replies(alloc: Global, words: &[&str]) -> Result<Vec<Reply>, Cause> {
     Ok(replies)
 }
 
-/// So many replies from the end of the list, the last one first.
+/// Takes `count` replies from the end of the list, the last one first.
 fn first(alloc: Global, replies: &mut Vec<Reply>, count: u64) -> Result<Vec<Reply>, Cause> {
     let mut taken = Vec::new(alloc);
     for _ in 0..count {
@@ -76,7 +76,7 @@ fn array(replies: Vec<Reply>) -> Reply {
     Reply::Array(Listed::from_vec(replies))
 }
 
-/// A reply that holds no other: `+TEXT`, `-TEXT`, `:NUMBER`, `$BYTES`, `null-bulk` or `null-array`.
+/// A reply that contains no other: `+TEXT`, `-TEXT`, `:NUMBER`, `$BYTES`, `null-bulk` or `null-array`.
 fn plain(alloc: Global, word: &str) -> Result<Reply, Cause> {
     match word {
         "null-bulk" => Ok(Reply::NullBulk),

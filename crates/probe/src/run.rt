@@ -9,7 +9,7 @@ use std::{fmt, io};
 /// Why a run ended early. The lines before are answered, unless writing failed.
 #[derive(Debug, Drop)]
 pub enum RunError {
-    /// The line of this number, counted from 1, is not answered.
+    /// The line with this number, counted from 1, is not answered.
     Line(u64, Cause),
     /// The lines could not be read to their end.
     Read(io::Error),

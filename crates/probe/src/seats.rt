@@ -48,7 +48,7 @@ impl LobbyProbe {
 }
 
 impl House {
-    /// The number of the seat that is given out.
+    /// Gives out a seat, and answers its number.
     fn enter(&mut self, alloc: Global) -> Result<String, Cause> {
         match self.lobby.enter() {
             Ok(seat) => {

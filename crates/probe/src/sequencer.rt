@@ -72,7 +72,7 @@ impl Node {
         })
     }
 
-    /// What one turn for a seat comes to.
+    /// The outcome of one turn for a seat.
     fn turn(&mut self, alloc: Global, seat: u64) -> Result<Turn, Cause> {
         let seat = self.seats.get(seat as usize).ok_or(Cause::OutOfRange)?;
         Ok(

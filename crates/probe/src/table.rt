@@ -44,7 +44,7 @@ impl TableProbe {
     }
 }
 
-/// A put with this entry, and a line that is no other's business.
+/// A put with this entry, and with an arbitrary line, which nothing here reads.
 fn put(alloc: Global, word: &str, entry: u64) -> Result<Put, Cause>
     ensures { IfOk result (λ put. put.entry.0 ≡ entry) }
 {
@@ -60,7 +60,7 @@ fn put(alloc: Global, word: &str, entry: u64) -> Result<Put, Cause>
     })
 }
 
-/// A change that is no put.
+/// A change that is not a put.
 fn last_change(alloc: Global, word: &str) -> Result<PlacedChange, Cause>
     ensures { IfOk result (λ change. put_of change ≡ []) }
 {
@@ -73,7 +73,7 @@ fn last_change(alloc: Global, word: &str) -> Result<PlacedChange, Cause>
     }
 }
 
-/// The entries that two puts and a last change on an empty keyspace end.
+/// The entries ended by two puts and a last change on an empty keyspace.
 fn apply<K: Keyspace>(
     alloc: Global,
     keyspace: &mut K,

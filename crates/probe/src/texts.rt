@@ -1,4 +1,4 @@
-//! Texts of refusals, faults and events; copies of items; and laws.
+//! Texts of refusals, protocol faults and events; copies of items; and laws.
 use crate::answers::{add_word, done, hexed};
 use crate::cause::Cause;
 use crate::seats;
@@ -58,7 +58,7 @@ fn refusals(alloc: Global) -> Result<String, Cause> {
     Ok(answer)
 }
 
-/// The words of a copy of the item, or its fault.
+/// The words of a copy of the item, or its protocol fault.
 fn copy(alloc: Global, item: Item) -> Result<String, Cause> {
     match item.clone()? {
         Item::Fault(fault) => Ok(format!(in alloc; "{fault:?}")?),
@@ -83,7 +83,7 @@ fn event(alloc: Global, words: &[&str]) -> Result<Event, Cause> {
     }
 }
 
-/// A law asks for nothing: whoever wants it calls it.
+/// Calls every law. A law takes no argument and requires nothing.
 fn call_laws() {
     call_laws_of_model();
     call_laws_of_machine();

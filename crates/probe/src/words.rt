@@ -47,7 +47,7 @@ pub fn value(alloc: Global, word: &str) -> Result<Value, Cause> {
     Value::new(bytes(alloc, word)?).ok_or(Cause::OutOfRange)
 }
 
-/// A key, or a key and a field with a point between them.
+/// A key, or a key and a field with a dot between them.
 pub fn record_id(alloc: Global, word: &str) -> Result<RecordId, Cause> {
     match word.split_once('.') {
         None => Ok(RecordId::Str(key(alloc, word)?)),

@@ -1,4 +1,4 @@
--- An answer is a legal entry of the list, whatever became of its item.
+-- An answer is a legal entry of the list, whether its item was served or refused.
 use Rattle.std.proofs.Common.{◌≡◌, ◌≢◌, ℕ, ◌+◌, ◌<◌, ◌≤◌, inl, inr, Bool, true, false, ◌||◌, IsTrue, List, [], ◌∷◌, length, get_or, slice_set, if◌then◌else◌, codes, Option, Some, None, Result, Ok, Err, OnErr, IfOk, IsErrOf, refl, sym, ap, subst, ◌∙◌, arith}
 use Rattle.kv_types.specs.declared.change.Change.{Change}
 use Rattle.kv_types.specs.declared.change.Change.TheVariants as change
@@ -88,7 +88,7 @@ reading_not_full : (s : Keyspace) (reading : Result Command Misuse) → (outcome
 reading_not_full s (Ok command) = does_not_full s command
 reading_not_full s (Err misuse) = misuse_not_full misuse
 
--- no command of its own answers that the store is full
+-- no outcome has the reply that the store is full
 pub outcome_not_full : (s : Keyspace) (item : Item) → (outcome_of s item).reply ≢ full_reply
 outcome_not_full s (Request words) = reading_not_full s (read_command words)
 outcome_not_full s (Fault fault) = fault_not_full fault

@@ -1,4 +1,4 @@
--- A sequencer goes on standing for the contents of an engine: where a part begins to wait, and where all leave as a group.
+-- A sequencer stays ahead of the contents of an engine: where a part begins to wait, and where all leave as a group.
 use Rattle.std.proofs.Common.{◌≡◌, ℕ, ◌+◌, ◌<◌, ◌≤◌, Bool, List, [], ◌∷◌, ◌++◌, length, None, refl, sym, ap, subst, ◌∙◌, arith}
 use Rattle.std.specs.List.{AllByRecursion}
 use Rattle.kv_types.specs.declared.change.Change.{Change}
@@ -62,7 +62,7 @@ module _ (s : Sequencing) (contents : Contents) (stands : IsAheadOf s contents) 
             (IsTable-changes part.position (parts_versions contents.versions s.waiting) s.table part.changes.items new_empty new_distinct stands.table);
       }
 
--- the seats tell nothing of the contents
+-- which seats are closed does not matter
 pub IsAheadOf-closed : (s : Sequencing) (closed : List Bool) (contents : Contents) → IsAheadOf s contents → IsAheadOf (record s { closed = closed }) contents
 IsAheadOf-closed s closed contents stands = record {
   before = stands.before;
@@ -77,7 +77,7 @@ IsAheadOf-closed s closed contents stands = record {
   table = stands.table;
 }
 
--- a new sequencer stands for the contents that its tables are of
+-- a new sequencer is ahead of the contents that its tables are of
 pub IsAheadOf-starts : (table : Table) (room : Room) (position : ℕ) (closed : List Bool) (contents : Contents) → Underlies contents table room position → IsAheadOf (starts table room position closed) contents
 IsAheadOf-starts table room position closed contents under = record {
   before = under.position_is;
@@ -94,7 +94,7 @@ IsAheadOf-starts table room position closed contents under = record {
 
 -- ---- all parts leave
 
--- what is handed out is what a commit asks for, and the sequencer stands for what the commit makes of the contents
+-- what is handed out is what a commit requires, and the sequencer is ahead of the contents after the commit
 pub IsAheadOf-group : (old : Sequencing) (group : Group) (new : Sequencing) → HandsOut old group new → (contents : Contents) → IsAheadOf old contents → IsGroup contents group × IsAheadOf new (after_group contents group)
 IsAheadOf-group old group new hands contents stands =
     let parts = old.waiting in
@@ -123,7 +123,7 @@ IsAheadOf-group old group new hands contents stands =
     } in
     (group_is, subst (λ s. IsAheadOf s (after_group contents group)) (sym hands.after) (is (λ items. IsAheadOf (record old { before = old.position; waiting = [] }) (after_parts contents items)) later))
 
--- whatever a call moved, the sequencer goes on standing for the contents
+-- whatever a call moved, the sequencer stays ahead of the contents
 pub IsAheadOf-moves : (changes : List Change) (old new : Sequencing) → Moves changes old new → new.before ≡ old.before → (contents : Contents) → IsAheadOf old contents → IsAheadOf new contents
 IsAheadOf-moves [] old new moves before contents stands =
     subst (λ s. IsAheadOf s contents)

@@ -1,4 +1,4 @@
--- What the table of commands made of the words of a request, as the meaning of commands has it.
+-- What the table of commands reads from the words of a request, in terms of the meaning of commands.
 use Rattle.std.specs.Prelude.{◌≡◌, ◌≤◌, length, Result, Ok, Err}
 use Rattle.kv_types.specs.declared.limits.TheConstants.{MAX_KEY_BYTES, MAX_VALUE_BYTES}
 use Rattle.model.specs.Command as meaning
@@ -8,7 +8,7 @@ use Rattle.redis_core.specs.declared.command.Misuse.{Misuse}
 use Rattle.redis_core.specs.declared.command.Misuse.TheVariants.{UnknownName, WrongNumberOfWords, LongKey}
 use Rattle.redis_core.specs.declared.outcome.Outcome.{Outcome}
 
--- the command, by the bytes that it was read from
+-- the command of the definitions, with the bytes that this one was read from
 abbrev pub command_of : Command → meaning.Command
 command_of (Get key) = meaning.Get key.now
 command_of (Set key value options) = meaning.Set key.now value.now options.now
@@ -22,12 +22,12 @@ abbrev pub reading_of : Result Command Misuse → Result meaning.Command meaning
 reading_of (Ok command) = Ok (command_of command)
 reading_of (Err misuse) = Err (misuse_of misuse)
 
--- the key may be a key, and the value a value
+-- the key is short enough to be a key, and the value short enough to be a value
 abbrev pub Fits : Command → Type 0
 Fits (Get key) = length key.now ≤ MAX_KEY_BYTES
 Fits (Set key value options) = (length key.now ≤ MAX_KEY_BYTES) × (length value.now ≤ MAX_VALUE_BYTES)
 
--- the outcome is the one that is meant
+-- the outcome is the one of the definitions
 pub record IsOutcome (outcome : Outcome) (meant : meaning.Outcome) : Type 0 where
   pub reply : outcome.reply ≡ meant.reply
   pub changes : outcome.changes.items ≡ meant.changes

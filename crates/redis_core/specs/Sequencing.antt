@@ -1,4 +1,4 @@
--- What a sequencer holds, and that its tables say what an engine will hold once the waiting parts have committed.
+-- What a sequencer holds, and when its tables say what an engine will hold once the waiting parts have committed.
 use Rattle.std.specs.Prelude.{◌≡◌, ℕ, Bool, false, List, [], ◌∷◌, slice_index_or, length, ◌≤◌, ◌<◌}
 use Rattle.std.specs.List.{flat_map, AllByRecursion}
 use Rattle.model.specs.declared.group.Group.{Group}
@@ -20,9 +20,9 @@ pub record Sequencing : Type 0 where
   pub position : ℕ
   -- the position before the oldest part that waits
   pub before : ℕ
-  -- what each changing command did that is in no group yet, oldest first
+  -- what each changing command that is in no group yet did, oldest first
   pub waiting : List Part
-  -- for each seat, whether a fault was answered there
+  -- for each seat, whether a protocol fault was answered there
   pub closed : List Bool
 
 -- the state that calls are made at; no session of a seat is kept yet, as all are idle
@@ -35,7 +35,7 @@ is_closed s seat = slice_index_or s.closed seat false
 abbrev pub puts_of_parts : List Part → List Put
 puts_of_parts = flat_map puts_of_part
 
--- The sequencer is ahead of an engine with these contents by the parts that wait, and by nothing else: what commits will ask of these parts
+-- The sequencer is ahead of an engine with these contents by the parts that wait, and by nothing else: what commits will require of these parts
 -- holds, and the table is that of the versions after them.
 pub record IsAheadOf (s : Sequencing) (contents : Contents) : Type 0 where
   pub before : s.before ≡ contents.current.position
@@ -49,7 +49,7 @@ pub record IsAheadOf (s : Sequencing) (contents : Contents) : Type 0 where
   pub left : IsLeftOf contents s.room
   pub table : IsTable (parts_versions contents.versions s.waiting) s.table
 
--- Tables with which a sequencer may start over these contents: nothing waits, and the heap has what is free.
+-- Tables with which a sequencer may start over these contents: nothing waits, and what the heap has left is free in the contents.
 pub record Underlies (contents : Contents) (table : Table) (room : Room) (position : ℕ) : Type 0 where
   pub position_is : position ≡ contents.current.position
   pub left : IsLeftOf contents room

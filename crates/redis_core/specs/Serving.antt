@@ -1,4 +1,4 @@
--- What the answer to an item is made of, before it is a reply.
+-- What the sequencer gets from serving an item, before it is made a reply.
 use Rattle.std.specs.Prelude.{◌≡◌, ◌≢◌, ◌≤◌, Result, Ok, Err}
 use Rattle.kv_types.specs.declared.item.Item.{Item}
 use Rattle.kv_types.specs.declared.refusal.Refusal.{Refusal}
@@ -30,7 +30,7 @@ pub record IsTooFull (s : Sequencing) (item : Item) : Type 0 where
   pub fits : changes_size (outcome_at s item).changes ≤ MAX_CHANGE_TEXT_BYTES
   pub full : ¬ HasRoomFor s.room (outcome_at s item).changes
 
--- the reply where an item was refused
+-- the reply to an item that was refused
 abbrev pub refusal_reply : Refusal → Reply
 refusal_reply refusal.Full = full_reply
 refusal_reply _ = memory_reply

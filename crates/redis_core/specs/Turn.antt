@@ -14,11 +14,11 @@ use Rattle.redis_core.specs.Sequencing.{Sequencing, state_of}
 use Rattle.redis_core.specs.declared.turn.Turn.{Turn}
 use Rattle.redis_core.specs.declared.turn.Turn.TheVariants.{Served, Idle, Blocked, GroupFull, Ended}
 
--- the call that an item of a seat and its reply are
+-- the call that an item of a seat makes with its reply
 abbrev pub call_of : ℕ → Item → Reply → Call
 call_of seat item reply = record { connection = seat; item = item; reply = reply }
 
--- One more part waits, which is these changes, made at the next position.
+-- One more part waits: these changes, made at the next position.
 pub record AddsPart (old : Sequencing) (part : Part) (changes : List Change) (new : Sequencing) : Type 0 where
   pub performs : Performs old.table old.room (old.position + 1) changes part new.table new.room
   pub position : new.position ≡ part.position
@@ -36,7 +36,7 @@ abbrev pub Moves : List Change → Sequencing → Sequencing → Type 0
 Moves [] old new = Stays old new
 Moves (change ∷ changes) old new = (part : Part) × AddsPart old part (change ∷ changes) new
 
--- One legal entry of the list: the reply that an item got, made at what the sequencer held before it.
+-- One legal entry of the list: the item with the reply that it got, called at what the sequencer held before it.
 pub record Answers (old : Sequencing) (seat : ℕ) (item : Item) (reply : Reply) (new : Sequencing) : Type 0 where
   pub legal : MayReply (state_of old) (call_of seat item reply)
   pub full_only : reply ≡ full_reply → ¬ HasRoomFor old.room (outcome_at (state_of old) seat item).changes
@@ -47,7 +47,7 @@ pub record Answers (old : Sequencing) (seat : ℕ) (item : Item) (reply : Reply)
   -- the seat is closed from now on if the item closes its connection
   pub closed : new.closed ≡ slice_set old.closed seat (closes item)
 
--- a fact for one answer of a turn
+-- a fact that holds where a turn has one particular result
 abbrev pub OnServed : Turn → Type 0 → Type 0
 OnServed Served P = P
 OnServed Idle P = Unit {0}
@@ -83,7 +83,7 @@ OnEnded Blocked P = Unit {0}
 OnEnded GroupFull P = Unit {0}
 OnEnded Ended P = P
 
--- a fact for each answer but `Served`
+-- a fact that holds where a turn has any result but `Served`
 abbrev pub OnUnserved : Turn → Type 0 → Type 0
 OnUnserved Served P = Unit {0}
 OnUnserved Idle P = P

@@ -1,4 +1,4 @@
-//! The table of commands: from the words of a request to a command, or to why it is none.
+//! The table of commands: from the words of a request to a command, or to why it is not one.
 ghost use Rattle.std.specs.Prelude.{◌≡◌, ◌≤◌, List, ℕ, length, map, IfOk};
 ghost use Rattle.std.specs.List.{AllByRecursion};
 ghost use Rattle.std.specs.Char.{to_ascii_lowercase};
@@ -9,13 +9,13 @@ ghost use Rattle.redis_core.specs.Reading.{Fits, reading_of};
 use bytes::Bytes;
 use kv_types::{MAX_KEY_BYTES, MAX_VALUE_BYTES};
 
-/// A command that is served, with as many words as it takes and no key that is too long.
+/// A command that is served, with the right number of arguments and no key that is too long.
 #[derive(Clone, Copy)]
 pub(crate) enum Command<'a> {
     Get {
         key: &'a [u8],
     },
-    /// The words after the value are options.
+    /// The arguments after the value are options.
     Set {
         key: &'a [u8],
         value: &'a [u8],
@@ -33,7 +33,7 @@ pub(crate) enum Misuse {
     LongKey,
 }
 
-/// The command that the words name. First the name is looked at, then the number of words, then the length of the key.
+/// The command that the words name. The name is checked first, then the number of arguments, then the length of the key.
 pub(crate) fn read_command(words: &[Bytes]) -> Result<Command<'_>, Misuse>
     requires { AllByRecursion (λ word. length word ≤ MAX_VALUE_BYTES) words.now }
     ensures read { reading_of result ≡ meaning.read_command words.now }

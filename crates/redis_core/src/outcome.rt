@@ -18,7 +18,7 @@ pub(crate) struct Outcome {
     pub changes: Vec<Change>,
 }
 
-/// What an item asks for, where the keyspace is as it is.
+/// The outcome of an item at the current keyspace.
 pub(crate) fn outcome_of<K: Keyspace>(
     alloc: Global,
     keyspace: &K,
@@ -83,7 +83,7 @@ fn get<K: Keyspace>(alloc: Global, keyspace: &K, key: &[u8]) -> Result<Outcome, 
     })
 }
 
-/// Sets a key to a copy of the value, so that what is stored pins nothing of what was read.
+/// Sets a copy of the key to a copy of the value, so that what is stored does not keep the bytes that were read alive.
 fn set(alloc: Global, key: &[u8], value: &[u8]) -> Result<Outcome, AllocError>
     requires { (length key.now ≤ MAX_KEY_BYTES) × (length value.now ≤ MAX_VALUE_BYTES) }
     ensures { IfOk result (λ outcome. IsOutcome outcome (meaning.does [] (meaning.Set key.now value.now []))) }
@@ -96,7 +96,7 @@ fn set(alloc: Global, key: &[u8], value: &[u8]) -> Result<Outcome, AllocError>
     })
 }
 
-/// A copy of bytes that are few enough.
+/// A copy of at most `MAX` bytes.
 fn stored<const MAX: usize>(alloc: Global, bytes: &[u8]) -> Result<BoundedBytes<MAX>, AllocError>
     requires { length bytes.now ≤ MAX }
     ensures { IfOk result (λ copy. copy ≡ bytes.now) }
@@ -107,7 +107,7 @@ fn stored<const MAX: usize>(alloc: Global, bytes: &[u8]) -> Result<BoundedBytes<
     }
 }
 
-/// The text of the error that answers a misuse. Only the wrong number of words, whose text shows the name, takes memory.
+/// The text of the error that answers a misuse. Only that of a wrong number of arguments, which shows the name, takes memory.
 fn misuse_message(alloc: Global, misuse: Misuse) -> Result<Bytes, AllocError>
     ensures { IfOk result (λ text. text ≡ meaning.misuse_message (misuse_of misuse)) }
 {

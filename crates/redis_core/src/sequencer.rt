@@ -24,7 +24,7 @@ use placing::perform;
 use std::alloc::Global;
 use std::marker::Model;
 
-/// Turns what each seat asks into calls of one list, one a turn, and keeps what they changed until a group takes it.
+/// Turns what each seat asks into calls of one list, one per turn, and keeps what they changed until a group takes it.
 ///
 /// It runs ahead of the engine: its keyspace and its heap are those after the parts that wait, which no commit has seen yet. A clause sees a
 /// `Sequencing`.
@@ -63,7 +63,7 @@ impl<K: Keyspace + Drop> Sequencer<K> {
     ///
     /// # Errors
     ///
-    /// `Memory` alone.
+    /// Only `Memory`.
     pub fn new(
         alloc: Global,
         keyspace: K,
@@ -103,10 +103,10 @@ impl<K: Keyspace> Sequencer<K> {
         !self.waiting.is_empty()
     }
 
-    /// Answers one item of a seat, if there is one and there is room for its reply. It waits for nobody.
+    /// Answers one item of a seat, if there is one and there is room for its reply. It never waits.
     ///
     /// `Served` is one legal entry of the list, whose reply bears the list's position after it. Its replies `ERR out of memory` and
-    /// `ERR store is full` leave all as it was; the second comes only where the heap has no room for what the command puts.
+    /// `ERR store is full` leave keyspace, heap and position as they were; the second comes only where the heap has no room for the command's puts.
     pub fn turn<I: Inlet<Item = Item>, O: Outlet<Item = Held>>(
         &mut self,
         alloc: Global,
@@ -123,7 +123,7 @@ impl<K: Keyspace> Sequencer<K> {
         ensures ended { OnEnded result ((is_closed self.old seat.now ≡ true) × (inlet.new ≡ inlet.old)) }
         ensures unserved { OnUnserved result ((self.new ≡ self.old) × (O.offered outlet.new ≡ O.offered outlet.old)) }
 
-        // In the converse of the four: none of them holds where it is served, and where none holds it is served.
+        // Conversely, a turn is served only where the seat is open and the group not full, and always where room and an item are known too.
         ensures open { OnServed result ((is_closed self.old seat.now ≡ false) × (length (self.old).waiting < MAX_PARTS)) }
         ensures otherwise { is_closed self.old seat.now ≡ false → length (self.old).waiting < MAX_PARTS → 0 < O.known_room outlet.old
             → I.known_items inlet.old ≢ [] → result ≡ Turn.Served }
@@ -157,7 +157,7 @@ impl<K: Keyspace> Sequencer<K> {
     ///
     /// # Errors
     ///
-    /// `PipeFull` where there was no known room, `Memory` where a growth was refused. The parts go on waiting.
+    /// `PipeFull` where there was no known room, `Memory` where a growth was refused. The parts keep waiting.
     pub fn close_group<G: Outlet<Item = Group>>(
         &mut self,
         alloc: Global,
@@ -184,7 +184,7 @@ impl<K: Keyspace> Sequencer<K> {
         }
     }
 
-    /// The reply to an item, with all that it changes. A fault closes the seat.
+    /// Answers an item and makes all its changes. A protocol fault closes the seat.
     fn answer(&mut self, alloc: Global, seat: &Seat, item: &Item) -> Reply
         requires { length (self.old).waiting < MAX_PARTS }
         ensures answers { Answers self.old seat.now item.now result self.new }
@@ -195,7 +195,7 @@ impl<K: Keyspace> Sequencer<K> {
         reply_of(served)
     }
 
-    /// Does what the item asks for. An `Err` changes nothing: `Full` where there is no room for it, and else memory was refused.
+    /// Does what the item asks for. An `Err` changes nothing: `Full` where there is no room for it; any other is answered as out of memory.
     fn serve(&mut self, alloc: Global, item: &Item) -> Result<Reply, Refusal>
         requires { length (self.old).waiting < MAX_PARTS }
         ensures ok { IfOk result (λ reply. Serves self.old item.now reply self.new) }
@@ -210,7 +210,7 @@ impl<K: Keyspace> Sequencer<K> {
         Ok(reply)
     }
 
-    /// Makes the changes of one command. Where there are any, they wait for a group from then on.
+    /// Makes the changes of one command. If there are any, they then wait for a group as one part.
     fn make(&mut self, alloc: Global, changes: Vec<Change>) -> Result<(), Refusal>
         requires { length (self.old).waiting < MAX_PARTS }
         ensures ok { OnOk result (Moves changes.items self.old self.new) }
@@ -222,7 +222,7 @@ impl<K: Keyspace> Sequencer<K> {
         if changes.is_empty() {
             return Ok(());
         }
-        // No list of calls gets so long. One that did would refuse its changes.
+        // No list of calls gets this long. One that did would refuse its changes.
         if self.position >= COUNTER_LIMIT - 1 {
             return Err(Refusal::Exhausted);
         }
@@ -240,7 +240,7 @@ fn is_fault(item: &Item) -> bool
     matches!(item, Item::Fault(_))
 }
 
-/// The reply of its own that an item got, or the one that says why it was refused.
+/// The item's own reply, or the one that says why the item was refused.
 fn reply_of(served: Result<Reply, Refusal>) -> Reply
     ensures { result ≡ replies.reply_of served }
 {

@@ -1,16 +1,16 @@
-//! What a turn of the sequencer came to.
+//! The result of a turn of the sequencer.
 
-/// What a turn came to. All but `Served` take no item and change nothing.
+/// The result of a turn. Every result but `Served` takes no item and changes nothing.
 #[derive(Clone, Copy, Debug, PartialEq, Eq)]
 pub enum Turn {
     /// One item was taken and answered, and its reply waits in the outlet.
     Served,
-    /// No item was there.
+    /// There was no item.
     Idle,
     /// There was no known room for a reply.
     Blocked,
     /// As many changing commands wait for a group as a group may hold.
     GroupFull,
-    /// A fault was answered at this seat: its connection is over.
+    /// A protocol fault was answered at this seat: its connection is over.
     Ended,
 }

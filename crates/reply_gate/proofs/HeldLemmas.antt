@@ -7,7 +7,7 @@ pub held_bytes-append : (xs ys : List HeldText) → held_bytes (xs ++ ys) ≡ he
 held_bytes-append [] ys = omega arith
 held_bytes-append (x ∷ xs) ys = omega (arith, held_bytes-append xs ys)
 
--- the bytes of the covered prefix and those of the rest are together all
+-- the bytes of the covered prefix and those of the rest together are all the bytes
 pub held_bytes-split : (local remote : ℕ) (xs : List HeldText) → covered_bytes local remote xs + held_bytes (uncovered_rest local remote xs) ≡ held_bytes xs
 held_bytes-split local remote [] = refl
 held_bytes-split local remote (x ∷ xs) =

@@ -11,13 +11,13 @@ use std::alloc::{AllocError, Global};
 use std::collections::VecDeque;
 use std::marker::Model;
 
-/// Holds the replies to one connection, in order, until they are covered. A clause sees the bytes that are out, and behind them the text, the
-/// positions and the lengths of the replies that are held.
+/// Holds the replies to one connection, in order, until they are covered. A clause sees the bytes that were released and not yet sent, and the
+/// text, the positions and the lengths of the replies that are held.
 #[derive(Drop)]
 pub struct Gate {
-    // what was released, and behind it the text of the held replies
+    // what was released and not yet sent, followed by the text of the held replies
     text: BytesMut,
-    // how much of it was released
+    // how many bytes of `text` were released
     pending: usize,
     held: VecDeque<HeldText>,
 }
@@ -47,7 +47,7 @@ impl Gate {
         }
     }
 
-    /// Holds a reply that was made at this position of the list of calls. An `Err` changes nothing.
+    /// Holds a reply that was made at this position in the list of calls. An `Err` changes nothing.
     pub fn hold(&mut self, reply: &Reply, position: u64) -> Result<(), AllocError>
         ensures waiting { OnOk result (self.new.waiting ≡ self.old.waiting ++ text_of reply.now) }
         ensures replies { OnOk result (self.new.replies ≡ self.old.replies ++ record { position = position; bytes = length (text_of reply.now) } ∷ []) }
@@ -62,7 +62,7 @@ impl Gate {
         Ok(())
     }
 
-    /// Whether the first reply that is held is covered, so that `release` lets something out.
+    /// Whether the first held reply is covered, so that `release` would release it.
     pub fn can_release(&self, seen: &Seen) -> bool
         ensures { result ≡ is_first_covered seen.now.local seen.now.remote self.now.replies }
     {
@@ -72,7 +72,7 @@ impl Gate {
         }
     }
 
-    /// Releases exactly the longest prefix of the replies that are covered.
+    /// Releases exactly the longest prefix of covered replies.
     pub fn release(&mut self, seen: &Seen)
         ensures pending { self.new.pending
             ≡ self.old.pending ++ take (covered_bytes seen.now.local seen.now.remote self.old.replies) self.old.waiting }
@@ -83,14 +83,14 @@ impl Gate {
         self.pending += take_covered(&mut self.held, seen, waiting);
     }
 
-    /// The bytes that are out.
+    /// The bytes that were released and not yet sent.
     pub fn pending(&self) -> &[u8]
         ensures { result.now ≡ self.now.pending }
     {
         &self.text.as_slice()[..self.pending]
     }
 
-    /// So many of the bytes that are out were sent.
+    /// Removes the first `n` of the pending bytes, which were sent.
     pub fn sent(&mut self, n: usize)
         requires { n ≤ length self.old.pending }
         ensures pending { self.new.pending ≡ drop n self.old.pending }
@@ -102,7 +102,7 @@ impl Gate {
     }
 }
 
-/// Takes the longest prefix of the replies that are covered, and counts their bytes. All of them have at most `most`.
+/// Takes the longest prefix of covered replies, and counts its bytes. All the replies together have at most `most` bytes.
 fn take_covered(held: &mut VecDeque<HeldText>, seen: &Seen, most: usize) -> usize
     requires { held_bytes held.old.items ≤ most }
     ensures within { result ≤ most }

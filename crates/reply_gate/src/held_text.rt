@@ -1,6 +1,6 @@
 //! What a gate keeps of a reply besides its text.
 
-/// How far a connection's gate has seen both nodes hold the list of calls.
+/// How far a connection's gate has seen each node hold the list of calls.
 #[derive(Clone, Copy, Debug, PartialEq, Eq)]
 pub struct Seen {
     /// The position that is durable on the primary.
@@ -9,7 +9,7 @@ pub struct Seen {
     pub remote: u64,
 }
 
-/// A reply that is held: the position of the list at which it was made, and how many bytes it has.
+/// A held reply: the position in the list of calls at which it was made, and how many bytes it has.
 #[derive(Clone, Copy, Debug, PartialEq, Eq)]
 pub struct HeldText {
     pub position: u64,
@@ -20,7 +20,7 @@ impl HeldText {
     ghost use Rattle.std.specs.Prelude.{◌≡◌};
     ghost use Rattle.reply_gate.specs.Gate.{is_covered};
 
-    /// Whether both nodes hold what the reply speaks of.
+    /// Whether both nodes hold the position at which the reply was made.
     pub fn is_covered(&self, seen: &Seen) -> bool
         ensures { result ≡ is_covered seen.now.local seen.now.remote self.now }
     {

@@ -1,4 +1,4 @@
-//! A connection's gate: replies are held until both nodes hold what they speak of.
+//! A connection's gate: replies are held until both nodes hold the positions at which they were made.
 #![tactic(auto)]
 
 mod gate;

@@ -1,4 +1,4 @@
--- The first item of the bytes, behind the requests of no words.
+-- The first item of the bytes, after any requests of no words.
 use Rattle.std.proofs.Common.{◌≡◌, ℕ, ◌<◌, ◌≤◌, List, [], ◌∷◌, ◌++◌, length, None, Some, Ok, Err, refl, ap, sym, ◌∙◌, lit<, arith}
 use Rattle.std.proofs.lemmas.List.{append_assoc}
 use Rattle.std.specs.List.{AllByRecursion}
@@ -26,7 +26,7 @@ pub record IsPassedOver (bytes rest : List ℕ) : Type 0 where
 pub IsPassedOver-none : (bytes : List ℕ) → IsPassedOver bytes bytes
 IsPassedOver-none bytes = record { prefix = []; joined = refl; same = λ more. refl }
 
--- the words of a request that is there whole, and where it ends
+-- where a whole request ends
 IsEndOf-whole : (limits : Limits) (bytes rest : List ℕ) (count : ℕ) (inside : List ℕ) → IsWhole limits bytes count inside rest → (prefix : List ℕ) × (bytes ≡ prefix ++ rest) × (length rest < length bytes)
 IsEndOf-whole limits [] rest count inside w = let e = w.request in absurd (cc)
 IsEndOf-whole limits (byte ∷ bytes) rest count inside w =
@@ -44,7 +44,7 @@ no_words : (words : List (List ℕ)) → length words ≤ 0 → words ≡ []
 no_words [] h = refl
 no_words (word ∷ words) h = absurd (omega arith)
 
--- a request of no words is passed over
+-- a request of no words is skipped
 pub IsPassedOver-whole : (bytes rest : List ℕ) (count : ℕ) (inside after : List ℕ) → IsPassedOver bytes rest → IsWhole SERVED_LIMITS rest count inside after → count ≤ 0 → IsPassedOver bytes after
 IsPassedOver-whole bytes rest count inside after p w h =
     let end = IsEndOf-whole SERVED_LIMITS rest after count inside w in
@@ -59,7 +59,7 @@ raised : (words : List (List ℕ)) → AllByRecursion (λ word. length word ≤ 
 raised [] h = tt
 raised (word ∷ words) h = (omega (arith, h.0), raised words h.1)
 
--- the words of a request that is there whole are the words of a request
+-- the words copied from a whole request are the words of a `Request`
 pub AreWords-whole : (rest : List ℕ) (count : ℕ) (inside after : List ℕ) (copied : List (List ℕ)) → IsWhole SERVED_LIMITS rest count inside after → 0 < count → ((words : List (List ℕ)) (rest : List ℕ) → words_at SERVED_LIMITS count inside ≡ Ok (words, rest) → copied ≡ words) → AreWords copied
 AreWords-whole rest count inside after copied w positive same =
     let read = words_at-takes SERVED_LIMITS count inside w.words after served_numbers w.counted in

@@ -1,4 +1,4 @@
--- What a parser gave over all its calls, against what the grammar asks for in the bytes fed.
+-- What a parser gave over all its calls, compared with what the grammar asks for in the bytes fed.
 use Rattle.std.proofs.Common.{◌≡◌, ℕ, List, [], ◌++◌, Option, None, Some, refl, ap, sym, ◌∙◌}
 use Rattle.std.proofs.lemmas.List.{append_assoc, append-nil}
 use Rattle.std.specs.Prelude.{option_to_list}

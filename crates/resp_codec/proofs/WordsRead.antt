@@ -5,7 +5,7 @@ use Rattle.kv_types.specs.declared.limits.Limits.{Limits}
 use Rattle.kv_types.specs.Reading.{Stop, Read, ◌>>=◌, word_at, with_first, words_at}
 use Rattle.resp_codec.specs.Gives.{skipped, with_prefix}
 
--- one more word is left than after it
+-- before a word is read, one more word is left than after it
 one_more : (count i : ℕ) → i < count → count - i ≡ suc (count - (i + 1))
 one_more count i h = omega arith
 

@@ -1,4 +1,4 @@
-//! What a parser gives over all its calls.
+//! What a parser gives over any sequence of calls.
 ghost use Rattle.std.specs.Prelude.{◌≡◌, ℕ, List, [], ◌++◌, Option};
 ghost use Rattle.kv_types.specs.declared.item.Item.{Item};
 ghost use Rattle.kv_types.specs.Request.{AsksFor};
@@ -6,8 +6,8 @@ ghost use Rattle.resp_codec.specs.Parsing.{ahead, Reaches};
 
 use kv_types::SERVED_LIMITS;
 
-/// However the bytes are cut into pieces, and whenever items are asked for between the pieces: the items given begin those that the grammar
-/// asks for in all the bytes fed, its fault included, and they are all of these where nothing is ahead, as when `next` answered `None`.
+/// However the bytes are cut into pieces, and whenever items are asked for between the pieces: the items given are a prefix of those that
+/// the grammar asks for in all the bytes fed, its fault included, and they are all of these if nothing is ahead, as when `next` answered `None`.
 pub fn in_any_pieces()
     ensures begins { (text : List ℕ) (given : List Item) (held : Option (List ℕ)) →
         Reaches text given held → AsksFor SERVED_LIMITS text (given ++ ahead held) }

@@ -1,4 +1,4 @@
-//! The protocol's two directions: requests out of bytes in any pieces, and replies as bytes.
+//! Both directions of the protocol: requests parsed from bytes in any pieces, and replies as bytes.
 #![tactic(auto)]
 
 mod laws;

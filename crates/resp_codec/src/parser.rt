@@ -1,4 +1,4 @@
-//! Requests out of a connection's bytes, in whatever pieces they come.
+//! Requests parsed from a connection's bytes, in whatever pieces they come.
 ghost use Rattle.std.specs.Prelude.{◌≡◌, [], IfOk, IfErr, OnOk, OnErr};
 ghost use Rattle.kv_types.specs.declared.item.ProtocolFault.{ProtocolFault};
 ghost use Rattle.kv_types.specs.declared.item.Item.TheVariants.{Fault};
@@ -11,7 +11,7 @@ use kv_types::{Item, Refusal};
 use std::alloc::Global;
 use std::marker::Model;
 
-/// Reads the items out of bytes that come in pieces. A clause sees the bytes that were fed and not yet given as items, or `None` once a
+/// Reads items from bytes that come in pieces. A clause sees the bytes that were fed and not yet given as items, or `None` once a
 /// fault was given.
 #[derive(Drop)]
 pub struct Parser {
@@ -28,7 +28,7 @@ impl Model for Parser {
 }
 
 impl Parser {
-    /// A parser to which nothing was fed.
+    /// A parser that has been fed nothing.
     pub fn new(alloc: Global) -> Parser
         ensures { result ≡ Some [] }
     {
@@ -37,7 +37,7 @@ impl Parser {
         }
     }
 
-    /// Takes the next piece, of any bytes. After a fault it is passed over. Refused with 14 when out of memory, and then nothing of it is taken.
+    /// Takes the next piece, of any bytes. After a fault it is ignored. Refused with 14 when out of memory, and then nothing of it is taken.
     pub fn feed(&mut self, piece: Bytes) -> Result<(), Refusal>
         ensures ok { OnOk result (self.new ≡ fed self.old piece) }
         ensures err { OnErr result (self.new ≡ self.old) }
@@ -49,13 +49,13 @@ impl Parser {
         Ok(())
     }
 
-    /// The next item, or `None` where what was fed holds no more whole request. `*0` asks for nothing and is passed over. After a fault
-    /// there are no more items. Refused with 14 when out of memory, and then nothing changed and the call may be made again.
+    /// The next item, or `None` if the bytes fed hold no further whole request. `*0` asks for nothing and is skipped. After a fault
+    /// there are no more items. Refused with 14 when out of memory, and then nothing changed and the call may be repeated.
     pub fn next(&mut self) -> Result<Option<Item>, Refusal>
-        // Whatever comes later, the item given is the first of those ahead, and the others are ahead still.
+        // Whatever comes later, the item given is the first of those ahead, and the others are still ahead.
         ensures given { IfOk result (λ item. Advances self.old item self.new) }
 
-        // `None` only where nothing is ahead.
+        // `None` only if nothing is ahead.
         ensures none { result ≡ Ok None → ahead self.new ≡ [] }
         ensures fault { (fault : ProtocolFault) → result ≡ Ok (Some (Fault fault)) → self.new ≡ None }
         ensures err { OnErr result (self.new ≡ self.old) }

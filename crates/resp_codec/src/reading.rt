@@ -7,14 +7,14 @@ use bytes::Bytes;
 use kv_types::{Item, Limits, ProtocolFault, Request, SERVED_LIMITS};
 use std::alloc::{AllocError, Global};
 
-/// Why there is no whole request at the front: more may come, or nothing that comes can make one.
+/// Why there is no whole request at the front: further bytes may complete one, or no further bytes can.
 #[derive(Clone, Copy, Debug, PartialEq, Eq)]
 pub(crate) enum Stop {
     Short,
     Broken(ProtocolFault),
 }
 
-/// What follows a byte that has to be there.
+/// What follows a first byte, which must be `expected`.
 fn after_byte(bytes: &[u8], expected: u8, fault: ProtocolFault) -> Result<&[u8], Stop>
     ensures { Gives (λ rest. rest.now) result (after_byte expected fault bytes.now) }
 {
@@ -41,7 +41,7 @@ fn digit(byte: u8) -> Option<u64>
     }
 }
 
-/// The number `n` with one digit more, at most `most`. Only the number 0 begins with the digit 0.
+/// The number `n` with one more digit, at most `most`. Only the number 0 begins with the digit 0.
 fn longer(n: u64, byte: u8, most: u64) -> Option<u64>
     ensures { result ≡ (if is_digit byte && nat_lt 0 n && nat_le (10 * n + (byte - 48)) most
         then Some (10 * n + (byte - 48)) else None) }
@@ -55,7 +55,7 @@ fn longer(n: u64, byte: u8, most: u64) -> Option<u64>
     }
 }
 
-/// The number whose digits so far are `n`, at most `most`, up to its line end.
+/// The number whose digits so far make `n`, read on through its line end: at most `most`.
 fn number_from(bytes: &[u8], n: u64, most: u64, fault: ProtocolFault) -> Result<(u64, &[u8]), Stop>
     ensures { Gives (λ x. (x.0, x.1.now)) result (number_from most fault n bytes.now) }
 {
@@ -103,7 +103,7 @@ fn after_dollar(bytes: &[u8]) -> Result<&[u8], Stop>
     }
 }
 
-/// A word of this length and its line end.
+/// A word of `len` bytes and its line end.
 fn payload_at(bytes: &[u8], len: u64) -> Result<(&[u8], &[u8]), Stop>
     ensures { Gives (λ x. (x.0.now, x.1.now)) result (payload_at len bytes.now) }
 {
@@ -126,7 +126,7 @@ fn word_at(bytes: &[u8], limits: Limits) -> Result<(&[u8], &[u8]), Stop>
     payload_at(rest, len)
 }
 
-/// What follows so many words.
+/// What follows the first `count` words.
 fn skip_words(bytes: &[u8], limits: Limits, count: u64) -> Result<&[u8], Stop>
     ensures { Gives (λ rest. rest.now) result (skipped (words_at limits count bytes.now)) }
 {
@@ -138,7 +138,7 @@ fn skip_words(bytes: &[u8], limits: Limits, count: u64) -> Result<&[u8], Stop>
     Ok(rest)
 }
 
-/// Copies of so many words, where they are there.
+/// Copies of the first `count` words, if they are all there.
 fn copy_words(
     alloc: Global,
     bytes: &[u8],
@@ -160,18 +160,18 @@ fn copy_words(
     Ok(words)
 }
 
-/// A request that is there whole.
+/// A request whose bytes are all there.
 #[derive(Drop)]
 struct Whole<'a> {
     /// How many words it has.
     count: u64,
     /// The bytes from its first word on.
     inside: &'a [u8],
-    /// The bytes behind it.
+    /// The bytes after it.
     rest: &'a [u8],
 }
 
-/// The request at the front, which takes no memory.
+/// The request at the front. Takes no memory.
 fn whole_request(bytes: &[u8], limits: Limits) -> Result<Whole<'_>, Stop>
     ensures { MatchResult result (λ w. IsWhole limits bytes.now w.count w.inside.now w.rest.now)
         (λ stop. request_at limits bytes.now ≡ Err (stop_of stop)) }
@@ -186,7 +186,7 @@ fn whole_request(bytes: &[u8], limits: Limits) -> Result<Whole<'_>, Stop>
     })
 }
 
-/// The first item of the bytes, if there is one, and the bytes behind it. Requests of no words are passed over.
+/// The first item of the bytes, if there is one, and the bytes after it. Requests of no words are skipped.
 pub(crate) fn first_item(alloc: Global, bytes: &[u8]) -> Result<(Option<Item>, &[u8]), AllocError>
     ensures { IfOk result (λ x. IsFirst bytes.now x.0 x.1.now) }
 {

@@ -10,8 +10,8 @@ use itoa::{Buffer, Integer};
 use kv_types::Reply;
 use std::alloc::AllocError;
 
-/// Writes the reply's bytes at the end of `out`, arrays in arrays too. It fails only where `out` had not the room for them and could not
-/// make it, and then nothing is written.
+/// Appends the reply's bytes to `out`, nested arrays included. It fails only if `out` had no room for them and could not make it, and
+/// then nothing is written.
 pub fn write_reply<W: BufMut>(reply: &Reply, out: &mut W) -> Result<(), AllocError>
     ensures ok { OnOk result (W.written out.new ≡ W.written out.old ++ text_of reply.now) }
     ensures err { OnErr result (W.written out.new ≡ W.written out.old) }
@@ -23,7 +23,7 @@ pub fn write_reply<W: BufMut>(reply: &Reply, out: &mut W) -> Result<(), AllocErr
     put_reply(reply, out)
 }
 
-/// How many bytes the reply is written in, or `None` where no memory could hold them.
+/// How many bytes the reply's text has, or `None` if no memory could hold them.
 fn text_len(reply: &Reply) -> Option<usize>
     ensures { SomeIff result (length (text_of reply.now) < 2 ^ 64) (length (text_of reply.now)) }
 {

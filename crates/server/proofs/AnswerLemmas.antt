@@ -1,4 +1,4 @@
--- The answer to one connection, out of what a run promises.
+-- The answer to one connection, from what a run promises.
 use Rattle.std.proofs.Common.{◌≡◌, ℕ, zero, suc, Bool, List, [], ◌∷◌, slice_index_or, Option, None, Result, Ok, Err, IfOk, sym, ap, subst, ◌∙◌}
 use Rattle.pmem.specs.Device.{State}
 use Rattle.kv_types.specs.declared.limits.TheConstants.{SERVED_LIMITS}
@@ -37,7 +37,7 @@ fed-schedule input rest (did ∷ done) (new ∷ worlds) feeds run zero =
 fed-schedule input rest (did ∷ done) (new ∷ worlds) feeds run (suc c) =
     subst (λ fed. IsPrefix fed []) (sym (feeds-none (suc c) rest done (feeds (suc c)))) (IsPrefix-itself [])
 
--- of a schedule, what is fed to each connection begins what it sent
+-- under a schedule, what is fed to each connection is a prefix of what it sent
 fed-begins : (input : List ℕ) (events : List Event) (done : List Bool) (worlds : List World) → IsSchedule input events → Run start events done worlds → (c : ℕ) → IsPrefix (fed_to c events done) (alone input c)
 fed-begins input events done worlds schedule run c =
     subst (λ (all : List Event). IsPrefix (fed_to c all done) (alone input c)) (sym schedule.starts)

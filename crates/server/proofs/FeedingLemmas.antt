@@ -1,4 +1,4 @@
--- What is fed to an open connection is a prefix of what the events have for it: once it is closed, no feed does its step.
+-- What is fed to an open connection is a prefix of what the events have for it: once it is closed, no feed is done.
 use Rattle.std.proofs.Common.{◌≡◌, ℕ, zero, suc, ◌<◌, Bool, true, false, not, ◌&&◌, cond, nat_eq, List, [], ◌∷◌, ◌++◌, length, refl, sym, ap, subst, ◌∙◌, append-nil, arith, eqb-true, ◌⊎◌, inl, inr}
 use Rattle.machine.specs.declared.event.Event.{Event}
 use Rattle.machine.specs.declared.event.Event.TheVariants.{Enter, Feed, Offer, Turn, CloseGroup, Commit, RaiseLocal, Hand, OpenLink, Send, Deliver, Apply, AckDelivered, RaiseRemote, Hold, Read, Release, Write}
@@ -109,7 +109,7 @@ closed-by w (Feed c piece) false d e closed = refl
 closed-by w event true d e closed = refl
 closed-by w event false d e closed = fed_by-not d event
 
--- an open connection is fed what the event has for it, or the event has nothing for it, or it is closed
+-- a served connection is fed what the event has for it, or the event is not done and the connection is closed
 open-by : (w : World) (event : Event) (did : Bool) (d : ℕ) → did ≡ is_enabled w event → IsServed w d
     → (fed_by d event did ≡ fed_by d event true) ⊎ ((did ≡ false) × (is_closed_by (fed_in w d) ≡ true))
 open-by w event true d e served = inl refl
@@ -132,7 +132,7 @@ closed-from w (event ∷ events) (did ∷ done) (new ∷ worlds) d run closed =
     ap (λ piece. piece ++ fed_to d events done) none ∙ closed-from new events done worlds d run.1 (ap is_closed_by same ∙ closed)
 closed-from w events done worlds d run closed = absurd run
 
--- what is fed to an open connection begins what the events have for it
+-- what is fed to an open connection is a prefix of what the events have for it
 pub feeds-open : (w : World) (events : List Event) (done : List Bool) (worlds : List World) (d : ℕ) → Run w events done worlds → IsServed w d → IsPrefix (fed_to d events done) (given d events)
 feeds-open w [] [] [] d run served = IsPrefix-none []
 feeds-open w (event ∷ events) (did ∷ done) (new ∷ worlds) d run served =
@@ -149,7 +149,7 @@ append-none : (xs ys : List ℕ) → xs ++ ys ≡ [] → (xs ≡ []) × (ys ≡ 
 append-none [] ys e = (refl, e)
 append-none (x ∷ xs) ys e = cc
 
--- where the events have nothing for it, nothing is fed
+-- if the events have nothing for it, nothing is fed
 pub feeds-none : (d : ℕ) (events : List Event) (done : List Bool) → given d events ≡ [] → fed_to d events done ≡ []
 feeds-none d [] done e = refl
 feeds-none d (event ∷ events) [] e = refl

@@ -28,7 +28,7 @@ pub consumes-piece : (a b c : Option (List ℕ)) (pieces more : List (List ℕ))
 consumes-piece a b c pieces more bytes p q e =
     subst (Consumes a c) (sym (ap concat e ∙ concat-append pieces (bytes ∷ []) ∙ ap (λ last. concat pieces ++ last) (append-nil bytes))) (consumes-then a b c (concat pieces) bytes p q)
 
--- what a reader at its end gave is all that it had
+-- a reader at its end has returned all the bytes that it had
 pub served-whole : (input rest before after : Option (List ℕ)) (bytes answer : List ℕ) → Consumes input rest bytes → IsAtEnd rest → IsAnswer bytes answer → Appends before after answer → IsServed input before after
 served-whole None rest before after bytes answer p end answers written = tt
 served-whole (Some xs) None before after bytes answer p end answers written = absurd p
@@ -94,7 +94,7 @@ written-more {bytes} {rest} n has more = record {
   written = Appends-trans _ _ _ _ _ has.written more;
 }
 
--- some of the bytes from the first on were written, or all
+-- a prefix of the bytes was written, perhaps all of them
 pub written-prefix : {bytes rest : List ℕ} {before after : Option (List ℕ)} → HasWritten bytes rest before after → AppendsPrefix before after bytes
 written-prefix {rest = rest} has = (has.done, record { rest = rest; joined = sym has.split }, has.written)
 

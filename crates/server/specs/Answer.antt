@@ -1,4 +1,4 @@
--- What one connection is answered.
+-- The answer to one connection.
 use Rattle.std.specs.Prelude.{ℕ, List, Option, IfSome}
 use Rattle.std.specs.Io.KnownBytes.{Appends, Keeps}
 use Rattle.kv_types.specs.declared.limits.TheConstants.{SERVED_LIMITS}
@@ -9,21 +9,21 @@ use Rattle.server.specs.Schedule.{alone}
 use Rattle.server.specs.declared.serve.ServeError.{ServeError}
 use Rattle.server.specs.declared.serve.ServeError.TheVariants.{Read, Refused, Write}
 
--- The answer begins the replies of one sequential Redis to the requests that the input asks for, in order, and to no others.
+-- The answer is a prefix of the replies of one sequential Redis to the requests that the input asks for, in order, and to no others.
 pub record IsAnswer (input answer : List ℕ) : Type 0 where
-  -- what was asked and what was replied
+  -- the requests and the replies
   pub calls : List Call
-  -- one sequential Redis replies so, from the empty keyspace
+  -- these are the replies of one sequential Redis, starting from the empty keyspace
   pub legal : IsLegal calls
   -- the requests are those of the input, in order, each once
   pub serves : Serves (λ c. items_at SERVED_LIMITS (alone input c)) calls
   pub begins : IsPrefix answer (replies_to 0 calls)
 
--- Where a reader says the bytes that it has, an answer to them was written after those of the writer, if it says its own.
+-- If the reader says which bytes it has, an answer to them was appended to those of the writer, if the writer says which it holds.
 abbrev pub IsServed : (input before after : Option (List ℕ)) → Type 0
 IsServed input before after = IfSome input (λ bytes. (answer : List ℕ) × IsAnswer bytes answer × Appends before after answer)
 
--- these bytes were written, or some of them from the first on
+-- a prefix of these bytes was appended, perhaps all of them
 abbrev pub AppendsPrefix : (before after : Option (List ℕ)) → List ℕ → Type 0
 AppendsPrefix before after bytes = (prefix : List ℕ) × IsPrefix prefix bytes × Appends before after prefix
 
@@ -33,7 +33,7 @@ IsEarly (Read error) = Unit {0}
 IsEarly (Refused refusal) = Unit {0}
 IsEarly (Write error) = ⊥
 
--- Where serving ended early, nothing was written if it had not come to writing; and else a prefix of an answer, which is an answer too.
+-- If serving ended early, nothing was written if it ended before writing; otherwise a prefix of an answer was, which is an answer too.
 abbrev pub IsServedUpTo : ServeError → (input before after : Option (List ℕ)) → Type 0
 IsServedUpTo (Read error) input before after = Keeps before after
 IsServedUpTo (Refused refusal) input before after = Keeps before after

@@ -15,12 +15,12 @@ pub record FeedsNothing (old new : List Event) : Type 0 where
   pub added : new ≡ old ++ more
   pub nothing : (c : ℕ) → given c more ≡ []
 
--- the bytes of each connection where connection 0 alone sent something
+-- the bytes of each connection if only connection 0 sends any
 abbrev pub alone : List ℕ → ℕ → List ℕ
 alone input zero = input
 alone input (suc c) = []
 
--- the events begin with one connection, and feed it this input whole
+-- the events begin with one connection, and feed it the whole of this input
 pub record IsSchedule (input : List ℕ) (events : List Event) : Type 0 where
   pub rest : List Event
   pub starts : events ≡ Enter ∷ rest

@@ -12,7 +12,7 @@ use world::{Ended, Trace, run};
 
 /// The bytes released to the connection that these pieces come from, served by a pair of new nodes.
 ///
-/// `Memory` where a growth was refused, `Fault` where a fence failed, which a simulated device does only where memory is refused to it.
+/// `Memory` if an allocation was refused, `Fault` if a fence failed, which happens on a simulated device only if it was refused memory.
 pub fn answer(alloc: Global, pieces: Vec<Bytes>) -> Result<Vec<u8>, Refusal>
     ensures { IfOk result (λ answer. IsAnswer (concat pieces.items) answer.items) }
 {
@@ -34,7 +34,7 @@ fn released(alloc: Global, trace: Trace<SimPmem>) -> Result<Vec<u8>, Refusal>
     }
 }
 
-/// The first of these, or no bytes where there is none.
+/// The first of these, or no bytes if there is none.
 fn first(alloc: Global, released: Vec<Vec<u8>>) -> Vec<u8>
     ensures { result.items ≡ slice_index_or (map (λ bytes. bytes.items) released.items) 0 [] }
 {

@@ -14,7 +14,7 @@ use std::rt::Env;
 
 const USAGE: &str = "usage: wbl-server < REQUESTS > REPLIES";
 
-/// The status where the command line is not understood.
+/// The exit status if the command line is not understood.
 const MISUSED: u8 = 2;
 
 fn main(rt: HostRuntime) -> ExitCode {
@@ -36,7 +36,7 @@ fn run(rt: &HostRuntime) -> Result<ExitCode, ServeError> {
     Ok(ExitCode::SUCCESS)
 }
 
-/// Whether anything follows the program's name on the command line, be it text or not.
+/// Whether anything follows the program's name on the command line, whether or not it is text.
 fn has_words(rt: &(impl Env + Alloc)) -> Result<bool, ServeError> {
     match env::args(rt) {
         Ok(words) => Ok(words.skip(1).next().is_some()),

@@ -11,7 +11,7 @@ use std::alloc::{AllocError, Global};
 /// The only connection.
 pub const CONNECTION: u64 = 0;
 
-/// The lines of each image: as few as may be.
+/// The number of lines of each image: the smallest possible.
 pub const IMAGE_LINES: u64 = MIN_LINES;
 
 /// The most commands that change something: each makes a version, which takes an entry of the directory.
@@ -34,7 +34,7 @@ pub fn schedule(alloc: Global, pieces: Vec<Bytes>) -> Result<Vec<Event>, AllocEr
     Ok(events)
 }
 
-/// The most items that the pieces ask for: requests, and a fault after them.
+/// The most items that the pieces can ask for: requests, and a protocol fault after them.
 fn most_items(pieces: &[Bytes]) -> usize {
     let mut bytes: usize = 0;
     for piece in pieces {
@@ -43,7 +43,7 @@ fn most_items(pieces: &[Bytes]) -> usize {
     (bytes / SHORTEST_REQUEST) + 1
 }
 
-/// The pieces come in.
+/// Feeds the pieces.
 fn feed_all(events: &mut Vec<Event>, pieces: Vec<Bytes>) -> Result<(), AllocError>
     ensures { OnOk result (events.new.items ≡ events.old.items ++ map (Event.Feed CONNECTION) pieces.items) }
 {
@@ -53,7 +53,7 @@ fn feed_all(events: &mut Vec<Event>, pieces: Vec<Bytes>) -> Result<(), AllocErro
     Ok(())
 }
 
-/// So many items are called.
+/// Calls `items` items.
 fn call_all(events: &mut Vec<Event>, items: usize) -> Result<(), AllocError>
     ensures { OnOk result (FeedsNothing events.old.items events.new.items) }
 {
@@ -63,7 +63,7 @@ fn call_all(events: &mut Vec<Event>, items: usize) -> Result<(), AllocError>
     Ok(())
 }
 
-/// The next item is called, the primary commits what it changed, and the gate takes its reply.
+/// Calls the next item; the primary commits what it changed, and the gate takes its reply.
 fn call_next(events: &mut Vec<Event>) -> Result<(), AllocError>
     ensures { OnOk result (FeedsNothing events.old.items events.new.items) }
 {
@@ -78,7 +78,7 @@ fn call_next(events: &mut Vec<Event>) -> Result<(), AllocError>
     Ok(())
 }
 
-/// The standby takes so many frames.
+/// The standby takes `frames` frames.
 fn replicate_all(events: &mut Vec<Event>, frames: usize) -> Result<(), AllocError>
     ensures { OnOk result (FeedsNothing events.old.items events.new.items) }
 {
@@ -110,7 +110,7 @@ fn release_all(events: &mut Vec<Event>) -> Result<(), AllocError>
     Ok(())
 }
 
-/// What was released is written whole, by falling powers of two, however many bytes it has.
+/// Writes all released bytes, by descending powers of two, however many there are.
 fn write_all(events: &mut Vec<Event>) -> Result<(), AllocError>
     ensures { OnOk result (FeedsNothing events.old.items events.new.items) }
 {

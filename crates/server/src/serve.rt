@@ -76,10 +76,10 @@ impl<T: Drop> From<AllocFailed<T>> for ServeError {
     }
 }
 
-/// Reads one connection's bytes to their end, serves them by a pair of new nodes, and writes what is released.
+/// Reads one connection's bytes to their end, serves them with a pair of new nodes, and writes what is released.
 ///
-/// `Read` where a read failed, `Refused` where the server refused a call: nothing was written. `Write` where a write failed: what was written begins
-/// the replies.
+/// `Read` if a read failed, `Refused` if the server refused a call: nothing was written. `Write` if a write failed: what was written is a prefix
+/// of the replies.
 pub fn serve<R: Read, W: Write>(
     alloc: Global,
     reader: &mut R,
@@ -97,7 +97,7 @@ pub fn serve<R: Read, W: Write>(
     }
 }
 
-/// The bytes of a reader up to its end, in the pieces in which it gives them.
+/// The bytes of a reader up to its end, in the pieces in which it returns them.
 fn read_pieces<R: Read>(alloc: Global, reader: &mut R) -> Result<Vec<Bytes>, ServeError>
     ensures whole { OnOk result (IsAtEnd (R.remaining reader.new)) }
     ensures pieces { IfOk result (λ pieces. Consumes (R.remaining reader.old) (R.remaining reader.new) (concat pieces.items)) }
@@ -116,7 +116,7 @@ fn read_pieces<R: Read>(alloc: Global, reader: &mut R) -> Result<Vec<Bytes>, Ser
     Err(ServeError::Read(io::Error::from(ErrorKind::FileTooLarge)))
 }
 
-/// Writes the replies, and has them out. After an `Err` some of them from the first on were written, or all.
+/// Writes and flushes the replies. On `Err` a prefix of them was written, perhaps all.
 fn write_replies<W: Write>(writer: &mut W, replies: &[u8]) -> io::Result<()>
     ensures whole { OnOk result (Appends (W.contents writer.old) (W.contents writer.new) replies.now) }
     ensures prefix { OnErr result (AppendsPrefix (W.contents writer.old) (W.contents writer.new) replies.now) }
@@ -126,7 +126,7 @@ fn write_replies<W: Write>(writer: &mut W, replies: &[u8]) -> io::Result<()>
     Ok(())
 }
 
-/// Writes the bytes. After an `Err` some of them from the first on were written.
+/// Writes the bytes. On `Err` a prefix of them was written.
 fn write_bytes<W: Write>(writer: &mut W, bytes: &[u8]) -> io::Result<()>
     ensures whole { OnOk result (Appends (W.contents writer.old) (W.contents writer.new) bytes.now) }
     ensures prefix { OnErr result (AppendsPrefix (W.contents writer.old) (W.contents writer.new) bytes.now) }

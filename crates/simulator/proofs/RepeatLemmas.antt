@@ -1,4 +1,4 @@
--- A list to which one thing is added, over and over.
+-- A list to which the same element is added repeatedly.
 use Rattle.std.proofs.Common.{◌≡◌, ℕ, ◌+◌, List, [], ◌∷◌, ◌++◌, replicate, ap, ap₂, ◌∙◌}
 use Rattle.std.proofs.lemmas.List.{replicate_more, append_assoc}
 

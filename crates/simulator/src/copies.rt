@@ -4,7 +4,7 @@ ghost use Rattle.std.specs.Prelude.{◌≡◌, IfOk};
 use machine::Event;
 use std::alloc::AllocError;
 
-/// The same event once more. Bytes are shared.
+/// A copy of the event. Bytes are shared.
 pub fn copy_of(event: &Event) -> Result<Event, AllocError>
     ensures { IfOk result (λ copy. copy ≡ event.now) }
 {

@@ -7,18 +7,18 @@ use std::{fmt, io};
 
 const USAGE: &str = "usage: wbl-sim [--lines N,N] [--map] [--images] [--plain] < EVENTS";
 
-/// The status where the command line or a line of the events is not understood.
+/// The exit status if the command line or a line of the events is not understood.
 const MISUSED: u8 = 2;
 
-/// The status where the simulator itself failed.
+/// The exit status if the simulator itself failed.
 const FAILED: u8 = 1;
 
-/// Why the simulator ended without a whole report. But for `Write` and `Memory`, nothing was printed.
+/// Why the simulator ended without a whole report. Except for `Write` and `Memory`, nothing was printed.
 #[derive(Debug, Drop)]
 pub enum SimulatorError {
     /// The command line is not understood.
     Usage,
-    /// The line of this number, counted from 1, is not understood. Nothing was played.
+    /// The line with this number, counted from 1, is not understood. Nothing was played.
     Line(u64, Cause),
     /// The events could not be read to their end.
     Read(io::Error),
@@ -37,7 +37,7 @@ impl SimulatorError {
         }
     }
 
-    /// The error of the line of this number.
+    /// The error for the line with this number.
     pub fn at_line(number: u64, error: LineError) -> SimulatorError {
         match error {
             LineError::Memory => SimulatorError::Memory,

@@ -10,7 +10,7 @@ use hex::FromHexError;
 use machine::Event;
 use std::alloc::{AllocError, Global};
 
-/// The event of this name and of the words that follow it.
+/// The event with this name and the words that follow it.
 pub fn read_event(
     alloc: Global,
     name: &[u8],
@@ -30,7 +30,7 @@ pub fn read_event(
     Ok(event)
 }
 
-/// The event that is named without more words.
+/// The event whose name takes no more words.
 fn event_alone(name: &[u8]) -> Option<Event> {
     match name {
         b"enter" => Some(Event::Enter),
@@ -46,7 +46,7 @@ fn event_alone(name: &[u8]) -> Option<Event> {
     }
 }
 
-/// The event that is named with a number: a connection, a frame or an acknowledgement.
+/// The event whose name takes a number: a connection, a frame or an acknowledgement.
 fn event_with_number(name: &[u8], words: &mut LineWords<'_>) -> Result<Event, Cause> {
     match name {
         b"offer" => Ok(Event::Offer(words.number()?)),

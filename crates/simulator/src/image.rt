@@ -11,7 +11,7 @@ use std::alloc::{AllocError, Global};
 #[derive(Debug, Drop)]
 pub struct DeviceImage {
     pub words: Vec<u64>,
-    /// `None` where the words are no whole image.
+    /// `None` if the words are not a whole image.
     pub contents: Option<ImageContents>,
 }
 

@@ -7,7 +7,7 @@ use crate::node::Node;
 use crate::number::read_number;
 use machine::Mark;
 
-/// The words of a line that are not read yet. One or more spaces stand between two words.
+/// The words of a line that are not yet read. Words are separated by one or more spaces.
 #[derive(Drop)]
 pub struct LineWords<'a> {
     rest: &'a [u8],
@@ -63,7 +63,7 @@ impl<'a> LineWords<'a> {
         }
     }
 
-    /// No word may be left.
+    /// Checks that no word is left.
     pub fn end(&mut self) -> Result<(), Cause> {
         match self.next() {
             None => Ok(()),
@@ -82,7 +82,7 @@ fn without_spaces(line: &[u8]) -> &[u8]
     }
 }
 
-/// How long the first word is. The first byte is of it.
+/// The length of the first word, which begins with the first byte.
 fn word_len(line: &[u8]) -> usize
     requires { 0 < length line.now }
     ensures some { 0 < result }

@@ -1,4 +1,4 @@
-//! Plays a list of events over a pair of simulated nodes, and prints what came of it.
+//! Plays a list of events over a pair of simulated nodes, and prints the outcome.
 #![tactic(auto)]
 
 mod cause;

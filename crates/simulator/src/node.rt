@@ -9,7 +9,7 @@ pub enum Node {
 }
 
 impl Node {
-    /// Where its device stands among those of a run.
+    /// The index of its device among those of a run.
     pub fn place(self) -> usize {
         match self {
             Node::Primary => 0,

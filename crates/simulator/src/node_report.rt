@@ -11,7 +11,7 @@ use std::alloc::Global;
 use std::io;
 use std::io::Write;
 
-/// Prints the position of each node, then the records of each and then the words of each, where they are asked for.
+/// Prints the position of each node, then the records of each and then the words of each, if they are asked for.
 pub fn write_nodes<W: Write>(
     alloc: Global,
     out: &mut W,

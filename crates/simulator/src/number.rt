@@ -5,7 +5,7 @@ ghost use Rattle.std.specs.Fmt.{decimal};
 use itoa::Buffer;
 use std::str;
 
-/// The number of this text, and `None` where no number below 2^64 is written so: `+1`, `01`, `1.0` and an empty text are refused.
+/// The number that this text writes, or `None` if no number below 2^64 is written so: `+1`, `01`, `1.0` and an empty text are refused.
 pub fn read_number(text: &[u8]) -> Option<u64>
     ensures found { IfSome result (λ n. text.now ≡ decimal n) }
     ensures refused { IfNone result ((n : ℕ) → n < 2 ^ 64 → text.now ≢ decimal n) }
@@ -16,7 +16,7 @@ pub fn read_number(text: &[u8]) -> Option<u64>
     let Ok(number) = shown.parse::<u64>() else {
         return None;
     };
-    // The text is the number's own if writing the number gives it back.
+    // The text is the number's own if formatting the number returns the same text.
     let mut buffer = Buffer::new();
     if buffer.format(number).as_bytes() == text {
         Some(number)

@@ -5,7 +5,7 @@ use std::io::ErrorKind;
 use std::rt::Env;
 use std::{env, io};
 
-/// The lines of each device where the command line does not say otherwise.
+/// The lines of each device if the command line does not say otherwise.
 const USUAL_LINES: u64 = 4_096;
 
 /// What the command line asks for.
@@ -23,7 +23,7 @@ pub struct Options {
     pub plain: bool,
 }
 
-/// Reads the command line. `Usage` where it is not understood.
+/// Reads the command line. `Usage` if it is not understood.
 pub fn read_options(rt: &(impl Env + Alloc)) -> Result<Options, SimulatorError> {
     let words = env::args(rt).map_err(unread)?;
     let mut options = Options {
@@ -50,7 +50,7 @@ pub fn read_options(rt: &(impl Env + Alloc)) -> Result<Options, SimulatorError> 
     Ok(options)
 }
 
-/// A word of the command line that is no text is not understood.
+/// The error for a command line that cannot be read: an argument that is not text is not understood.
 fn unread(error: io::Error) -> SimulatorError {
     if error.kind() == ErrorKind::OutOfMemory {
         SimulatorError::Memory

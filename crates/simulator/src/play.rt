@@ -9,7 +9,7 @@ use pmem::{Crashing, Pmem, SimPmem};
 use std::alloc::{AllocError, Global};
 use world::{Trace, run};
 
-/// Plays the events over two new devices, and crashes those that are to crash once the run is over. An error where memory was refused to the
+/// Plays the events over two new devices, and crashes those that are to crash once the run is over. An error if memory was refused to the
 /// simulator or to one of its devices.
 pub fn play(
     alloc: Global,
@@ -22,7 +22,7 @@ pub fn play(
     Ok(trace)
 }
 
-/// The primary's device and the standby's, which fail as they are told to.
+/// The primary's device and the standby's, which fail as told.
 fn new_devices(
     alloc: Global,
     options: &Options,
@@ -41,7 +41,7 @@ fn new_devices(
     Ok(vec![in alloc; primary, standby]?)
 }
 
-/// Crashes devices, one after another. An error too where one of them was refused memory, since it does not know all that a crash may leave.
+/// Crashes devices, one after another. Also an error if one of them was refused memory, since it does not know all that a crash may leave.
 fn crash_devices(
     alloc: Global,
     devices: &mut Vec<SimPmem>,
@@ -58,7 +58,7 @@ fn crash_devices(
     Ok(())
 }
 
-/// A new device of so many lines. Its words are counted in 64 bits, so that no memory could hold more than 2^61 lines.
+/// A new device with `lines` lines. Its words are counted in 64 bits, so 2^61 lines or more are refused.
 fn new_device(alloc: Global, lines: u64) -> Result<SimPmem, AllocError> {
     if lines >= 1 << 61 {
         return Err(AllocError);
@@ -66,14 +66,14 @@ fn new_device(alloc: Global, lines: u64) -> Result<SimPmem, AllocError> {
     SimPmem::new(alloc, lines)
 }
 
-/// Crashes a device, in which a word of several candidates gets the one that the next pick names. The picks begin again where they end.
+/// Crashes a device: a word with several candidates gets the one that the next pick selects. The picks start over when they run out.
 fn crash_device(alloc: Global, device: &mut SimPmem, picks: &[u64]) -> Result<(), AllocError> {
     let picks = repeated(alloc, picks, 8 * device.lines())?;
     device.crash(picks.as_slice());
     Ok(())
 }
 
-/// So many picks, over and over from the first; none where there are none.
+/// `count` picks, starting over from the first when they run out; none if `picks` is empty.
 fn repeated(alloc: Global, picks: &[u64], count: u64) -> Result<Vec<u64>, AllocError>
     ensures { IfOk result (λ all. 0 < length picks.now
         → all.items ≡ map (λ i. slice_index picks.now (i % length picks.now)) (range_with_len 0 count)) }

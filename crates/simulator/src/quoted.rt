@@ -1,7 +1,7 @@
 //! Bytes as they are printed.
 use std::fmt;
 
-/// Bytes between quotes: printable ASCII as it is, but `\"` and `\\`; then `\r`, `\n`, `\t`, and `\x` and two hex digits for any other.
+/// Bytes between quotes: printable ASCII as it is, except `\"` and `\\`; then `\r`, `\n`, `\t`, and `\x` and two hex digits for any other.
 #[derive(Clone, Copy)]
 pub struct Quoted<'a>(pub &'a [u8]);
 

@@ -1,4 +1,4 @@
-//! Printing what came of a run.
+//! Printing the outcome of a run.
 use crate::error::SimulatorError;
 use crate::node_report::write_nodes;
 use crate::options::Options;
@@ -14,7 +14,7 @@ use std::io;
 use std::io::Write;
 use world::{Ended, Trace};
 
-/// Prints the events, the calls, the plain answers, the released bytes, what the nodes told each other, what both hold and how the run ended.
+/// Prints the events, the calls, the plain answers, the released bytes, the frames, the acknowledgements, what both nodes hold and how the run ended.
 pub fn report<W: Write>(
     alloc: Global,
     out: &mut W,

@@ -34,7 +34,7 @@ impl Schedule {
         self.lines.as_slice()
     }
 
-    /// Adds the event of a line so many times.
+    /// Adds the event of a line `times` times.
     #[tactic(auto, using(crate::proofs::RepeatLemmas::once_more))]
     pub fn add(&mut self, event: &Event, times: u64, line: u64) -> Result<(), LineError>
         ensures events { OnOk result (self.new.events.items ≡ self.old.events.items ++ replicate times event.now) }

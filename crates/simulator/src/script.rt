@@ -12,7 +12,7 @@ use std::alloc::Global;
 #[derive(Clone, Copy, Debug, PartialEq, Eq)]
 pub struct Failure {
     pub node: Node,
-    /// Which fence of the node, counted from 1; at 0 none fails.
+    /// Which fence of the node, counted from 1; with 0 none fails.
     pub fence: u64,
 }
 
@@ -20,7 +20,7 @@ pub struct Failure {
 #[derive(Debug, Drop)]
 pub struct Crash {
     pub node: Node,
-    /// Which candidates are left, in turn. There is one at least.
+    /// Which candidates are left, in turn. There is at least one pick.
     pub picks: Vec<u64>,
 }
 
@@ -34,7 +34,7 @@ pub struct Script {
     pub crashes: Vec<Crash>,
 }
 
-/// Reads all lines. `Line` names the first that is not understood, and its cause.
+/// Reads all lines. `Line` gives the first that is not understood, and its cause.
 pub fn read_script(alloc: Global, text: &[u8]) -> Result<Script, SimulatorError> {
     let mut script = Script {
         failures: Vec::new(alloc),
@@ -70,7 +70,7 @@ fn add_line(alloc: Global, script: &mut Script, line: &[u8], number: u64) -> Res
     }
 }
 
-/// The event of this name and of the words that follow it, so many times.
+/// Adds the event with this name and the words that follow it, `times` times.
 fn add_events(
     alloc: Global,
     script: &mut Script,

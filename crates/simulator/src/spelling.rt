@@ -8,7 +8,7 @@ use kv_types::Reply;
 use resp_codec::write_reply;
 use std::alloc::{AllocError, Global};
 
-/// The spelling of the request of these words.
+/// The spelling of the request with these words.
 pub fn spelled(alloc: Global, words: Vec<Bytes>) -> Result<Bytes, AllocError>
     ensures { IfOk result (λ text. text ≡ spelling words.items) }
 {
@@ -17,7 +17,7 @@ pub fn spelled(alloc: Global, words: Vec<Bytes>) -> Result<Bytes, AllocError>
     Ok(Bytes::from_vec(text)?)
 }
 
-/// What comes before the words of a request of so many words.
+/// What comes before the words of a request of `count` words.
 fn head_of(alloc: Global, count: usize) -> Result<Vec<u8>, AllocError>
     ensures { IfOk result (λ text. text.items ≡ 42 ∷ number_line count) }
 {
@@ -28,7 +28,7 @@ fn head_of(alloc: Global, count: usize) -> Result<Vec<u8>, AllocError>
     Ok(text)
 }
 
-/// Puts words, each of which is spelled as a bulk string is.
+/// Appends words, each spelled as a bulk string.
 fn put_words(text: &mut Vec<u8>, words: Vec<Bytes>) -> Result<(), AllocError>
     ensures { OnOk result (text.new.items ≡ text.old.items ++ flat_map bulk words.items) }
 {

@@ -1,4 +1,4 @@
--- A standby that has taken a frame whole goes on following, and its engine was asked for a lawful commit.
+-- A standby that has taken a whole frame still follows, and the commit asked of its engine meets the engine's contract.
 use Rattle.std.proofs.Common.{◌≡◌, ℕ, ◌<◌, ◌≤◌, ◌⊎◌, inl, inr, List, [], ◌∷◌, map, None, refl, sym, ap, subst, ◌∙◌}
 use Rattle.std.specs.List.{AllByRecursion}
 use Rattle.kv_types.specs.Keyspace.{play_all}

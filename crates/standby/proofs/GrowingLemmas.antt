@@ -1,4 +1,4 @@
--- A group that grows by one part after another, each with places of the heap that the last one left.
+-- A group that grows part by part, each with places from the heap that the previous part left.
 use Rattle.std.proofs.Common.{◌≡◌, ℕ, suc, add-one, ◌+◌, ◌<◌, ◌≤◌, IsTrue, List, [], ◌∷◌, ◌++◌, length, None, refl, sym, ap, subst, ◌∙◌}
 use Rattle.std.specs.List.{flat_map, AllByRecursion}
 use Rattle.model.specs.declared.group.Group.{Group}
@@ -21,7 +21,7 @@ use Rattle.placing.proofs.PartsLemmas.{parts_versions-append, AreParts-append, p
 use Rattle.placing.proofs.TakenLemmas.{All-map, IsFree, places_free, places_taken, places_fitting, places_apart, not_put_at, AreDistinct-from_apart}
 use Rattle.standby.proofs.NewLemmas.{HasAll, left-new}
 
--- ---- one part more
+-- ---- one more part
 
 pub count-more : (parts : List Part) (part : Part) → length (parts ++ part ∷ []) ≡ length parts + 1
 count-more [] part = refl
@@ -29,7 +29,7 @@ count-more (first ∷ parts) part = ap suc (count-more parts part) ∙ ap suc (a
 
 -- ---- the group so far
 
--- the parts follow one another from a position on, their puts took the places of the start that the room has no more, and the table is that of their versions
+-- the parts follow one another from `position`, their puts took the places of `start` that `room` no longer has, and the table is that of their versions
 pub record IsGrown (versions : Versions) (position : ℕ) (start : Room) (parts : List Part) (table : Table) (room : Room) : Type 0 where
   pub takes : TakesPlaces start (flat_map puts_of_part parts) room
   pub parts_are : AreParts position versions parts
@@ -62,7 +62,7 @@ module _ (versions : Versions) (position : ℕ) (start : Room) (parts : List Par
       puts_distinct : AreDistinct (puts_of_part part)
       puts_distinct = AreDistinct-from_apart (puts_of_part part) (places_apart room (puts_of_part part) left takes)
 
--- what grew from places that the contents have left is a group
+-- parts grown from the places that the contents leave free are a group
 pub grown-group : (contents : Contents) (start : Room) (group : Group) (table : Table) (room : Room) → IsLeftOf contents start → IsGrown contents.versions contents.current.position start group.parts.items table room
     → group.before ≡ contents.current.position → 0 < length group.parts.items → length group.parts.items ≤ MAX_PARTS → IsGroup contents group
 grown-group contents start group table room left grown before some few = record {
@@ -82,7 +82,7 @@ grown-group contents start group table room left grown before some few = record 
     free : AllByRecursion (IsFree start) puts
     free = places_free start puts room grown.takes
 
--- what grew from a new heap is a group for each new image
+-- parts grown from a new heap are a group for each new image
 pub group-new : (lines : ℕ) (role : Role) (start : Room) (group : Group) (table : Table) (room : Room) → HasAll lines start
     → ((versions : Versions) → ((i : ℕ) → versions i ≡ None) → IsGrown versions 0 start group.parts.items table room) → group.before ≡ 0 → 0 < length group.parts.items → length group.parts.items ≤ MAX_PARTS
     → (contents : Contents) → IsNew lines role contents → IsGroup contents group

@@ -11,7 +11,7 @@ use Rattle.placing.specs.Left.{IsLeftOf}
 use Rattle.wbl_engine.specs.Contents.{Keeps}
 use Rattle.standby.specs.declared.frame.Frame.{Frame}
 
--- ---- what it keeps true
+-- ---- the invariant
 
 -- The keyspace and the heap of a node are those of the contents of its engine.
 pub record Follows (contents : Contents) (table : Table) (room : Room) : Type 0 where
@@ -34,8 +34,8 @@ pub record HasTaken (frame : Frame) (before after : Contents) (old new : Table) 
   pub role : after.current.role ≡ before.current.role
   pub epoch : after.current.epoch ≡ before.current.epoch
 
--- After this record, a commit of one part up to this position: the limit of the stamps, the position or the number of the record would reach
--- the limit of counters.
+-- After this record, a commit of one part up to this position would bring the limit of the stamps, the position or the number of the record
+-- to the limit of counters.
 abbrev pub WouldExhaust : Record → ℕ → Type 0
 WouldExhaust current position =
     (COUNTER_LIMIT ≤ current.cp + 1 + 1 + STAMP_WINDOW)

@@ -1,4 +1,4 @@
-//! What the two nodes tell each other.
+//! The messages between the two nodes.
 use kv_types::Change;
 
 /// The changes of the list of calls between two positions, as the primary of an epoch sends them.
@@ -12,7 +12,7 @@ pub struct Frame {
     pub changes: Vec<Change>,
 }
 
-/// The standby's word that everything up to a position is durable there.
+/// The standby's statement that everything up to a position is durable on it.
 #[derive(Clone, Copy, Debug, PartialEq, Eq)]
 pub struct Ack {
     pub epoch: u64,

@@ -12,8 +12,8 @@ use mv_keyspace::Keyspace;
 use placing::perform;
 use std::alloc::Global;
 
-/// All changes of the frame, as one part at its end. What it stores shares the bytes of the frame. `Refusal::Full` where the heap has no room for
-/// all that they put, `Refusal::Memory` where a growth was refused; then the keyspace and the heap are as they were.
+/// Makes all changes of the frame, as one part at its end. What it stores shares the bytes of the frame. `Refusal::Full` if the heap has no room
+/// for all their puts, `Refusal::Memory` if an allocation was refused; then the keyspace and the heap are unchanged.
 pub(crate) fn make_part<K: Keyspace>(
     alloc: Global,
     keyspace: &mut K,

@@ -15,7 +15,7 @@ use mv_keyspace::Keyspace;
 use std::alloc::Global;
 use wbl_engine::Durable;
 
-/// A node that follows a primary: its engine, the keyspace that its image holds, and what its image has left. Its epoch is that of its record.
+/// A node that follows a primary: its engine, the keyspace that its image holds, and the free room of its image. Its epoch is that of its record.
 #[derive(Drop)]
 pub struct Standby<E: Durable, K: Keyspace> {
     pub engine: E,
@@ -24,7 +24,7 @@ pub struct Standby<E: Durable, K: Keyspace> {
 }
 
 impl<E: Durable, K: Keyspace> Standby<E, K> {
-    /// A standby over an engine, with the keyspace that its image holds and a heap of what the image has left.
+    /// A standby over an engine, with the keyspace that its image holds and a heap of the image's free room.
     pub fn new(engine: E, keyspace: K, heap: ExtentHeap) -> Standby<E, K>
         ensures { result ≡ record { engine = engine; keyspace = keyspace; heap = heap } }
     {
@@ -49,7 +49,7 @@ impl<E: Durable, K: Keyspace> Standby<E, K> {
         self.engine.record().epoch
     }
 
-    /// The acknowledgement of the present position.
+    /// The acknowledgement of the current position.
     pub fn ack(&self) -> Ack
         ensures { result ≡ record { epoch = (E.contents self.now.engine).current.epoch; position = (E.contents self.now.engine).current.position } }
     {
@@ -59,14 +59,14 @@ impl<E: Durable, K: Keyspace> Standby<E, K> {
         }
     }
 
-    /// Takes a frame. One that ends at the standby's position or below it is acknowledged again. One that begins there moves the standby by all
-    /// its changes under one record, and is acknowledged.
+    /// Takes a frame. One that ends at the standby's position or below it is acknowledged again. One that begins at its position moves the
+    /// standby by all the frame's changes under one record, and is acknowledged.
     ///
     /// # Errors
     ///
-    /// `WrongEpoch` for a frame of another epoch, `PositionGap` for one that begins elsewhere, `Exhausted` where a counter would reach 2^62,
-    /// `Full` where the image has no room for its puts, `Memory` where a growth was refused: nothing changed. `Fault` where a fence failed: the
-    /// engine holds what it held, and the keyspace and the heap may be ahead of it, so that the image has to be reopened.
+    /// `WrongEpoch` for a frame of another epoch, `PositionGap` for one that begins elsewhere, `Exhausted` if a counter would reach 2^62,
+    /// `Full` if the image has no room for its puts, `Memory` if an allocation was refused: nothing changed. `Fault` if a fence failed: the
+    /// engine still holds what it held, but the keyspace and the heap may be ahead of it, so the image has to be reopened.
     pub fn on_frame(&mut self, alloc: Global, frame: &Frame) -> Result<Ack, Refusal>
         requires follows { Follows (E.contents self.old.engine) (K.table self.old.keyspace) self.old.heap }
         requires sound { E.is_faulted self.old.engine ≡ false }
@@ -79,7 +79,7 @@ impl<E: Durable, K: Keyspace> Standby<E, K> {
             → frame.now.before ≢ (E.contents self.old.engine).current.position
             → (result ≡ Err PositionGap) × (self.new ≡ self.old) }
 
-        // of a frame that comes next
+        // for the frame that comes next
         ensures ack { frame.now.epoch ≡ (E.contents self.old.engine).current.epoch → IsNext (E.contents self.old.engine).current.position frame.now
             → IfOk result (λ ack. ack ≡ record { epoch = frame.now.epoch; position = frame.now.after }) }
         ensures taken { frame.now.epoch ≡ (E.contents self.old.engine).current.epoch → IsNext (E.contents self.old.engine).current.position frame.now
@@ -98,7 +98,7 @@ impl<E: Durable, K: Keyspace> Standby<E, K> {
         ensures refused { ¬ IsErrOf result Fault → OnErr result ((self.new.engine ≡ self.old.engine)
             × (K.table self.new.keyspace ≡ K.table self.old.keyspace) × (self.new.heap ≡ self.old.heap)) }
 
-        // of any frame
+        // for any frame
         ensures one_epoch { IfOk result (λ ack. (ack.epoch ≡ frame.now.epoch) × (ack.epoch ≡ (E.contents self.new.engine).current.epoch)
             × (ack.position ≡ (E.contents self.new.engine).current.position)) }
         ensures still { ¬ IsErrOf result Fault → Follows (E.contents self.new.engine) (K.table self.new.keyspace) self.new.heap }
@@ -129,7 +129,7 @@ impl<E: Durable, K: Keyspace> Standby<E, K> {
         self.take(alloc, frame)
     }
 
-    /// Takes the frame that comes next, which takes no counter to its limit: one commit of one part.
+    /// Takes the frame that comes next, which brings no counter to its limit: one commit of one part.
     fn take(&mut self, alloc: Global, frame: &Frame) -> Result<Ack, Refusal>
         requires follows { Follows (E.contents self.old.engine) (K.table self.old.keyspace) self.old.heap }
         requires sound { E.is_faulted self.old.engine ≡ false }
@@ -169,7 +169,7 @@ impl<E: Durable, K: Keyspace> Standby<E, K> {
     }
 }
 
-/// Whether the commit of one part up to this position would take a counter to its limit.
+/// Whether the commit of one part up to this position would bring a counter to its limit.
 fn would_exhaust(current: &Record, position: u64) -> bool
     ensures { IsTrue result ↔ WouldExhaust current.now position }
 {
@@ -179,7 +179,7 @@ fn would_exhaust(current: &Record, position: u64) -> bool
 }
 
 impl<E: Durable, K: Keyspace + Drop> Standby<E, K> {
-    /// The engine's device, as it is.
+    /// The engine's device, unchanged.
     pub fn into_device(self) -> E::Device
         ensures { E.Device.state result ≡ E.device self.engine }
     {

@@ -1,4 +1,4 @@
-//! A commit of as many parts as a group may have, to a simulated device. Names and values are written as numbers.
+//! A commit of a group with the most parts it may have, to a simulated device. Names and values are written as numbers.
 ghost use Rattle.std.specs.Prelude.{◌≡◌, ℕ, ◌<◌, ◌≤◌, ◌↔◌, [], IsTrue, IfOk};
 ghost use Rattle.extent_heap.specs.Room.{is_free_line, is_free_entry};
 ghost use Rattle.model.specs.Group.{Contents, IsGroup};
@@ -17,10 +17,10 @@ use std::process::Abort;
 use std::test::Fail;
 use wbl_engine::{Durable, WblEngine};
 
-/// A record: its key, and its field if it is one of a hash.
+/// The name of a record: its key, and its field if it belongs to a hash.
 type Name = (i64, Option<i64>);
 
-/// A change of a case.
+/// A change in a test case.
 #[derive(Clone, Copy)]
 enum Step {
     Put(Name, i64),
@@ -79,7 +79,7 @@ fn new_engine(alloc: Global) -> Result<WblEngine<SimPmem>, Refusal>
     }
 }
 
-/// All entries and extents of a new image of so many lines are free.
+/// The heap of a new image with `lines` lines: all its entries and extents are free.
 fn heap_of(lines: u64) -> ExtentHeap
     ensures lines { (line : ℕ) → IsTrue (is_free_line result line) ↔ ((first_extent_line lines ≤ line) × (line < lines)) }
     ensures entries { (i : ℕ) → IsTrue (is_free_entry result i) ↔ (i < entries_of_lines lines) }
@@ -91,7 +91,7 @@ fn heap_of(lines: u64) -> ExtentHeap
     )
 }
 
-/// What a device holds, as its words are loaded.
+/// What a device holds, read from its loaded words.
 fn contents_of(alloc: Global, device: &SimPmem) -> Result<ImageContents, Fail> {
     let mut words = Vec::new(alloc);
     for word in 0..8 * device.lines() {
@@ -100,7 +100,7 @@ fn contents_of(alloc: Global, device: &SimPmem) -> Result<ImageContents, Fail> {
     Ok(read_image(alloc, &words)?.ok_or("no whole image")?)
 }
 
-/// The record has this value.
+/// Checks that the record has this value.
 fn holds(
     rt: &impl Abort,
     alloc: Global,
@@ -125,14 +125,14 @@ fn step_at(position: u8) -> Step {
         59 => Step::Drop((22, None)),
         60 => Step::Drop((7, Some(41))),
         61 => Step::DropKey(23),
-        // A string is written over, and another gives way to a hash.
+        // A string is overwritten, and another is replaced by a hash.
         62 => Step::Put((24, None), number),
         63 => Step::Put((25, Some(1)), number),
         _ => Step::Put((number, None), number),
     }
 }
 
-/// A group of so many parts for a new image, made on an empty keyspace.
+/// A group of `count` parts for a new image, made on an empty keyspace.
 fn group_of<K: Keyspace + Drop>(alloc: Global, keyspace: K, count: u8) -> Result<Group, Fail>
     requires empty { K.table keyspace ≡ [] }
     requires some { 0 < count }

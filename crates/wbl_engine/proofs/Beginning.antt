@@ -47,7 +47,7 @@ contents_consistent r d =
       beyond = versions-beyond r d;
     }
 
--- at rest the image has just these versions
+-- at rest the image has exactly these versions
 pub rest_fits : (r : Record) (d : State) → IsAtRest r d → Fits r d.lines (image_of d.words) (contents_of r d).versions
 rest_fits r d rest =
     record {

@@ -36,7 +36,7 @@ at_rest_staging {r} {lines} {image} {versions} fits =
       by = λ word x stored. absurd stored;
     }
 
--- a word that matters is of no record
+-- a word that matters belongs to no record
 pub no_record_word : (r : Record) (lines n : ℕ) (image : Image) (versions : Versions) → Fits r lines image versions → (word : ℕ)
     → Matters r lines image word → IsRecordWord n word → ⊥
 no_record_word r lines n image versions fits word (inl before) (inl root) = omega (arith, before, root)
@@ -118,7 +118,7 @@ record_keeps r d b group image rest asked storable staged recorded =
       | inr new ↦ inr (new_keeps r d b group image rest asked storable staged recorded.elsewhere new)
     ]
 
--- the record stands when the group is stored
+-- the record is still there when the group is stored
 pub stage_succeeded : (r : Record) (d b : State) (group : Group) → IsAtRest r d → IsGroup (contents_of r d) group
     → AllByRecursion IsStorable (puts_of_parts group.parts.items)
     → Staged d b (parts_pairs (r.cp + 1) group.parts.items) (parts_lines group.parts.items) → IsSucceeded b.words r (next_record r group)

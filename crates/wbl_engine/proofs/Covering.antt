@@ -1,4 +1,4 @@
--- Every store of a group is of a line that is flushed, and every word of a put's place is stored.
+-- Every store of a group is to a line that is flushed, and every word of a put's place is stored.
 use Rattle.std.proofs.Common.{◌≡◌, ◌≢◌, ℕ, zero, suc, ◌+◌, ◌-◌, ◌*◌, ◌/◌, ◌<◌, ◌≤◌, List, [], ◌∷◌, ◌++◌, ◌⊎◌, inl, inr, length, get_or, map, refl, sym, ap, subst, ◌∙◌, arith}
 use Rattle.std.specs.List.{flat_map}
 use Rattle.kv_types.specs.declared.place.EntryNo.{EntryNo}

@@ -88,7 +88,7 @@ made_whole r lines base new image versions fits made before superblock =
 
 -- ---- after a commit
 
--- what loads give of the words of no record
+-- what loads return for words that belong to no record
 pub recorded_made : (d b c : State) (next : Record) (pairs : List (ℕ × ℕ)) → ((word : ℕ) → image_of b.words word ≡ written pairs (image_of d.words) word)
     → ((word : ℕ) → (IsRecordWord next.number word → ⊥) → image_of c.words word ≡ image_of b.words word)
     → IsMade (written pairs (image_of d.words)) (image_of c.words)
@@ -317,7 +317,7 @@ fault_same r d group image rest asked storable made =
     free_stays cp old new (inr put) =
         or_right (new == 0) (nat_lt cp new) (lt-ltb cp new put.1) ∙ sym (or_left (old == 0) (nat_lt cp old) (eq-eqb old 0 put.0))
 
--- what loads give where the fence of the group failed
+-- what loads return if the fence of the group failed
 pub stage_made : (d b : State) (pairs : List (ℕ × ℕ)) → ((word : ℕ) → image_of b.words word ≡ written pairs (image_of d.words) word)
     → IsMade (written pairs (image_of d.words)) (image_of b.words)
 stage_made d b pairs newest word which = newest word

@@ -167,7 +167,7 @@ matters_below lines role image has word (inr (inr (i, within, begun, at))) =
     absurd (both_ways (counts (first_record role) (image (entry_word i 0)))
     (ap (counts (first_record role)) (has.entry i 0 within (omega arith)) ∙ counts-zero (first_record role)) begun)
 
--- a word with one candidate has what loads give
+-- a word with one candidate holds what loads return
 only_newest : (word : Word) (x : ℕ) → ((y : ℕ) → MayBe word y → y ≡ x) → Only word word.newest
 only_newest word x one = record { only = λ y may. one y may ∙ sym (one word.newest (inl refl)) }
 

@@ -20,7 +20,7 @@ zero_pair first count i below =
     sym (get_or-pairs_from first (zeros count) i (omega (arith, below, length-zeros count))
     ∙ ap (λ (x : ℕ). (first + i, x)) (get_or-zeros count i))
 
--- four runs one after another
+-- four runs in sequence
 run_runs : {a b c d e : State} (super slot first rest : List ℕ) → Runs a b (stores (pairs_from 1 super) a.words)
     → Runs b c (stores (pairs_from slot_0 slot) b.words) → Runs c d (stores (pairs_from slot_1 first) c.words) → Runs d e (stores (pairs_from behind_slots rest) d.words)
     → Runs a e (stores (run_pairs super slot first rest) a.words)

@@ -1,4 +1,4 @@
--- A group moves the versions of an image by just what its changes do.
+-- A group moves the versions of an image exactly as its changes say.
 use Rattle.std.proofs.Common.{◌≡◌, ◌≢◌, ℕ, zero, suc, ◌+◌, ◌-◌, ◌*◌, ◌<◌, ◌≤◌, Bool, true, false, not, ◌||◌, IsTrue, List, [], ◌∷◌, ◌++◌, ◌⊎◌, inl, inr, Option, None, Some, length, refl, sym, ap, subst, ◌∙◌, arith}
 use Rattle.std.specs.List.{flat_map, AllByRecursion}
 use Rattle.std.proofs.lemmas.Bool.{cases_Bool, or_cases}
@@ -18,7 +18,7 @@ use Rattle.wbl_engine.proofs.PartWords.{part_word-kept}
 use Rattle.wbl_engine.proofs.PartSteps.{Fits, IsReady, AreStored, part_fits}
 use Rattle.wbl_engine.proofs.PutPairs.{among-all}
 
--- lists one after another
+-- concatenated lists
 
 all-prefix : (P : Put → Type 0) (a b : List Put) → AllByRecursion P (a ++ b) → AllByRecursion P a
 all-prefix P [] b all = tt
@@ -36,7 +36,7 @@ apart-back : (a b : List Put) → AreAllApart (a ++ b) → AreAllApart b
 apart-back [] b apart = apart
 apart-back (put ∷ a) b apart = apart-back a b apart.1
 
--- each of the first is apart from each of the second
+-- each put of the first list is apart from each put of the second
 apart-across : (a b : List Put) → AreAllApart (a ++ b) → (put other : Put) → IsAmong put a → IsAmong other b → IsApartFrom put other
 apart-across [] b apart put other among there = absurd among
 apart-across (first ∷ a) b apart put other (inl here) there =
@@ -81,7 +81,7 @@ part_stored lines versions image part parts stored =
       apart = apart-prefix a b stored.apart;
     }
 
--- a put of a later part has still its place
+-- a put of a later part still has its place
 still_ready : (lines stamp : ℕ) (versions : Versions) (image : Image) (part : Part) (parts : List Part)
     → AreStored lines versions image (puts_of_parts (part ∷ parts)) → (put : Put) → IsAmong put (puts_of_parts parts)
     → IsReady (part_versions versions part) (written (part_pairs stamp part) image) put
@@ -136,7 +136,7 @@ rest_stored lines stamp versions image part parts stored =
       apart = apart-back a b stored.apart;
     }
 
--- The versions after the stores of all parts, under the record with as many stamps more, are those after their changes.
+-- The versions after the stores of all parts, under the record with one more stamp for each part, are those after their changes.
 pub parts_fit : (lines : ℕ) (parts : List Part) (before : ℕ) (r : Record) (image : Image) (versions : Versions) → Fits r lines image versions
     → AreStored lines versions image (puts_of_parts parts) → AreParts before versions parts
     → Fits (with_cp r (r.cp + length parts)) lines (written (parts_pairs (r.cp + 1) parts) image) (parts_versions versions parts)

@@ -13,13 +13,13 @@ use Rattle.wbl_engine.specs.Entry.{word_of_bytes, packed, name_bytes, version_by
 use Rattle.wbl_engine.proofs.Packing.{length-packed, get_or-packed}
 use Rattle.wbl_engine.proofs.ReadBack.{length-name_bytes}
 
--- stores go on by more of them
+-- a run of stores continues with more stores
 pub Runs-more_stores : {a b c : State} (first second : List (ℕ × ℕ)) → Runs a b (stores first a.words) → Runs b c (stores second b.words)
     → Runs a c (stores (first ++ second) a.words)
 Runs-more_stores {a} {b} {c} first second run more =
     subst (λ (w : ℕ → Word). Runs a c w) (sym (stores-append first second a.words)) (Runs-stores second run more)
 
--- and flushes
+-- and a run of flushes with more flushes
 pub Runs-more_flushes : {a b c : State} (first second : List ℕ) → Runs a b (flushes first a.words) → Runs b c (flushes second b.words)
     → Runs a c (flushes (first ++ second) a.words)
 Runs-more_flushes {a} {b} {c} first second run more =
@@ -58,13 +58,13 @@ put_runs {a} {b} {c} begin position put bytes words first is_bytes is_words is_f
 pub length-name : (key field : List ℕ) (id : RecordId) → key ++ field ≡ name_bytes id → length key + length field ≡ bytes_of_id id
 length-name key field id is = sym (length-append key field) ∙ ap length is ∙ length-name_bytes id
 
--- bytes one after another
+-- concatenated bytes
 pub bytes-append : (a b : List ℕ) → ((i : ℕ) → get_or a i 0 < 256) → ((i : ℕ) → get_or b i 0 < 256) → (i : ℕ) → get_or (a ++ b) i 0 < 256
 bytes-append [] b small_a small_b i = small_b i
 bytes-append (x ∷ a) b small_a small_b zero = small_a 0
 bytes-append (x ∷ a) b small_a small_b (suc i) = bytes-append a b (λ k. small_a (suc k)) small_b i
 
--- what was read of a put are its bytes
+-- the bytes read from a put are its version's bytes
 pub read_bytes : (put : Put) (key field value : List ℕ) → key ++ field ≡ name_bytes put.id → value ≡ put.value
     → key ++ field ++ value ≡ version_bytes put
 read_bytes put key field value name is =

@@ -31,6 +31,6 @@ mixed words Q image which =
       same = λ word. pick_is (MayBe (words word) (image word)) (Q word) (which word) (image word) (words word).newest;
     }
 
--- what loads give is an image
+-- what loads return is an image
 pub image_of-is : (words : ℕ → Word) → IsImage words (image_of words)
 image_of-is words word = inl refl

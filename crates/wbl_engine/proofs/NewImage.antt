@@ -143,7 +143,7 @@ magic_outside lines role x stored =
           (replicate (8 + 8 * entries_of_lines lines) 0) 0 x (new_runs lines role) stored).low,
     )
 
--- all are of the lines that are flushed
+-- all of them are in lines that are flushed
 pub new_covered : (lines : ℕ) (role : Role) (word x : ℕ) → IsStored (new_pairs lines role) word x → IsLine (lines_from 0 (8 + entries_of_lines lines)) (word / 8)
 unfolding new_pairs
 new_covered lines role word x stored =

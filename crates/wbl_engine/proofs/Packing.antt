@@ -7,7 +7,7 @@ use Rattle.std.specs.Int.{w64, to_le_bytes, from_le_bytes}
 use Rattle.model.specs.Image.{Image, words_from, bytes_at}
 use Rattle.wbl_engine.specs.Entry.{word_of_bytes, packed}
 
--- so many bytes from one on, with zeros past their end
+-- `count` bytes, starting at offset `at`, with zeros past the end
 abbrev pub bytes_from : List ℕ → ℕ → ℕ → List ℕ
 bytes_from bytes at zero = []
 bytes_from bytes at (suc count) = get_or bytes at 0 ∷ bytes_from bytes (at + 1) count

@@ -98,7 +98,7 @@ abbrev pub IsAmong : Put → List Put → Type 0
 IsAmong put [] = ⊥
 IsAmong put (other ∷ puts) = (put ≡ other) ⊎ IsAmong put puts
 
--- an entry at which a put of the list stands
+-- the entry is that of a put of the list
 pub is_put_at-among : (i : ℕ) (puts : List Put) → is_put_at i puts ≡ true → (put : Put) × IsAmong put puts × (i ≡ put.entry.0)
 is_put_at-among i [] e = absurd (cc)
 is_put_at-among i (put ∷ puts) e =

@@ -1,4 +1,4 @@
--- One part moves the versions of an image by just what its changes do.
+-- One part moves the versions of an image exactly as its changes say.
 use Rattle.std.proofs.Common.{◌≡◌, ◌≢◌, ℕ, zero, suc, ◌+◌, ◌-◌, ◌*◌, ◌/◌, ◌<◌, ◌≤◌, Bool, true, false, not, cond, ◌&&◌, ◌||◌, IsTrue, List, [], ◌∷◌, ◌++◌, ◌⊎◌, inl, inr, ◌↔◌, Contains, Option, None, Some, length, map, refl, sym, ap, subst, ◌∙◌, arith}
 use Rattle.std.specs.List.{list_any, AllByRecursion}
 use Rattle.std.proofs.lemmas.Bool.{cond-true, cond-false, cases_Bool, cases_lt, and_from, and_parts, or_left, or_right, or_from, both_ways}
@@ -340,7 +340,7 @@ part_in_place {r} {lines} {image} {versions} part fits stored names =
       enough = omega (arith, bytes, enough, has.lines);
     })
 
--- The versions after the stores of a part, under the record with one stamp more, are those after its changes.
+-- The versions after the stores of a part, under the record with one more stamp, are those after its changes.
 pub part_fits : {r : Record} {lines : ℕ} {image : Image} {versions : Versions} (part : Part) → Fits r lines image versions
     → AreStored lines versions image (puts_of_part part) → NamesEnded versions part
     → Fits (with_cp r (r.cp + 1)) lines (written (part_pairs (r.cp + 1) part) image) (part_versions versions part)

@@ -105,7 +105,7 @@ part_words-put lines stamp part image put within among placed apart =
       extent = λ j below. part_word-extent lines stamp part image put j below within among placed apart;
     }
 
--- a word of the directory that is of no put's entry
+-- a word of the directory that belongs to no put's entry
 entry_outside : (lines stamp position : ℕ) (puts : List Put) (i k : ℕ) → i < entries_of_lines lines → k < 8 → is_put_at i puts ≡ false
     → AllByRecursion (IsPlaced lines) puts → IsOutside (puts_pairs stamp position puts) (entry_word i k)
 entry_outside lines stamp position puts i k within below none placed =
@@ -134,7 +134,7 @@ part_word-kept_end lines stamp part image i within unnamed none placed =
     ∙ written-outside (puts_pairs stamp part.position (puts_of_part part)) image (entry_word i 1)
     (entry_outside lines stamp part.position (puts_of_part part) i 1 within (omega arith) none placed)
 
--- a word behind the directory that is of no put's extent
+-- a word after the directory that belongs to no put's extent
 pub part_word-behind : (lines stamp : ℕ) (part : Part) (image : Image) (word : ℕ) → 8 * first_extent_line lines ≤ word
     → ((i : ℕ) → IsNamed i part.ended.items → i < entries_of_lines lines)
     → ((put : Put) → IsAmong put (puts_of_part part) → IsOfExtent put word → ⊥) → AllByRecursion (IsPlaced lines) (puts_of_part part)

@@ -12,12 +12,12 @@ use Rattle.wbl_engine.specs.Stage.{puts_pairs, end_pairs}
 use Rattle.wbl_engine.proofs.Packing.{length-packed, get_or-packed}
 use Rattle.wbl_engine.proofs.PartEffects.{IsAmong}
 
--- the word is of the put's entry
+-- the word belongs to the put's entry
 pub record IsOfEntry (put : Put) (word : ℕ) : Type 0 where
   pub low : entry_word put.entry.0 0 ≤ word
   pub high : word < entry_word put.entry.0 0 + 8
 
--- the word is of its extent
+-- the word belongs to its extent
 pub record IsOfExtent (put : Put) (word : ℕ) : Type 0 where
   pub low : 8 * put.extent.first_line ≤ word
   pub high : word < 8 * (put.extent.first_line + put.extent.lines)

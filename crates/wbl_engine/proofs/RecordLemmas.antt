@@ -57,7 +57,7 @@ body_certain {a} {b} next body k below y may =
     (body.certain word line).only y may
     ∙ written-pairs_from (8 * slot_line next.number) (record_words next) (image_of a.words) k (omega (arith, below, length-record_words next))
 
--- after the second the record stands
+-- after the second the record is durable
 root_durable : {a b c : State} (next : Record) → Staged a b (body_pairs next) (body_lines next) → Staged b c (root_pairs next) (0 ∷ [])
     → (image : Image) → IsImage c.words image → HasRecord next image
 root_durable {a} {b} {c} next body root image is =

@@ -33,7 +33,7 @@ length-record_words r =
     ap (λ (gaps : List ℕ). length (r.number ∷ r.position ∷ r.cp ∷ r.cd ∷ r.epoch ∷ length r.gaps.items ∷ gaps ++ role_number r.role ∷ 0 ∷ []))
     (gaps_words-eight r.gaps.items)
 
--- words one after another, by their places
+-- consecutive words, by index
 pub HasWords-at : (image : Image) (first : ℕ) (values : List ℕ)
     → ((k : ℕ) → k < length values → image (first + k) ≡ get_or values k 0) → HasWords image first values
 HasWords-at image first [] each = tt

@@ -25,7 +25,7 @@ HasSuperblock-same lines base image same has =
       entry_count = same 3 (omega arith) ∙ has.entry_count;
     }
 
--- the old versions stand wherever each word that matters is as before or as the group stores it
+-- an image keeps the old versions if each word that matters is as before or as the group stores it
 pub keeps_old : (r : Record) (d : State) (count : ℕ) (puts : List Put) (pairs : List (ℕ × ℕ)) (image : Image) → IsAtRest r d
     → IsStaging r d.lines count (image_of d.words) (contents_of r d).versions puts pairs → count ≤ 64
     → IsStagedOver r d.lines (image_of d.words) pairs image → HasRecord r image → Keeps (contents_of r d) image
@@ -44,7 +44,7 @@ keeps_old r d count puts pairs image rest staging few over recorded =
       ends = λ i within. omega (arith, staged_ends staging over i within, rest.sound.limit);
     }
 
--- where a crash leaves old words or the group's, those that matter are as loads gave them or the group's
+-- if a crash leaves old words or the group's, those that matter are as loads returned them or the group's
 pub staged_over : (r : Record) (d : State) (pairs : List (ℕ × ℕ)) (image : Image) → IsAtRest r d → IsPartlyStored pairs d.words image
     → IsStagedOver r d.lines (image_of d.words) pairs image
 staged_over r d pairs image rest partly word matters =
@@ -53,7 +53,7 @@ staged_over r d pairs image rest partly word matters =
       | inr stored ↦ inr stored
     ]
 
--- and the record stands
+-- and the record is unchanged
 staged_record : (r : Record) (d : State) (count : ℕ) (puts : List Put) (pairs : List (ℕ × ℕ)) (image : Image) → IsAtRest r d
     → IsStaging r d.lines count (image_of d.words) (contents_of r d).versions puts pairs → IsPartlyStored pairs d.words image → HasRecord r image
 staged_record r d count puts pairs image rest staging partly =

@@ -46,14 +46,14 @@ all-both : {Y : Type 0} (P : Y → Type 0) (a b : List Y) → AllByRecursion P a
 all-both P [] b first second = second
 all-both P (y ∷ a) b first second = (first.0, all-both P a b first.1 second)
 
--- what holds of all that the elements give holds of what one gives
+-- what holds of the elements of all the lists holds of the elements of one of them
 pub all_of_item : {X Y : Type 0} (P : Y → Type 0) (f : X → List Y) (xs : List X) (i : ℕ) (x : X) → i < length xs → x ≡ get_or xs i x
     → AllByRecursion P (flat_map f xs) → AllByRecursion P (f x)
 all_of_item P f [] i x below is all = absurd (omega arith)
 all_of_item P f (y ∷ xs) zero x below is all = subst (λ z. AllByRecursion P (f z)) (sym is) (all-prefix P (f y) (flat_map f xs) all)
 all_of_item P f (y ∷ xs) (suc i) x below is all = all_of_item P f xs i x (omega arith) is (all-back P (f y) (flat_map f xs) all)
 
--- one element more
+-- one more element
 pub take-item : {X : Type 0} (xs : List X) (i : ℕ) (x : X) → i < length xs → x ≡ get_or xs i x → take (i + 1) xs ≡ take i xs ++ x ∷ []
 take-item xs i x below is = take_more xs i x below ∙ ap (λ y. take i xs ++ y ∷ []) (sym is)
 
@@ -67,7 +67,7 @@ pub all_more : {X Y : Type 0} (P : Y → Type 0) (f : X → List Y) (xs : List X
 all_more P f xs i x below is prefix one =
     subst (AllByRecursion P) (sym (flat_map-item f xs i x below is)) (all-both P (flat_map f (take i xs)) (f x) prefix one)
 
--- runs that store as far as a loop has come
+-- runs that store or flush what a loop has handled so far
 stores_more : {a b c : State} (now prefix one : List (ℕ × ℕ)) → now ≡ prefix ++ one → Runs a b (stores prefix a.words) → Runs b c (stores one b.words)
     → Runs a c (stores now a.words)
 stores_more {a} {b} {c} now prefix one is run more =
@@ -147,6 +147,6 @@ pub parts_flushed : {a b c : State} (parts : List Part) (i : ℕ) (part : Part) 
 parts_flushed {a} {b} {c} parts i part below is run more =
     flushes_more (parts_lines (take (i + 1) parts)) (parts_lines (take i parts)) (part_lines part) (flat_map-item part_lines parts i part below is) run more
 
--- what stands past the end of a list of entries
+-- the default for an index past the end of a list of entries
 abbrev pub no_entry : EntryNo
 no_entry = record { 0 = 0 }

@@ -1,4 +1,4 @@
--- What an engine that has met no fault keeps of its device.
+-- What an engine without a fault maintains about its device.
 use Rattle.std.specs.Prelude.{◌≡◌, ℕ, ◌+◌, ◌*◌, ◌<◌, ◌≤◌, ◌⊎◌, ◌&&◌, ◌||◌, ◌==◌, Bool, false, nat_lt, if◌then◌else◌, None, IsTrue, List, [], ◌∷◌}
 use Rattle.std.specs.List.{list_any}
 use Rattle.std.proofs.Props.{props}
@@ -11,7 +11,7 @@ use Rattle.model.specs.Layout.{first_word}
 use Rattle.model.specs.Image.{Image, HasSuperblock, HasWords, HasRecord, root_word, entries_of_lines, first_extent_line, entry_word, entry_bytes, version_at, counts, is_in_gap}
 use Rattle.model.specs.Group.{Contents}
 
--- what an engine with this record holds over this device. Begins above the record's last stamp are of no version: a commit that failed left them.
+-- what an engine with this record holds over this device. A begin above the record's last stamp belongs to no version: a failed commit left it.
 abbrev pub contents_of : Record → State → Contents
 contents_of r d =
     record {
@@ -29,35 +29,35 @@ pub record IsSound (r : Record) : Type 0 where
   pub number : r.number < COUNTER_LIMIT
   pub position : r.position < COUNTER_LIMIT
   pub room : r.cd < COUNTER_LIMIT
-  -- no gap reaches the stamps to come
+  -- no gap contains a future stamp
   pub no_gap : (stamp : ℕ) → r.cp < stamp → list_any (is_in_gap stamp) r.gaps.items ≡ false
 
--- the extent of entry i lies behind the directory and holds its bytes
+-- the extent of entry i lies after the directory and has room for its bytes
 pub record IsInPlace (lines : ℕ) (image : Image) (i : ℕ) : Type 0 where
   pub above : first_extent_line lines ≤ image (entry_word i 3)
   pub within : image (entry_word i 3) + image (entry_word i 4) ≤ lines
   pub enough : entry_bytes image i ≤ LINE_BYTES * image (entry_word i 4)
 
--- the directory has no stamp that was not given out, and each version that was begun has its lines
+-- the directory has no stamp that was not given out, and each version whose begin counts has its lines
 pub record IsWhole (r : Record) (lines : ℕ) (image : Image) : Type 0 where
   pub superblock : HasSuperblock lines image
   pub begins : (i : ℕ) → i < entries_of_lines lines → image (entry_word i 0) ≤ r.cp
   pub ends : (i : ℕ) → i < entries_of_lines lines → image (entry_word i 1) ≤ r.cp
   pub in_place : (i : ℕ) → i < entries_of_lines lines → IsTrue (counts r (image (entry_word i 0))) → IsInPlace lines image i
 
--- the word is of the extent that entry i names
+-- the word belongs to the extent that entry i names
 pub record IsInExtent (image : Image) (i word : ℕ) : Type 0 where
   pub low : first_word (image (entry_word i 3)) ≤ word
   pub high : word < first_word (image (entry_word i 3) + image (entry_word i 4))
 
--- The map depends on this word: it is of the superblock's prefix, of the directory, or of the extent of an entry whose begin counts.
+-- The map depends on this word: it belongs to the superblock's prefix, to the directory, or to the extent of an entry whose begin counts.
 abbrev pub Matters : Record → ℕ → Image → ℕ → Type 0
 Matters r lines image word =
     (word < root_word)
     ⊎ ((first_word LAYOUT.directory_line ≤ word) × (word < first_word (first_extent_line lines)))
     ⊎ ((i : ℕ) × (i < entries_of_lines lines) × IsTrue (counts r (image (entry_word i 0))) × IsInExtent image i word)
 
--- Each crash leaves the record, and each word on which the map depends as loads give it.
+-- Each crash leaves the record, and each word on which the map depends as loads return it.
 pub record IsAtRest (r : Record) (d : State) : Type 0 where
   pub many : MIN_LINES ≤ d.lines
   pub few : d.lines ≤ MAX_LINES
@@ -73,6 +73,6 @@ HasWords-prop image first (value ∷ values) = hlevel (props, HasWords-prop imag
 HasRecord-prop : (r : Record) (image : Image) → IsProp (HasRecord r image)
 HasRecord-prop r image = hlevel (props, HasWords-prop)
 
--- there is one proof at most
+-- it has at most one proof
 pub at_rest_prop : (faulted : Bool) (r : Record) (d : State) → IsProp (faulted ≡ false → IsAtRest r d)
 at_rest_prop faulted r d = hlevel (props, HasRecord-prop)

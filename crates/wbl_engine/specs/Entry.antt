@@ -10,13 +10,13 @@ use Rattle.model.specs.declared.layout.TheConstants.{FIELD_LENGTH_UNIT, WORD_BYT
 use Rattle.model.specs.Layout.{first_word}
 use Rattle.model.specs.Image.{entry_line, entry_word}
 
--- eight bytes as a word, the lowest first, with zeros past their end
+-- the eight bytes from offset `at` as a word, lowest first, with zeros past the end
 abbrev pub word_of_bytes : List ℕ → ℕ → ℕ
 word_of_bytes bytes at =
     from_le_bytes w64 (slice_index bytes at ∷ slice_index bytes (at + 1) ∷ slice_index bytes (at + 2) ∷ slice_index bytes (at + 3)
     ∷ slice_index bytes (at + 4) ∷ slice_index bytes (at + 5) ∷ slice_index bytes (at + 6) ∷ slice_index bytes (at + 7) ∷ [])
 
--- so many words of the bytes, from this byte on
+-- `count` words made of the bytes, starting at offset `at`
 abbrev pub packed : List ℕ → ℕ → ℕ → List ℕ
 packed bytes at zero = []
 packed bytes at (suc count) = word_of_bytes bytes at ∷ packed bytes (at + WORD_BYTES) count
@@ -34,7 +34,7 @@ abbrev pub kind_number : RecordId → ℕ
 kind_number (Str key) = 1
 kind_number (Field key field) = 2
 
--- the length of the key, and that of the field so many times
+-- the length of the key, plus FIELD_LENGTH_UNIT times the length of the field
 abbrev pub lengths_word : RecordId → ℕ
 lengths_word (Str key) = length key
 lengths_word (Field key field) = length key + FIELD_LENGTH_UNIT * length field
@@ -57,7 +57,7 @@ put_pairs stamp position put =
 abbrev pub put_lines : Put → List ℕ
 put_lines put = lines_from put.extent.first_line put.extent.lines ++ entry_line put.entry.0 ∷ []
 
--- the put can be read back: its bytes are bytes, and its key fits the lower half of the word of lengths
+-- the put can be read back: each of its bytes is below 256, and the key's length fits the lower half of the word of lengths
 pub record IsStorable (put : Put) : Type 0 where
   pub bytes : (i : ℕ) → slice_index (version_bytes put) i < 256
   pub key : length (key_of put.id) < FIELD_LENGTH_UNIT

@@ -36,11 +36,11 @@ new_contents lines role =
       is_free = λ i. nat_lt i (entries_of_lines lines);
     }
 
--- the superblock behind the magic
+-- the superblock after the magic
 abbrev pub superblock_words : ℕ → List ℕ
 superblock_words lines = LAYOUT.version ∷ lines ∷ entries_of_lines lines ∷ 1 ∷ 0 ∷ 0 ∷ 0 ∷ []
 
--- how many words a record slot has, where the two slots begin, and where what is behind them
+-- how many words a record slot has, where the two slots begin, and where they end
 abbrev pub slot_words : ℕ
 slot_words = first_word LAYOUT.slot_lines
 
@@ -57,7 +57,7 @@ behind_slots = slot_1 + slot_words
 abbrev pub run_pairs : List ℕ → List ℕ → List ℕ → List ℕ → List (ℕ × ℕ)
 run_pairs super slot first rest = pairs_from 1 super ++ pairs_from slot_0 slot ++ pairs_from slot_1 first ++ pairs_from behind_slots rest
 
--- how many words are behind the slots, up to the extents: before the directory, and its own
+-- how many words are between the slots and the extents: those before the directory, and its own
 abbrev pub rest_words : ℕ → ℕ
 rest_words lines = first_word LAYOUT.directory_line - behind_slots + first_word (entries_of_lines lines)
 

@@ -8,7 +8,7 @@ use Rattle.model.specs.declared.layout.TheConstants.{LAYOUT}
 use Rattle.model.specs.Layout.{first_word}
 use Rattle.model.specs.Image.{Image, HasRecord, root_word, slot_line, record_word, record_words}
 
--- the word is the root, or of the slot of record n
+-- the word is the root, or belongs to the slot of record n
 abbrev pub IsRecordWord : ℕ → ℕ → Type 0
 IsRecordWord n word = (word ≡ root_word) ⊎ ((record_word n 0 ≤ word) × (word < record_word n (first_word LAYOUT.slot_lines)))
 
@@ -23,11 +23,11 @@ body_lines r = lines_from (slot_line r.number) LAYOUT.slot_lines
 abbrev pub root_pairs : Record → List (ℕ × ℕ)
 root_pairs r = (root_word, r.number) ∷ []
 
--- the next record stands on the device, and nothing else was touched
+-- the next record is on the device, and nothing else was touched
 pub record IsRecorded (old new : State) (next : Record) : Type 0 where
   -- whatever a crash leaves now has it
   pub durable : (image : Image) → IsImage new.words image → HasRecord next image
-  -- elsewhere a crash leaves nothing that it did not leave before
+  -- elsewhere a crash leaves nothing that it could not leave before
   pub elsewhere : (word y : ℕ) → (IsRecordWord next.number word → ⊥) → MayBe (new.words word) y → MayBe (old.words word) y
   pub newest : (word : ℕ) → (IsRecordWord next.number word → ⊥) → image_of new.words word ≡ image_of old.words word
   pub failures : new.failures ≡ old.failures
@@ -44,7 +44,7 @@ pub record IsSucceeded (words : ℕ → Word) (current next : Record) : Type 0 w
   pub number : next.number ≡ current.number + 1
   pub durable : (image : Image) → IsImage words image → HasRecord current image
 
--- the image has the one record or the other, and elsewhere what a crash might leave before
+-- the image has one record or the other, and elsewhere what a crash could leave before
 pub record IsEitherRecord (words : ℕ → Word) (current next : Record) (image : Image) : Type 0 where
   pub either : HasRecord current image ⊎ HasRecord next image
   pub elsewhere : (word : ℕ) → (IsRecordWord next.number word → ⊥) → MayBe (words word) (image word)

@@ -31,7 +31,7 @@ end_pairs stamp ended = map (λ entry. (entry_word entry.0 1, stamp)) ended
 abbrev pub part_pairs : ℕ → Part → List (ℕ × ℕ)
 part_pairs stamp part = puts_pairs stamp part.position (puts_of_part part) ++ end_pairs stamp part.ended.items
 
--- the first part takes this stamp, each other the next one
+-- the first part takes `stamp`, and each later part the next one
 abbrev pub parts_pairs : ℕ → List Part → List (ℕ × ℕ)
 parts_pairs stamp [] = []
 parts_pairs stamp (part ∷ parts) = part_pairs stamp part ++ parts_pairs (stamp + 1) parts
@@ -54,6 +54,6 @@ parts_lines = flat_map part_lines
 abbrev pub AreWithin : ℕ → List EntryNo → Type 0
 AreWithin lines = AllByRecursion (λ entry. entry_line entry.0 < lines)
 
--- and those of what parts ended
+-- the device has the lines of the entries that the parts ended
 abbrev pub AreEndsWithin : ℕ → List Part → Type 0
 AreEndsWithin lines = AllByRecursion (λ part. AreWithin lines part.ended.items)

@@ -1,9 +1,9 @@
-//! The word of a commit.
+//! What a commit returns.
 ghost use Rattle.std.specs.Prelude.{◌≡◌};
 
 use std::marker::Model;
 
-/// The position up to which everything is durable on this node, as a commit has shown it. A clause sees the number.
+/// The position up to which everything is durable on this node, as established by a commit. In clauses it is a number.
 #[derive(Clone, Copy, Debug, PartialEq, Eq)]
 pub struct Committed {
     position: u64,
@@ -20,14 +20,14 @@ impl Model for Committed {
 }
 
 impl Committed {
-    /// The word that this position is durable.
+    /// States that everything up to this position is durable.
     pub(crate) fn at(position: u64) -> Committed
         ensures { result ≡ position }
     {
         Committed { position }
     }
 
-    /// The position that it names.
+    /// The position up to which everything is durable.
     pub fn position(&self) -> u64
         ensures { result ≡ self.now }
     {

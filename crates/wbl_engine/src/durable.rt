@@ -11,21 +11,21 @@ use kv_types::Refusal;
 use model::{Group, Record};
 use pmem::Pmem;
 
-/// An engine: what it holds moves by whole groups, and each crash leaves what was before a call or what is after it.
+/// An engine: its contents change by whole groups, and each crash leaves the contents before a call or those after it.
 pub trait Durable {
     type Device: Pmem;
 
     /// What the engine's device has gone through.
     ghost device: { Self → State };
 
-    /// What the engine holds. After a fault, what it held before the call that met it.
+    /// What the engine holds. After a fault, what it held before the call that faulted.
     ghost contents: { Self → Contents };
 
-    /// A fence failed: each later call answers `Refusal::Fault`, until the image is reopened.
+    /// A fence failed: each later commit returns `Refusal::Fault`, until the image is reopened.
     ghost is_faulted: { Self → Bool };
 
-    /// Commits a group under one record. `Fault` where a fence failed, in this call or an earlier one; `Exhausted` where a counter would
-    /// reach 2^62, and then nothing changed. It takes no memory.
+    /// Commits a group under one record. `Fault` if a fence failed, in this call or an earlier one; `Exhausted` if a counter would
+    /// reach 2^62, with nothing changed. It allocates no memory.
     fn commit(&mut self, group: &Group) -> Result<Committed, Refusal>
         requires { IsGroup (contents self.old) group.now }
         ensures ok { IfOk result (λ committed. committed ≡ (contents self.new).current.position) }
@@ -51,7 +51,7 @@ pub trait Durable {
     fn position(&self) -> u64
         ensures { result ≡ (contents self.now).current.position };
 
-    /// The device, as it is.
+    /// The device, unchanged.
     fn into_device(self) -> Self::Device
         ensures { Self.Device.state result ≡ device self };
 }

@@ -11,10 +11,10 @@ use kv_types::Refusal;
 use model::{Group, MAX_LINES, MIN_LINES, Record, Role};
 use pmem::{Fault, Pmem};
 
-/// An engine over a device. It keeps the current record and no list, and takes no memory.
+/// An engine over a device. It keeps the current record but no list, and allocates no memory.
 pub struct WblEngine<P: Pmem> {
     device: P,
-    /// The current record. After a fault, the one before the commit that met it.
+    /// The current record. After a fault, the record before the commit that faulted.
     current: Record,
     /// A fence failed: the image has to be reopened.
     faulted: bool,
@@ -28,8 +28,8 @@ impl<P: Pmem> WblEngine<P> {
     ghost use Rattle.wbl_engine.specs.Contents.{IsDurable, IsNew};
     ghost use Rattle.wbl_engine.specs.Formatting.{IsFormatting};
 
-    /// Formats a device for this role. `WrongSize` where it has fewer than 4,096 lines or more than 2^31, and then nothing changed; `Fault` where a
-    /// fence failed. A refusal hands the device back. It takes no memory.
+    /// Formats a device for this role. `WrongSize` if it has fewer than 4,096 lines or more than 2^31, with nothing changed; `Fault` if a
+    /// fence failed. A refusal hands the device back. It allocates no memory.
     ///
     /// At any moment a crash leaves an image from before, the new one whole, or one without the magic.
     pub fn format(device: P, role: Role) -> Result<WblEngine<P>, (Refusal, P)>

@@ -20,15 +20,15 @@ const SLOT_0: u64 = LINE_WORDS * LAYOUT.record_line;
 /// The first word of slot 1.
 const SLOT_1: u64 = SLOT_0 + SLOT_WORDS;
 
-/// The first word behind both slots.
+/// The first word after both slots.
 const BEHIND_SLOTS: u64 = SLOT_1 + SLOT_WORDS;
 
 /// How many words are between the slots and the directory.
 const BEFORE_DIRECTORY: u64 = LINE_WORDS * LAYOUT.directory_line - BEHIND_SLOTS;
 
-/// Formats a device: the magic goes first, then everything else is written, then the magic comes.
+/// Formats a device: erases the magic, then writes everything else, then writes the magic.
 ///
-/// At any moment a crash leaves an image from before, the new one whole, or one without the magic. After an `Err` a fence has failed.
+/// At any moment a crash leaves an image from before, the new one whole, or one without the magic. On `Err` a fence has failed.
 pub fn format_device<P: Pmem>(device: &mut P, first: &Record) -> Result<(), Fault>
     requires many { MIN_LINES ≤ (P.state device.old).lines }
     requires few { (P.state device.old).lines ≤ MAX_LINES }
@@ -68,7 +68,7 @@ fn write_new<P: Pmem>(device: &mut P, first: &Record) -> Result<(), Fault>
     device.fence()
 }
 
-/// Stores zeros in so many words, from `first` on.
+/// Stores zeros in `count` words, starting at `first`.
 fn clear_words<P: Pmem>(device: &mut P, first: u64, count: u64)
     requires { first + count ≤ 8 * (P.state device.old).lines }
     ensures { Runs (P.state device.old) (P.state device.new) (stores (pairs_from first (replicate count 0)) (P.state device.old).words) }

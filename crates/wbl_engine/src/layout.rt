@@ -11,7 +11,7 @@ use kv_types::{EntryNo, Extent, RecordId, Value};
 use model::{FIELD_LENGTH_UNIT, LAYOUT, LINE_BYTES, LINE_WORDS, Put, WORD_BYTES};
 use pmem::{Pmem, flush_lines, store_words};
 
-/// How many lines a record takes, with this name and this value: at least one.
+/// How many lines a record with this name and this value takes: at least one.
 pub fn lines_for(id: &RecordId, value: &Value) -> u64
     ensures { result ≡ lines_of_bytes (bytes_of_id id.now + length value.now) }
 {
@@ -72,7 +72,7 @@ fn name_of(id: &RecordId) -> (&[u8], &[u8])
     }
 }
 
-/// How many bytes key and field have.
+/// How many bytes key and field have together.
 fn name_len(id: &RecordId) -> usize
     ensures count { result ≡ bytes_of_id id.now }
     ensures bound { result ≤ 1024 }
@@ -83,7 +83,7 @@ fn name_len(id: &RecordId) -> usize
     }
 }
 
-/// The kind of a record, as an entry has it.
+/// The kind of a record, as an entry stores it.
 fn kind_of(id: &RecordId) -> u64
     ensures { result ≡ kind_number id.now }
 {
@@ -93,7 +93,7 @@ fn kind_of(id: &RecordId) -> u64
     }
 }
 
-/// The lengths of key and field, as an entry has them.
+/// The lengths of key and field, as an entry stores them.
 fn lengths_of(id: &RecordId) -> u64
     ensures value { result ≡ lengths_word id.now }
     ensures key { length (key_of id.now) ≤ 512 }
@@ -105,7 +105,7 @@ fn lengths_of(id: &RecordId) -> u64
     }
 }
 
-/// Stores the bytes of key, field and value over all words of an extent, with zeros behind them.
+/// Stores the bytes of key, field and value in the words of an extent, and zeros in the rest of it.
 fn write_extent<P: Pmem>(device: &mut P, extent: &Extent, key: &[u8], field: &[u8], value: &[u8])
     requires in_range { extent.now.first_line + extent.now.lines ≤ (P.state device.old).lines }
     requires few { LINE_BYTES * extent.now.lines < 2 ^ 32 }
@@ -122,7 +122,7 @@ fn write_extent<P: Pmem>(device: &mut P, extent: &Extent, key: &[u8], field: &[u
     }
 }
 
-/// The word of eight bytes from `at` on, the lowest first, with zeros past the end of the value.
+/// The word made of the eight bytes from offset `at`, lowest first, with zeros past the end of the value.
 fn word_at(key: &[u8], field: &[u8], value: &[u8], at: usize) -> u64
     requires short { length key.now + length field.now + length value.now < 2 ^ 32 }
     requires near { at < 2 ^ 32 }
@@ -144,7 +144,7 @@ fn word_at(key: &[u8], field: &[u8], value: &[u8], at: usize) -> u64
     ])
 }
 
-/// The word of eight bytes of one slice.
+/// The word made of the eight bytes of one slice from offset `at`, lowest first.
 fn word_within(bytes: &[u8], at: usize) -> u64
     requires { at + 8 ≤ length bytes.now }
     ensures { result ≡ word_of_bytes bytes.now at }
@@ -161,7 +161,7 @@ fn word_within(bytes: &[u8], at: usize) -> u64
     ])
 }
 
-/// One byte of key, field and value, and 0 past the end.
+/// The byte at offset `at` of key, field and value in a row, or 0 past the end.
 fn byte_at(key: &[u8], field: &[u8], value: &[u8], at: usize) -> u8
     ensures { result ≡ slice_index (key.now ++ field.now ++ value.now) at }
 {

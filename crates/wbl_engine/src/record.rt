@@ -1,4 +1,4 @@
-//! The commit record of an image: its body in the slot that the last one does not have, and then its number as the root.
+//! The commit record of an image: its body goes into the slot that the last record does not use, and then its number becomes the root.
 ghost use Rattle.std.specs.Prelude.{◌≡◌, ◌+◌, ◌*◌, ◌≤◌, length, slice_index_or, OnOk, OnErr};
 ghost use Rattle.pmem.specs.Device.{State};
 ghost use Rattle.pmem.specs.Runs.{LeavesOnly, Staged, StageFailed, pairs_from, lines_from};
@@ -11,10 +11,10 @@ use arrayvec::ArrayVec;
 use model::{Gap, LAYOUT, LINE_WORDS, MAX_GAPS, Record, Role};
 use pmem::{Fault, Pmem, flush_lines, persist, store_words};
 
-/// Writes the next record: its body into the slot that the current one does not have, then its number as the root, each flushed and fenced.
-/// At any moment a crash leaves the current record or the next one. It takes no memory.
+/// Writes the next record: its body into the slot that the current one does not use, then its number as the root, each flushed and fenced.
+/// At any moment a crash leaves the current record or the next one. It allocates no memory.
 ///
-/// After an `Err` a fence has failed, and a crash may leave either record.
+/// On `Err` a fence has failed, and a crash may leave either record.
 pub fn write_next<P: Pmem>(device: &mut P, next: &Record) -> Result<(), Fault>
     requires { LAYOUT.record_line + 2 * LAYOUT.slot_lines ≤ (P.state device.old).lines }
     ensures ok { OnOk result (IsRecorded (P.state device.old) (P.state device.new) next.now) }
@@ -27,7 +27,7 @@ pub fn write_next<P: Pmem>(device: &mut P, next: &Record) -> Result<(), Fault>
     persist(device, &[(LAYOUT.root_word, next.number)], &[0])
 }
 
-/// Stores these words from a line on, flushes so many lines, and fences.
+/// Stores `words` starting at line `line`, flushes `lines` lines from there, and fences.
 fn persist_words<P: Pmem>(device: &mut P, line: u64, lines: u64, words: &[u64]) -> Result<(), Fault>
     requires in_range { line + lines ≤ (P.state device.old).lines }
     requires enough { length words.now ≤ first_word lines }
@@ -82,7 +82,7 @@ pub fn words_of(r: &Record) -> [u64; 24]
     ]
 }
 
-/// The gap at this place, and zeros where there is none.
+/// The gap at index `k`, or zeros if there is none.
 fn gap_at(gaps: &ArrayVec<Gap, MAX_GAPS>, k: usize) -> Gap
     ensures { result ≡ slice_index_or gaps.now.items k (record { first = 0; last = 0 }) }
 {
@@ -92,7 +92,7 @@ fn gap_at(gaps: &ArrayVec<Gap, MAX_GAPS>, k: usize) -> Gap
     }
 }
 
-/// The number of a role in an image.
+/// The number by which an image stores a role.
 fn number_of(role: Role) -> u64
     ensures { result ≡ role_number role }
 {

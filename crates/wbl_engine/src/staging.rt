@@ -11,9 +11,9 @@ use kv_types::EntryNo;
 use model::{LAYOUT, Part, PlacedChange};
 use pmem::{Fault, Pmem};
 
-/// Stores the puts and the ends of all parts, flushes their lines, and fences. The first part takes this stamp, each other the next one.
+/// Stores the puts and the ends of all parts, flushes their lines, and fences. The first part takes `stamp`, and each later part the next one.
 ///
-/// Nothing of it counts before the record does. After an `Err` a fence has failed, and each word may be lost by itself.
+/// None of it counts before the record does. On `Err` a fence has failed, and any of the words may be lost, each independently.
 pub fn stage_parts<P: Pmem>(device: &mut P, parts: &[Part], stamp: u64) -> Result<(), Fault>
     requires placed { AllByRecursion (IsPlaced (P.state device.old).lines) (puts_of_parts parts.now) }
     requires fitting { AllByRecursion HasItsLines (puts_of_parts parts.now) }
@@ -78,7 +78,7 @@ fn store_change<P: Pmem>(device: &mut P, change: &PlacedChange, stamp: u64, posi
     }
 }
 
-/// Stores the end of these entries.
+/// Stores the end stamp of these entries.
 fn store_ends<P: Pmem>(device: &mut P, ended: &[EntryNo], stamp: u64)
     requires { AreWithin (P.state device.old).lines ended.now }
     ensures { Runs (P.state device.old) (P.state device.new) (stores (end_pairs stamp ended.now) (P.state device.old).words) }

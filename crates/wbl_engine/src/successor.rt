@@ -7,7 +7,7 @@ ghost use Rattle.wbl_engine.specs.AtRest.{IsSound};
 use arrayvec::ArrayVec;
 use model::{COUNTER_LIMIT, Gap, Group, MAX_GAPS, Part, Record, STAMP_WINDOW};
 
-/// The record after a group, or `None` where one of its counters would reach 2^62.
+/// The record after a group, or `None` if one of its counters would reach 2^62.
 pub fn next_record(current: &Record, group: &Group) -> Option<Record>
     requires sound { IsSound current.now }
     requires few { length group.now.parts.items ≤ MAX_PARTS }
@@ -35,7 +35,7 @@ pub fn next_record(current: &Record, group: &Group) -> Option<Record>
     }
 }
 
-/// The position of the last part, or that before where there is none.
+/// The position of the last part, or `before` if there is none.
 fn last_position(before: u64, parts: &[Part]) -> u64
     ensures { result ≡ last_position before parts.now }
 {
@@ -45,7 +45,7 @@ fn last_position(before: u64, parts: &[Part]) -> u64
     }
 }
 
-/// The same gaps.
+/// A copy of the gaps.
 fn copy_gaps(gaps: &ArrayVec<Gap, MAX_GAPS>) -> ArrayVec<Gap, MAX_GAPS>
     ensures { result ≡ gaps.now }
 {

@@ -1,4 +1,4 @@
--- What came to the standby, and what it acknowledged, go on standing for the machine's.
+-- What came to the standby, and what it acknowledged, still refine the machine's after each step.
 use Rattle.std.proofs.Common.{◌≡◌, ℕ, zero, suc, ◌+◌, ◌<◌, ◌≤◌, true, false, nat_lt, List, [], ◌∷◌, ◌++◌, length, take, drop, map, get_or, slice_get, Option, Some, refl, sym, ap, subst, ◌∙◌, arith}
 use Rattle.std.proofs.lemmas.List.{map-append}
 use Rattle.std.proofs.lemmas.Option.{slice_get_within, get_or_from_slice_get}
@@ -16,7 +16,7 @@ use Rattle.world.specs.Standby.{Node, ArrivalsRefine, AppliesFirst, told_by}
 use Rattle.world.proofs.LinkLemmas.{AreFramesAt-grows, AreFramesAt-frames}
 use Rattle.world.proofs.StandbyLemmas.{Took}
 
--- ---- a frame more
+-- ---- one more frame
 
 AreFramesAt-push : (epoch : ℕ) (calls : List Call) (frames : List Frame) (places : List ℕ) (spans : List Sent) (place : ℕ) (span : Sent) → AreFramesAt epoch calls frames places spans
     → IsFrameAt epoch calls frames place span → AreFramesAt epoch calls frames (places ++ place ∷ []) (spans ++ span ∷ [])
@@ -81,7 +81,7 @@ delivers_none epoch frames w sent i arrivals past stands are =
 
 -- ---- the first frame
 
--- the machine has the span of this frame first, and the rest of the places stand for the rest
+-- the machine has the span of this frame first, and the other indices stand for the other frames
 pub record FirstFrame (epoch : ℕ) (calls : List Call) (frames : List Frame) (frame : Frame) (places : List ℕ) (waiting : List Sent) : Type 0 where
   pub span : Sent
   pub spans : List Sent
@@ -107,7 +107,7 @@ first-frame epoch frames w arrivals place frame some e found stands =
     first_of epoch w.primary.calls frames frame place (drop 1 arrivals.delivered.items) w.standby.waiting found
     (subst (λ places. AreFramesAt epoch w.primary.calls frames places w.standby.waiting) (starts_with arrivals.delivered.items place some e) stands.delivered)
 
--- the place of a frame that came is one of those that were made
+-- the index of a frame that came is that of a frame that was made
 pub place_within : (epoch : ℕ) (frames : List Frame) (w : World) (arrivals : Arrivals) (place : ℕ) → 0 < length arrivals.delivered.items → place ≡ get_or arrivals.delivered.items 0 place
     → ArrivalsRefine epoch w.primary.calls frames arrivals w.standby.waiting w.wire.acknowledgements → place < length frames
 place_within epoch frames w arrivals place some e stands =

@@ -1,4 +1,4 @@
--- The committer and its engine go on standing for the machine's.
+-- The committer and its engine still refine the machine's after each step.
 use Rattle.std.proofs.Common.{◌≡◌, ◌⊎◌, inl, inr, true≢false, ℕ, ◌+◌, ◌-◌, ◌<◌, ◌≤◌, ◌++◌, ◌&&◌, Bool, true, false, nat_lt, List, [], ◌∷◌, length, Result, Ok, Err, IfErr, IsErrOf, OnOk, OnErr, refl, sym, ap, subst, ◌∙◌, arith}
 use Rattle.std.proofs.lemmas.Bool.{lt-ltb, le-ltb}
 use Rattle.pmem.specs.Device.{State}
@@ -66,7 +66,7 @@ pub first-group : (calls : List Call) (group : Group) (rest : List Group) (spans
 first-group calls group rest [] are = absurd are
 first-group calls group rest (span ∷ spans) are = record { first = span; others = spans; all = refl; is = are.0; are = are.1 }
 
--- there is room behind the machine's groups just where there is behind those of the code
+-- there is room after the machine's groups exactly where there is after those of the code
 pub has_room-groups : (calls : List Call) (groups : List Group) (spans : List Span) → AreGroupsOf calls groups spans → has_room spans ≡ nat_lt (length groups) PIPE_ITEMS
 has_room-groups calls groups spans are = ap (λ n. nat_lt n PIPE_ITEMS) (sym (length-groups calls groups spans are))
 
@@ -76,7 +76,7 @@ AreGroupsOf-push calls [] (s ∷ spans) group span are is = absurd are
 AreGroupsOf-push calls (g ∷ groups) [] group span are is = absurd are
 AreGroupsOf-push calls (g ∷ groups) (s ∷ spans) group span are is = (are.0, AreGroupsOf-push calls groups spans group span are.1 is)
 
--- what a commit asks of the first group that waits
+-- what a commit requires of the first group that waits
 pub first-lawful : (contents : Contents) (groups : List Group) (group : Group) (rest : List Group) → AreGroups contents groups → groups ≡ group ∷ rest → IsGroup contents group
 first-lawful contents groups group rest are waits = let P : List Group → Type 0 = AreGroups contents in (subst P waits are).0
 
@@ -123,7 +123,7 @@ not_third true true c z = sym z
 not_third true false c z = refl
 not_third false b c z = refl
 
--- behind a full link nothing commits
+-- nothing commits while the link is full
 pub commit-full : (w : World) (link : List Group) → length link ≡ PIPE_ITEMS → AreGroupsOf w.primary.calls link w.primary.link.waiting → false ≡ may_happen w Commit
 commit-full w link full are =
     not_third (is_ready w.primary.committer.stage) (is_nonempty w.primary.committer.waiting) (has_room w.primary.link.waiting) (has_room-groups w.primary.calls link w.primary.link.waiting are ∙ le-ltb (length link) PIPE_ITEMS (omega arith))
@@ -189,12 +189,12 @@ commit-moments holder w code group rest device device' contents is_faulted waits
     either image (inr keeps) =
         inr (keeps-stands holder w.primary.calls (next_primary w) (after_group contents group) image (subst (λ p. AreContentsAt holder w.primary.calls p (after_group contents group)) (sym ends) next.after) keeps)
 
--- positions rise by one a part at least
+-- positions rise by at least one per part
 parts-rise : (before : ℕ) (versions : Versions) (parts : List Part) → AreParts before versions parts → before + length parts ≤ last_position before parts
 parts-rise before versions [] are = omega arith
 parts-rise before versions (part ∷ parts) are = omega (arith, are.0, parts-rise part.position (part_versions versions part) parts are.2)
 
--- a commit that would take a counter to the limit: a group takes a stamp a part, and its positions rise by one a part at least
+-- a commit that would take a counter to the limit: a group takes one stamp per part, and its positions rise by at least one per part
 pub commit-limit : (holder : Holder) (w : World) (code : Committing) (group : Group) (rest : List Group) (device : State) (contents : Contents) (is_faulted : Bool) → code.waiting.items ≡ group ∷ rest → IsGroup contents group
     → Exhausts contents group → CommittingRefines w.primary.calls code w.primary.committer → EngineStands holder w.primary.calls w.primary.committer.position device contents is_faulted
     → (image : Image) → IsImage device.words image → IsAtLimit (next_primary w - w.primary.committer.position) image

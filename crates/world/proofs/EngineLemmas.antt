@@ -70,7 +70,7 @@ EngineStands-grows holder calls more p device contents is_faulted le stands = re
   durable = stands.durable;
 }
 
--- ---- a group further
+-- ---- one group further
 
 -- contents at the start of a group's span are, after the group, at its end
 pub AreContentsAt-after_group : (holder : Holder) (calls : List Call) (contents : Contents) (group : Group) (span : Span) → AreContentsAt holder calls span.before contents → IsGroup contents group

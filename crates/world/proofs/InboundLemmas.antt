@@ -1,4 +1,4 @@
--- The inbound half of a connection goes on standing for the machine's.
+-- The inbound half of a connection still refines the machine's after each step.
 use Rattle.std.proofs.Common.{◌≡◌, ℕ, zero, suc, ◌-◌, ◌<◌, ◌≤◌, ◌++◌, ◌||◌, ◌&&◌, true, false, nat_lt, List, [], ◌∷◌, length, take, drop, Option, Some, None, Result, Ok, Err, refl, sym, ap, ◌∙◌, append_assoc, arith, length-append, length-drop}
 use Rattle.std.proofs.lemmas.Bool.{lt-ltb, and_from}
 use Rattle.std.proofs.lemmas.List.{take-append-le}
@@ -65,7 +65,7 @@ new-stands code parser is_closed asked_none waiting_none =
       first = refl;
     }
 
--- ---- a piece more
+-- ---- one more piece
 
 fed-joined : (parser : Option (List ℕ)) (piece more : List ℕ) → fed parser (piece ++ more) ≡ fed (fed parser piece) more
 fed-joined None piece more = refl

@@ -1,4 +1,4 @@
--- The outbound half of a connection goes on standing for the machine's.
+-- The outbound half of a connection still refines the machine's after each step.
 use Rattle.std.proofs.Common.{◌≡◌, ◌≢◌, ℕ, ◌+◌, ◌++◌, ◌&&◌, Bool, true, false, cond, nat_le, List, [], ◌∷◌, length, take, drop, refl, sym, ap, ap₂, subst, ◌∙◌, append_assoc, append-nil, arith, length-append}
 use Rattle.std.proofs.lemmas.List.{take_at, drop_at}
 use Rattle.kv_types.specs.declared.reply.Held.{Held}
@@ -90,7 +90,7 @@ held-push [] (h ∷ helds) text held are is = absurd are
 held-push (t ∷ texts) [] text held are is = absurd are
 held-push (t ∷ texts) (h ∷ helds) text held are is = (are.0, held-push texts helds text held are.1 is)
 
--- a call that stands in the list, and what was made of it
+-- a call of the list, and the reply that was made of it
 pub record Takes (calls : List Call) (made : Made) (rest : List Made) (helds : List Held) : Type 0 where
   pub first : Held
   pub others : List Held

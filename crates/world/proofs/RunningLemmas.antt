@@ -1,4 +1,4 @@
--- A run goes on from event to event, and what is told of it at its end.
+-- A run from event to event, and what is reported of it at its end.
 use Rattle.std.proofs.Common.{◌≡◌, ◌⊎◌, ℕ, ◌+◌, ◌≤◌, Bool, List, [], ◌∷◌, ◌++◌, length, take, slice_index_or, Option, Some, None, refl, sym, ap, subst, ◌∙◌, arith, le_refl, append_assoc, inl, inr, true, cond, nat_eq, eqb-true, All, false, ◌<◌}
 use Rattle.pmem.specs.Device.{State}
 use Rattle.kv_types.specs.declared.refusal.Refusal.{Refusal}
@@ -35,7 +35,7 @@ use Rattle.world.proofs.SessionLemmas.{length-connections, released-told}
 
 -- ---- from event to event
 
--- one event more
+-- one more event
 moves-push : (position : World → ℕ) (holder : Holder) (w : World) (worlds : List World) (w' : World) (old new new' : State) → AreMoves position holder w worlds old new
     → Moves holder w'.primary.calls (position (last_world w worlds)) (position w') new new' → AreMoves position holder w (worlds ++ w' ∷ []) old new'
 moves-push position holder w [] w' old new new' are moves = (new', subst (λ (d : State). Moves holder w'.primary.calls (position w) (position w') d new') (sym are) moves, refl)
@@ -87,7 +87,7 @@ few-played first second began events (Some (AtEvent place refusal)) done pair pl
 
 -- ---- the position of a node
 
--- it never falls, it is one of the list, what was released is up to it, and the node goes to no lower one
+-- it never falls, it is a position of the list, what was released is within it, and the next position is no lower
 record IsOfNode (position next : World → ℕ) : Type 0 where
   rises : (old new : World) → Grows old new → position old ≤ position new
   within : (w : World) → Sound w → position w ≤ position_of w.primary.calls
@@ -127,7 +127,7 @@ of_standby =
 
 -- ---- the moments of a run
 
--- what is said of the list of an event is so of the whole list
+-- what holds over the list of an event holds over the whole list
 moves-grow : (holder : Holder) (calls all : List Call) (p q : ℕ) (old new : State) → IsPrefix calls all → p ≤ position_of calls → q ≤ position_of calls → Moves holder calls p q old new → Moves holder all p q old new
 moves-grow holder calls all p q old new prefix p_within q_within moves =
     subst (λ (list : List Call). Moves holder list p q old new) prefix.joined
@@ -318,7 +318,7 @@ plays-on first second began events ended done pair released primary standby same
     go (Some (AtFormatting refusal)) plays = absurd plays
     go (Some (AtEvent place refusal)) plays = (plays.0, plays.1, played-cut first second began (take place events) plays.0 refusal done pair released same plays.2)
 
--- ---- behind the formatting
+-- ---- after the formatting
 
 pub keeps-played : (events : List Event) (ended : Option Ended) (done : List Bool) (calls : List Call) (released : List (List ℕ)) (primary standby formatted formatted' primary' standby' : State)
     → FormattingOnly Primary primary formatted → FormattingOnly Standby standby formatted'

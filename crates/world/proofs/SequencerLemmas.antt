@@ -1,4 +1,4 @@
--- The sequencer goes on standing for the list of calls.
+-- The sequencer still refines the list of calls after each step.
 use Rattle.std.proofs.Common.{◌≡◌, ◌≢◌, ℕ, zero, suc, ◌+◌, ◌-◌, ◌<◌, ◌≤◌, ◌++◌, ◌||◌, Bool, true, false, cond, nat_lt, List, [], ◌∷◌, length, take, slice_index_or, slice_set, Result, Err, IfErr, IsErrOf, ◌⊎◌, refl, sym, ap, ap₂, subst, ◌∙◌, arith, add-zero, length-append, inl, inr, get_or-set_same, get_or-set_other, le_refl}
 use Rattle.std.proofs.lemmas.Bool.{and_from, cases_eq, cases_lt, false_from_ne_true, lt-ltb, ltb-true, or_left, or_right}
 use Rattle.std.proofs.lemmas.List.{set_past}
@@ -174,7 +174,7 @@ sequencer-handed calls closed old new group stands hands =
       seats = stands.seats;
     })
 
--- and they are the group of all positions behind those that were closed
+-- and they are the group of all positions after those that were closed
 pub IsGroupOf-handed : (calls : List Call) (closed : ℕ) (old new : Sequencing) (group : Group) → SequencerRefines calls closed old → HandsOut old group new
     → IsGroupOf calls group (record { before = closed; after = position_of calls })
 IsGroupOf-handed calls closed old new group stands hands =
@@ -200,7 +200,7 @@ pub after_groups-push : (contents : Contents) (groups : List Group) (group : Gro
 after_groups-push contents [] group = refl
 after_groups-push contents (first ∷ groups) group = after_groups-push (after_group contents first) groups group
 
--- what is to be committed leads to the sequencer still
+-- what is to be committed still leads to the sequencer
 pub Leads-push : (contents : Contents) (groups groups' : List Group) (group : Group) (old new : Sequencing) → Leads contents groups old → groups' ≡ groups ++ group ∷ []
     → ((before : Contents) → IsAheadOf old before → IsGroup before group × IsAheadOf new (after_group before group)) → Leads contents groups' new
 Leads-push contents groups groups' group old new leads pushed closes_group =

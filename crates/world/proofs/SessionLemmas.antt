@@ -1,4 +1,4 @@
--- Connections and the list of calls go on standing for the machine's.
+-- Connections and the list of calls still refine the machine's after each step.
 use Rattle.std.proofs.Common.{◌≡◌, ℕ, zero, suc, ◌+◌, ◌<◌, ◌≤◌, ◌++◌, Bool, true, false, cond, nat_lt, List, [], ◌∷◌, length, Option, Some, Result, Ok, Err, All, inl, inr, slice_get, refl, sym, ap, subst, ◌∙◌, arith, length-append}
 use Rattle.std.proofs.lemmas.Bool.{lt-ltb, le-ltb, cases_eq, cases_lt}
 use Rattle.std.proofs.lemmas.Option.{slice_get_within, get_or_from_slice_get}
@@ -75,7 +75,7 @@ length-connections calls n [] (machine ∷ machines) stand = absurd stand
 length-connections calls n (code ∷ codes) [] stand = absurd stand
 length-connections calls n (code ∷ codes) (machine ∷ machines) stand = ap suc (length-connections calls (suc n) codes machines stand.1)
 
--- connection n + c is at place c, where the first is connection n
+-- connection n + c is at index c, where the first is connection n
 pub ConnectionRefines-at : (calls : List Call) (n c seat : ℕ) (codes : List Connection) (machines : List MachineConnection) (default : Connection) → seat ≡ n + c → c < length codes → ConnectionsRefine calls n codes machines
     → ConnectionRefines calls seat (slice_index_or codes c default) (get_connection machines c)
 ConnectionRefines-at calls n c seat [] machines default is within stand = absurd (omega arith)
@@ -83,7 +83,7 @@ ConnectionRefines-at calls n c seat (code ∷ codes) [] default is within stand 
 ConnectionRefines-at calls n zero seat (code ∷ codes) (machine ∷ machines) default is within stand = subst (λ k. ConnectionRefines calls k code machine) (omega arith) stand.0
 ConnectionRefines-at calls n (suc c) seat (code ∷ codes) (machine ∷ machines) default is within stand = ConnectionRefines-at calls (suc n) c seat codes machines default (omega arith) (omega arith) stand.1
 
--- another is set in its place, which stands for the machine's changed
+-- another connection replaces it, and refines the machine's changed one
 pub ConnectionsRefine-changed : (calls : List Call) (n c seat : ℕ) (codes : List Connection) (machines : List MachineConnection) (new : Connection) (change : MachineConnection → MachineConnection) → seat ≡ n + c
     → ConnectionsRefine calls n codes machines → ConnectionRefines calls seat new (change (get_connection machines c)) → ConnectionsRefine calls n (slice_set codes c new) (changed_at c change machines)
 ConnectionsRefine-changed calls n c seat [] [] new change is stand stands = tt
@@ -108,7 +108,7 @@ released-told calls n (code ∷ codes) (machine ∷ machines) stand (suc c) = re
 
 -- ---- an event at one of the connections
 
--- the sessions with this connection in place c
+-- the sessions with this connection at index c
 abbrev pub with_connection : Sessions → ℕ → Connection → Sessions
 with_connection sessions c connection = record { lobby = sessions.lobby; connections = with_item sessions.connections c connection; calls = sessions.calls; replies = sessions.replies }
 

@@ -48,7 +48,7 @@ stands-at calls n (first ∷ codes) (machine ∷ machines) zero code stand lt is
     subst (λ m. ConnectionRefines calls m code machine) same (subst (λ (x : Connection). ConnectionRefines calls n x machine) (sym is) stand.0)
 stands-at calls n (first ∷ codes) (machine ∷ machines) (suc c) code stand lt is k e = stands-at calls (suc n) codes machines c code stand.1 (omega arith) is k (omega arith)
 
--- another connection in its place, which stands for the same
+-- another connection in its place, which refines the same
 stand-replaced : (calls : List Call) (n : ℕ) (codes : List Connection) (machines : List MachineConnection) (c : ℕ) (code : Connection) → ConnectionsRefine calls n codes machines
     → ConnectionRefines calls (n + c) code (get_connection machines c) → ConnectionsRefine calls n (slice_set codes c code) machines
 stand-replaced calls n [] machines c code stand at = stand
@@ -142,7 +142,7 @@ outbound-made calls call position old new machine stands at made gate released s
 
 -- ---- where a turn is enabled
 
--- what it asks for, of the code
+-- what it requires of the code
 pub record MayRun (code : Connection) (sequencer : Sequencing) : Type 0 where
   pub waits : code.inbound.waiting.items ≢ []
   pub room : length code.outbound.made.items < PIPE_ITEMS

@@ -13,18 +13,18 @@ use Rattle.machine.specs.declared.event.Event.{Event}
 use Rattle.machine.specs.declared.event.Event.TheVariants.{Enter, Feed, Offer, CloseGroup, Commit, OpenLink, Send, Deliver, Apply, Hold, Write}
 use Rattle.world.specs.Committing.{Rests, NearOnly}
 
--- what leads the device of a holder from one state to another has to do with a position of the list, and with the one that its node goes to next
+-- a relation between two states of a holder's device, given the list of calls, a position in it, and the position that the node goes to next
 abbrev pub Stretch : Type 1
 Stretch = Holder → List Call → ℕ → ℕ → State → State → Type 0
 
 -- ---- before the first event
 
--- an image may not have so many lines
+-- no image may have this device's number of lines
 abbrev pub IsWrongSize : State → Type 0
 IsWrongSize device = (device.lines < MIN_LINES) ⊎ (MAX_LINES < device.lines)
 
--- Why the primary and the standby were not formatted. It takes no memory, so that where memory was refused neither was touched. The standby is not touched
--- before the primary is formatted, in which no fence failed then.
+-- Why the primary and the standby were not formatted. Formatting takes no memory, so where memory was refused neither was touched. The standby is not touched
+-- until the primary is formatted, and then no fence of the primary failed.
 abbrev pub UnformedBy : Refusal → State → State → State → State → Type 0
 UnformedBy Memory primary standby primary' standby' = (primary' ≡ primary) × (standby' ≡ standby)
 UnformedBy WrongSize primary standby primary' standby' =
@@ -44,7 +44,7 @@ pub record Breaks (holder : Holder) (calls : List Call) (position next : ℕ) (o
   pub leaves : NearOnly holder calls position next old new
   pub failures : old.failures < new.failures
 
--- the changes of these many positions would take a counter of the image's record to the limit: that of its stamps, its position, or its number
+-- the changes of `more` positions would take a counter of the image's record to the limit: its stamps, its position, or its number
 pub record IsAtLimit (more : ℕ) (image : Image) : Type 0 where
   pub current : Record
   pub has_record : HasRecord current image
@@ -55,7 +55,7 @@ pub record RestsAtLimit (holder : Holder) (calls : List Call) (position next : �
   pub rests : Rests holder calls position old new
   pub limit : (image : Image) → IsImage new.words image → IsAtLimit (next - position) image
 
--- the event may ask for memory, so that its refusal ends the run. (A turn that is refused memory answers so, and the run goes on.)
+-- the event may ask for memory, so that its refusal ends the run. (A turn that is refused memory replies so, and the run goes on.)
 abbrev pub asks_memory : Event → Bool
 asks_memory Enter = true
 asks_memory (Feed c piece) = true
@@ -69,7 +69,7 @@ asks_memory (Hold c) = true
 asks_memory (Write c n) = true
 asks_memory event = false
 
--- An enabled event ended the run for this cause, and led the primary's device and the standby's so: memory was refused, and both rest; or a fence failed, or
+-- An enabled event ended the run for this cause, with this effect on the primary's device and the standby's: memory was refused, and both rest; or a fence failed, or
 -- a counter is at its limit, on the one device that the event is about, and the other rests.
 abbrev pub EndsBy : Refusal → Event → (Stretch → Stretch → Type 0) → Type 0
 EndsBy Memory event Leads = (asks_memory event ≡ true) × Leads Resting Resting

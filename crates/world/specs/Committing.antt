@@ -1,4 +1,4 @@
--- What the committer and its engine stand for in the machine.
+-- How the committer and its engine refine the machine's.
 use Rattle.std.specs.Prelude.{◌≡◌, ◌⊎◌, ℕ, ◌≤◌, Bool, false, nat_eq, if◌then◌else◌, List, [], ◌∷◌}
 use Rattle.pmem.specs.Device.{State}
 use Rattle.pmem.specs.Crash.{IsImage}
@@ -22,7 +22,7 @@ use Rattle.world.specs.declared.committing.Committing.{Committing}
 
 -- ---- groups that wait
 
--- each group is what a commit asks for, after those before it
+-- each group meets what a commit requires, once those before it are committed
 abbrev pub AreGroups : Contents → List Group → Type 0
 AreGroups contents [] = Unit {0}
 AreGroups contents (group ∷ groups) = IsGroup contents group × AreGroups (after_group contents group) groups
@@ -32,12 +32,12 @@ abbrev pub after_groups : Contents → List Group → Contents
 after_groups contents [] = contents
 after_groups contents (group ∷ groups) = after_groups (after_group contents group) groups
 
--- groups lead from what an engine holds to what the sequencer stands for
+-- committing these groups, an engine with these contents reaches contents that the sequencer is ahead of
 pub record Leads (contents : Contents) (groups : List Group) (s : Sequencing) : Type 0 where
   pub groups_are : AreGroups contents groups
   pub stands : IsAheadOf s (after_groups contents groups)
 
--- what is left to commit leads to where it led before
+-- what is left to commit leads to the same contents as before
 pub record LeadsOn (old : Contents) (groups : List Group) (new : Contents) (rest : List Group) : Type 0 where
   pub groups_are : AreGroups new rest
   pub same : after_groups new rest ≡ after_groups old groups
@@ -105,7 +105,7 @@ next_standby w = next_from w.standby.position w.standby.waiting
 
 -- ---- the committer
 
--- the group in hand is the span in hand
+-- the committer's group in hand is that of the machine's span in hand
 abbrev pub StageRefines : List Call → Stage → MachineStage → Type 0
 StageRefines calls Ready machine_stage.Ready = Unit {0}
 StageRefines calls (Durable group) (machine_stage.Durable span) = IsGroupOf calls group span

@@ -1,4 +1,4 @@
--- Groups and frames of the machine, and those of the code that stand for them.
+-- Groups and frames of the machine, and those of the code that refine them.
 use Rattle.std.specs.Prelude.{◌≡◌, ℕ, ◌-◌, ◌≤◌, ◌<◌, List, [], ◌∷◌}
 use Rattle.model.specs.declared.call.Call.{Call}
 use Rattle.model.specs.declared.group.Group.{Group}

@@ -1,4 +1,4 @@
--- What a run keeps its word of: the promise, between any two events, and what a crash leaves of both images at any moment of the run.
+-- The word that a run keeps: the promise, between any two events, and what a crash leaves of both images at any moment of the run.
 use Rattle.std.specs.Prelude.{◌≡◌, ℕ, Bool, true, List, [], ◌∷◌, ◌++◌, take, slice_get, slice_index_or, Option, Some, None}
 use Rattle.pmem.specs.Device.{State}
 use Rattle.kv_types.specs.declared.refusal.Refusal.{Refusal}
@@ -28,14 +28,14 @@ KeepsReleased holder calls w old new =
     (prefix : List Call) (call : Call) → IsReleased w.primary.calls (released_in w) prefix call → FromOnly holder calls (position_of (prefix ++ call ∷ [])) old new
 
 -- The moments of a device, cut by the events of a run from this world on. A crash during an event leaves an image that stands where the node stood before
--- it or where it stood after it. What comes behind the last event is a stretch of its own. And from each cut on, up to the end, each crash keeps what was
+-- it or where it stood after it. What comes after the last event is a stretch of its own. And from each cut on, up to the end, each crash keeps what was
 -- released by then.
 abbrev pub AreMoments : Stretch → (World → ℕ) → (World → ℕ) → Holder → List Call → World → List World → State → State → Type 0
 AreMoments last position next holder calls w [] old new = KeepsReleased holder calls w old new × last holder calls (position w) (next w) old new
 AreMoments last position next holder calls w (w' ∷ worlds) old new =
     (between : State) × KeepsReleased holder calls w old new × Moves holder calls (position w) (position w') old between × AreMoments last position next holder calls w' worlds between new
 
--- nothing is asked of the last world of a run
+-- nothing is required of the last world of a run
 abbrev pub AnyWorld : World → Type 0
 AnyWorld w = Unit {0}
 
@@ -43,8 +43,8 @@ AnyWorld w = Unit {0}
 abbrev pub Enables : Event → World → Type 0
 Enables event w = is_enabled w event ≡ true
 
--- These events, or some of them, did their step, and led the two devices on from where they were formatted. The list of calls and the released bytes, by
--- connection, are as promised. The last world is such a one.
+-- All or some of these events did their step, and moved the two devices on from where they were formatted. The list of calls and the released bytes, by
+-- connection, are as promised. `Last` holds of the last world.
 pub record IsKept (Last : World → Type 0) (first_last second_last : Stretch) (first second : Holder) (events : List Event) (done : List Bool) (calls : List Call) (released : List (List ℕ)) (primary standby primary' standby' : State) : Type 0 where
   -- the positions of the two nodes at the end
   pub primary_at : ℕ
@@ -64,7 +64,7 @@ pub record IsPlayed (Last : World → Type 0) (first_last second_last : Stretch)
   pub standby_formatting : FormattingOnly Standby standby standby_formatted
   pub kept : IsKept Last first_last second_last (new_holder primary.lines Primary) (new_holder standby.lines Standby) events done calls released primary_formatted standby_formatted primary' standby'
 
--- Nothing was called: what was done to the devices is of their formatting, which ended for this cause.
+-- Nothing was called: all that was done to the devices was done by their formatting, which ended for this cause.
 pub record IsUnplayed (refusal : Refusal) (done : List Bool) (calls : List Call) (released : List (List ℕ)) (primary standby primary' standby' : State) : Type 0 where
   pub done_none : done ≡ []
   pub calls_none : calls ≡ []
@@ -84,7 +84,7 @@ KeepsItsWord events (Some (AtEvent place refusal)) done calls released primary s
 
 -- ---- how it is played
 
--- the same of what is played on a pair of new nodes
+-- the same, of a run over a pair of new nodes
 abbrev pub PlaysOn : Holder → Holder → List Event → Option Ended → List Bool → List Call → List (List ℕ) → State → State → State → State → Type 0
 PlaysOn first second events None done calls released primary standby primary' standby' = IsKept AnyWorld Resting Resting first second events done calls released primary standby primary' standby'
 PlaysOn first second events (Some (AtFormatting refusal)) done calls released primary standby primary' standby' = ⊥
@@ -92,24 +92,24 @@ PlaysOn first second events (Some (AtEvent place refusal)) done calls released p
     (event : Event) × (slice_get events place ≡ Some event)
     × EndsBy refusal event (λ first_last second_last. IsKept (Enables event) first_last second_last first second (take place events) done calls released primary standby primary' standby')
 
--- the events of a run from this world on, each over its own list of calls, led a device on
+-- the events of a run from this world on, each over its own list of calls, moved a device on
 abbrev pub AreMoves : (World → ℕ) → Holder → World → List World → State → State → Type 0
 AreMoves position holder w [] old new = old ≡ new
 AreMoves position holder w (w' ∷ worlds) old new = (next : State) × Moves holder w'.primary.calls (position w) (position w') old next × AreMoves position holder w' worlds next new
 
--- since the pair began so, the machine's run over events led both devices to these states
+-- the machine's run over these events moved both devices to these states from where they were in the pair `began`
 pub record Reaches (first second : Holder) (began : Pair) (events : List Event) (done : List Bool) (primary standby : State) : Type 0 where
   pub worlds : List World
   pub run : Run start events done worlds
   pub primary_moves : AreMoves primary_position first start worlds began.device primary
   pub standby_moves : AreMoves standby_position second start worlds began.standby.device standby
 
--- and the pair stands for the last world
+-- and the pair refines the last world
 pub record StandsAfter (first second : Holder) (began : Pair) (events : List Event) (done : List Bool) (pair : Pair) : Type 0 where
   pub reaches : Reaches first second began events done pair.device pair.standby.device
   pub stands : PairRefines first second pair (last_world start reaches.worlds)
 
--- or it was cut in the event behind them
+-- or it was cut in the event after them
 pub record IsCutAfter (first second : Holder) (began : Pair) (events : List Event) (event : Event) (refusal : Refusal) (done : List Bool) (pair : Pair) : Type 0 where
   pub before : Pair
   pub reaches : Reaches first second began events done before.device before.standby.device

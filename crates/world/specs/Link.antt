@@ -1,4 +1,4 @@
--- What the link and its frames stand for in the machine.
+-- How the link and its frames refine the machine's.
 use Rattle.std.specs.Prelude.{◌≡◌, ℕ, ◌<◌, ◌≤◌, List, [], ◌∷◌, drop, length, slice_get, Some}
 use Rattle.model.specs.declared.call.Call.{Call}
 use Rattle.kv_types.specs.Keyspace.{play_all}
@@ -8,7 +8,7 @@ use Rattle.standby.specs.declared.frame.Frame.{Frame}
 use Rattle.world.specs.GroupSpan.{IsWithin, AreGroupsOf}
 use Rattle.world.specs.declared.link.Link.{Link}
 
--- the frame's changes lead from the keyspace before the span to the one behind it
+-- the frame's changes lead from the keyspace before the span to the one after it
 pub record IsFrameOf (epoch : ℕ) (calls : List Call) (frame : Frame) (span : Span) : Type 0 where
   pub span_within : IsWithin calls span
   pub epoch_is : frame.epoch ≡ epoch
@@ -21,7 +21,7 @@ AreFramesOf epoch calls [] [] = Unit {0}
 AreFramesOf epoch calls (frame ∷ frames) (span ∷ spans) = IsFrameOf epoch calls frame span × AreFramesOf epoch calls frames spans
 AreFramesOf epoch calls _ _ = ⊥
 
--- the frame at this place is the one that was sent, of this epoch
+-- the frame at index `place` is the one that was sent, of this epoch
 pub record IsFrameAt (epoch : ℕ) (calls : List Call) (frames : List Frame) (place : ℕ) (sent : Sent) : Type 0 where
   pub frame : Frame
   pub stands : slice_get frames place ≡ Some frame
@@ -33,7 +33,7 @@ AreFramesAt epoch calls frames [] [] = Unit {0}
 AreFramesAt epoch calls frames (place ∷ places) (sent ∷ others) = IsFrameAt epoch calls frames place sent × AreFramesAt epoch calls frames places others
 AreFramesAt epoch calls frames _ _ = ⊥
 
--- What is kept, and what is to be sent again, are the last of the frames that were ever made. All that were ever sent are among them.
+-- What is kept, and what is to be sent again, are the last of the frames that were ever made. All frames that were ever sent are among those made.
 pub record LinkRefines (calls : List Call) (code : Link) (machine : Machine) (sent_frames : List Sent) : Type 0 where
   pub waiting : AreGroupsOf calls code.waiting.items machine.waiting
   -- the spans of all frames that were ever made
@@ -52,7 +52,7 @@ pub record KeepsFrames (old new : Link) : Type 0 where
   pub epoch : new.epoch ≡ old.epoch
   pub frames : IsPrefix old.frames.items new.frames.items
 
--- The place is the first, from this one on, whose frame ends above the position; or the end.
+-- `place` is the first index, from `from` on, whose frame ends above the position; or the end of the list.
 pub record DropsKnown (frames : List Frame) (from position place : ℕ) : Type 0 where
   pub later : from ≤ place
   pub within : place ≤ length frames

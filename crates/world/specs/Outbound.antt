@@ -1,4 +1,4 @@
--- What a connection's outbound half stands for in the machine.
+-- How a connection's outbound half refines the machine's.
 use Rattle.std.specs.Prelude.{◌≡◌, ℕ, Bool, true, false, nat_le, List, [], ◌∷◌, length, slice_get, Some}
 use Rattle.kv_types.specs.declared.reply.Held.{Held}
 use Rattle.kv_types.specs.Reply.{text_of}
@@ -10,7 +10,7 @@ use Rattle.reply_gate.specs.Gate.{Held as Gate}
 use Rattle.world.specs.declared.outbound.Made.{Made}
 use Rattle.world.specs.declared.outbound.Outbound.{Outbound}
 
--- a reply that was made: its call stands in the list, and it has the position of the list after it
+-- a reply that was made: its call is in the list, and it has the position of the list after the call
 pub record IsMade (calls : List Call) (made : Made) (held : Held) : Type 0 where
   pub call : Call
   pub stands : slice_get calls made.call ≡ Some call
@@ -56,7 +56,7 @@ pub record LetsOut (calls : List Call) (new : Outbound) (did : Bool) (machine : 
   pub out : did ≡ true → OutboundRefines calls new (having_released machine)
   pub stays : did ≡ false → OutboundRefines calls new machine
 
--- so many bytes were written, or there were not so many
+-- `n` bytes were written, or fewer were pending
 pub record Writes (n : ℕ) (calls : List Call) (new : Outbound) (did : Bool) (machine : Machine) : Type 0 where
   pub done : did ≡ nat_le n (length machine.pending)
   pub out : did ≡ true → OutboundRefines calls new (written n machine)

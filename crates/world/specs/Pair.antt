@@ -1,4 +1,4 @@
--- What a pair of nodes with its connections stands for in the machine.
+-- How a pair of nodes with its connections refines the machine's.
 use Rattle.std.specs.Prelude.{◌≡◌, ℕ, ◌<◌, ◌≤◌, Bool, true, [], length, slice_index_or, vec_capacity, Result, IfOk, IfErr}
 use Rattle.pmem.specs.Device.{State}
 use Rattle.kv_types.specs.declared.refusal.Refusal.{Refusal}
@@ -33,7 +33,7 @@ pub record Pair : Type 0 where
   pub arrivals : Arrivals
   pub standby : Node
 
--- Its parts stand for those of the machine. The primary's image is that of the first holder, the standby's that of the second.
+-- Its parts refine those of the machine. The primary's image is that of the first holder, the standby's that of the second.
 pub record PartsRefine (first second : Holder) (pair : Pair) (w : World) : Type 0 where
   pub sessions : SessionsRefine pair.sessions w.primary.connections w.primary.calls
   pub sequencer : SequencerRefines w.primary.calls w.primary.committer.closed pair.sequencer
@@ -45,19 +45,19 @@ pub record PartsRefine (first second : Holder) (pair : Pair) (w : World) : Type 
   pub arrivals : ArrivalsRefine pair.link.epoch w.primary.calls pair.link.frames.items pair.arrivals w.standby.waiting w.wire.acknowledgements
   pub standby : StandbyStands second pair.link.epoch w.primary.calls w.standby.position pair.standby
 
--- it stands for a world that a run may reach
+-- it refines a world that a run may reach
 pub record PairRefines (first second : Holder) (pair : Pair) (w : World) : Type 0 where
   pub sound : Sound w
   pub parts : PartsRefine first second pair w
 
--- there is a world for which it stands
+-- there is a world that it refines
 pub record HasWorld (pair : Pair) : Type 0 where
   pub first : Holder
   pub second : Holder
   pub world : World
   pub stands : PairRefines first second pair world
 
--- there is room for one call more
+-- there is room for one more call
 pub record HasRoom (pair : Pair) : Type 0 where
   pub room : length pair.sessions.calls.items < vec_capacity pair.sessions.calls
 
@@ -71,19 +71,19 @@ pub record IsCut (first second : Holder) (event : Event) (refusal : Refusal) (ol
       first_last first w.primary.calls w.primary.committer.position (next_primary w) old.device new.device
       × second_last second w.primary.calls w.standby.position (next_standby w) old.standby.device new.standby.device)
 
--- what led from one pair to the other moved either device from where its node stands in one world to where it stands in the other
+-- the step from one pair to the other moved each device from where its node stands in one world to where it stands in the other
 pub record MovesBoth (first second : Holder) (old new : Pair) (w w' : World) : Type 0 where
   pub primary : Moves first w'.primary.calls w.primary.committer.position w'.primary.committer.position old.device new.device
   pub standby : Moves second w'.primary.calls w.standby.position w'.standby.position old.standby.device new.standby.device
 
--- the machine's step, what the pair stands for after it, and what it did to the devices
+-- the machine's step, the world that the pair refines after it, and what the step did to the devices
 pub record Steps (first second : Holder) (w : World) (event : Event) (did : Bool) (old new : Pair) : Type 0 where
   pub world : World
   pub step : Step w event did world
   pub stands : PairRefines first second new world
   pub moves : MovesBoth first second old new w world
 
--- what an event did to a pair: a step, or it was cut; it made one call at most, in the room that there was
+-- what an event did to a pair: a step, or it was cut; it added at most one call, in the room that there was
 pub record Does (old : Pair) (event : Event) (result : Result Bool Refusal) (new : Pair) : Type 0 where
   pub steps : IfOk result (λ did. (first second : Holder) (w : World) → PairRefines first second old w → Steps first second w event did old new)
   pub cut : IfErr result (λ refusal. (first second : Holder) (w : World) → PairRefines first second old w → IsCut first second event refusal old new w)

@@ -6,7 +6,7 @@ use Rattle.model.specs.declared.group.TheConstants.{MAX_PARTS}
 use Rattle.redis_core.specs.Sequencing.{Sequencing, is_closed}
 use Rattle.redis_core.specs.Turn.{Answers}
 
--- The sequencer answered the first of the items that waited, in an open seat and with room for what it changes. The reply bears the position after it.
+-- The sequencer answered the first of the items that waited, in an open seat and with room for what it changes. The reply carries the position after it.
 pub record Runs (before : Sequencing) (seat : ℕ) (waiting : List Item) (held : Held) (rest : List Item) (after : Sequencing) : Type 0 where
   pub item : Item
   pub first : waiting ≡ item ∷ rest

@@ -1,4 +1,4 @@
--- What the connections and the list of calls stand for in the machine.
+-- How the connections and the list of calls refine the machine's.
 use Rattle.std.specs.Prelude.{◌≡◌, ℕ, suc, ◌+◌, ◌<◌, ◌≤◌, Bool, true, false, List, [], ◌∷◌, length, map, slice_get, Some, Vec, vec_capacity}
 use Rattle.std.specs.Global.{Global}
 use Rattle.std.specs.List.{list_any}
@@ -34,13 +34,13 @@ ConnectionsRefine calls c [] [] = Unit {0}
 ConnectionsRefine calls c (code ∷ codes) (machine ∷ machines) = ConnectionRefines calls c code machine × ConnectionsRefine calls (suc c) codes machines
 ConnectionsRefine calls c _ _ = ⊥
 
--- the seats of so many connections are taken, and all others are free
+-- the first `count` seats are taken, and all others are free
 pub record SeatsRefine (statuses : List Status) (count : ℕ) : Type 0 where
   pub complete : length statuses ≡ MAX_SEATS
   pub are_taken : (seat : ℕ) → seat < count → slice_get statuses seat ≡ Some taken
   pub are_free : (seat : ℕ) → count ≤ seat → seat < MAX_SEATS → slice_get statuses seat ≡ Some free
 
--- the connections and the list of calls are these; no reply lies between two events
+-- the connections and the list of calls are these; no reply is left between two events
 pub record SessionsRefine (code : Sessions) (connections : List MachineConnection) (calls : List Call) : Type 0 where
   pub seats : SeatsRefine code.lobby.statuses (length connections)
   pub connections_stand : ConnectionsRefine calls 0 code.connections.items connections
@@ -56,7 +56,7 @@ pub record TellsTheSame (old new : Sessions) : Type 0 where
   pub calls : new.calls.items ≡ old.calls.items
   pub released : released_of new.connections.items ≡ released_of old.connections.items
 
--- one call at most was added, in the room that there was
+-- at most one call was added, in the room that there was
 pub record AddsOne (old new : Vec Call Global) : Type 0 where
   pub one : length new.items ≤ length old.items + 1
   pub room : vec_capacity new ≡ vec_capacity old
@@ -78,7 +78,7 @@ pub record SequencerRefines (calls : List Call) (closed : ℕ) (s : Sequencing) 
   -- where a seat is closed, a call of its connection closed it
   pub seats : (c : ℕ) → is_closed s c ≡ true → list_any closes (items_of c calls) ≡ true
 
--- what a turn came to: the sequencer ran the first waiting item, or nothing changed
+-- the outcome of a turn: the sequencer ran the first waiting item, or nothing changed
 pub record TakesTurn (w : World) (c : ℕ) (did : Bool) (sessions : Sessions) (old new : Sequencing) : Type 0 where
   pub done : did ≡ may_happen w (Turn c)
   pub goes : did ≡ true → (w' : World) × Turns w c w' × SessionsRefine sessions w'.primary.connections w'.primary.calls × SequencerRefines w'.primary.calls w'.primary.committer.closed new

@@ -1,4 +1,4 @@
--- What the standby, and what lies before it, stand for in the machine.
+-- How the standby, and what waits for it, refine the machine's.
 use Rattle.std.specs.Prelude.{◌≡◌, ℕ, Bool, true, false, List, [], ◌∷◌, take, map}
 use Rattle.pmem.specs.Device.{State}
 use Rattle.extent_heap.specs.Room.{Room}
@@ -37,7 +37,7 @@ pub record StandbyStands (holder : Holder) (epoch : ℕ) (calls : List Call) (po
 abbrev pub told_by : Ack → Acknowledgement
 told_by ack = record { epoch = ack.epoch; position = ack.position }
 
--- the frames that came, by their places, and the acknowledgements that were made
+-- the frames that came, by their indices, and the acknowledgements that were made
 pub record ArrivalsRefine (epoch : ℕ) (calls : List Call) (frames : List Frame) (code : Arrivals) (waiting : List Sent) (told : List Acknowledgement) : Type 0 where
   pub delivered : AreFramesAt epoch calls frames code.delivered.items waiting
   pub acknowledged : map told_by code.acknowledgements.items ≡ told

@@ -23,7 +23,7 @@ use wbl_engine::Durable;
 /// Frames on their way into the standby, and acknowledgements on their way out.
 #[derive(Drop)]
 pub(crate) struct Arrivals {
-    /// The places of the frames that came to the standby and were not taken.
+    /// The indices, in the link's list of frames, of those that came to the standby and were not taken yet.
     pub(crate) delivered: VecDeque<usize>,
     /// All acknowledgements that the standby ever made.
     pub(crate) acknowledgements: Vec<Ack>,
@@ -39,7 +39,7 @@ impl Arrivals {
         }
     }
 
-    /// The standby tells its position.
+    /// Adds an acknowledgement, with which the standby tells its position.
     pub(crate) fn acknowledge(&mut self, ack: Ack) -> Result<(), Refusal>
         ensures stands { OnOk result ((epoch : ℕ) (frames : List Frame) (w : World) → ArrivalsRefine epoch w.primary.calls frames self.old w.standby.waiting w.wire.acknowledgements → told_by ack ≡ acknowledgement_of w.standby
             → ArrivalsRefine epoch w.primary.calls frames self.new w.standby.waiting (w.wire.acknowledgements ++ acknowledgement_of w.standby ∷ [])) }
@@ -49,7 +49,7 @@ impl Arrivals {
         Ok(())
     }
 
-    /// A frame that was sent comes to the standby. Answers whether there is such a frame.
+    /// Delivers the sent frame with the number `frame` to the standby. Returns whether there is such a frame.
     pub(crate) fn deliver(&mut self, sent: &[usize], frame: u64) -> Result<bool, Refusal>
         ensures goes { IfOk result (λ did. (epoch : ℕ) (frames : List Frame) (w : World) → ArrivalsRefine epoch w.primary.calls frames self.old w.standby.waiting w.wire.acknowledgements
             → AreFramesAt epoch w.primary.calls frames sent.now w.wire.frames
@@ -68,7 +68,7 @@ impl Arrivals {
         }
     }
 
-    /// The standby takes the first frame that came. Answers whether there was one.
+    /// The standby takes the first frame that came. Returns whether there was one.
     ///
     /// `Memory` where a growth was refused, `Fault` where a fence failed, `Exhausted` where a counter would reach 2^62.
     pub(crate) fn apply<E: Durable, K: Keyspace>(
@@ -152,7 +152,7 @@ impl Arrivals {
     }
 }
 
-/// Whether a standby that refused a frame so is as it was, and goes on.
+/// Whether a standby that refused a frame with this refusal is unchanged and goes on.
 fn goes_on(refusal: Refusal) -> bool
     ensures { IsTrue result ↔ ((refusal ≡ Refusal.Full) ⊎ (refusal ≡ Refusal.PositionGap) ⊎ (refusal ≡ Refusal.WrongEpoch)) }
 {

@@ -53,7 +53,7 @@ impl Committing {
         })
     }
 
-    /// Takes all changes that wait at the sequencer as one group, if there are any and room for it. Answers whether it did.
+    /// Takes all changes that wait at the sequencer as one group, if there are any and there is room for the group. Returns whether it did.
     pub(crate) fn close_group<K: Keyspace>(
         &mut self,
         alloc: Global,
@@ -82,7 +82,7 @@ impl Committing {
         sequencer.has_open() && self.waiting.len() < PIPE_ITEMS
     }
 
-    /// Commits the first group that waits, if there is one and the link has room for it. Answers whether it did.
+    /// Commits the first group that waits, if there is one and the link has room for it. Returns whether it did.
     ///
     /// `Fault` where a fence failed, `Exhausted` where a counter would reach 2^62.
     pub(crate) fn commit<E: Durable>(
@@ -126,7 +126,7 @@ impl Committing {
         Ok(true)
     }
 
-    /// Shows the last commit: raises the local mark to its position. Answers whether there was one to show.
+    /// Shows the last commit: raises the local mark to its position. Returns whether there was one to show.
     pub(crate) fn raise_local<E: Durable>(&mut self, engine: &E) -> bool
         ensures goes { (w : World) → CommittingRefines w.primary.calls self.old w.primary.committer → (E.contents engine.now).current.position ≡ w.primary.committer.position
             → Goes (may_happen w RaiseLocal) result
@@ -147,7 +147,7 @@ impl Committing {
         }
     }
 
-    /// Hands the group on to the link. Answers whether there was one.
+    /// Hands the group on to the link. Returns whether there was one.
     pub(crate) fn hand(&mut self, link: &mut LocalPipe<Group>) -> bool
         ensures goes { (w : World) → Sound w → CommittingRefines w.primary.calls self.old w.primary.committer → AreGroupsOf w.primary.calls link.old.items w.primary.link.waiting
             → Goes (may_happen w Hand) result

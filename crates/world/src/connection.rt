@@ -3,7 +3,7 @@ use crate::inbound::Inbound;
 use crate::outbound::Outbound;
 use pipes::Seat;
 
-/// A connection's seat, and what lies before and behind the sequencer.
+/// A connection's seat, and its parts before and after the sequencer.
 #[derive(Drop)]
 pub(crate) struct Connection {
     pub(crate) seat: Seat,

@@ -30,7 +30,7 @@ use standby::Standby;
 use std::alloc::Global;
 use wbl_engine::{Durable, Role, WblEngine};
 
-/// What stands between two nodes and their clients, before there is any.
+/// What lies between two nodes and their clients, while there are no clients yet.
 #[derive(Drop)]
 struct Between<K: Keyspace> {
     sessions: Sessions,
@@ -40,7 +40,7 @@ struct Between<K: Keyspace> {
     arrivals: Arrivals,
 }
 
-/// All that takes memory, for a primary of so many lines with this empty keyspace and for so many calls.
+/// Makes all that takes memory, for a primary of `lines` lines with this empty keyspace, with room for `calls` calls.
 fn make_between<K: Keyspace + Drop>(
     alloc: Global,
     keyspace: K,
@@ -69,7 +69,7 @@ fn make_between<K: Keyspace + Drop>(
     })
 }
 
-/// All entries and extents of a new image of so many lines are free.
+/// The heap of a new image of `lines` lines: all entries and extents are free.
 fn heap_of(lines: u64) -> ExtentHeap
     ensures lines { (line : ℕ) → IsTrue (is_free_line result line) ↔ ((first_extent_line lines ≤ line) × (line < lines)) }
     ensures entries { (i : ℕ) → IsTrue (is_free_entry result i) ↔ (i < entries_of_lines lines) }
@@ -81,7 +81,7 @@ fn heap_of(lines: u64) -> ExtentHeap
     )
 }
 
-/// Formats the first device as primary and the second as standby. The keyspaces are empty, and there is room for so many calls.
+/// Formats the first device as primary and the second as standby. The keyspaces are empty, and there is room for `calls` calls.
 ///
 /// `WrongSize` where a device has fewer than 4,096 lines or more than 2^31, `Memory` where a growth was refused, `Fault` where a fence failed. A
 /// refusal hands the devices back.

@@ -39,7 +39,7 @@ impl Inbound {
         })
     }
 
-    /// Takes a piece of the connection's bytes, unless an item closed it. Answers whether it did.
+    /// Takes a piece of the connection's bytes, unless an item closed it. Returns whether it did.
     pub(crate) fn feed(&mut self, piece: &Bytes) -> Result<bool, Refusal>
         ensures feeds { IfOk result (λ did. (machine : Machine) → InboundRefines self.old machine → Feeds piece.now self.old self.new did machine) }
         ensures cause { IfErr result (λ refusal. refusal ≡ Refusal.Memory) }
@@ -54,7 +54,7 @@ impl Inbound {
         Ok(true)
     }
 
-    /// Hands the next item to the sequencer, if there is one and room for it. Answers whether it did.
+    /// Hands the next item to the sequencer, if there is one and there is room for it. Returns whether it did.
     pub(crate) fn offer(&mut self) -> Result<bool, Refusal>
         ensures offers { IfOk result (λ did. (machine : Machine) → InboundRefines self.old machine → Offers self.old self.new did machine) }
         ensures cause { IfErr result (λ refusal. refusal ≡ Refusal.Memory) }
@@ -76,7 +76,7 @@ impl Inbound {
     }
 }
 
-/// Takes all items that the parser has to give, and answers whether one of them closes the connection.
+/// Takes all items that the parser has ready, and returns whether one of them closes the connection.
 fn drain(parser: &mut Parser, asked: &mut VecDeque<Item>) -> Result<bool, Refusal>
     ensures asked { OnOk result (asked.new.items ≡ asked.old.items ++ ahead parser.old) }
     ensures drained { OnOk result (ahead parser.new ≡ []) }

@@ -1,4 +1,4 @@
-//! Any list of events over two devices, through the crates that serve them, and what is promised of it.
+//! Runs any list of events over two devices, through the crates that serve them, and states what is promised of the run.
 #![tactic(auto)]
 
 mod arrivals;

@@ -21,11 +21,11 @@ pub(crate) struct Link {
     pub(crate) waiting: LocalPipe<Group>,
     /// All frames that were ever made, one for each group, in order.
     pub(crate) frames: Vec<Frame>,
-    /// Frames from this place on are not acknowledged.
+    /// Frames from this index on are not acknowledged.
     pub(crate) kept: usize,
-    /// Frames from this place on are to be sent again.
+    /// Frames from this index on are to be sent again.
     pub(crate) again: usize,
-    /// The places of the frames that passed over the link, in order.
+    /// The indices of the frames that passed over the link, in order.
     pub(crate) sent: Vec<usize>,
     /// The highest position that was acknowledged.
     pub(crate) known: u64,
@@ -60,7 +60,7 @@ impl Link {
         self.again = self.kept;
     }
 
-    /// Sends one frame: of those that are to be sent again, or else of the first group that waits. Answers whether there was one.
+    /// Sends one frame: the next of those to be sent again, or else the frame of the first group that waits. Returns whether there was one.
     pub(crate) fn send(&mut self, alloc: Global) -> Result<bool, Refusal>
         ensures goes { IfOk result (λ did. (w : World) → Sound w → LinkRefines w.primary.calls self.old w.primary.link w.wire.frames
             → Goes (may_happen w Send) did
@@ -87,7 +87,7 @@ impl Link {
         Ok(true)
     }
 
-    /// An acknowledgement came: frames up to it are kept no longer.
+    /// Takes an acknowledgement: frames up to its position are no longer kept.
     pub(crate) fn on_ack(&mut self, ack: Ack)
         ensures stands { (w : World) → Sound w → LinkRefines w.primary.calls self.old w.primary.link w.wire.frames → LinkRefines w.primary.calls self.new (knowing ack.position w.primary.link) w.wire.frames }
         ensures keeps { KeepsFrames self.old self.new }
@@ -97,7 +97,7 @@ impl Link {
         self.known = self.known.max(ack.position);
     }
 
-    /// Raises the remote mark to what was acknowledged. Answers whether it rose.
+    /// Raises the remote mark to what was acknowledged. Returns whether it rose.
     pub(crate) fn raise_remote(&mut self) -> bool
         ensures goes { (w : World) → Sound w → LinkRefines w.primary.calls self.old w.primary.link w.wire.frames
             → Goes (may_happen w RaiseRemote) result (LinkRefines w.primary.calls self.new (raised_remote w.primary.link) w.wire.frames) (LinkRefines w.primary.calls self.new w.primary.link w.wire.frames) }
@@ -109,7 +109,7 @@ impl Link {
     }
 }
 
-/// The place of the first frame, from this one on, that ends above the position.
+/// The index of the first frame, from index `from` on, that ends above the position; or the end of the list.
 fn first_above(frames: &[Frame], from: usize, position: u64) -> usize
     ensures { from ≤ length frames.now → DropsKnown frames.now from position result }
 {

@@ -10,7 +10,7 @@ use pipes::{Inlet, LocalPipe};
 use reply_gate::{Gate, Seen};
 use std::alloc::{AllocError, Global};
 
-/// A reply that was made: the place of its call in the list, and the position of the list after it.
+/// A reply that was made: the index of its call in the list, and the position of the list after it.
 #[derive(Clone, Copy, Debug, PartialEq, Eq)]
 pub(crate) struct Made {
     pub(crate) call: usize,
@@ -46,7 +46,7 @@ impl Outbound {
         })
     }
 
-    /// The gate takes the first reply that waits. Answers whether there was one.
+    /// The gate takes the first reply that waits. Returns whether there was one.
     pub(crate) fn hold(&mut self, calls: &[Call]) -> Result<bool, Refusal>
         ensures stands { IfOk result (λ did. (machine : Machine) → OutboundRefines calls.now self.old machine → HoldsFirst calls.now self.new did machine) }
         ensures cause { IfErr result (λ refusal. refusal ≡ Refusal.Memory) }
@@ -62,7 +62,7 @@ impl Outbound {
         Ok(true)
     }
 
-    /// The gate reads one of the marks, which stand so now.
+    /// The gate reads one of the marks; `marks` has their present values.
     pub(crate) fn read(&mut self, mark: Mark, marks: Seen)
         ensures stands { (calls : List Call) (w : World) (machine : Machine) → OutboundRefines calls self.old machine
             → marks.local ≡ w.primary.committer.local → marks.remote ≡ w.primary.link.remote → OutboundRefines calls self.new (having_read mark w machine) }
@@ -74,7 +74,7 @@ impl Outbound {
         }
     }
 
-    /// Releases the replies that are covered. Answers whether there were any.
+    /// Releases the replies that are covered. Returns whether there were any.
     pub(crate) fn release(&mut self) -> bool
         ensures { (calls : List Call) (machine : Machine) → OutboundRefines calls self.old machine → LetsOut calls self.new result machine }
     {
@@ -85,7 +85,7 @@ impl Outbound {
         true
     }
 
-    /// Writes so many of the bytes that are out, if there are so many. Answers whether it did.
+    /// Writes `n` of the pending bytes to the connection, if there are that many. Returns whether it did.
     pub(crate) fn write(&mut self, n: u64) -> Result<bool, Refusal>
         ensures stands { IfOk result (λ did. (calls : List Call) (machine : Machine) → OutboundRefines calls self.old machine → Writes n calls self.new did machine) }
         ensures cause { IfErr result (λ refusal. refusal ≡ Refusal.Memory) }

@@ -23,7 +23,7 @@ pub(crate) trait Stepper {
     /// What it is made of.
     ghost parts: { Self → specs.Pair };
 
-    /// Lets an event do its step, if it is enabled, and answers whether it was.
+    /// Lets an event do its step, if it is enabled, and returns whether it was.
     ///
     /// `Memory` where a growth was refused, `Fault` where a fence failed, `Exhausted` where a counter would reach 2^62: the event is the last, and
     /// it was enabled.
@@ -33,7 +33,7 @@ pub(crate) trait Stepper {
         ensures { Does (parts self.old) event.now result (parts self.new) };
 }
 
-/// Both nodes, and what stands between them and the clients.
+/// Both nodes, and what lies between them and the clients.
 pub(crate) struct Pair<E: Durable, K: Keyspace> {
     pub(crate) alloc: Global,
     pub(crate) sessions: Sessions,

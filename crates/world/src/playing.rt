@@ -21,9 +21,11 @@ use standby::{Ack, Frame};
 use std::alloc::{AllocError, Global};
 use wbl_engine::{Durable, WblEngine};
 
-/// Formats the first device as primary and the second as standby, and lets the events happen to them and to their connections, one after another: one
-/// that is enabled does its step, another changes nothing. Where memory is refused for an enabled event, or a fence fails in it, the run ends there and
-/// says why; a turn that is refused memory answers so, and the run goes on. All devices come back in their order.
+/// Formats the first device as primary and the second as standby, and lets the events happen to them and to their connections, one after another: an
+/// enabled event does its step, any other changes nothing. All devices come back in their order.
+///
+/// The run ends early, and says why, where a device has a wrong size (`WrongSize`), or at an enabled event for which memory is refused (`Memory`), in
+/// which a fence fails (`Fault`), or which would take a counter to 2^62 (`Exhausted`). A turn that is refused memory replies so, and the run goes on.
 ///
 /// This is the promise of the whole server, for any devices and any list of events: one sequential Redis answers the list of calls, which takes each
 /// connection's requests in order; the bytes released to each connection begin its replies; each released call was covered, and is in what both
@@ -91,7 +93,7 @@ fn play_over<P: Pmem>(alloc: Global, primary: P, standby: P, events: &[Event]) -
     }
 }
 
-/// Nothing was played.
+/// The outcome where nothing was played.
 fn nothing<P>(alloc: Global, refusal: Refusal, primary: P, standby: P) -> Played<P>
     ensures ended { result.ended ≡ Some (AtFormatting refusal) }
     ensures devices { (result.primary ≡ primary) × (result.standby ≡ standby) }
@@ -109,7 +111,7 @@ fn nothing<P>(alloc: Global, refusal: Refusal, primary: P, standby: P) -> Played
     }
 }
 
-/// Room for what a run over so many events tells, so that none is asked for at its end.
+/// Room for what a run over `events` events reports, so that none is asked for at its end.
 fn room_for(alloc: Global, events: usize) -> Result<(Vec<bool>, Vec<Vec<u8>>), AllocError>
     ensures done { IfOk result (λ room. (room.0.items ≡ []) × (events ≤ vec_capacity room.0)) }
     ensures released { IfOk result (λ room. (room.1.items ≡ []) × (SEATS ≤ vec_capacity room.1)) }

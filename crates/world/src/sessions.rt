@@ -38,7 +38,7 @@ pub(crate) struct Sessions {
 }
 
 impl Sessions {
-    /// No connection, and no call, with room for so many calls.
+    /// No connection and no call, with room for `calls` calls.
     pub(crate) fn new(alloc: Global, calls: usize) -> Result<Sessions, Refusal>
         ensures stands { IfOk result (λ sessions. SessionsRefine sessions [] []) }
         ensures room { IfOk result (λ sessions. calls ≤ vec_capacity sessions.calls) }
@@ -52,7 +52,7 @@ impl Sessions {
         })
     }
 
-    /// Gives a new connection a seat, if one is free. Answers whether it did.
+    /// Gives a new connection a seat, if one is free. Returns whether it did.
     pub(crate) fn enter(&mut self, alloc: Global) -> Result<bool, Refusal>
         ensures goes { IfOk result (λ did. (w : World) → SessionsRefine self.old w.primary.connections w.primary.calls
             → Goes (may_happen w Enter) did (SessionsRefine self.new (w.primary.connections ++ new_connection ∷ []) w.primary.calls) (SessionsRefine self.new w.primary.connections w.primary.calls)) }
@@ -74,7 +74,7 @@ impl Sessions {
         Ok(true)
     }
 
-    /// Takes a piece of a connection's bytes, unless an item closed it. Answers whether it did.
+    /// Takes a piece of a connection's bytes, unless an item closed it. Returns whether it did.
     pub(crate) fn feed(&mut self, c: u64, piece: &Bytes) -> Result<bool, Refusal>
         ensures goes { IfOk result (λ did. (w : World) → SessionsRefine self.old w.primary.connections w.primary.calls
             → Goes (may_happen w (Feed c piece.now)) did
@@ -92,7 +92,7 @@ impl Sessions {
         }
     }
 
-    /// Hands a connection's next item to the sequencer, if there is one and room for it. Answers whether it did.
+    /// Hands a connection's next item to the sequencer, if there is one and there is room for it. Returns whether it did.
     pub(crate) fn offer(&mut self, c: u64) -> Result<bool, Refusal>
         ensures goes { IfOk result (λ did. (w : World) → SessionsRefine self.old w.primary.connections w.primary.calls
             → Goes (may_happen w (Offer c)) did
@@ -109,7 +109,7 @@ impl Sessions {
         }
     }
 
-    /// A connection's gate takes the first reply that waits. Answers whether there was one.
+    /// A connection's gate takes the first reply that waits. Returns whether there was one.
     pub(crate) fn hold(&mut self, c: u64) -> Result<bool, Refusal>
         ensures goes { IfOk result (λ did. (w : World) → SessionsRefine self.old w.primary.connections w.primary.calls
             → Goes (may_happen w (Hold c)) did
@@ -126,7 +126,7 @@ impl Sessions {
         }
     }
 
-    /// A connection's gate reads one of the marks, which stand so now. Answers whether there is such a connection.
+    /// A connection's gate reads one of the marks; `marks` has their present values. Returns whether there is such a connection.
     pub(crate) fn read(&mut self, c: u64, mark: Mark, marks: Seen) -> bool
         ensures goes { (w : World) → SessionsRefine self.old w.primary.connections w.primary.calls → marks.local ≡ w.primary.committer.local → marks.remote ≡ w.primary.link.remote
             → Goes (may_happen w (Read c mark)) result
@@ -143,7 +143,7 @@ impl Sessions {
         }
     }
 
-    /// A connection's gate releases the replies that are covered. Answers whether there were any.
+    /// A connection's gate releases the replies that are covered. Returns whether there were any.
     pub(crate) fn release(&mut self, c: u64) -> bool
         ensures goes { (w : World) → SessionsRefine self.old w.primary.connections w.primary.calls
             → Goes (may_happen w (Release c)) result
@@ -157,7 +157,7 @@ impl Sessions {
         }
     }
 
-    /// Writes so many of the bytes that are out to a connection, if there are so many. Answers whether it did.
+    /// Writes `n` of a connection's pending bytes to it, if there are that many. Returns whether it did.
     pub(crate) fn write(&mut self, c: u64, n: u64) -> Result<bool, Refusal>
         ensures goes { IfOk result (λ did. (w : World) → SessionsRefine self.old w.primary.connections w.primary.calls
             → Goes (may_happen w (Write c n)) did
@@ -174,8 +174,8 @@ impl Sessions {
         }
     }
 
-    /// The sequencer runs a connection's first waiting item, if there is one and room for its reply and for what it changes. Answers whether
-    /// it did. Where memory is refused, that is the reply.
+    /// The sequencer runs a connection's first waiting item, if there is one and there is room for its reply and for its changes. Returns whether
+    /// it did. Where memory is refused, the reply says so.
     pub(crate) fn turn<K: Keyspace>(
         &mut self,
         alloc: Global,
@@ -217,7 +217,7 @@ impl Sessions {
     }
 }
 
-/// What the sequencer answers to the first item that waits, if it runs it.
+/// The sequencer's answer to the first item that waits, if it runs that item.
 fn first_reply<K: Keyspace>(
     alloc: Global,
     seat: &Seat,

@@ -1,4 +1,4 @@
-//! What a run leaves to look at.
+//! What a run reports.
 use kv_types::Refusal;
 use model::Call;
 use standby::{Ack, Frame};
@@ -7,9 +7,9 @@ use standby::{Ack, Frame};
 /// counter of an image would reach 2^62.
 #[derive(Clone, Copy, Debug, PartialEq, Eq)]
 pub enum Ended {
-    /// Before the first event, at the making of the nodes; also `WrongSize`, where a device has fewer than 4,096 lines or more than 2^31.
+    /// Before the first event, while the nodes were made; also `WrongSize`, where a device has fewer than 4,096 lines or more than 2^31.
     AtFormatting(Refusal),
-    /// At the event at this place, which was enabled. All events before it are done.
+    /// At the event with this index, which was enabled. Each event before it did its step or was not enabled.
     AtEvent(usize, Refusal),
 }
 

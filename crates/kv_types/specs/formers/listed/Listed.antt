@@ -1,4 +1,4 @@
--- `Listed` as a type that may hold the type that holds it.
+-- `Listed` as a type that may hold the type in which it is used, as in a recursive type.
 use mathlib.Core.Path.{◌≡◌, refl, sym}
 use mathlib.Core.List.{List, []}
 use mathlib.Core.Former.{Former, this, list, via, children}

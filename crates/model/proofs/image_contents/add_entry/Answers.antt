@@ -6,7 +6,7 @@ use Rattle.model.specs.ReadImage.{image_of, line_count}
 use Rattle.model.proofs.ReadMapLemmas.{CannotAdd-clash, AddsEntry-put}
 use Rattle.model.proofs.image_contents.add_entry.Goals as goal
 
--- what a test of a stamp said
+-- what testing a stamp returned
 stamp_counts : (r : Record) (image : Image) (i k word stamp : ℕ) (b said : Bool) → word ≡ entry_word i k → stamp ≡ image word → b ≡ counts r stamp → b ≡ said → counts r (image (entry_word i k)) ≡ said
 stamp_counts r image i k word stamp b said at is tests e = ap (λ w. counts r (image w)) (sym at) ∙ ap (counts r) (sym is) ∙ sym tests ∙ e
 

@@ -7,7 +7,7 @@ use Rattle.placing.proofs.PlacesLemmas.{last_place}
 use Rattle.placing.proofs.places.give_back.Goals as goal
 use Rattle.placing.proofs.places.give_back.Goals.{In-Some}
 
--- the last change took its place behind those that are left
+-- the last change took its place after those that are left
 last : (c : In-Some) (before : Room) → TakesPlaces before (puts_of c.loop-change.placed.items) c.loop-change.heap
     → (between : Room) × TakesPlaces before (puts_of c.pop.new.self.items) between × TakesPlaces between (put_of c.in-Some.change) c.loop-change.heap
 last c before takes =

@@ -4,7 +4,7 @@ use Rattle.mv_keyspace.specs.Table.{puts_of}
 use Rattle.placing.specs.Place.{TakesPlaces}
 use Rattle.placing.proofs.places.give_back.Given as goal
 
--- whatever the heap was before the places were taken, it is that behind the places that are left
+-- whatever heap all the places were taken from, taking only those that are left leads from it to the heap as it is now
 abbrev pub invariant-loop-change : goal.invariant-loop-change
 invariant-loop-change l = record {
   taken : (before : Room) × TakesPlaces before (puts_of l.placed.items) l.heap;

@@ -6,7 +6,7 @@ use Rattle.placing.proofs.PlacesLemmas.{one_place}
 use Rattle.placing.proofs.places.give_place_back.Goals as goal
 use Rattle.placing.proofs.places.give_place_back.Goals.{After-give}
 
--- once the extent is back, the heap is that before the extent was taken
+-- once the extent is given back, the heap is as it was before the extent was taken
 entry_last : (c : After-give) (before : Room) → TakesPlaces before (put_of c.args.change) c.args.heap.now → TakesEntry before c.in-Put.put.entry c.give.new.self
 entry_last c before takes =
     let place = one_place before c.args.change c.in-Put.put c.args.heap.now c.in-Put.is takes in

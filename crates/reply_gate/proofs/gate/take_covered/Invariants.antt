@@ -2,7 +2,7 @@ use Rattle.std.proofs.Common.{◌≡◌, ◌+◌, ◌≤◌, length}
 use Rattle.reply_gate.specs.Gate.{covered_bytes, uncovered_rest, held_bytes}
 use Rattle.reply_gate.proofs.gate.take_covered.Given as goal
 
--- what was taken and what is still to be taken are together what there was
+-- what was taken and what is still to be taken together make up what there was
 abbrev pub invariant-loop-reply : goal.invariant-loop-reply
 invariant-loop-reply l = record {
   bytes : l.bytes + covered_bytes l.seen.local l.seen.remote l.held.items ≡ covered_bytes l.seen.local l.seen.remote l.initial.held.items;

@@ -3,7 +3,7 @@ use Rattle.std.specs.List.{flat_map}
 use Rattle.kv_types.specs.Reply.{text_of}
 use Rattle.resp_codec.proofs.replies.+put_reply.Given as goal
 
--- what is put and the texts that are left make the whole, in bytes and in room
+-- what was put and the texts that are left make up the whole, in bytes and in room
 abbrev pub invariant-loop-element : goal.invariant-loop-element
 invariant-loop-element g l =
     let left = flat_map text_of (drop l.element-index l.element-items) in
