@@ -2,7 +2,7 @@
 told, so that a server that tells it too early is seen only here."""
 
 import worked_cases as worked
-from simulation import Schedule, Runs
+from simulation import Runs, Schedule
 from spelling import spell
 from worked_cases import GET_A, OK, ONE, SET_A, SHORTEST, STORE_IS_FULL, UNKNOWN
 

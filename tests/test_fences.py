@@ -3,7 +3,7 @@ commits of either node with all kinds of picks, and devices that are too small."
 
 import draws
 import plain_image
-from simulation import Schedule, NODES, ROLES, Runs, simulate
+from simulation import NODES, ROLES, Runs, Schedule, simulate
 from spelling import spell
 from worked_cases import OK, SET_A
 

@@ -6,7 +6,7 @@ import plain_image
 import plain_machine
 import plain_redis
 import spelling
-from simulation import Schedule, NODES, Runs, simulate, told_between
+from simulation import NODES, Runs, Schedule, simulate, told_between
 
 PROGRAMS = ["simulator"]
 IS_SLOW = True

@@ -4,7 +4,7 @@ bytes. The requests and the faults are written here by hand, from docs/protocol.
 import plain_redis
 import spelling
 import worked_cases as worked
-from simulation import Schedule, Runs
+from simulation import Runs, Schedule
 from worked_cases import GET_A, PING, SET_A
 
 PROGRAMS = ["simulator"]

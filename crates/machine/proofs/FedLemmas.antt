@@ -5,7 +5,8 @@ use Rattle.machine.specs.declared.event.Event.TheVariants.{Enter, Feed, Offer, T
 use Rattle.machine.specs.Event.{Inbound, Outbound, World, connection_of, with_inbound, with_outbound, on_inbound, on_outbound, is_closed_by, is_open, may_happen, with_call, fed_with, offered_next, taken_first, held_first, having_read, having_released, written, Happens, Step, Run, start, last_world}
 use Rattle.machine.specs.Promise.{fed_by, fed_to}
 use Rattle.machine.proofs.ConnectionLemmas.{each-changed, get-entered, open-lt, same-changed}
-use Rattle.machine.proofs.SoundEvents.{both, enabled-may}
+use Rattle.machine.proofs.SoundEvents.{enabled-may}
+use Rattle.machine.proofs.SoundConnection.{both}
 
 abbrev fed_in : World → ℕ → List ℕ
 fed_in w c = (connection_of w c).inbound.fed

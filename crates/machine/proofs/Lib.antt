@@ -6,6 +6,7 @@ pub mod OutboundLemmas
 pub mod CommitterLemmas
 pub mod LinkLemmas
 pub mod StandbyLemmas
+pub mod SoundConnection
 pub mod SoundEvents
 pub mod RunLemmas
 pub mod FedLemmas

@@ -6,7 +6,8 @@ use Rattle.machine.specs.Event.{Inbound, Outbound, Connection, World, new_connec
 use Rattle.machine.specs.Promise.{fed_by, fed_to}
 use Rattle.machine.proofs.ConnectionLemmas.{open-lt, same-changed}
 use Rattle.machine.proofs.FedLemmas.{fed-step}
-use Rattle.machine.proofs.SoundEvents.{both, enabled-may}
+use Rattle.machine.proofs.SoundEvents.{enabled-may}
+use Rattle.machine.proofs.SoundConnection.{both}
 use Rattle.model.specs.Call.{IsPrefix}
 use Rattle.model.proofs.PrefixLemmas.{IsPrefix-none, IsPrefix-same_prefix}
 use Rattle.server.specs.Schedule.{given}

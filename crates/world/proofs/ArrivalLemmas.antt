@@ -13,7 +13,7 @@ use Rattle.world.specs.declared.arrivals.Arrivals.{Arrivals}
 use Rattle.world.specs.Going.{Goes}
 use Rattle.world.specs.Link.{IsFrameOf, IsFrameAt, AreFramesAt}
 use Rattle.world.specs.Standby.{Node, ArrivalsRefine, AppliesFirst, told_by}
-use Rattle.world.proofs.LinkLemmas.{AreFramesAt-grows, AreFramesAt-frames}
+use Rattle.world.proofs.FrameLemmas.{AreFramesAt-grows, AreFramesAt-frames}
 use Rattle.world.proofs.StandbyLemmas.{Took}
 
 -- ---- one more frame

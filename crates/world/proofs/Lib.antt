@@ -7,9 +7,13 @@ pub mod SessionLemmas
 pub mod SequencerLemmas
 pub mod TurnLemmas
 pub mod CommittingLemmas
+pub mod FrameLemmas
 pub mod LinkLemmas
 pub mod StandbyLemmas
 pub mod ArrivalLemmas
 pub mod PairLemmas
+pub mod PairCommitting
+pub mod PairLink
+pub mod PairStandby
 pub mod FormLemmas
 pub mod RunningLemmas

@@ -25,7 +25,7 @@ use Rattle.redis_core.specs.Turn.{Answers, Moves, call_of}
 use Rattle.machine.specs.declared.event.Event.TheVariants.{CloseGroup}
 use Rattle.machine.specs.declared.event.TheConstants.{PIPE_ITEMS}
 use Rattle.machine.specs.Event.{Span, World, closed_group, has_room, may_happen, open_changes}
-use Rattle.machine.proofs.SoundEvents.{both}
+use Rattle.machine.proofs.SoundConnection.{both}
 use Rattle.world.specs.declared.committing.Committing.{Committing}
 use Rattle.world.specs.declared.committing.Stage.{Stage}
 use Rattle.world.specs.Committing.{AreGroups, CommittingRefines, Leads, StageRefines, after_groups}

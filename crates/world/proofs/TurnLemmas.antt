@@ -16,7 +16,7 @@ use Rattle.machine.specs.declared.event.TheConstants.{PIPE_ITEMS, OPEN_CHANGES}
 use Rattle.machine.specs.Event.{Inbound as MachineInbound, Outbound as MachineOutbound, Connection as MachineConnection, World, asked, called, changed_at, connection_of, get_connection, has_room, may_happen, is_open, open_changes, taken_first, with_inbound, with_made, with_outbound}
 use Rattle.machine.specs.Sound.{Sound}
 use Rattle.machine.proofs.ConnectionLemmas.{open-lt, length-changed_at}
-use Rattle.machine.proofs.SoundEvents.{four}
+use Rattle.machine.proofs.SoundConnection.{four}
 use Rattle.redis_core.specs.Sequencing.{Sequencing, is_closed, state_of}
 use Rattle.redis_core.specs.Turn.{Answers, call_of}
 use Rattle.world.specs.declared.connection.Connection.{Connection}

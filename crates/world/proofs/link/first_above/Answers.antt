@@ -1,6 +1,6 @@
 use Rattle.std.proofs.Common.{length, sym}
 use Rattle.std.proofs.lemmas.Bool.{ltb-true}
-use Rattle.world.proofs.LinkLemmas.{passed-none, passed-one, drops-above, drops-all}
+use Rattle.world.proofs.FrameLemmas.{passed-none, passed-one, drops-above, drops-all}
 use Rattle.world.proofs.link.first_above.Goals as goal
 
 pub loop-frame-init : goal.loop-frame-init

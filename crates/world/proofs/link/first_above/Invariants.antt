@@ -1,5 +1,5 @@
 use Rattle.std.proofs.Common.{◌-◌, length}
-use Rattle.world.proofs.LinkLemmas.{HasPassed}
+use Rattle.world.proofs.FrameLemmas.{HasPassed}
 use Rattle.world.proofs.link.first_above.Given as goal
 
 abbrev pub invariant-loop-frame : goal.invariant-loop-frame

@@ -1,6 +1,6 @@
 use Rattle.std.proofs.Common.{[], ◌∷◌, ◌++◌, sym, ap, ◌∙◌, append_assoc}
 use Rattle.std.specs.Vec.Iter.{into_iter_items}
-use Rattle.world.proofs.LinkLemmas.{last_position-append, changes_of_parts-append}
+use Rattle.world.proofs.FrameLemmas.{last_position-append, changes_of_parts-append}
 use Rattle.world.proofs.link.frame_of.Goals as goal
 
 pub loop-part-preserved : goal.loop-part-preserved

@@ -3,7 +3,7 @@ use Rattle.machine.specs.Event.{Span, above}
 use Rattle.machine.specs.Sound.{IsChain}
 use Rattle.standby.specs.declared.frame.Frame.{Frame}
 use Rattle.world.specs.Link.{DropsKnown}
-use Rattle.world.proofs.LinkLemmas.{length-frames, above-from, chain-behind}
+use Rattle.world.proofs.FrameLemmas.{length-frames, above-from, chain-behind}
 use Rattle.world.proofs.link.Link.on_ack.Goals as goal
 
 pub returns-clause-stands : goal.returns-clause-stands

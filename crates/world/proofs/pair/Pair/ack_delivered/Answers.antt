@@ -1,6 +1,6 @@
 use Rattle.std.proofs.Common.{◌≡◌, ◌≤◌, List, length, ap, subst, ◌∙◌, sym}
 use Rattle.standby.specs.declared.frame.Ack.{Ack}
-use Rattle.world.proofs.PairLemmas.{ack-does, found-there, no-ack-does}
+use Rattle.world.proofs.PairLink.{ack-does, found-there, no-ack-does}
 use Rattle.world.proofs.pair.Pair.ack_delivered.Goals as goal
 
 pub returns-in-Some : goal.returns-in-Some

@@ -1,4 +1,4 @@
-use Rattle.world.proofs.PairLemmas.{apply-does}
+use Rattle.world.proofs.PairStandby.{apply-does}
 use Rattle.world.proofs.pair.Pair.apply.Goals as goal
 
 pub returns : goal.returns

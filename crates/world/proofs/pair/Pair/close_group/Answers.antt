@@ -1,4 +1,4 @@
-use Rattle.world.proofs.PairLemmas.{close-does}
+use Rattle.world.proofs.PairCommitting.{close-does}
 use Rattle.world.proofs.pair.Pair.close_group.Goals as goal
 
 pub returns : goal.returns

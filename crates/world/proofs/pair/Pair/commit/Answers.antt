@@ -1,6 +1,6 @@
 use Rattle.std.proofs.Common.{ap}
 use Rattle.std.proofs.lemmas.Result.{IfOk-weaker}
-use Rattle.world.proofs.PairLemmas.{commit-does}
+use Rattle.world.proofs.PairCommitting.{commit-does}
 use Rattle.world.proofs.pair.Pair.commit.Goals as goal
 
 pub commit-requires : goal.commit-requires

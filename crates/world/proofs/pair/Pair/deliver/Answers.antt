@@ -1,4 +1,4 @@
-use Rattle.world.proofs.PairLemmas.{deliver-does}
+use Rattle.world.proofs.PairStandby.{deliver-does}
 use Rattle.world.proofs.pair.Pair.deliver.Goals as goal
 
 pub returns : goal.returns

@@ -1,6 +1,6 @@
 use Rattle.std.proofs.Common.{refl}
 use Rattle.machine.specs.declared.event.Event.TheVariants as events
-use Rattle.world.proofs.PairLemmas.{hand-does}
+use Rattle.world.proofs.PairLink.{hand-does}
 use Rattle.world.proofs.pair.Pair.hand.Goals as goal
 
 pub returns : goal.returns

@@ -2,7 +2,7 @@ use Rattle.std.proofs.Common.{◌≡◌, ◌∙◌, ap}
 use Rattle.std.proofs.lemmas.Result.{err_from_is_err_and}
 use Rattle.kv_types.specs.declared.refusal.Refusal.TheVariants.{Memory}
 use Rattle.standby.specs.declared.frame.Ack.{Ack}
-use Rattle.world.proofs.PairLemmas.{open-does, open-cut}
+use Rattle.world.proofs.PairStandby.{open-does, open-cut}
 use Rattle.world.proofs.pair.Pair.open_link.Goals as goal
 
 pub returns-in_err-acknowledge : goal.returns-in_err-acknowledge

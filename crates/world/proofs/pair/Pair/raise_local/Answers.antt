@@ -1,6 +1,6 @@
 use Rattle.std.proofs.Common.{refl}
 use Rattle.machine.specs.declared.event.Event.TheVariants as events
-use Rattle.world.proofs.PairLemmas.{raise-does}
+use Rattle.world.proofs.PairCommitting.{raise-does}
 use Rattle.world.proofs.pair.Pair.raise_local.Goals as goal
 
 pub returns : goal.returns

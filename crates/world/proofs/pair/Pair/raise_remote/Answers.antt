@@ -1,7 +1,7 @@
 use Rattle.std.proofs.Common.{refl}
 use Rattle.machine.specs.declared.event.Event.TheVariants as events
 use Rattle.machine.specs.Event.{World, raised_remote}
-use Rattle.world.proofs.PairLemmas.{link-does}
+use Rattle.world.proofs.PairLink.{link-does}
 use Rattle.world.proofs.pair.Pair.raise_remote.Goals as goal
 
 pub returns : goal.returns

@@ -1,4 +1,4 @@
-use Rattle.world.proofs.PairLemmas.{send-does}
+use Rattle.world.proofs.PairLink.{send-does}
 use Rattle.world.proofs.pair.Pair.send.Goals as goal
 
 pub returns : goal.returns

@@ -1,0 +1,169 @@
+-- What each event of one connection leaves sound.
+use Rattle.std.proofs.Common.{◌≡◌, ℕ, ◌+◌, ◌<◌, ◌≤◌, Bool, true, false, not, cond, ◌&&◌, nat_lt, nat_le, List, [], ◌∷◌, ◌++◌, length, take, refl, sym, subst, ◌∙◌, arith, length-append}
+use Rattle.std.proofs.lemmas.Bool.{ltb-true, not-true}
+use Rattle.std.proofs.lemmas.List.Elements.{All-push}
+use Rattle.model.specs.declared.call.Call.{Call}
+use Rattle.model.specs.Call.{MayReply, is_nonempty, is_changing, state_after, position_of}
+use Rattle.model.proofs.CallsLemmas.{IsLegal-push, position_of-push, position_of_grows}
+use Rattle.machine.specs.declared.event.TheConstants.{SEATS, PIPE_ITEMS, OPEN_CHANGES}
+use Rattle.machine.specs.declared.event.Event.TheVariants.{Enter, Feed, Offer, Turn, Hold, Read, Release, Write}
+use Rattle.machine.specs.declared.event.Mark.{Mark}
+use Rattle.machine.specs.Event.{Inbound, Outbound, Connection, World, new_connection, get_connection, connection_of, count_open, changed_at, with_inbound, with_outbound, on_inbound, on_outbound, asked, is_closed_by, is_open, open_changes, has_room, may_happen, entered, fed_with, offered_next, taken_first, with_made, called, Turns, sent, held_first, having_read, having_released, written}
+use Rattle.machine.specs.Sound.{SoundInbound, SoundOutbound, Sound}
+use Rattle.machine.proofs.ConnectionLemmas.{get-changed_same, get-changed_other, length-changed_at, get-entered, each-changed, open-lt, count-open, connections-changed}
+use Rattle.machine.proofs.InboundLemmas.{inbound-fed, inbound-offered, inbound-called_own, inbound-called_other}
+use Rattle.machine.proofs.OutboundLemmas.{outbound-called_own, outbound-called_other, outbound-held, outbound-read, outbound-having_released, outbound-written}
+use Rattle.machine.proofs.CommitterLemmas.{committer-called}
+
+-- ---- what an event's test says
+
+pub both : (a b : Bool) → (a && b) ≡ true → (a ≡ true) × (b ≡ true)
+both true b e = (refl, e)
+both false b e = cc
+
+pub three : (a b c : Bool) → (a && b && c) ≡ true → (a ≡ true) × (b ≡ true) × (c ≡ true)
+three true true c e = (refl, refl, e)
+three true false c e = cc
+three false b c e = cc
+
+pub four : (a b c d : Bool) → (a && b && c && d) ≡ true → (a ≡ true) × (b ≡ true) × (c ≡ true) × (d ≡ true)
+four true true true d e = (refl, refl, refl, e)
+four true true false d e = cc
+four true false c d e = cc
+four false b c d e = cc
+
+-- ---- one connection
+
+sound-inbound : (w : World) (c : ℕ) (change : Inbound → Inbound) → is_open w c ≡ true → SoundInbound w.primary.calls c (change (connection_of w c).inbound) → Sound w → Sound (on_inbound c change w)
+sound-inbound w c change is_one own s =
+    let connections = w.primary.connections in
+    let lt = open-lt connections c is_one in
+    record {
+      nodes = s.nodes;
+      connections = connections-changed c (with_inbound change) connections (λ connection. refl) s.connections;
+      legal = s.legal;
+      inbound = each-changed (λ d connection. SoundInbound w.primary.calls d connection.inbound) c (with_inbound change) connections lt own (λ d differ. s.inbound d);
+      outbound = each-changed (λ d connection. SoundOutbound w.primary.calls d w.primary.committer.local w.primary.link.remote connection.outbound) c (with_inbound change) connections lt (s.outbound c) (λ d differ. s.outbound d);
+      committer = s.committer;
+      sent = s.sent;
+      link = s.link;
+      standby = s.standby;
+      wire = s.wire;
+    }
+
+sound-outbound : (w : World) (c : ℕ) (change : Outbound → Outbound) → is_open w c ≡ true → SoundOutbound w.primary.calls c w.primary.committer.local w.primary.link.remote (change (connection_of w c).outbound) → Sound w → Sound (on_outbound c change w)
+sound-outbound w c change is_one own s =
+    let connections = w.primary.connections in
+    let lt = open-lt connections c is_one in
+    record {
+      nodes = s.nodes;
+      connections = connections-changed c (with_outbound change) connections (λ connection. refl) s.connections;
+      legal = s.legal;
+      inbound = each-changed (λ d connection. SoundInbound w.primary.calls d connection.inbound) c (with_outbound change) connections lt (s.inbound c) (λ d differ. s.inbound d);
+      outbound = each-changed (λ d connection. SoundOutbound w.primary.calls d w.primary.committer.local w.primary.link.remote connection.outbound) c (with_outbound change) connections lt own (λ d differ. s.outbound d);
+      committer = s.committer;
+      sent = s.sent;
+      link = s.link;
+      standby = s.standby;
+      wire = s.wire;
+    }
+
+pub sound-Enter : (w : World) → may_happen w Enter ≡ true → Sound w → Sound (entered w)
+sound-Enter w e s =
+    let connections = w.primary.connections in
+    record {
+      nodes = s.nodes;
+      connections = record {
+        are_open = All-push (λ (connection : Connection). connection.is_open ≡ true) connections new_connection s.connections.are_open refl;
+        seats = omega (arith, length-append connections (new_connection ∷ []), ltb-true (count_open connections) SEATS e, count-open connections s.connections.are_open);
+      };
+      legal = s.legal;
+      inbound = λ c. subst (SoundInbound w.primary.calls c) (sym (get-entered (λ connection. connection.inbound) refl connections c)) (s.inbound c);
+      outbound = λ c. subst (SoundOutbound w.primary.calls c w.primary.committer.local w.primary.link.remote) (sym (get-entered (λ connection. connection.outbound) refl connections c)) (s.outbound c);
+      committer = s.committer;
+      sent = s.sent;
+      link = s.link;
+      standby = s.standby;
+      wire = s.wire;
+    }
+
+pub sound-Feed : (w : World) (c : ℕ) (piece : List ℕ) → may_happen w (Feed c piece) ≡ true → Sound w → Sound (on_inbound c (fed_with piece) w)
+sound-Feed w c piece e s =
+    let fed = (connection_of w c).inbound.fed in
+    let parts = both (is_open w c) (not (is_closed_by fed)) e in
+    sound-inbound w c (fed_with piece) parts.0
+    (inbound-fed w.primary.calls c (connection_of w c).inbound piece (not-true (is_closed_by fed) parts.1) (s.inbound c)) s
+
+pub sound-Offer : (w : World) (c : ℕ) → may_happen w (Offer c) ≡ true → Sound w → Sound (on_inbound c offered_next w)
+sound-Offer w c e s =
+    let inbound = (connection_of w c).inbound in
+    let parts = three (is_open w c) (nat_lt inbound.offered (length (asked inbound.fed))) (has_room inbound.waiting) e in
+    sound-inbound w c offered_next parts.0
+    (inbound-offered w.primary.calls c inbound (ltb-true inbound.offered (length (asked inbound.fed)) parts.1) (ltb-true (length inbound.waiting) PIPE_ITEMS parts.2) (s.inbound c)) s
+
+position_of-push_le : (calls : List Call) (call : Call) → position_of (calls ++ call ∷ []) ≤ position_of calls + 1
+position_of-push_le calls call =
+    let one : cond (is_changing (state_after calls) call) 1 0 ≤ 1 = elim (is_changing (state_after calls) call) as (λ b. cond b 1 0 ≤ 1) [ true ↦ omega arith | false ↦ omega arith ] in
+    omega (arith, position_of-push calls call, one)
+
+sound-called : (w : World) (c : ℕ) (call : Call) → call.connection ≡ c → take 1 (connection_of w c).inbound.waiting ≡ call.item ∷ [] → MayReply (state_after w.primary.calls) call
+    → may_happen w (Turn c) ≡ true → Sound w → Sound (called c call w)
+sound-called w c call own first may e s =
+    let connection = connection_of w c in
+    let connections = w.primary.connections in
+    let local = w.primary.committer.local in
+    let remote = w.primary.link.remote in
+    let old = w.primary.calls in
+    let calls = old ++ call ∷ [] in
+    let parts = four (is_open w c) (is_nonempty connection.inbound.waiting) (has_room connection.outbound.made) (nat_lt (open_changes w) OPEN_CHANGES) e in
+    let lt = open-lt connections c parts.0 in
+    let taken = changed_at c (with_inbound taken_first) connections in
+    let lt' : c < length taken = omega (arith, length-changed_at c (with_inbound taken_first) connections) in
+    let made = with_made (record { reply = call.reply; position = position_of calls }) in
+    let inbound : (d : ℕ) → SoundInbound calls d (get_connection taken d).inbound =
+    each-changed (λ d x. SoundInbound calls d x.inbound) c (with_inbound taken_first) connections lt
+    (inbound-called_own old c connection.inbound call own first (s.inbound c))
+    (λ d differ. inbound-called_other old d (connection_of w d).inbound call (λ same. differ (sym own ∙ same)) (s.inbound d)) in
+    let outbound : (d : ℕ) → SoundOutbound calls d local remote (get_connection (changed_at c (with_outbound made) taken) d).outbound =
+    each-changed (λ d x. SoundOutbound calls d local remote x.outbound) c (with_outbound made) taken lt'
+    (subst (λ x. SoundOutbound calls c local remote (made x.outbound)) (sym (get-changed_same c (with_inbound taken_first) connections lt))
+    (outbound-called_own old c local remote connection.outbound call own (ltb-true (length connection.outbound.made) PIPE_ITEMS parts.2) (s.outbound c)))
+    (λ d differ. subst (λ x. SoundOutbound calls d local remote x.outbound) (sym (get-changed_other c d (with_inbound taken_first) connections differ))
+    (outbound-called_other old d local remote (connection_of w d).outbound call (λ same. differ (sym own ∙ same)) (s.outbound d))) in
+    record {
+      nodes = s.nodes;
+      connections = connections-changed c (with_outbound made) taken (λ connection. refl) (connections-changed c (with_inbound taken_first) connections (λ connection. refl) s.connections);
+      legal = IsLegal-push old call s.legal may;
+      inbound = each-changed (λ d x. SoundInbound calls d x.inbound) c (with_outbound made) taken lt' (inbound c) (λ d differ. inbound d);
+      outbound = outbound;
+      committer = committer-called (position_of old) (position_of calls) w.primary.committer (position_of_grows old (call ∷ [])) (position_of-push_le old call)
+          (ltb-true (open_changes w) OPEN_CHANGES parts.3) s.committer;
+      sent = s.sent;
+      link = s.link;
+      standby = s.standby;
+      wire = s.wire;
+    }
+
+pub sound-Turn : (w : World) (c : ℕ) (new : World) → may_happen w (Turn c) ≡ true → Turns w c new → Sound w → Sound new
+sound-Turn w c new e turns s = subst Sound (sym turns.now) (sound-called w c turns.call turns.connection turns.first turns.reply e s)
+
+pub sound-Hold : (w : World) (c : ℕ) → may_happen w (Hold c) ≡ true → Sound w → Sound (on_outbound c held_first w)
+sound-Hold w c e s =
+    let outbound = (connection_of w c).outbound in
+    let parts = both (is_open w c) (is_nonempty outbound.made) e in
+    sound-outbound w c held_first parts.0 (outbound-held w.primary.calls c w.primary.committer.local w.primary.link.remote outbound (s.outbound c)) s
+
+pub sound-Read : (w : World) (c : ℕ) (mark : Mark) → may_happen w (Read c mark) ≡ true → Sound w → Sound (on_outbound c (having_read mark w) w)
+sound-Read w c mark e s = sound-outbound w c (having_read mark w) e (outbound-read w.primary.calls c mark w (connection_of w c).outbound (s.outbound c)) s
+
+pub sound-Release : (w : World) (c : ℕ) → may_happen w (Release c) ≡ true → Sound w → Sound (on_outbound c having_released w)
+sound-Release w c e s =
+    let outbound = (connection_of w c).outbound in
+    let parts = both (is_open w c) _ e in
+    sound-outbound w c having_released parts.0 (outbound-having_released w.primary.calls c w.primary.committer.local w.primary.link.remote outbound (s.outbound c)) s
+
+pub sound-Write : (w : World) (c n : ℕ) → may_happen w (Write c n) ≡ true → Sound w → Sound (on_outbound c (written n) w)
+sound-Write w c n e s =
+    let outbound = (connection_of w c).outbound in
+    let parts = both (is_open w c) (nat_le n (length outbound.pending)) e in
+    sound-outbound w c (written n) parts.0 (outbound-written w.primary.calls c w.primary.committer.local w.primary.link.remote n outbound (s.outbound c)) s

@@ -1,0 +1,232 @@
+-- What the events of the standby do to the pair, of what they do to its parts.
+use Rattle.std.proofs.Common.{◌≡◌, ℕ, Bool, true, false, List, [], ◌∷◌, ◌++◌, length, slice_get, Result, Ok, Err, IfOk, IfErr, OnErr, ◌<◌, refl, sym, ap, subst, ◌∙◌, arith, true≢false, ap₂}
+use Rattle.std.proofs.lemmas.Bool.{lt-ltb}
+use Rattle.kv_types.specs.declared.refusal.Refusal.{Refusal}
+use Rattle.kv_types.specs.declared.refusal.Refusal.TheVariants.{Memory, Fault, Exhausted}
+use Rattle.model.specs.Standing.{Holder}
+use Rattle.standby.specs.declared.frame.Frame.{Frame}
+use Rattle.standby.specs.declared.frame.Ack.{Ack}
+use Rattle.machine.specs.declared.event.Event.TheVariants as events
+use Rattle.machine.specs.Event.{World, Standby as MachineStandby, Acknowledgement, Step, may_happen, opened_link, acknowledgement_of, sent, delivered, option_items, told, with_link, with_standby, with_acknowledged}
+use Rattle.machine.specs.Sound.{Sound}
+use Rattle.machine.proofs.SoundEvents.{sound-step, enabled-is}
+use Rattle.world.specs.Going.{Goes}
+use Rattle.world.specs.Cause.{Stretch, Breaks, RestsAtLimit, EndsBy, Resting}
+use Rattle.world.specs.Committing.{NearOnly, Moves, next_standby}
+use Rattle.world.specs.Link.{LinkRefines, KeepsFrames, AreFramesAt}
+use Rattle.world.specs.Standby.{Node, StandbyStands, ArrivalsRefine, AppliesFirst, told_by}
+use Rattle.world.specs.Pair.{Pair, PartsRefine, PairRefines, Steps, Does}
+use Rattle.world.specs.declared.arrivals.Arrivals.{Arrivals}
+use Rattle.world.specs.declared.link.Link.{Link}
+use Rattle.world.proofs.EngineLemmas.{Stands-engine, moves-same}
+use Rattle.world.proofs.ArrivalLemmas.{length-places}
+use Rattle.world.proofs.PairLemmas.{Led, cut-for, cut-same, goes-map, goes-steps, none-added, rests-primary, tells, untouched}
+use Rattle.world.proofs.PairLink.{link-parts}
+
+-- ---- the standby
+
+abbrev pub with_arrivals : Arrivals → Pair → Pair
+with_arrivals arrivals pair = record pair { arrivals = arrivals }
+
+abbrev pub with_opened : Arrivals → Link → Pair → Pair
+with_opened arrivals link pair = record pair { arrivals = arrivals; link = link }
+
+arrivals-parts : (first second : Holder) (old : Pair) (arrivals : Arrivals) (w : World) (machine : MachineStandby) (told : List Acknowledgement) → PartsRefine first second old w → machine.position ≡ w.standby.position
+    → ArrivalsRefine old.link.epoch w.primary.calls old.link.frames.items arrivals machine.waiting told
+    → PartsRefine first second (with_arrivals arrivals old) (record w { standby = machine; wire = record w.wire { acknowledgements = told } })
+arrivals-parts first second old arrivals w machine told parts position arrivals_stand =
+    record {
+      sessions = parts.sessions;
+      sequencer = parts.sequencer;
+      committing = parts.committing;
+      engine = parts.engine;
+      leads = parts.leads;
+      epoch = parts.epoch;
+      link = parts.link;
+      arrivals = arrivals_stand;
+      standby = subst (λ p. StandbyStands second old.link.epoch w.primary.calls p old.standby) (sym position) parts.standby;
+    }
+
+-- the epoch of the standby's node is the machine's
+own-epoch : (first second : Holder) (old : Pair) (w : World) → PairRefines first second old w → old.standby.epoch ≡ w.standby.epoch
+own-epoch first second old w stands = stands.parts.standby.epoch_is ∙ stands.parts.epoch ∙ sym stands.sound.standby.epoch_is
+
+-- the standby told its position
+abbrev pub Acknowledges : Ack → Arrivals → Arrivals → Type 0
+Acknowledges ack old new =
+    (epoch : ℕ) (frames : List Frame) (w : World) → ArrivalsRefine epoch w.primary.calls frames old w.standby.waiting w.wire.acknowledgements → told_by ack ≡ acknowledgement_of w.standby
+    → ArrivalsRefine epoch w.primary.calls frames new w.standby.waiting (w.wire.acknowledgements ++ acknowledgement_of w.standby ∷ [])
+
+pub open-does : (old : Pair) (arrivals : Arrivals) (link : Link) (ack : Ack) → ack ≡ record { epoch = old.standby.epoch; position = old.standby.contents.current.position } → Acknowledges ack old.arrivals arrivals
+    → ((w : World) → LinkRefines w.primary.calls old.link w.primary.link w.wire.frames → LinkRefines w.primary.calls link (opened_link w.primary.link) w.wire.frames) → KeepsFrames old.link link
+    → Does old events.OpenLink (Ok true) (with_opened arrivals link old)
+open-does old arrivals link ack is acknowledges opens keeps =
+    record {
+      steps = λ first second w stands.
+          let parts = stands.parts in
+          let epoch : ack.epoch ≡ w.standby.epoch = ap (λ (a : Ack). a.epoch) is ∙ own-epoch first second old w stands in
+          let position : ack.position ≡ w.standby.position = ap (λ (a : Ack). a.position) is ∙ parts.standby.engine.contents_at.at in
+          let own : told_by ack ≡ acknowledgement_of w.standby = ap₂ (λ e p. record { epoch = e; position = p }) epoch position in
+          let told = acknowledges old.link.epoch old.link.frames.items w parts.arrivals own in
+          let w' = with_acknowledged (acknowledgement_of w.standby ∷ []) w in
+          let heard : PartsRefine first second (with_arrivals arrivals old) w' = arrivals-parts first second old arrivals w w.standby (w.wire.acknowledgements ++ acknowledgement_of w.standby ∷ []) parts refl told in
+          let moved = link-parts first second (with_arrivals arrivals old) link w' (opened_link w.primary.link) w.wire.frames heard keeps (opens w parts.link) in
+          goes-steps first second w (with_link (opened_link w.primary.link) w') events.OpenLink true old (with_opened arrivals link old) refl refl stands.sound refl
+          (record { done = refl; goes = λ did. moved; stays = λ did. absurd (true≢false did) });
+      cut = tt;
+      calls = none-added _ _ refl;
+    }
+
+pub open-cut : (old : Pair) (arrivals : Arrivals) (result : Result Bool Refusal) (refusal : Refusal) → result ≡ Err refusal → refusal ≡ Memory
+    → Does old events.OpenLink result (with_arrivals arrivals old)
+open-cut old arrivals result refusal is memory =
+    subst (λ (r : Result Bool Refusal). Does old events.OpenLink r (with_arrivals arrivals old)) (sym is)
+    (record {
+      steps = tt;
+      cut = λ first second w stands. cut-same first second events.OpenLink refusal old (with_arrivals arrivals old) w refl memory refl refl (tells old.sessions) refl stands;
+      calls = none-added _ _ refl;
+    })
+
+pub deliver-does : (old : Pair) (arrivals : Arrivals) (sent : List ℕ) (frame : ℕ) (result : Result Bool Refusal) → sent ≡ old.link.sent.items
+    → IfOk result (λ did. (epoch : ℕ) (frames : List Frame) (w : World) → ArrivalsRefine epoch w.primary.calls frames old.arrivals w.standby.waiting w.wire.acknowledgements
+    → AreFramesAt epoch w.primary.calls frames sent w.wire.frames
+    → Goes (may_happen w (events.Deliver frame)) did
+    (ArrivalsRefine epoch w.primary.calls frames arrivals (delivered (option_items (slice_get w.wire.frames frame)) w.standby).waiting w.wire.acknowledgements)
+    (ArrivalsRefine epoch w.primary.calls frames arrivals w.standby.waiting w.wire.acknowledgements))
+    → IfErr result (λ refusal. refusal ≡ Memory) → OnErr result (frame < length sent) → Does old (events.Deliver frame) result (with_arrivals arrivals old)
+deliver-does old arrivals sent frame (Ok did) same go memory some =
+    record {
+      steps = λ first second w stands.
+          let parts = stands.parts in
+          let came = delivered (option_items (slice_get w.wire.frames frame)) w.standby in
+          goes-steps first second w (with_standby came w) (events.Deliver frame) did old (with_arrivals arrivals old) refl refl stands.sound refl
+          (goes-map (go old.link.epoch old.link.frames.items w parts.arrivals
+          (subst (λ (places : List ℕ). AreFramesAt old.link.epoch w.primary.calls old.link.frames.items places w.wire.frames) (sym same) parts.link.sent))
+          (arrivals-parts first second old arrivals w came w.wire.acknowledgements parts refl)
+          (arrivals-parts first second old arrivals w w.standby w.wire.acknowledgements parts refl));
+      cut = tt;
+      calls = none-added _ _ refl;
+    }
+deliver-does old arrivals sent frame (Err refusal) same go memory some =
+    record {
+      steps = tt;
+      cut = λ first second w stands.
+          let link = stands.parts.link in
+          let is : frame < length w.wire.frames = omega (arith, some, ap length same, length-places old.link.epoch w.primary.calls old.link.frames.items old.link.sent.items w.wire.frames link.sent) in
+          cut-same first second (events.Deliver frame) refusal old (with_arrivals arrivals old) w refl memory refl refl (tells old.sessions) (lt-ltb frame (length w.wire.frames) is) stands;
+      calls = none-added _ _ refl;
+    }
+
+abbrev pub with_node : Arrivals → Node → Pair → Pair
+with_node arrivals node pair = record pair { arrivals = arrivals; standby = node }
+
+apply-steps : (first second : Holder) (old : Pair) (arrivals : Arrivals) (node : Node) (w : World) (did : Bool) → PairRefines first second old w
+    → AppliesFirst second old.link.epoch old.link.frames.items w did arrivals old.standby node → Steps first second w events.Apply did old (with_node arrivals node old)
+apply-steps first second old arrivals node w true stands applies =
+    let parts = stands.parts in
+    let moved = applies.goes refl in
+    let applied = moved.1 in
+    let w' = with_acknowledged applied.told (with_standby applied.standby w) in
+    let step : Step w events.Apply true w' =
+    record { done = applies.done ∙ sym (enabled-is w events.Apply stands.sound); happens = λ did. record { frame = applied.frame; first = applied.first; standby = applied.standby; told = applied.told; takes = applied.takes; now = refl }; stands = λ did. absurd (true≢false did) } in
+    record {
+      world = w';
+      step = step;
+      stands = record {
+        sound = sound-step w events.Apply true w' step stands.sound;
+        parts = record {
+          sessions = parts.sessions;
+          sequencer = parts.sequencer;
+          committing = parts.committing;
+          engine = parts.engine;
+          leads = parts.leads;
+          epoch = parts.epoch;
+          link = parts.link;
+          arrivals = subst (λ (x : World). ArrivalsRefine old.link.epoch w.primary.calls old.link.frames.items arrivals x.standby.waiting x.wire.acknowledgements) applied.now moved.2;
+          standby = subst (λ (x : World). StandbyStands second old.link.epoch w.primary.calls x.standby.position node) applied.now moved.3;
+        };
+      };
+      moves = record {
+        primary = moves-same first w.primary.calls w.primary.committer.position w.primary.committer.position old.device old.device refl (Stands-engine _ _ _ _ _ _ parts.engine);
+        standby = subst (λ (x : World). Moves second w.primary.calls w.standby.position x.standby.position old.standby.device node.device) applied.now moved.4;
+      };
+    }
+apply-steps first second old arrivals node w false stands applies =
+    let before = stands.parts in
+    let stayed = applies.stays refl in
+    let parts : PartsRefine first second (with_node arrivals node old) w =
+    record {
+      sessions = before.sessions;
+      sequencer = before.sequencer;
+      committing = before.committing;
+      engine = before.engine;
+      leads = before.leads;
+      epoch = before.epoch;
+      link = before.link;
+      arrivals = stayed.0;
+      standby = subst (StandbyStands second old.link.epoch w.primary.calls w.standby.position) (sym stayed.1) before.standby;
+    } in
+    record {
+      world = w;
+      step = record { done = applies.done ∙ sym (enabled-is w events.Apply stands.sound); happens = λ did. absurd (true≢false (sym did)); stands = λ did. refl };
+      stands = record { sound = stands.sound; parts = parts };
+      moves = untouched first second old (with_node arrivals node old) w w refl (ap (λ (n : Node). n.device) stayed.1) parts;
+    }
+
+-- what ended an application is of the standby's device
+ends-apply : (refusal : Refusal) (P Q : Stretch → Stretch → Type 0) → ((last : Stretch) → P Resting last → Q Resting last) → EndsBy refusal events.Apply P → EndsBy refusal events.Apply Q
+ends-apply Memory P Q both ends = (ends.0, both Resting ends.1)
+ends-apply Fault P Q both ends = both Breaks ends
+ends-apply Exhausted P Q both ends = both RestsAtLimit ends
+ends-apply refusal P Q both ends = absurd ends
+
+pub apply-does : (old : Pair) (arrivals : Arrivals) (node : Node) (frames : List Frame) (result : Result Bool Refusal) → frames ≡ old.link.frames.items
+    → IfOk result (λ did. (holder : Holder) (w : World) → Sound w → old.standby.epoch ≡ w.standby.epoch → ArrivalsRefine old.standby.epoch w.primary.calls frames old.arrivals w.standby.waiting w.wire.acknowledgements
+    → StandbyStands holder old.standby.epoch w.primary.calls w.standby.position old.standby
+    → AppliesFirst holder old.standby.epoch frames w did arrivals old.standby node)
+    → ((holder : Holder) (w : World) → Sound w → old.standby.epoch ≡ w.standby.epoch → ArrivalsRefine old.standby.epoch w.primary.calls frames old.arrivals w.standby.waiting w.wire.acknowledgements
+    → StandbyStands holder old.standby.epoch w.primary.calls w.standby.position old.standby → NearOnly holder w.primary.calls w.standby.position (next_standby w) old.standby.device node.device)
+    → IfErr result (λ refusal. (holder : Holder) (w : World) → Sound w → old.standby.epoch ≡ w.standby.epoch → ArrivalsRefine old.standby.epoch w.primary.calls frames old.arrivals w.standby.waiting w.wire.acknowledgements
+    → StandbyStands holder old.standby.epoch w.primary.calls w.standby.position old.standby
+    → (may_happen w events.Apply ≡ true) × EndsBy refusal events.Apply (λ _ last. last holder w.primary.calls w.standby.position (next_standby w) old.standby.device node.device))
+    → Does old events.Apply result (with_node arrivals node old)
+apply-does old arrivals node frames result same applies only cuts = go result applies cuts
+  where
+    arrive : (first second : Holder) (w : World) → PairRefines first second old w → ArrivalsRefine old.standby.epoch w.primary.calls frames old.arrivals w.standby.waiting w.wire.acknowledgements
+    arrive first second w stands =
+        subst (λ e. ArrivalsRefine e w.primary.calls frames old.arrivals w.standby.waiting w.wire.acknowledgements) (sym stands.parts.standby.epoch_is)
+        (subst (λ (all : List Frame). ArrivalsRefine old.link.epoch w.primary.calls all old.arrivals w.standby.waiting w.wire.acknowledgements) (sym same) stands.parts.arrivals)
+
+    stand : (first second : Holder) (w : World) → PairRefines first second old w → StandbyStands second old.standby.epoch w.primary.calls w.standby.position old.standby
+    stand first second w stands =
+        subst (λ e. StandbyStands second e w.primary.calls w.standby.position old.standby) (sym stands.parts.standby.epoch_is) stands.parts.standby
+
+    go : (result : Result Bool Refusal)
+        → IfOk result (λ did. (holder : Holder) (w : World) → Sound w → old.standby.epoch ≡ w.standby.epoch → ArrivalsRefine old.standby.epoch w.primary.calls frames old.arrivals w.standby.waiting w.wire.acknowledgements
+        → StandbyStands holder old.standby.epoch w.primary.calls w.standby.position old.standby
+        → AppliesFirst holder old.standby.epoch frames w did arrivals old.standby node)
+        → IfErr result (λ refusal. (holder : Holder) (w : World) → Sound w → old.standby.epoch ≡ w.standby.epoch → ArrivalsRefine old.standby.epoch w.primary.calls frames old.arrivals w.standby.waiting w.wire.acknowledgements
+        → StandbyStands holder old.standby.epoch w.primary.calls w.standby.position old.standby
+        → (may_happen w events.Apply ≡ true) × EndsBy refusal events.Apply (λ _ last. last holder w.primary.calls w.standby.position (next_standby w) old.standby.device node.device))
+        → Does old events.Apply result (with_node arrivals node old)
+    go (Ok did) applies cuts =
+        record {
+          steps = λ first second w stands.
+              let applied = applies second w stands.sound (own-epoch first second old w stands) (arrive first second w stands) (stand first second w stands) in
+              apply-steps first second old arrivals node w did stands
+              (subst (λ (all : List Frame). AppliesFirst second old.link.epoch all w did arrivals old.standby node) same
+              (subst (λ e. AppliesFirst second e frames w did arrivals old.standby node) stands.parts.standby.epoch_is applied));
+          cut = tt;
+          calls = none-added _ _ refl;
+        }
+    go (Err refusal) applies cuts =
+        record {
+          steps = tt;
+          cut = λ first second w stands.
+              let new = with_node arrivals node old in
+              let cut = cuts second w stands.sound (own-epoch first second old w stands) (arrive first second w stands) (stand first second w stands) in
+              cut-for first second events.Apply refusal old new w stands (tells old.sessions) cut.0
+              (ends-apply refusal (λ _ last. last second w.primary.calls w.standby.position (next_standby w) old.standby.device node.device) (Led first second old new w)
+              (λ last broken. (rests-primary first second old w stands, broken)) cut.1);
+          calls = none-added _ _ refl;
+        }
