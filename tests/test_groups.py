@@ -92,7 +92,7 @@ class Groups(Runs):
         self.assertEqual(trace.released, [5 * OK])
 
     def test_a_standby_has_room_for_a_whole_frame_or_for_none(self):
-        # an image of 4,096 lines takes 512 versions: so many are left when three come, and one after them
+        # an image of 4,096 lines takes 512 versions: `left` of them are free when three come, and one after them
         for left, stands in [(4, 512), (3, 512), (2, 510), (1, 511), (0, 512)]:
             with self.case("left", left=left):
                 schedule = Schedule(1)

@@ -11,7 +11,7 @@ use std::time::Instant;
 /// An entrance that two threads share. In place of pipe ends, an arrival bears its own number.
 type SharedEntrance = Mutex<Entrance<u64, ()>>;
 
-/// Lets so many connections arrive, as seats are free, and says whether each was let in.
+/// Lets `count` connections arrive, as seats are free, and says whether each was let in.
 fn arrive_all(rt: &impl Wait, entrance: &SharedEntrance, count: u64) -> bool {
     let mut next = 0;
     let mut all_let_in = true;
@@ -36,7 +36,7 @@ fn arrive_all(rt: &impl Wait, entrance: &SharedEntrance, count: u64) -> bool {
     all_let_in
 }
 
-/// Serves so many arrivals and gives their seats back, and says whether they were the numbers from 0 on, in order and each once.
+/// Serves `count` arrivals and gives their seats back, and says whether they were the numbers from 0 on, in order and each once.
 fn serve_all(rt: &impl Wait, entrance: &SharedEntrance, count: u64) -> bool {
     let mut served = 0;
     let mut in_order = true;
@@ -57,7 +57,7 @@ fn serve_all(rt: &impl Wait, entrance: &SharedEntrance, count: u64) -> bool {
     in_order
 }
 
-/// Passes so many arrivals from one thread to another.
+/// Passes `count` arrivals from one thread to another.
 pub fn time_arrivals<R: Threads + Wait + Sync + Print + Clock>(
     rt: &R,
     alloc: Global,

@@ -23,7 +23,7 @@ fn offer_all(rt: &impl Wait, outlet: RingOutlet<u64>, count: u64) {
     }
 }
 
-/// Takes so many items, and says whether they were the numbers from 0 on, in order and each once.
+/// Takes `count` items, and says whether they were the numbers from 0 on, in order and each once.
 fn take_all(rt: &impl Wait, inlet: RingInlet<u64>, count: u64) -> bool {
     let mut inlet = inlet;
     let mut taken = 0;
@@ -43,7 +43,7 @@ fn take_all(rt: &impl Wait, inlet: RingInlet<u64>, count: u64) -> bool {
     in_order
 }
 
-/// Passes so many items from one thread to another.
+/// Passes `count` items from one thread to another.
 pub fn time_ring<R: Threads + Wait + Sync + Print + Clock>(
     rt: &R,
     alloc: Global,

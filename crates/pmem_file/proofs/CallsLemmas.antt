@@ -119,7 +119,7 @@ pub written-may_hold : (read : List ℕ) (calls : List Call) (word : ℕ) → ma
 written-may_hold read [] word = eq-eqb (get_or read word 0) (get_or read word 0) refl
 written-may_hold read (Wrote offset bytes done ∷ calls) word =
     last_may (reaches offset bytes word) (brought offset bytes word) (written read calls word) (may_hold read calls word) (written-may_hold read calls word)
-written-may_hold read (Measured done ∷ calls) word = written-may_hold read calls word
+written-may_hold read (Measured bytes done ∷ calls) word = written-may_hold read calls word
 written-may_hold read (Synced done ∷ calls) word =
     last_only (done && not (has_failed calls)) (written read calls word) (may_hold read calls word (written read calls word)) (written-may_hold read calls word)
 

@@ -11,14 +11,14 @@ use Rattle.pmem_file.specs.Byte.{words_in}
 pub data Call : Type 0 where
   -- a write of these bytes from this byte of the file on. Where it failed it may have written some of them
   Wrote : (offset : ℕ) (bytes : List ℕ) (done : Bool) → Call
-  -- a look at the file's length, whether it is still the one that was read
-  Measured : (done : Bool) → Call
+  -- a look at the file's length, whether it is so many bytes
+  Measured : (bytes : ℕ) (done : Bool) → Call
   -- a sync of the file's data
   Synced : (done : Bool) → Call
 
 abbrev pub is_done : Call → Bool
 is_done (Wrote offset bytes done) = done
-is_done (Measured done) = done
+is_done (Measured bytes done) = done
 is_done (Synced done) = done
 
 -- some call failed
@@ -38,7 +38,7 @@ brought offset bytes word = slice_index (words_in bytes) (word - offset / 8)
 abbrev pub written : List ℕ → List Call → ℕ → ℕ
 written read [] word = slice_index read word
 written read (Wrote offset bytes done ∷ calls) word = if reaches offset bytes word then brought offset bytes word else written read calls word
-written read (Measured done ∷ calls) word = written read calls word
+written read (Measured bytes done ∷ calls) word = written read calls word
 written read (Synced done ∷ calls) word = written read calls word
 
 -- whether a crash may leave this value in a word. Each write adds one, whether it succeeded or not; a sync that succeeded, while
@@ -47,7 +47,7 @@ abbrev pub may_hold : List ℕ → List Call → ℕ → ℕ → Bool
 may_hold read [] word x = x == slice_index read word
 may_hold read (Wrote offset bytes done ∷ calls) word x =
     (reaches offset bytes word && (x == brought offset bytes word)) || may_hold read calls word x
-may_hold read (Measured done ∷ calls) word x = may_hold read calls word x
+may_hold read (Measured bytes done ∷ calls) word x = may_hold read calls word x
 may_hold read (Synced done ∷ calls) word x =
     if done && not (has_failed calls) then x == written read calls word else may_hold read calls word x
 
@@ -64,12 +64,12 @@ Brings words old new =
 abbrev pub read_of : FileCalls → List ℕ
 read_of (Read words) = words.value.items
 read_of (Wrote' offset bytes done mark before) = read_of before
-read_of (Measured' done mark before) = read_of before
+read_of (Measured' bytes done mark before) = read_of before
 read_of (Synced' done mark before) = read_of before
 
 -- the calls since, the newest first
 abbrev pub calls_of : FileCalls → List Call
 calls_of (Read words) = []
 calls_of (Wrote' offset bytes done mark before) = Wrote offset.value bytes.value.items done.value ∷ calls_of before
-calls_of (Measured' done mark before) = Measured done.value ∷ calls_of before
+calls_of (Measured' bytes done mark before) = Measured bytes.value done.value ∷ calls_of before
 calls_of (Synced' done mark before) = Synced done.value ∷ calls_of before

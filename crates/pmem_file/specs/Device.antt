@@ -1,5 +1,5 @@
 -- A device over a file: what it has gone through, and what it asked of its file.
-use Rattle.std.specs.Prelude.{◌≡◌, ℕ, ◌*◌, ◌^◌, ◌<◌, true, false, List, [], ◌∷◌, None, vec_len, slice_index}
+use Rattle.std.specs.Prelude.{◌≡◌, ℕ, ◌*◌, ◌^◌, ◌<◌, true, false, List, [], ◌∷◌, None, length, vec_len, slice_index}
 use Rattle.std.specs.List.Sorted.{IsNonDecreasing}
 use Rattle.pmem_file.specs.declared.device.FilePmem.{FilePmem}
 use Rattle.pmem.specs.Device.{State, settled}
@@ -41,9 +41,9 @@ pub record IsFresh (device : FilePmem) : Type 0 where
   pub failures : (state_of device).failures ≡ 0
   pub asked : asked_by device ≡ []
 
--- a fence that succeeded looked at the file's length, wrote the noted lines in rising order, neighbours by one write, and then synced
+-- a fence that succeeded found the file as long as its words, wrote the noted lines in rising order, neighbours by one write, and then synced
 pub record Persists (old new : FilePmem) : Type 0 where
   pub lines : List ℕ
   pub sorted : IsNonDecreasing lines
   pub noted : (line : ℕ) → has_line lines line ≡ is_noted old.notes line
-  pub calls : asked_by new ≡ Synced true ∷ with_writes old.words.items (runs_of lines) (Measured true ∷ asked_by old)
+  pub calls : asked_by new ≡ Synced true ∷ with_writes old.words.items (runs_of lines) (Measured (8 * length old.words.items) true ∷ asked_by old)

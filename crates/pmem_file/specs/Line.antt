@@ -18,7 +18,7 @@ abbrev pub marked : List Bool → ℕ
 marked [] = 0
 marked (mark ∷ marks) = one_if mark + marked marks
 
--- the runs of neighbours, each as its first line and how many lines it has: so many lines from the first on, and then these
+-- the runs of neighbours, each as its first line and how many lines it has, where a run of `count` lines from `first` on is open and these follow
 abbrev pub runs_from : ℕ → ℕ → List ℕ → List (ℕ × ℕ)
 runs_from first count [] = (first, count) ∷ []
 runs_from first count (line ∷ lines) =

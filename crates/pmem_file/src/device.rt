@@ -41,7 +41,7 @@ impl FilePmem {
     ghost use Rattle.pmem_file.specs.Call.{IsFileImage};
     ghost use Rattle.pmem_file.specs.Device.{state_of, read_by, asked_by, IsFresh};
 
-    /// A device over an open file that holds these words. The room is for the lines of so many words and for the bytes of one write.
+    /// A device over an open file that holds these words. There is room to note every line of these words and for the bytes of one write.
     pub(crate) fn new(words: Vec<u64>, notes: Notes, buffer: Vec<u8>, file: File) -> FilePmem
         requires sized { vec_len words ≡ 8 * vec_len notes.marks }
         requires countable { 8 * vec_len words < 2 ^ 64 }

@@ -12,8 +12,8 @@ pub enum FileCalls {
     Read(Snapshot<Vec<u64>>),
     /// A write of these bytes from this byte of the file on.
     Wrote(Snapshot<u64>, Snapshot<Vec<u8>>, Snapshot<bool>, Snapshot<FileCalls>),
-    /// A look at the file's length, whether it is still the one that was read.
-    Measured(Snapshot<bool>, Snapshot<FileCalls>),
+    /// A look at the file's length, whether it is so many bytes.
+    Measured(Snapshot<u64>, Snapshot<bool>, Snapshot<FileCalls>),
     /// A sync of the file's data.
     Synced(Snapshot<bool>, Snapshot<FileCalls>),
 }
@@ -42,12 +42,12 @@ impl FileCalls {
     }
 
     /// Adds a look at the length.
-    pub fn measured(&mut self, done: bool)
+    pub fn measured(&mut self, bytes: u64, done: bool)
         ensures read { read_of self.new ≡ read_of self.old }
-        ensures calls { calls_of self.new ≡ Measured done ∷ calls_of self.old }
+        ensures calls { calls_of self.new ≡ Measured bytes done ∷ calls_of self.old }
     {
         let before = Snapshot::of(self);
-        *self = FileCalls::Measured(Snapshot::of(&done), before);
+        *self = FileCalls::Measured(Snapshot::of(&bytes), Snapshot::of(&done), before);
     }
 
     /// Adds a sync.

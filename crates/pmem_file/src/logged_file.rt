@@ -33,10 +33,10 @@ impl LoggedFile {
         }
     }
 
-    /// Whether the file has so many bytes.
+    /// Whether the file is exactly `bytes` bytes long.
     pub fn measure(&mut self, bytes: u64) -> bool
         ensures read { read_of self.new.calls ≡ read_of self.old.calls }
-        ensures calls { calls_of self.new.calls ≡ Measured result ∷ calls_of self.old.calls }
+        ensures calls { calls_of self.new.calls ≡ Measured bytes result ∷ calls_of self.old.calls }
     {
         // (to ask for the file's times as well would make each write set them anew)
         let done = self
@@ -44,7 +44,7 @@ impl LoggedFile {
             .seek(SeekFrom::End(0))
             .is_ok_and(|length| length == bytes);
         self.failed |= !done;
-        self.calls.measured(done);
+        self.calls.measured(bytes, done);
         done
     }
 
@@ -122,7 +122,7 @@ impl LoggedFile {
         requires countable { 8 * length words.now < 2 ^ 64 }
         ensures read { read_of self.new.calls ≡ read_of self.old.calls }
         ensures done { result ≡ true → calls_of self.new.calls
-            ≡ Synced true ∷ with_writes words.now (runs_of lines.now) (Measured true ∷ calls_of self.old.calls) }
+            ≡ Synced true ∷ with_writes words.now (runs_of lines.now) (Measured (8 * length words.now) true ∷ calls_of self.old.calls) }
         ensures failed { has_failed (calls_of self.new.calls) ≡ not result }
         ensures lasting { has_failed (calls_of self.old.calls) ≡ true → self.new ≡ self.old }
         ensures within { Brings words.now (calls_of self.old.calls) (calls_of self.new.calls) }

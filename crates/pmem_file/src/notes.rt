@@ -19,7 +19,7 @@ impl Notes {
     ghost use Rattle.std.specs.List.Sorted.{IsNonDecreasing};
     ghost use Rattle.pmem_file.specs.Noted.{is_noted};
 
-    /// No line is noted, of a device of so many.
+    /// No line is noted, on a device with the given number of lines.
     pub fn new(alloc: Global, lines: usize) -> Result<Notes, AllocError>
         ensures none { IfOk result (λ notes. (line : ℕ) → is_noted notes line ≡ false) }
         ensures lines { IfOk result (λ notes. vec_len notes.marks ≡ lines) }

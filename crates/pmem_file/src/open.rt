@@ -37,7 +37,7 @@ impl FilePmem {
         read_device(rt.alloc(), file, lines)
     }
 
-    /// Opens the device of so many lines in a file, which stays locked until the device is dropped. Where there is no file it makes one of
+    /// Opens the device of `lines` lines in a file, which stays locked until the device is dropped. Where there is no file it makes one of
     /// zeros.
     ///
     /// # Errors
@@ -81,7 +81,7 @@ fn locked(file: File) -> Result<File, Refusal>
     }
 }
 
-/// Makes a file of so many lines of zeros, or opens the one that is there.
+/// Makes a file of `lines` lines of zeros, or opens the one that is there.
 fn make_or_open(rt: &HostRuntime, path: &str, lines: u64) -> Result<File, Refusal>
     requires { lines ≤ MAX_LINES }
     ensures { IfErr result (λ refusal. refusal ≡ Refusal.Fault) }
@@ -104,7 +104,7 @@ fn make_or_open(rt: &HostRuntime, path: &str, lines: u64) -> Result<File, Refusa
     }
 }
 
-/// Makes a new file of so many lines of zeros durable, and its name in its folder.
+/// Makes a new file of `lines` lines of zeros durable, and its name in its folder.
 fn fill(rt: &HostRuntime, path: &str, file: &File, lines: u64) -> io::Result<()>
     requires { lines ≤ MAX_LINES }
 {
@@ -132,7 +132,7 @@ fn count_lines(file: &File) -> Result<u64, Refusal>
     Ok(lines)
 }
 
-/// The device of a locked file of so many lines.
+/// The device of a locked file of `lines` lines.
 fn read_device(alloc: Global, file: File, lines: u64) -> Result<FilePmem, Refusal>
     requires { lines ≤ MAX_LINES }
     ensures fresh { IfOk result (λ device. IsFresh device) }
@@ -145,7 +145,7 @@ fn read_device(alloc: Global, file: File, lines: u64) -> Result<FilePmem, Refusa
     Ok(FilePmem::new(words, notes, buffer, file))
 }
 
-/// The words of a file of so many lines, read in blocks.
+/// The words of a file of `lines` lines, read in blocks.
 fn read_words(alloc: Global, file: &File, lines: u64) -> Result<Vec<u64>, Refusal>
     requires { lines ≤ MAX_LINES }
     ensures count { IfOk result (λ words. vec_len words ≡ 8 * lines) }
