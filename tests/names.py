@@ -12,15 +12,13 @@ OUTSIDE = {
     "HELLO", "Clone", "Copy", "bytes::BufMut", "io::Write", "slab", "indexmap", "clap", "crossbeam_utils", "KEY", "WBLIMG01",
 }
 
-# Public names that several items, calls or variants have, and why that is one meaning. `TO BE RENAMED` marks those that
-# still stand for two things.
+# Public names that several items, calls or variants have, and why that is one meaning.
 REPEATED = {
     "Clear": "everything is removed: a change, and the same change with its places",
     "Drop": "a record is removed: a change, and the same change with its places",
     "DropKey": "a key is removed: a change, and the same change with its places",
     "Put": "a record is written: a change, the same with its place, and that write by itself",
-    "Ended": "TO BE RENAMED: a turn at a seat whose connection is over, and where a run ended early",
-    "Fault": "what is not as it should be: a fence that failed, as an error and as a refusal, and bytes that ask for nothing",
+    "Fault": "a fence that failed, as an error and as a refusal; of an item, the protocol fault that it holds",
     "Field": "a field of a hash: its name, and the record that it names",
     "PIPE_ITEMS": "how many items a pipe holds: of the code, and the same number in the machine's events",
     "Request": "the words of a request, and the item that holds one",

@@ -92,30 +92,30 @@ above first (taken ∷ others) number below =
     let all = occurrences-cons number first (taken_numbers (suc first) others) in
     grind (arith, nat_tests)
 
-taken-occurs : (first : ℕ) (statuses : List Status) (place : ℕ) → slice_get statuses place ≡ Some taken → 1 ≤ occurrences (first + place) (taken_numbers first statuses)
-taken-occurs first [] place is = absurd cc
+taken-occurs : (first : ℕ) (statuses : List Status) (index : ℕ) → slice_get statuses index ≡ Some taken → 1 ≤ occurrences (first + index) (taken_numbers first statuses)
+taken-occurs first [] index is = absurd cc
 taken-occurs first (free ∷ others) zero is = absurd cc
 taken-occurs first (taken ∷ others) zero is =
     let all = occurrences-cons (first + 0) first (taken_numbers (suc first) others) in
     grind (arith, nat_tests)
-taken-occurs first (free ∷ others) (suc place) is =
-    subst (λ n. 1 ≤ occurrences n (taken_numbers (suc first) others)) (omega arith) (taken-occurs (suc first) others place is)
-taken-occurs first (taken ∷ others) (suc place) is =
-    let rest : 1 ≤ occurrences (first + suc place) (taken_numbers (suc first) others) =
-    subst (λ n. 1 ≤ occurrences n (taken_numbers (suc first) others)) (omega arith) (taken-occurs (suc first) others place is) in
-    let all = occurrences-cons (first + suc place) first (taken_numbers (suc first) others) in
+taken-occurs first (free ∷ others) (suc index) is =
+    subst (λ n. 1 ≤ occurrences n (taken_numbers (suc first) others)) (omega arith) (taken-occurs (suc first) others index is)
+taken-occurs first (taken ∷ others) (suc index) is =
+    let rest : 1 ≤ occurrences (first + suc index) (taken_numbers (suc first) others) =
+    subst (λ n. 1 ≤ occurrences n (taken_numbers (suc first) others)) (omega arith) (taken-occurs (suc first) others index is) in
+    let all = occurrences-cons (first + suc index) first (taken_numbers (suc first) others) in
     omega arith
 
-occurs-taken : (first : ℕ) (statuses : List Status) (place : ℕ) → 1 ≤ occurrences (first + place) (taken_numbers first statuses) → slice_get statuses place ≡ Some taken
-occurs-taken first [] place some = let none = occurrences-none (first + place) in absurd (omega arith)
+occurs-taken : (first : ℕ) (statuses : List Status) (index : ℕ) → 1 ≤ occurrences (first + index) (taken_numbers first statuses) → slice_get statuses index ≡ Some taken
+occurs-taken first [] index some = let none = occurrences-none (first + index) in absurd (omega arith)
 occurs-taken first (free ∷ others) zero some = let none = above (suc first) others (first + 0) (omega arith) in absurd (omega arith)
 occurs-taken first (taken ∷ others) zero some = refl
-occurs-taken first (free ∷ others) (suc place) some =
-    occurs-taken (suc first) others place (subst (λ n. 1 ≤ occurrences n (taken_numbers (suc first) others)) (omega arith) some)
-occurs-taken first (taken ∷ others) (suc place) some =
-    let all = occurrences-cons (first + suc place) first (taken_numbers (suc first) others) in
-    let rest : 1 ≤ occurrences (first + suc place) (taken_numbers (suc first) others) = grind (arith, nat_tests) in
-    occurs-taken (suc first) others place (subst (λ n. 1 ≤ occurrences n (taken_numbers (suc first) others)) (omega arith) rest)
+occurs-taken first (free ∷ others) (suc index) some =
+    occurs-taken (suc first) others index (subst (λ n. 1 ≤ occurrences n (taken_numbers (suc first) others)) (omega arith) some)
+occurs-taken first (taken ∷ others) (suc index) some =
+    let all = occurrences-cons (first + suc index) first (taken_numbers (suc first) others) in
+    let rest : 1 ≤ occurrences (first + suc index) (taken_numbers (suc first) others) = grind (arith, nat_tests) in
+    occurs-taken (suc first) others index (subst (λ n. 1 ≤ occurrences n (taken_numbers (suc first) others)) (omega arith) rest)
 
 -- a taken number occurs in the list, and no other number does
 is-there : (statuses : List Status) (number : ℕ) → slice_get statuses number ≡ Some taken → 1 ≤ occurrences number (taken_numbers 0 statuses)
@@ -133,23 +133,23 @@ head-other first taken others number differ =
     let apart : (first ≡ number → ⊥) = λ e. differ (sym e) in
     grind (arith, nat_tests)
 
-set-other : (first : ℕ) (statuses : List Status) (place : ℕ) (status : Status) (number : ℕ) → number ≢ first + place
-    → occurrences number (taken_numbers first (set statuses place status)) ≡ occurrences number (taken_numbers first statuses)
-set-other first [] place status number differ = refl
+set-other : (first : ℕ) (statuses : List Status) (index : ℕ) (status : Status) (number : ℕ) → number ≢ first + index
+    → occurrences number (taken_numbers first (set statuses index status)) ≡ occurrences number (taken_numbers first statuses)
+set-other first [] index status number differ = refl
 set-other first (old ∷ others) zero status number differ =
     let apart : (number ≡ first → ⊥) = λ e. differ (omega (arith, e)) in
     head-other first status others number apart ∙ sym (head-other first old others number apart)
-set-other first (free ∷ others) (suc place) status number differ = set-other (suc first) others place status number (λ e. differ (omega (arith, e)))
-set-other first (taken ∷ others) (suc place) status number differ =
-    let rest = set-other (suc first) others place status number (λ e. differ (omega (arith, e))) in
+set-other first (free ∷ others) (suc index) status number differ = set-other (suc first) others index status number (λ e. differ (omega (arith, e)))
+set-other first (taken ∷ others) (suc index) status number differ =
+    let rest = set-other (suc first) others index status number (λ e. differ (omega (arith, e))) in
     let old = occurrences-cons number first (taken_numbers (suc first) others) in
-    let new = occurrences-cons number first (taken_numbers (suc first) (set others place status)) in
+    let new = occurrences-cons number first (taken_numbers (suc first) (set others index status)) in
     omega arith
 
-set-there : (statuses : List Status) (place : ℕ) (old new : Status) → slice_get statuses place ≡ Some old → slice_get (set statuses place new) place ≡ Some new
-set-there [] place old new is = absurd cc
+set-there : (statuses : List Status) (index : ℕ) (old new : Status) → slice_get statuses index ≡ Some old → slice_get (set statuses index new) index ≡ Some new
+set-there [] index old new is = absurd cc
 set-there (status ∷ others) zero old new is = refl
-set-there (status ∷ others) (suc place) old new is = set-there others place old new is
+set-there (status ∷ others) (suc index) old new is = set-there others index old new is
 
 -- a list of numbers below a bound, in which none occurs twice, is no longer than the bound
 length-without : (number : ℕ) (xs : List ℕ) → length xs ≡ length (filter (λ n. not (eqb n number)) xs) + occurrences number xs

@@ -12,7 +12,7 @@ status_of (Some _) = free
 -- there is a slot for each number, a seat is only ever in the slot of its own number, and so each number is free or taken
 pub record IsSound (slots : List (Option ℕ)) : Type 0 where
   pub complete : length slots ≡ MAX_SEATS
-  pub own : (place seat : ℕ) → slice_get slots place ≡ Some (Some seat) → seat ≡ place
+  pub own : (index seat : ℕ) → slice_get slots index ≡ Some (Some seat) → seat ≡ index
   pub each_once : IsEachOnce (map status_of slots)
 
 -- the book that the slots keep
@@ -23,9 +23,9 @@ book_of slots sound = record {
   each_once = sound.each_once;
 }
 
--- no slot below `place` holds a seat
+-- no slot below `index` holds a seat
 abbrev pub IsEmptyBelow : List (Option ℕ) → ℕ → Type 0
-IsEmptyBelow slots place = (lower : ℕ) → lower < place → slice_index_or slots lower None ≡ None
+IsEmptyBelow slots index = (lower : ℕ) → lower < index → slice_index_or slots lower None ≡ None
 
 -- the seat in the lowest slot that holds one is taken out, or no slot holds one and nothing changes
 abbrev pub TakesLowest : List (Option ℕ) → Option ℕ → List (Option ℕ) → Type 0

@@ -80,8 +80,8 @@ fn slots_of(alloc: Global, seats: Vec<Seat>) -> Result<Vec<Option<Seat>>, AllocE
 fn take_lowest(slots: &mut Vec<Option<Seat>>) -> Option<Seat>
     ensures { TakesLowest slots.old.items result slots.new.items }
 {
-    let place = slots.iter().position(|slot| slot.is_some())?;
-    slots[place].take()
+    let index = slots.iter().position(|slot| slot.is_some())?;
+    slots[index].take()
 }
 
 // Puts a seat into the slot of its number.
@@ -89,6 +89,6 @@ fn put_back(slots: &mut Vec<Option<Seat>>, seat: Seat)
     requires { vec_len slots.old ≡ MAX_SEATS }
     ensures { slots.new.items ≡ slice_set slots.old.items seat (Some seat) }
 {
-    let place = seat.number();
-    slots[place] = Some(seat);
+    let index = seat.number();
+    slots[index] = Some(seat);
 }

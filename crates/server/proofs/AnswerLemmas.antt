@@ -13,7 +13,7 @@ use Rattle.machine.specs.declared.event.Event.TheVariants.{Enter}
 use Rattle.machine.specs.Event.{World, is_running, is_open, Run, start}
 use Rattle.machine.specs.Promise.{IsPromised, fed_to}
 use Rattle.world.specs.Headline.{KeepsItsWord}
-use Rattle.world.specs.declared.trace.Ended.{Ended}
+use Rattle.world.specs.declared.trace.EarlyEnd.{EarlyEnd}
 use Rattle.server.specs.Schedule.{given, alone, IsSchedule}
 use Rattle.server.specs.Answer.{IsAnswer}
 use Rattle.server.proofs.FeedingLemmas.{IsServed, feeds-open, feeds-none}
@@ -55,11 +55,11 @@ answer-promised input events done calls released primary standby answer schedule
 }
 
 -- A run over a schedule that went to its end: what it released to the first connection is an answer.
-pub answer-kept : {A R : Type 0} (bytes : A → List ℕ) (result : Result A R) (input : List ℕ) (schedule events : List Event) (ended : Option Ended) (done : List Bool) (calls : List Call) (released : List (List ℕ))
+pub answer-kept : {A R : Type 0} (bytes : A → List ℕ) (result : Result A R) (input : List ℕ) (schedule events : List Event) (ended : Option EarlyEnd) (done : List Bool) (calls : List Call) (released : List (List ℕ))
     (primary standby primary' standby' : State) → IsSchedule input schedule → events ≡ schedule → KeepsItsWord events ended done calls released primary standby primary' standby'
     → IfOk result (λ _. ended ≡ None) → IfOk result (λ answer. bytes answer ≡ slice_index_or released 0 []) → IfOk result (λ answer. IsAnswer input (bytes answer))
 answer-kept bytes (Ok answer) input schedule events ended done calls released primary standby primary' standby' is_schedule same kept whole is_first =
     let at_end : KeepsItsWord events None done calls released primary standby primary' standby' =
-    subst (λ (how : Option Ended). KeepsItsWord events how done calls released primary standby primary' standby') whole kept in
+    subst (λ (how : Option EarlyEnd). KeepsItsWord events how done calls released primary standby primary' standby') whole kept in
     answer-promised input events done calls _ _ _ (bytes answer) (subst (IsSchedule input) (sym same) is_schedule) at_end.kept.promised is_first
 answer-kept bytes (Err refusal) input schedule events ended done calls released primary standby primary' standby' is_schedule same kept whole is_first = tt

@@ -8,7 +8,7 @@ use bytes::Bytes;
 use kv_types::Refusal;
 use pmem::SimPmem;
 use std::alloc::Global;
-use world::{Ended, Trace, run};
+use world::{EarlyEnd, Trace, run};
 
 /// The bytes released to the connection that these pieces come from, served by a pair of new nodes.
 ///
@@ -29,7 +29,7 @@ fn released(alloc: Global, trace: Trace<SimPmem>) -> Result<Vec<u8>, Refusal>
     ensures first { IfOk result (λ answer. answer.items ≡ slice_index_or (map (λ bytes. bytes.items) trace.released.items) 0 []) }
 {
     match trace.ended {
-        Some(Ended::AtFormatting(refusal) | Ended::AtEvent(_, refusal)) => Err(refusal),
+        Some(EarlyEnd::AtFormatting(refusal) | EarlyEnd::AtEvent(_, refusal)) => Err(refusal),
         None => Ok(first(alloc, trace.released)),
     }
 }

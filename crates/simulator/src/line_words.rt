@@ -77,7 +77,7 @@ fn without_spaces(line: &[u8]) -> &[u8]
     ensures { length result.now ≤ length line.now }
 {
     match line.iter().position(|byte| *byte != b' ') {
-        Some(place) => &line[place..],
+        Some(index) => &line[index..],
         None => &[],
     }
 }
@@ -89,7 +89,7 @@ fn word_len(line: &[u8]) -> usize
     ensures within { result ≤ length line.now }
 {
     match line[1..].iter().position(|byte| *byte == b' ') {
-        Some(place) => place + 1,
+        Some(index) => index + 1,
         None => line.len(),
     }
 }

@@ -10,7 +10,7 @@ pub enum Node {
 
 impl Node {
     /// The index of its device among those of a run.
-    pub fn place(self) -> usize {
+    pub fn index(self) -> usize {
         match self {
             Node::Primary => 0,
             Node::Standby => 1,

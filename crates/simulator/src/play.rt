@@ -51,7 +51,7 @@ fn crash_devices(
         return Err(AllocError);
     }
     for crash in crashes {
-        if let Some(device) = devices.get_mut(crash.node.place()) {
+        if let Some(device) = devices.get_mut(crash.node.index()) {
             crash_device(alloc, device, crash.picks.as_slice())?;
         }
     }

@@ -12,7 +12,7 @@ use standby::{Ack, Frame};
 use std::alloc::{AllocError, Global};
 use std::io;
 use std::io::Write;
-use world::{Ended, Trace};
+use world::{EarlyEnd, Trace};
 
 /// Prints the events, the calls, the plain answers, the released bytes, the frames, the acknowledgements, what both nodes hold and how the run ended.
 pub fn report<W: Write>(
@@ -124,17 +124,17 @@ fn text_of(alloc: Global, reply: &Reply) -> Result<Vec<u8>, AllocError> {
 }
 
 /// How the run ended.
-fn write_end<W: Write>(out: &mut W, lines: &[u64], ended: Option<Ended>) -> io::Result<()> {
+fn write_end<W: Write>(out: &mut W, lines: &[u64], ended: Option<EarlyEnd>) -> io::Result<()> {
     match ended {
         None => {
             let events = lines.len();
             writeln!(out, "ended: after all {events} events")
         }
-        Some(Ended::AtFormatting(refusal)) => {
+        Some(EarlyEnd::AtFormatting(refusal)) => {
             write!(out, "ended: at formatting: ")?;
             write_refusal(out, refusal)
         }
-        Some(Ended::AtEvent(number, refusal)) => {
+        Some(EarlyEnd::AtEvent(number, refusal)) => {
             let line = lines.get(number).copied().unwrap_or(0);
             write!(out, "ended: at event {number}, line {line}: ")?;
             write_refusal(out, refusal)

@@ -24,8 +24,8 @@ use Rattle.machine.proofs.RunLemmas.{run-push, last_world-push, some-last, sound
 use Rattle.machine.proofs.SoundEvents.{sound-step}
 use Rattle.world.specs.Cause.{Stretch, UnformedBy, Breaks, RestsAtLimit, EndsBy, Resting}
 use Rattle.world.specs.Committing.{StandsAtEither, NearOnly, FromOnly, Moves, Rests, FormattingOnly, next_primary, next_from, next_standby}
-use Rattle.world.specs.declared.trace.Ended.{Ended}
-use Rattle.world.specs.declared.trace.Ended.TheVariants.{AtFormatting, AtEvent}
+use Rattle.world.specs.declared.trace.EarlyEnd.{EarlyEnd}
+use Rattle.world.specs.declared.trace.EarlyEnd.TheVariants.{AtFormatting, AtEvent}
 use Rattle.world.specs.Headline.{AnyWorld, Enables, primary_position, standby_position, AreMoments, IsKept, KeepsItsWord, PlaysOn, AreMoves, Reaches, StandsAfter, IsCutAfter, Plays}
 use Rattle.world.specs.Pair.{Pair, PairRefines, HasWorld, IsCut, Steps}
 use Rattle.world.specs.Session.{released_of}
@@ -77,13 +77,13 @@ reaches-cut first second began events event refusal done pair pair' cuts after =
 
 -- ---- the connections are few
 
-pub few-played : (first second : Holder) (began : Pair) (events : List Event) (ended : Option Ended) (done : List Bool) (pair : Pair) → Plays first second began events ended done pair
+pub few-played : (first second : Holder) (began : Pair) (events : List Event) (ended : Option EarlyEnd) (done : List Bool) (pair : Pair) → Plays first second began events ended done pair
     → length pair.sessions.connections.items ≤ SEATS
 few-played first second began events None done pair plays =
     let w = last_world start plays.reaches.worlds in
     omega (arith, plays.stands.sound.connections.seats, length-connections w.primary.calls 0 pair.sessions.connections.items w.primary.connections plays.stands.parts.sessions.connections_stand)
 few-played first second began events (Some (AtFormatting refusal)) done pair plays = absurd plays
-few-played first second began events (Some (AtEvent place refusal)) done pair plays = plays.2.cut.few
+few-played first second began events (Some (AtEvent index refusal)) done pair plays = plays.2.cut.few
 
 -- ---- the position of a node
 
@@ -305,28 +305,28 @@ played-cut first second began events event refusal done pair released same after
     (subst (λ (calls : List Call). second_last second calls w.standby.position (next_standby w) before.standby.device pair.standby.device) (sym cut.calls) led.1))
     cut.cause
 
-pub plays-on : (first second : Holder) (began : Pair) (events : List Event) (ended : Option Ended) (done : List Bool) (pair : Pair) (released : List (List ℕ)) (primary standby : State)
+pub plays-on : (first second : Holder) (began : Pair) (events : List Event) (ended : Option EarlyEnd) (done : List Bool) (pair : Pair) (released : List (List ℕ)) (primary standby : State)
     → released ≡ released_of pair.sessions.connections.items → primary ≡ pair.device → standby ≡ pair.standby.device → Plays first second began events ended done pair
     → PlaysOn first second events ended done pair.sessions.calls.items released began.device began.standby.device primary standby
 plays-on first second began events ended done pair released primary standby same primary_same standby_same plays =
     subst (λ (d : State). PlaysOn first second events ended done pair.sessions.calls.items released began.device began.standby.device d standby) (sym primary_same)
     (subst (λ (d : State). PlaysOn first second events ended done pair.sessions.calls.items released began.device began.standby.device pair.device d) (sym standby_same) (go ended plays))
   where
-    go : (ended : Option Ended) → Plays first second began events ended done pair
+    go : (ended : Option EarlyEnd) → Plays first second began events ended done pair
         → PlaysOn first second events ended done pair.sessions.calls.items released began.device began.standby.device pair.device pair.standby.device
     go None plays = played-whole first second began events done pair released same plays
     go (Some (AtFormatting refusal)) plays = absurd plays
-    go (Some (AtEvent place refusal)) plays = (plays.0, plays.1, played-cut first second began (take place events) plays.0 refusal done pair released same plays.2)
+    go (Some (AtEvent index refusal)) plays = (plays.0, plays.1, played-cut first second began (take index events) plays.0 refusal done pair released same plays.2)
 
 -- ---- after the formatting
 
-pub keeps-played : (events : List Event) (ended : Option Ended) (done : List Bool) (calls : List Call) (released : List (List ℕ)) (primary standby formatted formatted' primary' standby' : State)
+pub keeps-played : (events : List Event) (ended : Option EarlyEnd) (done : List Bool) (calls : List Call) (released : List (List ℕ)) (primary standby formatted formatted' primary' standby' : State)
     → FormattingOnly Primary primary formatted → FormattingOnly Standby standby formatted'
     → PlaysOn (new_holder primary.lines Primary) (new_holder standby.lines Standby) events ended done calls released formatted formatted' primary' standby' → KeepsItsWord events ended done calls released primary standby primary' standby'
 keeps-played events None done calls released primary standby formatted formatted' primary' standby' formatting formatting' plays =
     record { primary_formatted = formatted; standby_formatted = formatted'; primary_formatting = formatting; standby_formatting = formatting'; kept = plays }
 keeps-played events (Some (AtFormatting refusal)) done calls released primary standby formatted formatted' primary' standby' formatting formatting' plays = absurd plays
-keeps-played events (Some (AtEvent place refusal)) done calls released primary standby formatted formatted' primary' standby' formatting formatting' plays = (
+keeps-played events (Some (AtEvent index refusal)) done calls released primary standby formatted formatted' primary' standby' formatting formatting' plays = (
   plays.0,
   plays.1,
   ends-as refusal plays.0 _ _
@@ -336,9 +336,9 @@ keeps-played events (Some (AtEvent place refusal)) done calls released primary s
 )
 
 -- a run that ended before the first event
-pub keeps-unplayed : (events : List Event) (ended : Option Ended) (refusal : Refusal) (done : List Bool) (calls : List Call) (released : List (List ℕ)) (primary standby primary' standby' : State)
+pub keeps-unplayed : (events : List Event) (ended : Option EarlyEnd) (refusal : Refusal) (done : List Bool) (calls : List Call) (released : List (List ℕ)) (primary standby primary' standby' : State)
     → ended ≡ Some (AtFormatting refusal) → done ≡ [] → calls ≡ [] → released ≡ [] → FormattingOnly Primary primary primary' → FormattingOnly Standby standby standby'
     → UnformedBy refusal primary standby primary' standby' → KeepsItsWord events ended done calls released primary standby primary' standby'
 keeps-unplayed events ended refusal done calls released primary standby primary' standby' is done_none calls_none released_none formatting formatting' cause =
-    subst (λ (how : Option Ended). KeepsItsWord events how done calls released primary standby primary' standby') (sym is)
+    subst (λ (how : Option EarlyEnd). KeepsItsWord events how done calls released primary standby primary' standby') (sym is)
     (record { done_none = done_none; calls_none = calls_none; released_none = released_none; primary_formatting = formatting; standby_formatting = formatting'; cause = cause })

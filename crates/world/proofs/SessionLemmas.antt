@@ -24,10 +24,10 @@ use Rattle.world.specs.Session.{ConnectionRefines, ConnectionsRefine, SeatsRefin
 
 -- ---- the list of calls grows
 
-slice_get-grows : (calls more : List Call) (place : ℕ) (call : Call) → slice_get calls place ≡ Some call → slice_get (calls ++ more) place ≡ Some call
-slice_get-grows [] more place call stands = cc
+slice_get-grows : (calls more : List Call) (index : ℕ) (call : Call) → slice_get calls index ≡ Some call → slice_get (calls ++ more) index ≡ Some call
+slice_get-grows [] more index call stands = cc
 slice_get-grows (first ∷ calls) more zero call stands = stands
-slice_get-grows (first ∷ calls) more (suc place) call stands = slice_get-grows calls more place call stands
+slice_get-grows (first ∷ calls) more (suc index) call stands = slice_get-grows calls more index call stands
 
 pub IsMade-grows : (calls more : List Call) (made : Made) (held : Held) → IsMade calls made held → IsMade (calls ++ more) made held
 IsMade-grows calls more made held is = record {
@@ -122,20 +122,20 @@ connection-goes test did w sessions c old new change within is stand went =
     let all : ConnectionsRefine w.primary.calls 0 sessions.connections.items w.primary.connections = stand.connections_stand in
     let goes : Goes (test true) did (ConnectionRefines w.primary.calls c new (change (get_connection w.primary.connections c))) (ConnectionRefines w.primary.calls c new (get_connection w.primary.connections c)) =
     went (subst (λ code. ConnectionRefines w.primary.calls c code (get_connection w.primary.connections c)) (sym is) (ConnectionRefines-at w.primary.calls 0 c c sessions.connections.items w.primary.connections old (omega arith) within all)) in
-    let place : c ≡ 0 + c = omega arith in
+    let index : c ≡ 0 + c = omega arith in
     let is_there : is_open w c ≡ true = (ConnectionRefines-at w.primary.calls 0 c c sessions.connections.items w.primary.connections old (omega arith) within all).is_open in
     record {
       done = goes.done ∙ ap test (sym is_there);
       goes = λ yes_did. record {
         seats = subst (SeatsRefine sessions.lobby.statuses) (sym (length-changed_at c change w.primary.connections)) stand.seats;
-        connections_stand = ConnectionsRefine-changed w.primary.calls 0 c c sessions.connections.items w.primary.connections new change place all (goes.goes yes_did);
+        connections_stand = ConnectionsRefine-changed w.primary.calls 0 c c sessions.connections.items w.primary.connections new change index all (goes.goes yes_did);
         calls_are = stand.calls_are;
         no_reply = stand.no_reply;
       };
       stays = λ not_did. record {
         seats = stand.seats;
         connections_stand = subst (ConnectionsRefine w.primary.calls 0 (slice_set sessions.connections.items c new)) (changed_at-itself c w.primary.connections)
-            (ConnectionsRefine-changed w.primary.calls 0 c c sessions.connections.items w.primary.connections new (λ machine. machine) place all (goes.stays not_did));
+            (ConnectionsRefine-changed w.primary.calls 0 c c sessions.connections.items w.primary.connections new (λ machine. machine) index all (goes.stays not_did));
         calls_are = stand.calls_are;
         no_reply = stand.no_reply;
       };
@@ -277,7 +277,7 @@ seated-goes w old new seat inbound outbound stand moves lowest inbound_stands ou
       done = sym (lt-ltb (count_open w.primary.connections) SEATS (omega (arith, open-connections w.primary.calls 0 old.connections.items w.primary.connections stand.connections_stand)));
       goes = λ _. record {
         seats = subst (SeatsRefine new.lobby.statuses) (sym (length-append w.primary.connections (new_connection ∷ [])))
-            (SeatsRefine-more old.lobby new.lobby (length w.primary.connections) stand.seats (subst (λ place. Moves old.lobby place free taken new.lobby) own moves));
+            (SeatsRefine-more old.lobby new.lobby (length w.primary.connections) stand.seats (subst (λ index. Moves old.lobby index free taken new.lobby) own moves));
         connections_stand = subst (λ codes. ConnectionsRefine w.primary.calls 0 codes (w.primary.connections ++ new_connection ∷ [])) (sym connections)
             (ConnectionsRefine-push w.primary.calls 0 seat old.connections.items w.primary.connections (record { seat = seat; inbound = inbound; outbound = outbound }) new_connection (omega arith) stand.connections_stand
             (record { seat = refl; is_open = refl; inbound = inbound_stands; outbound = outbound_stands }));

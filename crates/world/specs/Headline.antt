@@ -12,8 +12,8 @@ use Rattle.machine.specs.Promise.{IsPromised, IsReleased, released_in}
 use Rattle.world.specs.Committing.{FromOnly, Moves, FormattingOnly, next_primary, next_standby}
 use Rattle.world.specs.Cause.{Stretch, Resting, UnformedBy, EndsBy}
 use Rattle.world.specs.Pair.{Pair, PairRefines, IsCut}
-use Rattle.world.specs.declared.trace.Ended.{Ended}
-use Rattle.world.specs.declared.trace.Ended.TheVariants.{AtFormatting, AtEvent}
+use Rattle.world.specs.declared.trace.EarlyEnd.{EarlyEnd}
+use Rattle.world.specs.declared.trace.EarlyEnd.TheVariants.{AtFormatting, AtEvent}
 
 -- the position of a node in a world
 abbrev pub primary_position : World → ℕ
@@ -75,22 +75,22 @@ pub record IsUnplayed (refusal : Refusal) (done : List Bool) (calls : List Call)
 
 -- A run that led these two devices from their old states to their new ones went to the end of the events; or it ended before the first one; or it ended in
 -- the middle of one, which was enabled, for a cause that such an event may have.
-abbrev pub KeepsItsWord : List Event → Option Ended → List Bool → List Call → List (List ℕ) → State → State → State → State → Type 0
+abbrev pub KeepsItsWord : List Event → Option EarlyEnd → List Bool → List Call → List (List ℕ) → State → State → State → State → Type 0
 KeepsItsWord events None done calls released primary standby primary' standby' = IsPlayed AnyWorld Resting Resting events done calls released primary standby primary' standby'
 KeepsItsWord events (Some (AtFormatting refusal)) done calls released primary standby primary' standby' = IsUnplayed refusal done calls released primary standby primary' standby'
-KeepsItsWord events (Some (AtEvent place refusal)) done calls released primary standby primary' standby' =
-    (event : Event) × (slice_get events place ≡ Some event)
-    × EndsBy refusal event (λ first_last second_last. IsPlayed (Enables event) first_last second_last (take place events) done calls released primary standby primary' standby')
+KeepsItsWord events (Some (AtEvent index refusal)) done calls released primary standby primary' standby' =
+    (event : Event) × (slice_get events index ≡ Some event)
+    × EndsBy refusal event (λ first_last second_last. IsPlayed (Enables event) first_last second_last (take index events) done calls released primary standby primary' standby')
 
 -- ---- how it is played
 
 -- the same, of a run over a pair of new nodes
-abbrev pub PlaysOn : Holder → Holder → List Event → Option Ended → List Bool → List Call → List (List ℕ) → State → State → State → State → Type 0
+abbrev pub PlaysOn : Holder → Holder → List Event → Option EarlyEnd → List Bool → List Call → List (List ℕ) → State → State → State → State → Type 0
 PlaysOn first second events None done calls released primary standby primary' standby' = IsKept AnyWorld Resting Resting first second events done calls released primary standby primary' standby'
 PlaysOn first second events (Some (AtFormatting refusal)) done calls released primary standby primary' standby' = ⊥
-PlaysOn first second events (Some (AtEvent place refusal)) done calls released primary standby primary' standby' =
-    (event : Event) × (slice_get events place ≡ Some event)
-    × EndsBy refusal event (λ first_last second_last. IsKept (Enables event) first_last second_last first second (take place events) done calls released primary standby primary' standby')
+PlaysOn first second events (Some (AtEvent index refusal)) done calls released primary standby primary' standby' =
+    (event : Event) × (slice_get events index ≡ Some event)
+    × EndsBy refusal event (λ first_last second_last. IsKept (Enables event) first_last second_last first second (take index events) done calls released primary standby primary' standby')
 
 -- the events of a run from this world on, each over its own list of calls, moved a device on
 abbrev pub AreMoves : (World → ℕ) → Holder → World → List World → State → State → Type 0
@@ -115,8 +115,8 @@ pub record IsCutAfter (first second : Holder) (began : Pair) (events : List Even
   pub reaches : Reaches first second began events done before.device before.standby.device
   pub cut : IsCut first second event refusal before pair (last_world start reaches.worlds)
 
-abbrev pub Plays : Holder → Holder → Pair → List Event → Option Ended → List Bool → Pair → Type 0
+abbrev pub Plays : Holder → Holder → Pair → List Event → Option EarlyEnd → List Bool → Pair → Type 0
 Plays first second began events None done pair = StandsAfter first second began events done pair
 Plays first second began events (Some (AtFormatting refusal)) done pair = ⊥
-Plays first second began events (Some (AtEvent place refusal)) done pair =
-    (event : Event) × (slice_get events place ≡ Some event) × IsCutAfter first second began (take place events) event refusal done pair
+Plays first second began events (Some (AtEvent index refusal)) done pair =
+    (event : Event) × (slice_get events index ≡ Some event) × IsCutAfter first second began (take index events) event refusal done pair

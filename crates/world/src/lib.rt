@@ -15,4 +15,4 @@ mod trace;
 
 pub use machine::{Event, Mark};
 pub use playing::run;
-pub use trace::{Ended, Trace};
+pub use trace::{EarlyEnd, Trace};

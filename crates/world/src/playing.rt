@@ -1,7 +1,7 @@
 //! A run of any list of events over two devices.
 ghost use Rattle.std.specs.Prelude.{◌≡◌, ℕ, ◌≤◌, ◌∷◌, [], List, map, length, vec_len, vec_capacity, Some, IfOk};
 ghost use Rattle.model.specs.Standing.{Holder};
-ghost use Rattle.world.specs.declared.trace.Ended.TheVariants.{AtFormatting};
+ghost use Rattle.world.specs.declared.trace.EarlyEnd.TheVariants.{AtFormatting};
 ghost use Rattle.machine.specs.Event.{start};
 ghost use Rattle.world.specs.Headline.{KeepsItsWord, PlaysOn, Plays};
 ghost use Rattle.world.specs.Pair.{PairRefines};
@@ -11,7 +11,7 @@ use crate::connection::Connection;
 use crate::form::form;
 use crate::pair::{Pair, Stepper};
 use crate::sessions::Sessions;
-use crate::trace::{Ended, Trace};
+use crate::trace::{EarlyEnd, Trace};
 use kv_types::Refusal;
 use machine::{Event, SEATS};
 use model::Call;
@@ -72,7 +72,7 @@ struct Played<P> {
     frames: Vec<Frame>,
     acknowledgements: Vec<Ack>,
     done: Vec<bool>,
-    ended: Option<Ended>,
+    ended: Option<EarlyEnd>,
     primary: P,
     standby: P,
 }
@@ -105,7 +105,7 @@ fn nothing<P>(alloc: Global, refusal: Refusal, primary: P, standby: P) -> Played
         frames: Vec::new(alloc),
         acknowledgements: Vec::new(alloc),
         done: Vec::new(alloc),
-        ended: Some(Ended::AtFormatting(refusal)),
+        ended: Some(EarlyEnd::AtFormatting(refusal)),
         primary,
         standby,
     }
@@ -173,7 +173,7 @@ fn play_on<P: Pmem, K: Keyspace + Drop>(
 }
 
 /// Lets the events happen, one after another, and notes which did their step.
-fn play<S: Stepper>(stepper: &mut S, events: &[Event], done: &mut Vec<bool>) -> Option<Ended>
+fn play<S: Stepper>(stepper: &mut S, events: &[Event], done: &mut Vec<bool>) -> Option<EarlyEnd>
     requires none { done.old.items ≡ [] }
     requires room { length events.now ≤ vec_capacity done.old }
     requires room_calls { length events.now ≤ vec_capacity (S.parts stepper.old).sessions.calls }
@@ -184,7 +184,7 @@ fn play<S: Stepper>(stepper: &mut S, events: &[Event], done: &mut Vec<bool>) -> 
     for event in events {
         match stepper.step(event) {
             Ok(did) => done.push_reserved(did),
-            Err(refusal) => return Some(Ended::AtEvent(done.len(), refusal)),
+            Err(refusal) => return Some(EarlyEnd::AtEvent(done.len(), refusal)),
         }
     }
     None

@@ -85,8 +85,8 @@ impl Sessions {
         ensures enabled { OnErr result ((w : World) → SessionsRefine self.old w.primary.connections w.primary.calls → may_happen w (Feed c piece.now) ≡ true) }
         ensures calls { self.new.calls ≡ self.old.calls }
     {
-        let place = c as usize;
-        match self.connections.get_mut(place) {
+        let index = c as usize;
+        match self.connections.get_mut(index) {
             Some(connection) => connection.inbound.feed(piece),
             None => Ok(false),
         }

@@ -6,7 +6,7 @@ use standby::{Ack, Frame};
 /// Where a run ended before its last event, and why: `Memory` where a growth was refused, `Fault` where a fence failed, `Exhausted` where a
 /// counter of an image would reach 2^62.
 #[derive(Clone, Copy, Debug, PartialEq, Eq)]
-pub enum Ended {
+pub enum EarlyEnd {
     /// Before the first event, while the nodes were made; also `WrongSize`, where a device has fewer than 4,096 lines or more than 2^31.
     AtFormatting(Refusal),
     /// At the event with this index, which was enabled. Each event before it did its step or was not enabled.
@@ -27,7 +27,7 @@ pub struct Trace<P> {
     /// For each event that was reached, whether it did its step.
     pub done: Vec<bool>,
     /// Where the run ended early, if it did.
-    pub ended: Option<Ended>,
+    pub ended: Option<EarlyEnd>,
     /// The devices, in the order in which they were given.
     pub devices: Vec<P>,
 }
