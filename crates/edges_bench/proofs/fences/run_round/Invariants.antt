@@ -1,0 +1,9 @@
+use Rattle.std.proofs.Common.{◌≡◌}
+use Rattle.edges_bench.proofs.fences.run_round.Given as goal
+
+abbrev pub invariant-loop-i : goal.invariant-loop-i
+invariant-loop-i g l =
+    record {
+      lines : (g.P.Pmem.state l.device).lines ≡ (g.P.Pmem.state l.fn.device).lines;
+      failures : (g.P.Pmem.state l.device).failures ≡ (g.P.Pmem.state l.fn.device).failures;
+    }
