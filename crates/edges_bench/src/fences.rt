@@ -1,5 +1,6 @@
 //! Fences of a device over a file.
 ghost use Rattle.std.specs.Prelude.{◌≡◌, suc, ◌+◌, ◌*◌, ◌≤◌, ◌<◌, ◌^◌, ◌-◌, ◌/◌, if◌then◌else◌};
+ghost use Rattle.edges_bench.specs.Loads.{Hold};
 
 use crate::rate::a_second;
 use kv_types::Refusal;
@@ -45,6 +46,7 @@ const LOADS: [Load; 3] = [
 /// device does not have is left out.
 fn run_round<P: Pmem>(device: &mut P, load: Load, value: u64) -> bool
     ensures lines { (P.state device.new).lines ≡ (P.state device.old).lines }
+    ensures stored { Hold (P.state device.new) load.first load.step load.count value }
     ensures failures { (P.state device.new).failures ≡ if result then (P.state device.old).failures else suc (P.state device.old).failures }
 {
     for i in 0..load.count {
