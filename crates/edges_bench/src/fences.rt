@@ -1,5 +1,6 @@
 //! Fences of a device over a file.
-ghost use Rattle.std.specs.Prelude.{◌≡◌, ◌+◌, ◌*◌, ◌≤◌, ◌<◌, ◌^◌, ◌-◌, ◌/◌};
+ghost use Rattle.std.specs.Prelude.{◌≡◌, suc, ◌+◌, ◌*◌, ◌≤◌, ◌<◌, ◌^◌, ◌-◌, ◌/◌, if◌then◌else◌};
+ghost use Rattle.edges_bench.specs.Load.{Hold};
 
 use crate::rate::a_second;
 use kv_types::Refusal;
@@ -43,7 +44,11 @@ const LOADS: [Load; 3] = [
 
 /// Stores a value to a word of each line of a load, flushes the lines and fences. Says whether the fence succeeded; a line that the
 /// device does not have is left out.
-fn run_round<P: Pmem>(device: &mut P, load: Load, value: u64) -> bool {
+fn run_round<P: Pmem>(device: &mut P, load: Load, value: u64) -> bool
+    ensures lines { (P.state device.new).lines ≡ (P.state device.old).lines }
+    ensures stored { Hold (P.state device.new) load.first load.step load.count value }
+    ensures failures { (P.state device.new).failures ≡ if result then (P.state device.old).failures else suc (P.state device.old).failures }
+{
     for i in 0..load.count {
         let line = load.step.saturating_mul(i).saturating_add(load.first);
         if line < device.lines() {

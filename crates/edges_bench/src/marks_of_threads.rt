@@ -29,6 +29,7 @@ fn raise_all(marks: &Marks, seat: MarkSeat, count: u64)
 /// Reads the remote mark until it has reached `count`. Answers how often it read, and whether no reading was below one before it.
 fn read_until(rt: &impl Wait, marks: &Marks, seat: MarkSeat, count: u64) -> (u64, bool)
     requires { seat.marks ≡ marks.now }
+    ensures rises { result.1 ≡ true }
 {
     let mut seat = seat;
     let mut last = 0;
@@ -90,14 +91,17 @@ fn read_twice<R: Threads + Wait + Sync>(
     count: u64,
 ) -> ((u64, bool), (u64, bool))
     requires { (first.marks ≡ marks.now) × (second.marks ≡ marks.now) }
+    ensures rises { (result.0.1 ≡ true) × (result.1.1 ≡ true) }
 {
     join(
         rt,
         || -> (u64, bool)
             requires { first.marks ≡ marks.now }
+            ensures { result.1 ≡ true }
         { read_until(rt, marks, first, count) },
         || -> (u64, bool)
             requires { second.marks ≡ marks.now }
+            ensures { result.1 ≡ true }
         { read_until(rt, marks, second, count) },
     )
 }

@@ -2,7 +2,9 @@
 //! argument `large` it makes those of a commit of 64 values of 65,536 bytes, on a small and on a large device, and prints the times too.
 #![tactic(auto)]
 
-ghost use Rattle.std.specs.Prelude.{◌≡◌, ◌≤◌, ◌<◌, ◌^◌, ◌*◌};
+ghost use Rattle.std.specs.Prelude.{◌≡◌, ◌≤◌, ◌<◌, ◌^◌, ◌*◌, ℕ, replicate, OnOk};
+ghost use Rattle.pmem.specs.Device.{newest_at};
+ghost use Rattle.pmem.specs.Runs.{Runs, stores, flushes, pairs_from, lines_from};
 
 use pmem::{Pmem, SimPmem, store_words};
 use std::alloc::Global;
@@ -42,7 +44,8 @@ const LARGE: [Load; 2] = [
 /// Stores `value` in all eight words of each of the first `count` lines.
 fn store_lines<P: Pmem>(device: &mut P, count: u64, value: u64)
     requires { count ≤ (P.state device.old).lines }
-    ensures { (P.state device.new).lines ≡ (P.state device.old).lines }
+    ensures { Runs (P.state device.old) (P.state device.new)
+        (stores (pairs_from 0 (replicate (8 * count) value)) (P.state device.old).words) }
 {
     for line in 0..count {
         store_words(device, WORDS_A_LINE * line, &[value; 8]);
@@ -52,7 +55,7 @@ fn store_lines<P: Pmem>(device: &mut P, count: u64, value: u64)
 /// Flushes each of the first `count` lines with a call of its own.
 fn flush_each<P: Pmem>(device: &mut P, count: u64)
     requires { count ≤ (P.state device.old).lines }
-    ensures { (P.state device.new).lines ≡ (P.state device.old).lines }
+    ensures { Runs (P.state device.old) (P.state device.new) (flushes (lines_from 0 count) (P.state device.old).words) }
 {
     for line in 0..count {
         device.flush(line);
@@ -68,7 +71,8 @@ fn run_round<P: Pmem>(
     timed: bool,
 ) -> io::Result<()>
     requires { count ≤ (P.state device.old).lines }
-    ensures { (P.state device.new).lines ≡ (P.state device.old).lines }
+    ensures lines { (P.state device.new).lines ≡ (P.state device.old).lines }
+    ensures stored { OnOk result ((word : ℕ) → word < 8 * count → newest_at (P.state device.new) word ≡ round) }
 {
     let start = Instant::now(rt)?;
     store_lines(device, count, round);
