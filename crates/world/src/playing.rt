@@ -145,8 +145,8 @@ fn play_on<P: Pmem, K: Keyspace + Drop>(
         alloc: _,
         sessions,
         sequencer: _sequencer,
-        committing: _committing,
-        engine,
+        groups: _groups,
+        committer,
         link,
         arrivals,
         standby,
@@ -165,7 +165,7 @@ fn play_on<P: Pmem, K: Keyspace + Drop>(
         acknowledgements: arrivals.acknowledgements,
         done,
         ended,
-        primary: engine.into_device(),
+        primary: committer.into_device(),
         standby: standby.into_device(),
     }
 }
