@@ -1,4 +1,4 @@
-use Rattle.std.proofs.Common.{◌≡◌, Ok, Err, ap, sym, ◌∙◌}
+use Rattle.std.proofs.Common.{Ok, Err, ap, sym, ◌∙◌}
 use Rattle.std.proofs.lemmas.Result.{err_from_is_err_and}
 use Rattle.world.proofs.PairTurns.{raise-none-does, raise-turned, did-done, did_of, told-so}
 use Rattle.world.proofs.pair.Pair.raise_local.Goals as goal
