@@ -1,5 +1,5 @@
 -- The committer and its engine still refine the machine's after each step.
-use Rattle.std.proofs.Common.{◌≡◌, ◌⊎◌, inl, inr, true≢false, ℕ, ◌+◌, ◌-◌, ◌<◌, ◌≤◌, ◌++◌, ◌&&◌, Bool, true, false, nat_lt, List, [], ◌∷◌, length, Result, Ok, Err, IfErr, IsErrOf, OnOk, OnErr, refl, sym, ap, subst, ◌∙◌, arith}
+use Rattle.std.proofs.Common.{◌≡◌, ◌⊎◌, inl, inr, true≢false, ℕ, ◌+◌, ◌-◌, ◌<◌, ◌≤◌, ◌++◌, ◌&&◌, Bool, true, false, nat_lt, List, [], ◌∷◌, length, Result, Err, IfErr, IsErrOf, refl, sym, ap, subst, ◌∙◌, arith}
 use Rattle.std.proofs.lemmas.Bool.{lt-ltb, le-ltb}
 use Rattle.pmem.specs.Device.{State}
 use Rattle.pmem.specs.Crash.{IsImage}
@@ -17,18 +17,20 @@ use Rattle.model.specs.Group.{AreParts, Contents, IsGroup, Versions, after_group
 use Rattle.model.specs.Standing.{Holder}
 use Rattle.wbl_engine.specs.Contents.{Exhausts, Keeps, IsDurable, Same}
 use Rattle.pipes.specs.Waiting.{Waiting}
+use Rattle.group_commit.specs.Group.{AreGroups}
+use Rattle.group_commit.specs.declared.stage.Done.{Done}
+use Rattle.group_commit.specs.declared.stage.Stage.{Stage}
+use Rattle.group_commit.specs.declared.stage.Stage.TheVariants.{Ready, Durable, Shown}
+use Rattle.group_commit.proofs.GroupsLemmas.{Same-is}
 use Rattle.machine.specs.declared.event.TheConstants.{PIPE_ITEMS}
-use Rattle.machine.specs.declared.event.Event.TheVariants.{Commit, Hand}
-use Rattle.machine.specs.Event.{Committer as Machine, Stage as MachineStage, Span, World, committed_first, handed, has_room, may_happen, is_ready, is_shown, ready_again}
+use Rattle.machine.specs.declared.event.Event.TheVariants.{Commit, Hand, RaiseLocal}
+use Rattle.machine.specs.Event.{Committer as Machine, Stage as MachineStage, Span, World, committed_first, handed, has_room, may_happen, is_durable, is_ready, is_shown, raised_local, ready_again, shown}
 use Rattle.machine.specs.World as machine_stage
-use Rattle.machine.specs.Sound.{HasRoomFor, IsChain, Sound}
+use Rattle.machine.specs.Sound.{HasRoomFor, Sound}
 use Rattle.world.specs.Cause.{IsAtLimit, EndsBy}
-use Rattle.world.specs.Committing.{AreContentsAt, AreGroups, CommittingRefines, EngineStands, StageRefines, StandsAtEither, NearOnly, next_primary}
+use Rattle.world.specs.Committing.{AreContentsAt, Committing, CommittingRefines, EngineStands, StageRefines, StandsAtEither, NearOnly, next_primary}
 use Rattle.world.specs.Going.{Goes}
 use Rattle.world.specs.GroupSpan.{AreGroupsOf, IsGroupOf}
-use Rattle.world.specs.declared.committing.Stage.{Stage}
-use Rattle.world.specs.declared.committing.Stage.TheVariants.{Ready, Durable, Shown}
-use Rattle.world.specs.declared.committing.Committing.{Committing}
 use Rattle.world.proofs.EngineLemmas.{AreContentsAt-after_group, Stands-engine, keeps-stands, rests-same}
 use Rattle.world.proofs.GroupSpanLemmas.{AreGroupsOf-grows, IsGroupOf-grows, length-groups}
 
@@ -87,12 +89,6 @@ ready-ready calls machine_stage.Ready stands = refl
 ready-ready calls (machine_stage.Durable span) stands = absurd stands
 ready-ready calls (machine_stage.Shown span) stands = absurd stands
 
--- ---- contents
-
--- contents that say the same of each entry are one
-pub Same-is : (old new : Contents) → Same old new → new ≡ old
-Same-is old new same = grind arith
-
 -- ---- a commit
 
 -- the first group that waits is the next one of the list: the contents after it are those at the end of its span
@@ -127,6 +123,38 @@ not_third false b c z = refl
 pub commit-full : (w : World) (link : List Group) → length link ≡ PIPE_ITEMS → AreGroupsOf w.primary.calls link w.primary.link.waiting → false ≡ may_happen w Commit
 commit-full w link full are =
     not_third (is_ready w.primary.committer.stage) (is_nonempty w.primary.committer.waiting) (has_room w.primary.link.waiting) (has_room-groups w.primary.calls link w.primary.link.waiting are ∙ le-ltb (length link) PIPE_ITEMS (omega arith))
+
+not_first : (a b c : Bool) → a ≡ false → false ≡ (a && b && c)
+not_first true b c z = absurd (true≢false z)
+not_first false b c z = refl
+
+not_second : (a b c : Bool) → b ≡ false → false ≡ (a && b && c)
+not_second true b c z = sym (ap (λ x. x && c) z)
+not_second false b c z = refl
+
+-- with a group in hand nothing commits
+pub commit-busy : (w : World) (stage : Stage) → (stage ≡ Ready → ⊥) → StageRefines w.primary.calls stage w.primary.committer.stage → false ≡ may_happen w Commit
+commit-busy w stage busy stands =
+    not_first (is_ready w.primary.committer.stage) (is_nonempty w.primary.committer.waiting) (has_room w.primary.link.waiting) (at stage w.primary.committer.stage busy stands)
+  where
+    at : (stage : Stage) (machine : MachineStage) → (stage ≡ Ready → ⊥) → StageRefines w.primary.calls stage machine → is_ready machine ≡ false
+    at Ready machine busy stands = absurd (busy refl)
+    at (Durable group) machine_stage.Ready busy stands = absurd stands
+    at (Durable group) (machine_stage.Durable span) busy stands = refl
+    at (Durable group) (machine_stage.Shown span) busy stands = refl
+    at (Shown group) machine_stage.Ready busy stands = absurd stands
+    at (Shown group) (machine_stage.Durable span) busy stands = refl
+    at (Shown group) (machine_stage.Shown span) busy stands = refl
+
+-- where no group waits nothing commits
+pub commit-none : (w : World) (groups : List Group) → groups ≡ [] → AreGroupsOf w.primary.calls groups w.primary.committer.waiting → false ≡ may_happen w Commit
+commit-none w groups none are =
+    not_second (is_ready w.primary.committer.stage) (is_nonempty w.primary.committer.waiting) (has_room w.primary.link.waiting)
+    (at w.primary.committer.waiting (subst (λ groups. AreGroupsOf w.primary.calls groups w.primary.committer.waiting) none are))
+  where
+    at : (spans : List Span) → AreGroupsOf w.primary.calls [] spans → is_nonempty spans ≡ false
+    at [] are = refl
+    at (span ∷ spans) are = absurd are
 
 -- the first group that waits may be committed
 pub may-commit : (w : World) (code : Committing) (group : Group) (rest : List Group) (link : List Group) → code.stage ≡ Ready → length link < PIPE_ITEMS → code.waiting.items ≡ group ∷ rest
@@ -220,14 +248,14 @@ commit-limit holder w code group rest device contents is_faulted waits lawful ex
 
 -- the engine refused to commit: a fence failed, or a counter is at its limit
 pub commit-ends : (holder : Holder) (w : World) (code : Committing) (group : Group) (rest : List Group) (device device' : State) (contents : Contents) (is_faulted : Bool)
-    (result : Result ℕ Refusal) (refusal : Refusal) → result ≡ Err refusal
+    (result : Result Done Refusal) (refusal : Refusal) → result ≡ Err refusal
     → code.waiting.items ≡ group ∷ rest → IsGroup contents group → IfErr result (λ r. (r ≡ Fault) ⊎ (r ≡ Exhausted))
     → (IsErrOf result Fault → (is_faulted ≡ true) ⊎ (device.failures < device'.failures)) → (IsErrOf result Exhausted → Exhausts contents group × (device' ≡ device))
     → (is_faulted ≡ false → LeavesOnly device device' (λ image. Keeps contents image ⊎ Keeps (after_group contents group) image))
     → Sound w → CommittingRefines w.primary.calls code w.primary.committer → EngineStands holder w.primary.calls w.primary.committer.position device contents is_faulted
     → EndsBy refusal Commit (λ last _. last holder w.primary.calls w.primary.committer.position (next_primary w) device device')
 commit-ends holder w code group rest device device' contents is_faulted result refusal is waits lawful causes fault exhausted moments sound stands engine =
-    by (subst (λ (r : Result ℕ Refusal). IfErr r (λ e. (e ≡ Fault) ⊎ (e ≡ Exhausted))) is causes)
+    by (subst (λ (r : Result Done Refusal). IfErr r (λ e. (e ≡ Fault) ⊎ (e ≡ Exhausted))) is causes)
   where
     rose : (is_faulted ≡ true) ⊎ (device.failures < device'.failures) → device.failures < device'.failures
     rose (inl before) = absurd (true≢false (sym before ∙ engine.sound))
@@ -246,6 +274,54 @@ commit-ends holder w code group rest device device' contents is_faulted result r
               (commit-limit holder w code group rest device contents is_faulted waits lawful told.0 stands engine);
         })
 
+-- ---- a group shown
+
+-- the mark of a group that has committed is raised
+pub raise-goes : (w : World) (old new : Committing) (group : Group) (position : ℕ) (stayed : Type 0) → old.stage ≡ Durable group → new.waiting ≡ old.waiting → new.stage ≡ Shown group → new.local ≡ position
+    → CommittingRefines w.primary.calls old w.primary.committer → position ≡ w.primary.committer.position
+    → Goes (may_happen w RaiseLocal) true (CommittingRefines w.primary.calls new (raised_local w.primary.committer)) stayed
+raise-goes w old new group position stayed durable waiting shows local stands at =
+    let in_hand : StageRefines w.primary.calls (Durable group) w.primary.committer.stage = subst (λ stage. StageRefines w.primary.calls stage w.primary.committer.stage) durable stands.stage_is in
+    record {
+      done = sym (may w.primary.committer.stage in_hand);
+      goes = λ did. record {
+        groups = subst (λ (pipe : Waiting Group). AreGroupsOf w.primary.calls pipe.items w.primary.committer.waiting) (sym waiting) stands.groups;
+        stage_is = subst (λ stage. StageRefines w.primary.calls stage (shown w.primary.committer.stage)) (sym shows) (stage_shown w.primary.committer.stage in_hand);
+        local_is = local ∙ at;
+      };
+      stays = λ did. absurd (true≢false did);
+    }
+  where
+    may : (machine : MachineStage) → StageRefines w.primary.calls (Durable group) machine → is_durable machine ≡ true
+    may machine_stage.Ready stands = absurd stands
+    may (machine_stage.Durable span) stands = refl
+    may (machine_stage.Shown span) stands = absurd stands
+
+    stage_shown : (machine : MachineStage) → StageRefines w.primary.calls (Durable group) machine → StageRefines w.primary.calls (Shown group) (shown machine)
+    stage_shown machine_stage.Ready stands = absurd stands
+    stage_shown (machine_stage.Durable span) stands = stands
+    stage_shown (machine_stage.Shown span) stands = absurd stands
+
+-- no group has committed that was not shown
+pub raise-none : (calls : List Call) (stage : Stage) (machine : MachineStage) → ((group : Group) → stage ≡ Durable group → ⊥) → StageRefines calls stage machine → false ≡ is_durable machine
+raise-none calls Ready machine_stage.Ready none stands = refl
+raise-none calls Ready (machine_stage.Durable span) none stands = absurd stands
+raise-none calls Ready (machine_stage.Shown span) none stands = refl
+raise-none calls (Durable group) machine none stands = absurd (none group refl)
+raise-none calls (Shown group) machine_stage.Ready none stands = refl
+raise-none calls (Shown group) (machine_stage.Durable span) none stands = absurd stands
+raise-none calls (Shown group) (machine_stage.Shown span) none stands = refl
+
+-- no group was shown that was not handed on
+pub hand-none : (calls : List Call) (stage : Stage) (machine : MachineStage) → ((group : Group) → stage ≡ Shown group → ⊥) → StageRefines calls stage machine → false ≡ is_shown machine
+hand-none calls Ready machine_stage.Ready none stands = refl
+hand-none calls Ready (machine_stage.Durable span) none stands = refl
+hand-none calls Ready (machine_stage.Shown span) none stands = absurd stands
+hand-none calls (Durable group) machine_stage.Ready none stands = refl
+hand-none calls (Durable group) (machine_stage.Durable span) none stands = refl
+hand-none calls (Durable group) (machine_stage.Shown span) none stands = absurd stands
+hand-none calls (Shown group) machine none stands = absurd (none group refl)
+
 -- ---- a group handed on
 
 -- the machine has shown the span of the group in hand
@@ -259,23 +335,23 @@ shows-span calls group machine_stage.Ready stands = absurd stands
 shows-span calls group (machine_stage.Durable span) stands = absurd stands
 shows-span calls group (machine_stage.Shown span) stands = record { span = span; shows = refl; is = stands }
 
--- where there is room an offered group goes last
-pub offered-last : (result : Result (Unit {0}) Group) (old new : List Group) (group : Group) (room : ℕ) → OnOk result (new ≡ old ++ group ∷ []) → OnErr result ((PIPE_ITEMS - length old ≡ 0) × (room ≡ 0))
-    → length old < PIPE_ITEMS → new ≡ old ++ group ∷ []
-offered-last (Ok done) old new group room last full few = last
-offered-last (Err back) old new group room last full few = absurd (omega (arith, full.0))
+-- the link has room for the group in hand
+pub hand-room : (w : World) (stage : Stage) (group : Group) (link : List Group) → stage ≡ Shown group → Sound w → StageRefines w.primary.calls stage w.primary.committer.stage
+    → AreGroupsOf w.primary.calls link w.primary.link.waiting → length link < PIPE_ITEMS
+hand-room w stage group link was sound stands are =
+    let shows = shows-span w.primary.calls group w.primary.committer.stage (subst (λ stage. StageRefines w.primary.calls stage w.primary.committer.stage) was stands) in
+    let room : length w.primary.link.waiting < PIPE_ITEMS = subst (λ stage. HasRoomFor stage w.primary.link.waiting) shows.shows sound.link.few in
+    omega (arith, room, length-groups w.primary.calls link w.primary.link.waiting are)
 
--- the group in hand goes to the link, which has room for it
+-- the group in hand goes to the link
 pub hand-goes : (w : World) (old new : Committing) (group : Group) (link link' : List Group) → old.stage ≡ Shown group → new.waiting ≡ old.waiting → new.stage ≡ Ready → new.local ≡ old.local
-    → (length link < PIPE_ITEMS → link' ≡ link ++ group ∷ []) → Sound w → CommittingRefines w.primary.calls old w.primary.committer → AreGroupsOf w.primary.calls link w.primary.link.waiting
+    → link' ≡ link ++ group ∷ [] → CommittingRefines w.primary.calls old w.primary.committer → AreGroupsOf w.primary.calls link w.primary.link.waiting
     → Goes (may_happen w Hand) true
     (CommittingRefines w.primary.calls new (ready_again w.primary.committer) × AreGroupsOf w.primary.calls link' (w.primary.link.waiting ++ handed w.primary.committer.stage))
     (CommittingRefines w.primary.calls new w.primary.committer × AreGroupsOf w.primary.calls link' w.primary.link.waiting)
-hand-goes w old new group link link' shown waiting ready local last sound stands are =
+hand-goes w old new group link link' was waiting ready local offered stands are =
     let calls = w.primary.calls in
-    let shows = shows-span calls group w.primary.committer.stage (subst (λ stage. StageRefines calls stage w.primary.committer.stage) shown stands.stage_is) in
-    let room : length w.primary.link.waiting < PIPE_ITEMS = subst (λ stage. HasRoomFor stage w.primary.link.waiting) shows.shows sound.link.few in
-    let offered : link' ≡ link ++ group ∷ [] = last (omega (arith, room, length-groups calls link w.primary.link.waiting are)) in
+    let shows = shows-span calls group w.primary.committer.stage (subst (λ stage. StageRefines calls stage w.primary.committer.stage) was stands.stage_is) in
     record {
       done = sym (ap is_shown shows.shows);
       goes = λ did. (

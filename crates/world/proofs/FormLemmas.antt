@@ -20,7 +20,10 @@ use Rattle.machine.proofs.RunLemmas.{sound-start}
 use Rattle.kv_types.specs.declared.refusal.Refusal.{Refusal}
 use Rattle.kv_types.specs.declared.refusal.Refusal.TheVariants.{Fault, WrongSize}
 use Rattle.world.specs.Cause.{IsWrongSize, UnformedBy}
-use Rattle.world.specs.Committing.{FormattingOnly, CommittingRefines, EngineStands, Leads}
+use Rattle.group_commit.specs.declared.stage.Stage.{Stage}
+use Rattle.group_commit.specs.declared.stage.Stage.TheVariants.{Ready}
+use Rattle.world.specs.Committing.{FormattingOnly, EngineStands, Leads, StageRefines}
+use Rattle.world.specs.GroupSpan.{AreGroupsOf}
 use Rattle.world.specs.Link.{LinkRefines}
 use Rattle.world.specs.Session.{SessionsRefine, SequencerRefines}
 use Rattle.world.specs.Standby.{Node, StandbyStands, ArrivalsRefine}
@@ -96,16 +99,20 @@ new-own lines lines' role contents same new =
     })
 
 pub pair-starts : (first second : Holder) (pair : Pair) → SessionsRefine pair.sessions [] [] → SequencerRefines [] 0 pair.sequencer
-    → CommittingRefines [] pair.committing start.primary.committer → pair.committing.waiting.items ≡ [] → EngineStands first [] 0 pair.device pair.contents pair.is_faulted
+    → pair.committing.waiting.items ≡ [] → pair.committing.stage ≡ Ready → pair.committing.local ≡ 0 → EngineStands first [] 0 pair.device pair.contents pair.is_faulted
     → IsAheadOf pair.sequencer pair.contents → LinkRefines [] pair.link start.primary.link [] → pair.link.epoch ≡ FIRST_EPOCH → pair.link.frames.items ≡ []
     → ((epoch : ℕ) → ArrivalsRefine epoch [] [] pair.arrivals [] []) → StandbyStands second pair.link.epoch [] 0 pair.standby → PairRefines first second pair start
-pair-starts first second pair sessions sequencer committing none engine ahead link epoch no_frame arrivals standby =
+pair-starts first second pair sessions sequencer none ready mark engine ahead link epoch no_frame arrivals standby =
     record {
       sound = sound-start;
       parts = record {
         sessions = sessions;
         sequencer = sequencer;
-        committing = committing;
+        committing = record {
+          groups = subst (λ (groups : List Group). AreGroupsOf [] groups []) (sym none) tt;
+          stage_is = subst (λ (stage : Stage). StageRefines [] stage start.primary.committer.stage) (sym ready) tt;
+          local_is = mark;
+        };
         engine = engine;
         leads = subst (λ (groups : List Group). Leads pair.contents groups pair.sequencer) (sym none) (record { groups_are = tt; stands = ahead });
         epoch = epoch;

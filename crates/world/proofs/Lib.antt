@@ -14,6 +14,7 @@ pub mod ArrivalLemmas
 pub mod PairLemmas
 pub mod PairCommitting
 pub mod PairLink
+pub mod PairTurns
 pub mod PairStandby
 pub mod FormLemmas
 pub mod RunningLemmas

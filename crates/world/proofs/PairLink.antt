@@ -11,18 +11,17 @@ use Rattle.model.specs.Standing.{Holder}
 use Rattle.standby.specs.declared.frame.Ack.{Ack}
 use Rattle.machine.specs.declared.event.Event.{Event}
 use Rattle.machine.specs.declared.event.Event.TheVariants as events
-use Rattle.machine.specs.Event.{World, Link as MachineLink, Frame as Sent, Acknowledgement, Happens, may_happen, next_to_send, framed, sent, sent_next, ready_again, handed, handed_to, option_items, knowing, told, with_link, with_committer, with_sent}
+use Rattle.machine.specs.Event.{World, Link as MachineLink, Frame as Sent, Acknowledgement, Happens, may_happen, next_to_send, framed, sent_next, ready_again, handed, handed_to, option_items, knowing, told, with_link, with_committer, with_sent}
 use Rattle.std.proofs.lemmas.List.Elements.{All-head}
 use Rattle.machine.specs.Sound.{IsToldWithin, Sound}
 use Rattle.machine.proofs.StandbyLemmas.{all-at}
 use Rattle.machine.proofs.SoundEvents.{enabled-is}
 use Rattle.world.specs.Going.{Goes}
 use Rattle.world.specs.GroupSpan.{AreGroupsOf}
-use Rattle.world.specs.Committing.{CommittingRefines}
+use Rattle.world.specs.Committing.{Committing, CommittingRefines}
 use Rattle.world.specs.Link.{LinkRefines, KeepsFrames}
 use Rattle.world.specs.Standby.{StandbyStands, ArrivalsRefine, told_by}
 use Rattle.world.specs.Pair.{Pair, PartsRefine, PairRefines, Steps, Does}
-use Rattle.world.specs.declared.committing.Committing.{Committing}
 use Rattle.world.specs.declared.link.Link.{Link}
 use Rattle.world.proofs.ArrivalLemmas.{ArrivalsRefine-frames}
 use Rattle.world.proofs.PairLemmas.{cut-same, goes-map, goes-steps, none-added, tells, untouched}

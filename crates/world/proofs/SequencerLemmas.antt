@@ -26,9 +26,10 @@ use Rattle.machine.specs.declared.event.Event.TheVariants.{CloseGroup}
 use Rattle.machine.specs.declared.event.TheConstants.{PIPE_ITEMS}
 use Rattle.machine.specs.Event.{Span, World, closed_group, has_room, may_happen, open_changes}
 use Rattle.machine.proofs.SoundConnection.{both}
-use Rattle.world.specs.declared.committing.Committing.{Committing}
-use Rattle.world.specs.declared.committing.Stage.{Stage}
-use Rattle.world.specs.Committing.{AreGroups, CommittingRefines, Leads, StageRefines, after_groups}
+use Rattle.group_commit.specs.declared.stage.Stage.{Stage}
+use Rattle.group_commit.proofs.GroupsLemmas.{AreGroups-push, after_groups-push}
+use Rattle.group_commit.specs.Group.{after_groups}
+use Rattle.world.specs.Committing.{Committing, CommittingRefines, Leads, StageRefines}
 use Rattle.world.specs.Going.{Goes}
 use Rattle.world.specs.GroupSpan.{AreGroupsOf, IsGroupOf}
 use Rattle.world.specs.Session.{AreOpen, SequencerRefines}
@@ -191,14 +192,6 @@ AreGroupsOf-push calls [] [] group span are is = (is, tt)
 AreGroupsOf-push calls [] (first ∷ spans) group span are is = absurd are
 AreGroupsOf-push calls (first ∷ groups) [] group span are is = absurd are
 AreGroupsOf-push calls (first ∷ groups) (s ∷ spans) group span are is = (are.0, AreGroupsOf-push calls groups spans group span are.1 is)
-
-pub AreGroups-push : (contents : Contents) (groups : List Group) (group : Group) → AreGroups contents groups → IsGroup (after_groups contents groups) group → AreGroups contents (groups ++ group ∷ [])
-AreGroups-push contents [] group are is = (is, tt)
-AreGroups-push contents (first ∷ groups) group are is = (are.0, AreGroups-push (after_group contents first) groups group are.1 is)
-
-pub after_groups-push : (contents : Contents) (groups : List Group) (group : Group) → after_groups contents (groups ++ group ∷ []) ≡ after_group (after_groups contents groups) group
-after_groups-push contents [] group = refl
-after_groups-push contents (first ∷ groups) group = after_groups-push (after_group contents first) groups group
 
 -- what is to be committed still leads to the sequencer
 pub Leads-push : (contents : Contents) (groups groups' : List Group) (group : Group) (old new : Sequencing) → Leads contents groups old → groups' ≡ groups ++ group ∷ []

@@ -7,40 +7,26 @@ use Rattle.model.specs.declared.call.Call.{Call}
 use Rattle.model.specs.declared.group.Group.{Group}
 use Rattle.model.specs.Call.{keyspace_after, cut_at}
 use Rattle.model.specs.Image.{Image, IsMapOf, entries_of_lines}
-use Rattle.model.specs.Group.{Contents, IsConsistent, IsGroup, after_group}
+use Rattle.model.specs.Group.{Contents, IsConsistent}
 use Rattle.model.specs.Standing.{Holder, StandsAt}
 use Rattle.model.specs.declared.record.Role.{Role}
 use Rattle.wbl_engine.specs.Contents.{IsDurable}
 use Rattle.wbl_engine.specs.Formatting.{IsFormatting}
 use Rattle.redis_core.specs.Sequencing.{Sequencing, IsAheadOf}
+use Rattle.pipes.specs.Waiting.{Waiting}
+use Rattle.group_commit.specs.Group.{AreGroups, after_groups}
+use Rattle.group_commit.specs.declared.stage.Stage.{Stage}
+use Rattle.group_commit.specs.declared.stage.Stage.TheVariants.{Ready, Durable, Shown}
 use Rattle.machine.specs.Event.{Committer as Machine, Stage as MachineStage, Frame as Sent, World, committed_first}
 use Rattle.machine.specs.World as machine_stage
 use Rattle.world.specs.GroupSpan.{AreGroupsOf, IsGroupOf}
-use Rattle.world.specs.declared.committing.Stage.{Stage}
-use Rattle.world.specs.declared.committing.Stage.TheVariants.{Ready, Durable, Shown}
-use Rattle.world.specs.declared.committing.Committing.{Committing}
 
 -- ---- groups that wait
-
--- each group meets what a commit requires, once those before it are committed
-abbrev pub AreGroups : Contents → List Group → Type 0
-AreGroups contents [] = Unit {0}
-AreGroups contents (group ∷ groups) = IsGroup contents group × AreGroups (after_group contents group) groups
-
--- the contents after all of the groups
-abbrev pub after_groups : Contents → List Group → Contents
-after_groups contents [] = contents
-after_groups contents (group ∷ groups) = after_groups (after_group contents group) groups
 
 -- committing these groups, an engine with these contents reaches contents that the sequencer is ahead of
 pub record Leads (contents : Contents) (groups : List Group) (s : Sequencing) : Type 0 where
   pub groups_are : AreGroups contents groups
   pub stands : IsAheadOf s (after_groups contents groups)
-
--- what is left to commit leads to the same contents as before
-pub record LeadsOn (old : Contents) (groups : List Group) (new : Contents) (rest : List Group) : Type 0 where
-  pub groups_are : AreGroups new rest
-  pub same : after_groups new rest ≡ after_groups old groups
 
 -- ---- the engine
 
@@ -104,6 +90,13 @@ abbrev pub next_standby : World → ℕ
 next_standby w = next_from w.standby.position w.standby.waiting
 
 -- ---- the committer
+
+-- the groups that wait for the committer, and what it has beside its engine
+pub record Committing : Type 0 where
+  pub waiting : Waiting Group
+  pub stage : Stage
+  -- the local mark
+  pub local : ℕ
 
 -- the committer's group in hand is that of the machine's span in hand
 abbrev pub StageRefines : List Call → Stage → MachineStage → Type 0

@@ -11,12 +11,11 @@ use Rattle.machine.specs.Event.{World, Step, is_enabled}
 use Rattle.machine.specs.Promise.{released_in}
 use Rattle.machine.specs.Sound.{Sound}
 use Rattle.world.specs.Cause.{EndsBy}
-use Rattle.world.specs.Committing.{EngineStands, Leads, Moves, CommittingRefines, next_primary, next_standby}
+use Rattle.world.specs.Committing.{Committing, EngineStands, Leads, Moves, CommittingRefines, next_primary, next_standby}
 use Rattle.world.specs.Link.{LinkRefines}
 use Rattle.world.specs.Session.{SessionsRefine, SequencerRefines, AddsOne, released_of}
 use Rattle.world.specs.Standby.{Node, StandbyStands, ArrivalsRefine}
 use Rattle.world.specs.declared.arrivals.Arrivals.{Arrivals}
-use Rattle.world.specs.declared.committing.Committing.{Committing}
 use Rattle.world.specs.declared.link.Link.{Link}
 use Rattle.world.specs.declared.sessions.Sessions.{Sessions}
 
@@ -24,6 +23,7 @@ use Rattle.world.specs.declared.sessions.Sessions.{Sessions}
 pub record Pair : Type 0 where
   pub sessions : Sessions
   pub sequencer : Sequencing
+  -- the groups that wait, and the committer
   pub committing : Committing
   -- the primary's engine
   pub device : State

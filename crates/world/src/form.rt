@@ -6,7 +6,7 @@ ghost use Rattle.machine.specs.Event.{start};
 ghost use Rattle.wbl_engine.specs.Contents.{IsNew};
 ghost use Rattle.redis_core.specs.Sequencing.{IsAheadOf};
 ghost use Rattle.world.specs.Cause.{UnformedBy};
-ghost use Rattle.world.specs.Committing.{CommittingRefines, FormattingOnly};
+ghost use Rattle.world.specs.Committing.{FormattingOnly};
 ghost use Rattle.world.specs.Link.{LinkRefines};
 ghost use Rattle.world.specs.Standby.{ArrivalsRefine};
 ghost use Rattle.world.specs.Pair.{PairRefines};
@@ -16,14 +16,15 @@ ghost use Rattle.model.specs.Image.{entries_of_lines, first_extent_line};
 ghost use Rattle.wbl_engine.specs.Contents.{IsDurable};
 
 use crate::arrivals::Arrivals;
-use crate::committing::Committing;
 use crate::link::Link;
 use crate::pair::{Pair, Stepper};
 use crate::sessions::Sessions;
 use extent_heap::ExtentHeap;
+use group_commit::Committer;
 use kv_types::Refusal;
-use model::{FIRST_EPOCH, LAYOUT};
+use model::{FIRST_EPOCH, Group, LAYOUT};
 use mv_keyspace::Keyspace;
+use pipes::LocalPipe;
 use pmem::Pmem;
 use redis_core::Sequencer;
 use standby::Standby;
@@ -35,7 +36,7 @@ use wbl_engine::{Durable, Role, WblEngine};
 struct Between<K: Keyspace> {
     sessions: Sessions,
     sequencer: Sequencer<K>,
-    committing: Committing,
+    groups: LocalPipe<Group>,
     link: Link,
     arrivals: Arrivals,
 }
@@ -52,8 +53,7 @@ fn make_between<K: Keyspace + Drop>(
     ensures room { IfOk result (λ between. calls ≤ vec_capacity between.sessions.calls) }
     ensures sequencer { IfOk result (λ between. SequencerRefines [] 0 between.sequencer) }
     ensures underlies { IfOk result (λ between. (contents : Contents) → IsNew lines contents.current.role contents → IsAheadOf between.sequencer contents) }
-    ensures committing { IfOk result (λ between. CommittingRefines [] between.committing start.primary.committer) }
-    ensures none { IfOk result (λ between. between.committing.waiting.items ≡ []) }
+    ensures no_group { IfOk result (λ between. between.groups.items ≡ []) }
     ensures link { IfOk result (λ between. LinkRefines [] between.link start.primary.link []) }
     ensures epoch { IfOk result (λ between. between.link.epoch ≡ FIRST_EPOCH) }
     ensures no_frame { IfOk result (λ between. between.link.frames.items ≡ []) }
@@ -63,7 +63,7 @@ fn make_between<K: Keyspace + Drop>(
     Ok(Between {
         sessions: Sessions::new(alloc, calls)?,
         sequencer: Sequencer::new(alloc, keyspace, heap_of(lines), 0)?,
-        committing: Committing::new(alloc)?,
+        groups: LocalPipe::new(alloc)?,
         link: Link::new(alloc, FIRST_EPOCH)?,
         arrivals: Arrivals::new(alloc),
     })
@@ -117,8 +117,8 @@ pub(crate) fn form<P: Pmem, K: Keyspace + Drop>(
             alloc,
             sessions: between.sessions,
             sequencer: between.sequencer,
-            committing: between.committing,
-            engine,
+            groups: between.groups,
+            committer: Committer::new(engine),
             link: between.link,
             arrivals: between.arrivals,
             standby: Standby {

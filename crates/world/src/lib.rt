@@ -2,7 +2,7 @@
 #![tactic(auto)]
 
 mod arrivals;
-mod committing;
+mod closing;
 mod connection;
 mod form;
 mod inbound;

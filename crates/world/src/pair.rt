@@ -5,13 +5,16 @@ ghost use Rattle.world.specs.Pair.{Does, HasRoom, HasWorld};
 ghost use Rattle.world.specs.Pair as specs;
 
 use crate::arrivals::Arrivals;
-use crate::committing::Committing;
+use crate::closing::close_group;
 use crate::link::Link;
 use crate::sessions::Sessions;
 use bytes::Bytes;
+use group_commit::{Committer, Done, Stage};
 use kv_types::Refusal;
 use machine::{Event, Mark};
+use model::Group;
 use mv_keyspace::Keyspace;
+use pipes::LocalPipe;
 use redis_core::Sequencer;
 use reply_gate::Seen;
 use standby::Standby;
@@ -38,9 +41,10 @@ pub(crate) struct Pair<E: Durable, K: Keyspace> {
     pub(crate) alloc: Global,
     pub(crate) sessions: Sessions,
     pub(crate) sequencer: Sequencer<K>,
-    pub(crate) committing: Committing,
-    /// The primary's engine.
-    pub(crate) engine: E,
+    /// Groups that wait to be committed.
+    pub(crate) groups: LocalPipe<Group>,
+    /// The primary's committer, with its engine.
+    pub(crate) committer: Committer<E>,
     pub(crate) link: Link,
     pub(crate) arrivals: Arrivals,
     pub(crate) standby: Standby<E, K>,
@@ -50,10 +54,10 @@ impl<E: Durable, K: Keyspace> Stepper for Pair<E, K> {
     ghost parts = { λ p. record {
       sessions = p.sessions;
       sequencer = p.sequencer;
-      committing = p.committing;
-      device = E.device p.engine;
-      contents = E.contents p.engine;
-      is_faulted = E.is_faulted p.engine;
+      committing = record { waiting = p.groups; stage = p.committer.stage; local = p.committer.local };
+      device = E.device p.committer.engine;
+      contents = E.contents p.committer.engine;
+      is_faulted = E.is_faulted p.committer.engine;
       link = p.link;
       arrivals = p.arrivals;
       standby = record {
@@ -119,26 +123,44 @@ impl<E: Durable, K: Keyspace> Pair<E, K> {
     fn close_group(&mut self) -> Result<bool, Refusal>
         ensures { Does (⟦<Pair<E, K> as Stepper>⟧.parts self.old) events.CloseGroup result (⟦<Pair<E, K> as Stepper>⟧.parts self.new) }
     {
-        self.committing.close_group(self.alloc, &mut self.sequencer)
+        close_group(self.alloc, &mut self.sequencer, &mut self.groups)
     }
 
     fn commit(&mut self) -> Result<bool, Refusal>
         requires { HasWorld (⟦<Pair<E, K> as Stepper>⟧.parts self.old) }
         ensures { Does (⟦<Pair<E, K> as Stepper>⟧.parts self.old) events.Commit result (⟦<Pair<E, K> as Stepper>⟧.parts self.new) }
     {
-        self.committing.commit(&mut self.engine, &self.link.waiting)
+        let Stage::Ready = self.committer.stage() else {
+            return Ok(false);
+        };
+        let done = self
+            .committer
+            .turn(&mut self.groups, &mut self.link.waiting)?;
+        Ok(done != Done::Idle)
     }
 
     fn raise_local(&mut self) -> Result<bool, Refusal>
         ensures { Does (⟦<Pair<E, K> as Stepper>⟧.parts self.old) events.RaiseLocal result (⟦<Pair<E, K> as Stepper>⟧.parts self.new) }
     {
-        Ok(self.committing.raise_local(&self.engine))
+        let Stage::Durable(_) = self.committer.stage() else {
+            return Ok(false);
+        };
+        let done = self
+            .committer
+            .turn(&mut self.groups, &mut self.link.waiting)?;
+        Ok(done != Done::Idle)
     }
 
     fn hand(&mut self) -> Result<bool, Refusal>
         ensures { Does (⟦<Pair<E, K> as Stepper>⟧.parts self.old) events.Hand result (⟦<Pair<E, K> as Stepper>⟧.parts self.new) }
     {
-        Ok(self.committing.hand(&mut self.link.waiting))
+        let Stage::Shown(_) = self.committer.stage() else {
+            return Ok(false);
+        };
+        let done = self
+            .committer
+            .turn(&mut self.groups, &mut self.link.waiting)?;
+        Ok(done != Done::Idle)
     }
 
     fn open_link(&mut self) -> Result<bool, Refusal>
@@ -197,7 +219,7 @@ impl<E: Durable, K: Keyspace> Pair<E, K> {
         ensures { Does (⟦<Pair<E, K> as Stepper>⟧.parts self.old) (events.Read c mark) result (⟦<Pair<E, K> as Stepper>⟧.parts self.new) }
     {
         let marks = Seen {
-            local: self.committing.local,
+            local: self.committer.local(),
             remote: self.link.remote,
         };
         Ok(self.sessions.read(c, mark, marks))

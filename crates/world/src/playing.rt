@@ -147,8 +147,8 @@ fn play_on<P: Pmem, K: Keyspace + Drop>(
         alloc: _,
         sessions,
         sequencer: _sequencer,
-        committing: _committing,
-        engine,
+        groups: _groups,
+        committer,
         link,
         arrivals,
         standby,
@@ -167,7 +167,7 @@ fn play_on<P: Pmem, K: Keyspace + Drop>(
         acknowledgements: arrivals.acknowledgements,
         done,
         ended,
-        primary: engine.into_device(),
+        primary: committer.into_device(),
         standby: standby.into_device(),
     }
 }

@@ -19,11 +19,11 @@ returns-in-Ok-format-2-clause-stands g c =
     let following = c.in-Ok-format-2.ensures in
     let all : HasAll (g.P.Pmem.state c.args.standby).lines c.heap_of-heap.result =
     subst (λ n. HasAll n c.heap_of-heap.result) c.lines.ensures.count (record { lines_free = c.heap_of-heap.ensures.lines; entries_free = c.heap_of-heap.ensures.entries }) in
-    pair-starts _ _ _ made.sessions made.sequencer made.committing made.none
+    rw c.new.ensures (pair-starts _ _ _ made.sessions made.sequencer made.no_group refl serving.new.position
     (engine-new _ _ _ _ _ serving.new serving.durable serving.sound.0)
     (made.underlies _ (new-own _ _ _ _ (sym c.lines-2.ensures.count) serving.new))
     made.link made.epoch made.no_frame made.arrivals
-    (standby-new _ _ _ _ following.new following.durable following.sound.0 all c.requires.following (following.new.epoch ∙ sym made.epoch) made.epoch)
+    (standby-new _ _ _ _ following.new following.durable following.sound.0 all c.requires.following (following.new.epoch ∙ sym made.epoch) made.epoch))
 
 pub returns-in-Err-clause-cause : goal.returns-in-Err-clause-cause
 returns-in-Err-clause-cause g c =
