@@ -1,0 +1,7 @@
+//! The commands on strings, counters, keys and the connection: what each answers and changes.
+#![tactic(auto)]
+
+mod condition;
+mod strings;
+
+pub use strings::{append, get, getdel, mget, mset, msetnx, set, setnx, strlen};
