@@ -2,6 +2,8 @@
 #![tactic(auto)]
 
 mod condition;
+mod counters;
 mod strings;
 
+pub use counters::{decr, decrby, incr, incrby};
 pub use strings::{append, get, getdel, mget, mset, msetnx, set, setnx, strlen};
