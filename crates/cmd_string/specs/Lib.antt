@@ -1,3 +1,4 @@
 pub mod Conditions
 pub mod Strings
 pub mod Counters
+pub mod Connection

@@ -2,8 +2,10 @@
 #![tactic(auto)]
 
 mod condition;
+mod connection;
 mod counters;
 mod strings;
 
+pub use connection::{echo, ping, quit};
 pub use counters::{decr, decrby, incr, incrby};
 pub use strings::{append, get, getdel, mget, mset, msetnx, set, setnx, strlen};
