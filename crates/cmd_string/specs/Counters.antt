@@ -1,5 +1,5 @@
 -- The meaning of the commands that count: the Redis page of each. The arguments are the words after the name.
-use Rattle.std.specs.Prelude.{ℕ, ℤ, pos, negsuc, neg_ℤ, ◌+ℤ◌, if◌then◌else◌, List, [], ◌∷◌, Option, Some, None}
+use Rattle.std.specs.Prelude.{ℕ, ℤ, pos, neg_ℤ, ◌+ℤ◌, if◌then◌else◌, List, [], ◌∷◌, Option, Some, None}
 use Rattle.std.specs.Fmt.{signed_decimal}
 use Rattle.kv_types.specs.declared.record_id.RecordId.TheVariants.{Str}
 use Rattle.kv_types.specs.declared.change.Change.TheVariants.{Put}

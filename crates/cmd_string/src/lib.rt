@@ -4,8 +4,10 @@
 mod condition;
 mod connection;
 mod counters;
+mod keys;
 mod strings;
 
 pub use connection::{echo, ping, quit};
 pub use counters::{decr, decrby, incr, incrby};
+pub use keys::{dbsize, del, exists, flushdb, type_of};
 pub use strings::{append, get, getdel, mget, mset, msetnx, set, setnx, strlen};
