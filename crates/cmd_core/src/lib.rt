@@ -6,6 +6,7 @@ mod error;
 mod integer;
 mod lookup;
 mod outcome;
+mod plain_lookup;
 mod reading;
 mod shape;
 
