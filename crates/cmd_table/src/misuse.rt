@@ -1,5 +1,6 @@
 //! Why a request names no command.
-ghost use Rattle.std.specs.Prelude.{◌≡◌, ◌++◌, codes, IfOk};
+ghost use Rattle.std.specs.Prelude.{◌≡◌, IfOk, IsErr};
+ghost use Rattle.cmd_table.specs.declared.name.CommandName.{CommandName};
 ghost use Rattle.cmd_table.specs.Misuses as spec;
 
 use crate::name::CommandName;
@@ -21,7 +22,8 @@ impl Misuse {
     /// What stands between the `-` and the line end of the reply. Only the wrong number of words, whose text shows the name, takes
     /// memory.
     pub fn text(self, alloc: Global) -> Result<Bytes, AllocError>
-        ensures { IfOk result (λ text. text ≡ spec.misuse_text self) }
+        ensures text { IfOk result (λ text. text ≡ spec.misuse_text self) }
+        ensures memory { IsErr result → (command : CommandName) × (self ≡ Self.WrongNumberOfWords command) }
     {
         let text: &'static [u8] = match self {
             Misuse::UnknownName => b"ERR unknown command",
