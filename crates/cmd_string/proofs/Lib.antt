@@ -1,0 +1,2 @@
+pub mod RemovedLemmas
+mod WorkedCases
