@@ -59,6 +59,7 @@ close-does old committing sequencer (Ok did) go leads memory enabled =
             leads = leads old.contents parts.leads;
             epoch = parts.epoch;
             link = parts.link;
+            frames = parts.frames;
             arrivals = parts.arrivals;
             standby = parts.standby;
           })
@@ -70,6 +71,7 @@ close-does old committing sequencer (Ok did) go leads memory enabled =
             leads = leads old.contents parts.leads;
             epoch = parts.epoch;
             link = parts.link;
+            frames = parts.frames;
             arrivals = parts.arrivals;
             standby = parts.standby;
           }));
@@ -116,7 +118,7 @@ ends-commit refusal P Q both ends = absurd ends
 
 pub commit-does : (old : Pair) (committing : Committing) (device : State) (contents : Contents) (is_faulted : Bool) (result : Result Bool Refusal)
     → IfOk result (λ did. (holder : Holder) (w : World) → CommittingRefines w.primary.calls old.committing w.primary.committer
-    → EngineStands holder w.primary.calls w.primary.committer.position old.device old.contents old.is_faulted → AreGroupsOf w.primary.calls old.link.waiting.items w.primary.link.waiting
+    → EngineStands holder w.primary.calls w.primary.committer.position old.device old.contents old.is_faulted → AreGroupsOf w.primary.calls old.handed.items w.primary.link.waiting
     → Goes (may_happen w events.Commit) did
     (CommittingRefines w.primary.calls committing (committed_first w.primary.committer.waiting w.primary.committer)
     × EngineStands holder w.primary.calls (committed_first w.primary.committer.waiting w.primary.committer).position device contents is_faulted)
@@ -126,7 +128,7 @@ pub commit-does : (old : Pair) (committing : Committing) (device : State) (conte
     → ((holder : Holder) (w : World) → Sound w → CommittingRefines w.primary.calls old.committing w.primary.committer
     → EngineStands holder w.primary.calls w.primary.committer.position old.device old.contents old.is_faulted → NearOnly holder w.primary.calls w.primary.committer.position (next_primary w) old.device device)
     → IfErr result (λ refusal. (holder : Holder) (w : World) → Sound w → CommittingRefines w.primary.calls old.committing w.primary.committer
-    → EngineStands holder w.primary.calls w.primary.committer.position old.device old.contents old.is_faulted → AreGroupsOf w.primary.calls old.link.waiting.items w.primary.link.waiting
+    → EngineStands holder w.primary.calls w.primary.committer.position old.device old.contents old.is_faulted → AreGroupsOf w.primary.calls old.handed.items w.primary.link.waiting
     → (may_happen w events.Commit ≡ true) × EndsBy refusal events.Commit (λ last _. last holder w.primary.calls w.primary.committer.position (next_primary w) old.device device))
     → Does old events.Commit result (with_engine committing device contents is_faulted old)
 commit-does old committing device contents is_faulted (Err refusal) go leads still failures only cuts =
@@ -170,6 +172,7 @@ commit-does old committing device contents is_faulted (Ok did) go leads still fa
           leads = leads_on old.contents old.committing.waiting.items contents committing.waiting.items old.sequencer leads parts.leads;
           epoch = parts.epoch;
           link = parts.link;
+          frames = parts.frames;
           arrivals = parts.arrivals;
           standby = parts.standby;
         }
@@ -189,6 +192,7 @@ shown-parts first second old committing w committer parts waiting committing_sta
       leads = subst (λ (waits : Waiting Group). Leads old.contents waits.items old.sequencer) (sym waiting) parts.leads;
       epoch = parts.epoch;
       link = parts.link;
+      frames = parts.frames;
       arrivals = parts.arrivals;
       standby = parts.standby;
     }

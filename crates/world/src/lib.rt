@@ -6,7 +6,6 @@ mod committing;
 mod connection;
 mod form;
 mod inbound;
-mod link;
 mod outbound;
 mod pair;
 mod playing;

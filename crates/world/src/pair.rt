@@ -6,15 +6,17 @@ ghost use Rattle.world.specs.Pair as specs;
 
 use crate::arrivals::Arrivals;
 use crate::committing::Committing;
-use crate::link::Link;
 use crate::sessions::Sessions;
 use bytes::Bytes;
 use kv_types::Refusal;
 use machine::{Event, Mark};
+use model::Group;
 use mv_keyspace::Keyspace;
+use pipes::LocalPipe;
 use redis_core::Sequencer;
 use reply_gate::Seen;
-use standby::Standby;
+use standby::{Frame, Standby};
+use standby_stream::Link;
 use std::alloc::Global;
 use wbl_engine::Durable;
 
@@ -41,7 +43,13 @@ pub(crate) struct Pair<E: Durable, K: Keyspace> {
     pub(crate) committing: Committing,
     /// The primary's engine.
     pub(crate) engine: E,
+    /// Groups that were committed and handed on, and are not sent.
+    pub(crate) handed: LocalPipe<Group>,
     pub(crate) link: Link,
+    /// The remote mark.
+    pub(crate) remote: u64,
+    /// All frames that ever passed over the link, in the order of their sending.
+    pub(crate) frames: Vec<Frame>,
     pub(crate) arrivals: Arrivals,
     pub(crate) standby: Standby<E, K>,
 }
@@ -54,7 +62,10 @@ impl<E: Durable, K: Keyspace> Stepper for Pair<E, K> {
       device = E.device p.engine;
       contents = E.contents p.engine;
       is_faulted = E.is_faulted p.engine;
+      handed = p.handed;
       link = p.link;
+      remote = p.remote;
+      frames = p.frames.items;
       arrivals = p.arrivals;
       standby = record {
         device = E.device p.standby.engine;
@@ -126,7 +137,7 @@ impl<E: Durable, K: Keyspace> Pair<E, K> {
         requires { HasWorld (⟦<Pair<E, K> as Stepper>⟧.parts self.old) }
         ensures { Does (⟦<Pair<E, K> as Stepper>⟧.parts self.old) events.Commit result (⟦<Pair<E, K> as Stepper>⟧.parts self.new) }
     {
-        self.committing.commit(&mut self.engine, &self.link.waiting)
+        self.committing.commit(&mut self.engine, &self.handed)
     }
 
     fn raise_local(&mut self) -> Result<bool, Refusal>
@@ -138,7 +149,7 @@ impl<E: Durable, K: Keyspace> Pair<E, K> {
     fn hand(&mut self) -> Result<bool, Refusal>
         ensures { Does (⟦<Pair<E, K> as Stepper>⟧.parts self.old) events.Hand result (⟦<Pair<E, K> as Stepper>⟧.parts self.new) }
     {
-        Ok(self.committing.hand(&mut self.link.waiting))
+        Ok(self.committing.hand(&mut self.handed))
     }
 
     fn open_link(&mut self) -> Result<bool, Refusal>
@@ -152,13 +163,18 @@ impl<E: Durable, K: Keyspace> Pair<E, K> {
     fn send(&mut self) -> Result<bool, Refusal>
         ensures { Does (⟦<Pair<E, K> as Stepper>⟧.parts self.old) events.Send result (⟦<Pair<E, K> as Stepper>⟧.parts self.new) }
     {
-        self.link.send(self.alloc)
+        let Some(index) = self.link.next_frame(self.alloc, &mut self.handed)? else {
+            return Ok(false);
+        };
+        let frame = self.link.frame(index).clone()?;
+        self.frames.push(frame)?;
+        Ok(true)
     }
 
     fn deliver(&mut self, frame: u64) -> Result<bool, Refusal>
         ensures { Does (⟦<Pair<E, K> as Stepper>⟧.parts self.old) (events.Deliver frame) result (⟦<Pair<E, K> as Stepper>⟧.parts self.new) }
     {
-        self.arrivals.deliver(self.link.sent.as_slice(), frame)
+        self.arrivals.deliver(self.frames.as_slice(), frame)
     }
 
     fn apply(&mut self) -> Result<bool, Refusal>
@@ -166,7 +182,7 @@ impl<E: Durable, K: Keyspace> Pair<E, K> {
         ensures { Does (⟦<Pair<E, K> as Stepper>⟧.parts self.old) events.Apply result (⟦<Pair<E, K> as Stepper>⟧.parts self.new) }
     {
         self.arrivals
-            .apply(self.alloc, &mut self.standby, self.link.frames.as_slice())
+            .apply(self.alloc, &mut self.standby, self.frames.as_slice())
     }
 
     fn ack_delivered(&mut self, ack: u64) -> Result<bool, Refusal>
@@ -184,7 +200,10 @@ impl<E: Durable, K: Keyspace> Pair<E, K> {
     fn raise_remote(&mut self) -> Result<bool, Refusal>
         ensures { Does (⟦<Pair<E, K> as Stepper>⟧.parts self.old) events.RaiseRemote result (⟦<Pair<E, K> as Stepper>⟧.parts self.new) }
     {
-        Ok(self.link.raise_remote())
+        let known = self.link.known();
+        let rises = self.remote < known;
+        self.remote = known;
+        Ok(rises)
     }
 
     fn hold(&mut self, c: u64) -> Result<bool, Refusal>
@@ -198,7 +217,7 @@ impl<E: Durable, K: Keyspace> Pair<E, K> {
     {
         let marks = Seen {
             local: self.committing.local,
-            remote: self.link.remote,
+            remote: self.remote,
         };
         Ok(self.sessions.read(c, mark, marks))
     }

@@ -1,5 +1,3 @@
-use Rattle.std.proofs.Common.{refl}
-use Rattle.machine.specs.declared.event.Event.TheVariants as events
 use Rattle.world.proofs.PairLink.{hand-does}
 use Rattle.world.proofs.pair.Pair.hand.Goals as goal
 
