@@ -20,6 +20,8 @@ REPEATED = {
     "Put": "a record is written: a change, the same with its place, and that write by itself",
     "Fault": "a fence that failed, as an error and as a refusal; of an item, the protocol fault that it holds",
     "Field": "a field of a hash: its name, and the record that it names",
+    "KEPT_GROUPS": "how many groups a link keeps: of the code, and the same number in the machine's events",
+    "Link": "what sends groups to the standby: the frames that it keeps, and its seat at the marks",
     "PIPE_ITEMS": "how many items a pipe holds: of the code, and the same number in the machine's events",
     "Request": "the words of a request, and the item that holds one",
     "Standby": "the node that follows, and the role that its image has",

@@ -13,7 +13,7 @@ pub const PIPE_ITEMS: u64 = pipes::PIPE_ITEMS as u64;
 pub const OPEN_CHANGES: u64 = MAX_PARTS as u64;
 
 /// The most groups that the link keeps until they are acknowledged.
-pub const KEPT_GROUPS: u64 = 256;
+pub const KEPT_GROUPS: u64 = pipes::KEPT_GROUPS as u64;
 
 /// One of the two numbers up to which replies are covered.
 #[derive(Clone, Copy, Debug, PartialEq, Eq)]

@@ -10,7 +10,7 @@ mod seat;
 
 pub use ends::{Inlet, Outlet};
 pub use finished::{FinishedInlet, FinishedOutlet, LeftItems, join};
-pub use limits::{MAX_SEATS, PIPE_ITEMS};
+pub use limits::{KEPT_GROUPS, MAX_SEATS, PIPE_ITEMS};
 pub use local_pipe::LocalPipe;
 pub use ring_pipe::{RingInlet, RingOutlet, RingPipe};
 pub use seat::Seat;

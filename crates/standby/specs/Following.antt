@@ -21,6 +21,13 @@ pub record Follows (contents : Contents) (table : Table) (room : Room) : Type 0 
 
 -- ---- frames
 
+-- the second says what the first says
+pub record IsCopy (frame copy : Frame) : Type 0 where
+  pub epoch : copy.epoch ≡ frame.epoch
+  pub before : copy.before ≡ frame.before
+  pub after : copy.after ≡ frame.after
+  pub changes : copy.changes.items ≡ frame.changes.items
+
 -- the frame is the one that comes next at this position
 pub record IsNext (position : ℕ) (frame : Frame) : Type 0 where
   pub later : position < frame.after

@@ -1,5 +1,6 @@
 //! The messages between the two nodes.
 use kv_types::Change;
+use std::alloc::AllocError;
 
 /// The changes of the list of calls between two positions, as the primary of an epoch sends them.
 #[derive(Debug, Drop)]
@@ -10,6 +11,21 @@ pub struct Frame {
     /// The position after them.
     pub after: u64,
     pub changes: Vec<Change>,
+}
+
+impl Clone for Frame {
+    ghost use Rattle.standby.specs.Following.{IsCopy};
+
+    ghost is_clone = { IsCopy };
+
+    fn clone(&self) -> Result<Frame, AllocError> {
+        Ok(Frame {
+            epoch: self.epoch,
+            before: self.before,
+            after: self.after,
+            changes: self.changes.clone()?,
+        })
+    }
 }
 
 /// The standby's statement that everything up to a position is durable on it.

@@ -1,5 +1,5 @@
 -- What came to the standby, and what it acknowledged, still refine the machine's after each step.
-use Rattle.std.proofs.Common.{◌≡◌, ℕ, zero, suc, ◌+◌, ◌<◌, ◌≤◌, true, false, nat_lt, List, [], ◌∷◌, ◌++◌, length, take, drop, map, get_or, slice_get, Option, Some, refl, sym, ap, subst, ◌∙◌, arith}
+use Rattle.std.proofs.Common.{◌≡◌, ℕ, ◌<◌, ◌≤◌, true, false, nat_lt, List, [], ◌∷◌, ◌++◌, length, take, drop, map, get_or, slice_get, Option, refl, sym, ap, subst, ◌∙◌, arith}
 use Rattle.std.proofs.lemmas.List.{map-append}
 use Rattle.std.proofs.lemmas.Option.{slice_get_within, get_or_from_slice_get}
 use Rattle.std.proofs.lemmas.Bool.{lt-ltb, le-ltb}
@@ -11,9 +11,9 @@ use Rattle.standby.specs.declared.frame.Ack.{Ack}
 use Rattle.standby.specs.declared.frame.Frame.{Frame}
 use Rattle.world.specs.declared.arrivals.Arrivals.{Arrivals}
 use Rattle.world.specs.Going.{Goes}
-use Rattle.world.specs.Link.{IsFrameOf, IsFrameAt, AreFramesAt}
+use Rattle.world.specs.Link.{IsFrameOf, IsFrameAt, AreFramesAt, AreFramesSent}
 use Rattle.world.specs.Standby.{Node, ArrivalsRefine, AppliesFirst, told_by}
-use Rattle.world.proofs.FrameLemmas.{AreFramesAt-grows, AreFramesAt-frames}
+use Rattle.world.proofs.FrameLemmas.{AreFramesAt-grows, AreFramesAt-frames, frame_of_number, length-sent}
 use Rattle.world.proofs.StandbyLemmas.{Took}
 
 -- ---- one more frame
@@ -25,54 +25,30 @@ AreFramesAt-push epoch calls frames [] (first ∷ spans) place span are is = abs
 AreFramesAt-push epoch calls frames (first ∷ places) [] place span are is = absurd are
 AreFramesAt-push epoch calls frames (first ∷ places) (of ∷ spans) place span are is = (are.0, AreFramesAt-push epoch calls frames places spans place span are.1 is)
 
-pub length-places : (epoch : ℕ) (calls : List Call) (frames : List Frame) (places : List ℕ) (spans : List Sent) → AreFramesAt epoch calls frames places spans → length places ≡ length spans
-length-places epoch calls frames [] [] are = refl
-length-places epoch calls frames [] (span ∷ spans) are = absurd are
-length-places epoch calls frames (place ∷ places) [] are = absurd are
-length-places epoch calls frames (place ∷ places) (span ∷ spans) are = ap suc (length-places epoch calls frames places spans are.1)
-
--- the place and the span at an index belong together
-record FrameOfIndex (epoch : ℕ) (calls : List Call) (frames : List Frame) (spans : List Sent) (i place : ℕ) : Type 0 where
-  span : Sent
-  stands : slice_get spans i ≡ Some span
-  is : IsFrameAt epoch calls frames place span
-
-at_index : (epoch : ℕ) (calls : List Call) (frames : List Frame) (places : List ℕ) (spans : List Sent) (i place : ℕ) → AreFramesAt epoch calls frames places spans → slice_get places i ≡ Some place
-    → FrameOfIndex epoch calls frames spans i place
-at_index epoch calls frames [] [] i place are e = cc
-at_index epoch calls frames [] (span ∷ spans) i place are e = absurd are
-at_index epoch calls frames (first ∷ places) [] i place are e = absurd are
-at_index epoch calls frames (first ∷ places) (span ∷ spans) zero place are e =
-    let same : first ≡ place = cc in
-    record { span = span; stands = refl; is = subst (λ p. IsFrameAt epoch calls frames p span) same are.0 }
-at_index epoch calls frames (first ∷ places) (span ∷ spans) (suc i) place are e =
-    let rest = at_index epoch calls frames places spans i place are.1 e in
-    record { span = rest.span; stands = rest.stands; is = rest.is }
-
-pub delivers : (epoch : ℕ) (frames : List Frame) (w : World) (sent : List ℕ) (i place : ℕ) (old new : Arrivals) → slice_get sent i ≡ Some place
-    → new.delivered.items ≡ old.delivered.items ++ place ∷ [] → new.acknowledgements.items ≡ old.acknowledgements.items
-    → ArrivalsRefine epoch w.primary.calls frames old w.standby.waiting w.wire.acknowledgements → AreFramesAt epoch w.primary.calls frames sent w.wire.frames
+pub delivers : (epoch : ℕ) (frames : List Frame) (w : World) (i : ℕ) (old new : Arrivals) → i < length frames
+    → new.delivered.items ≡ old.delivered.items ++ i ∷ [] → new.acknowledgements.items ≡ old.acknowledgements.items
+    → ArrivalsRefine epoch w.primary.calls frames old w.standby.waiting w.wire.acknowledgements → AreFramesSent epoch w.primary.calls frames w.wire.frames
     → Goes (nat_lt i (length w.wire.frames)) true (ArrivalsRefine epoch w.primary.calls frames new (delivered (option_items (slice_get w.wire.frames i)) w.standby).waiting w.wire.acknowledgements)
     (ArrivalsRefine epoch w.primary.calls frames new w.standby.waiting w.wire.acknowledgements)
-delivers epoch frames w sent i place old new e items acks stands are =
-    let of = at_index epoch w.primary.calls frames sent w.wire.frames i place are e in
+delivers epoch frames w i old new lt items acks stands are =
+    let of = frame_of_number epoch w.primary.calls frames w.wire.frames i are lt in
     record {
-      done = sym (lt-ltb i (length w.wire.frames) (slice_get_within w.wire.frames i of.span of.stands));
+      done = sym (lt-ltb i (length w.wire.frames) (slice_get_within w.wire.frames i of.one of.stands));
       goes = λ did. record {
-        delivered = subst (λ places. AreFramesAt epoch w.primary.calls frames places (w.standby.waiting ++ option_items (slice_get w.wire.frames i))) (sym items)
-            (subst (λ (found : Option Sent). AreFramesAt epoch w.primary.calls frames (old.delivered.items ++ place ∷ []) (w.standby.waiting ++ option_items found)) (sym of.stands)
-            (AreFramesAt-push epoch w.primary.calls frames old.delivered.items w.standby.waiting place of.span stands.delivered of.is));
+        delivered = subst (λ numbers. AreFramesAt epoch w.primary.calls frames numbers (w.standby.waiting ++ option_items (slice_get w.wire.frames i))) (sym items)
+            (subst (λ (found : Option Sent). AreFramesAt epoch w.primary.calls frames (old.delivered.items ++ i ∷ []) (w.standby.waiting ++ option_items found)) (sym of.stands)
+            (AreFramesAt-push epoch w.primary.calls frames old.delivered.items w.standby.waiting i of.one stands.delivered of.at));
         acknowledged = ap (map told_by) acks ∙ stands.acknowledged;
       };
       stays = λ did. cc;
     }
 
-pub delivers_none : (epoch : ℕ) (frames : List Frame) (w : World) (sent : List ℕ) (i : ℕ) (arrivals : Arrivals) → length sent ≤ i
-    → ArrivalsRefine epoch w.primary.calls frames arrivals w.standby.waiting w.wire.acknowledgements → AreFramesAt epoch w.primary.calls frames sent w.wire.frames
+pub delivers_none : (epoch : ℕ) (frames : List Frame) (w : World) (i : ℕ) (arrivals : Arrivals) → length frames ≤ i
+    → ArrivalsRefine epoch w.primary.calls frames arrivals w.standby.waiting w.wire.acknowledgements → AreFramesSent epoch w.primary.calls frames w.wire.frames
     → Goes (nat_lt i (length w.wire.frames)) false (ArrivalsRefine epoch w.primary.calls frames arrivals (delivered (option_items (slice_get w.wire.frames i)) w.standby).waiting w.wire.acknowledgements)
     (ArrivalsRefine epoch w.primary.calls frames arrivals w.standby.waiting w.wire.acknowledgements)
-delivers_none epoch frames w sent i arrivals past stands are =
-    let within : length w.wire.frames ≤ i = omega (arith, past, length-places epoch w.primary.calls frames sent w.wire.frames are) in
+delivers_none epoch frames w i arrivals past stands are =
+    let within : length w.wire.frames ≤ i = omega (arith, past, length-sent epoch w.primary.calls frames w.wire.frames are) in
     record {
       done = sym (le-ltb i (length w.wire.frames) within);
       goes = λ did. cc;
@@ -95,7 +71,7 @@ first_of : (epoch : ℕ) (calls : List Call) (frames : List Frame) (frame : Fram
 first_of epoch calls frames frame place places [] found are = absurd are
 first_of epoch calls frames frame place places (span ∷ spans) found are =
     let same : are.0.frame ≡ frame = sym (found ∙ get_or_from_slice_get frames place are.0.frame frame are.0.stands) in
-    record { span = span; spans = spans; all = refl; epoch_is = are.0.epoch_is; is = subst (λ f. IsFrameOf epoch calls f span.span) same are.0.has; rest = are.1 }
+    record { span = span; spans = spans; all = refl; epoch_is = are.0.is.epoch_is; is = subst (λ f. IsFrameOf epoch calls f span.span) same are.0.is.has; rest = are.1 }
 
 starts_with : (items : List ℕ) (place : ℕ) → 0 < length items → place ≡ get_or items 0 place → items ≡ place ∷ drop 1 items
 starts_with [] place some e = absurd (omega arith)
@@ -107,7 +83,7 @@ first-frame epoch frames w arrivals place frame some e found stands =
     first_of epoch w.primary.calls frames frame place (drop 1 arrivals.delivered.items) w.standby.waiting found
     (subst (λ places. AreFramesAt epoch w.primary.calls frames places w.standby.waiting) (starts_with arrivals.delivered.items place some e) stands.delivered)
 
--- the index of a frame that came is that of a frame that was made
+-- the index of a frame that came is that of one that was sent
 pub place_within : (epoch : ℕ) (frames : List Frame) (w : World) (arrivals : Arrivals) (place : ℕ) → 0 < length arrivals.delivered.items → place ≡ get_or arrivals.delivered.items 0 place
     → ArrivalsRefine epoch w.primary.calls frames arrivals w.standby.waiting w.wire.acknowledgements → place < length frames
 place_within epoch frames w arrivals place some e stands =
@@ -139,7 +115,7 @@ applies holder epoch frames w frame acks old new before after items told stands 
       stays = λ did. cc;
     }
 
--- ---- the list of calls, and the frames that were made, grow
+-- ---- the list of calls, and the frames that were sent, grow
 
 pub ArrivalsRefine-grows : (epoch : ℕ) (calls more : List Call) (frames : List Frame) (code : Arrivals) (waiting : List Sent) (told : List Acknowledgement) → ArrivalsRefine epoch calls frames code waiting told
     → ArrivalsRefine epoch (calls ++ more) frames code waiting told

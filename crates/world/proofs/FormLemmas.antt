@@ -1,5 +1,5 @@
 -- New images, and the tables and heaps with which they begin.
-use Rattle.std.proofs.Common.{◌≡◌, ℕ, zero, suc, ◌<◌, ◌⊎◌, Bool, false, List, [], replicate, slice_index_or, refl, sym, ap, subst, ◌∙◌, true≢false, inl, inr}
+use Rattle.std.proofs.Common.{◌≡◌, ℕ, zero, suc, ◌<◌, ◌⊎◌, Bool, false, List, [], replicate, slice_index_or, refl, sym, ap, subst, ◌∙◌, arith, true≢false, inl, inr}
 use Rattle.model.specs.Image.{entries_of_lines}
 use Rattle.model.specs.Group.{Contents}
 use Rattle.model.specs.declared.group.Group.{Group}
@@ -14,6 +14,8 @@ use Rattle.mv_keyspace.specs.Table.{Table, records}
 use Rattle.wbl_engine.specs.Contents.{IsNew, IsDurable}
 use Rattle.wbl_engine.specs.Formatting.{IsFormatting}
 use Rattle.redis_core.specs.Sequencing.{Sequencing, IsAheadOf, Underlies, starts}
+use Rattle.standby.specs.declared.frame.Frame.{Frame}
+use Rattle.standby_stream.specs.Stream.{Stream, new_stream}
 use Rattle.standby.proofs.NewLemmas.{HasAll, new-table, left-new, new-consistent, follows-new}
 use Rattle.machine.specs.Event.{start}
 use Rattle.machine.proofs.RunLemmas.{sound-start}
@@ -24,7 +26,7 @@ use Rattle.group_commit.specs.declared.stage.Stage.{Stage}
 use Rattle.group_commit.specs.declared.stage.Stage.TheVariants.{Ready}
 use Rattle.world.specs.Committing.{FormattingOnly, EngineStands, Leads, StageRefines}
 use Rattle.world.specs.GroupSpan.{AreGroupsOf}
-use Rattle.world.specs.Link.{LinkRefines}
+use Rattle.world.specs.Link.{AreFramesSent, LinkRefines}
 use Rattle.world.specs.Session.{SessionsRefine, SequencerRefines}
 use Rattle.world.specs.Standby.{Node, StandbyStands, ArrivalsRefine}
 use Rattle.world.specs.Pair.{Pair, PairRefines}
@@ -100,9 +102,9 @@ new-own lines lines' role contents same new =
 
 pub pair-starts : (first second : Holder) (pair : Pair) → SessionsRefine pair.sessions [] [] → SequencerRefines [] 0 pair.sequencer
     → pair.committing.waiting.items ≡ [] → pair.committing.stage ≡ Ready → pair.committing.local ≡ 0 → EngineStands first [] 0 pair.device pair.contents pair.is_faulted
-    → IsAheadOf pair.sequencer pair.contents → LinkRefines [] pair.link start.primary.link [] → pair.link.epoch ≡ FIRST_EPOCH → pair.link.frames.items ≡ []
+    → IsAheadOf pair.sequencer pair.contents → pair.link ≡ new_stream FIRST_EPOCH → pair.handed.items ≡ [] → pair.remote ≡ 0 → pair.frames ≡ []
     → ((epoch : ℕ) → ArrivalsRefine epoch [] [] pair.arrivals [] []) → StandbyStands second pair.link.epoch [] 0 pair.standby → PairRefines first second pair start
-pair-starts first second pair sessions sequencer none ready mark engine ahead link epoch no_frame arrivals standby =
+pair-starts first second pair sessions sequencer none ready mark engine ahead link no_group remote no_frame arrivals standby =
     record {
       sound = sound-start;
       parts = record {
@@ -115,9 +117,19 @@ pair-starts first second pair sessions sequencer none ready mark engine ahead li
         };
         engine = engine;
         leads = subst (λ (groups : List Group). Leads pair.contents groups pair.sequencer) (sym none) (record { groups_are = tt; stands = ahead });
-        epoch = epoch;
-        link = link;
-        arrivals = subst (λ frames. ArrivalsRefine pair.link.epoch [] frames pair.arrivals [] []) (sym no_frame) (arrivals pair.link.epoch);
+        epoch = ap (λ (s : Stream). s.epoch) link;
+        link = subst (λ (s : Stream). LinkRefines [] s pair.handed pair.remote start.primary.link) (sym link)
+            (record {
+              waiting = subst (λ (groups : List Group). AreGroupsOf [] groups []) (sym no_group) tt;
+              none_pending = refl;
+              kept = tt;
+              next_within = omega arith;
+              again = refl;
+              known = refl;
+              remote_is = remote;
+            });
+        frames = subst (λ (frames : List Frame). AreFramesSent pair.link.epoch [] frames []) (sym no_frame) tt;
+        arrivals = subst (λ (frames : List Frame). ArrivalsRefine pair.link.epoch [] frames pair.arrivals [] []) (sym no_frame) (arrivals pair.link.epoch);
         standby = standby;
       };
     }

@@ -9,6 +9,7 @@ pub mod TurnLemmas
 pub mod CommittingLemmas
 pub mod FrameLemmas
 pub mod LinkLemmas
+pub mod AckLemmas
 pub mod StandbyLemmas
 pub mod ArrivalLemmas
 pub mod PairLemmas

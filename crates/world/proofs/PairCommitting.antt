@@ -44,6 +44,7 @@ close-steps first second old waiting sequencer w stands can closes =
       leads = Leads-push old.contents old.committing.waiting.items waiting.items closes.0 old.sequencer sequencer parts.leads closes.1 closes.3;
       epoch = parts.epoch;
       link = parts.link;
+      frames = parts.frames;
       arrivals = parts.arrivals;
       standby = parts.standby;
     })
@@ -142,6 +143,7 @@ shown-parts first second old committing w committer parts waiting committing_sta
       leads = subst (λ (waits : Waiting Group). Leads old.contents waits.items old.sequencer) (sym waiting) parts.leads;
       epoch = parts.epoch;
       link = parts.link;
+      frames = parts.frames;
       arrivals = parts.arrivals;
       standby = parts.standby;
     }

@@ -24,6 +24,7 @@ use Rattle.world.specs.declared.sessions.Sessions.{Sessions}
 use Rattle.world.proofs.SessionLemmas.{length-connections, released-told}
 use Rattle.world.proofs.EngineLemmas.{Stands-engine, moves-same, rests-same, EngineStands-grows}
 use Rattle.world.proofs.CommittingLemmas.{CommittingRefines-grows}
+use Rattle.world.proofs.FrameLemmas.{AreFramesSent-grows}
 use Rattle.world.proofs.LinkLemmas.{LinkRefines-grows}
 use Rattle.world.proofs.StandbyLemmas.{StandbyStands-grows}
 use Rattle.world.proofs.ArrivalLemmas.{ArrivalsRefine-grows}
@@ -132,6 +133,7 @@ sessions-parts first second old sessions connections w parts stand =
       leads = parts.leads;
       epoch = parts.epoch;
       link = parts.link;
+      frames = parts.frames;
       arrivals = parts.arrivals;
       standby = parts.standby;
     }
@@ -176,14 +178,14 @@ sessions-did event change happens old sessions did go calls =
 -- a read needs the marks, which are the machine's
 pub read-does : (event : Event) (change : World → List Connection) → ((w : World) → Happens w event (with_connections (change w) w))
     → (old : Pair) (sessions : Sessions) (did : Bool)
-    → ((w : World) → SessionsRefine old.sessions w.primary.connections w.primary.calls → old.committing.local ≡ w.primary.committer.local → old.link.remote ≡ w.primary.link.remote
+    → ((w : World) → SessionsRefine old.sessions w.primary.connections w.primary.calls → old.committing.local ≡ w.primary.committer.local → old.remote ≡ w.primary.link.remote
     → Goes (may_happen w event) did (SessionsRefine sessions (change w) w.primary.calls) (SessionsRefine sessions w.primary.connections w.primary.calls))
     → sessions.calls ≡ old.sessions.calls → Does old event (Ok did) (with_sessions sessions old)
 read-does event change happens old sessions did go calls =
     record {
       steps = λ first second w stands.
           goes-steps first second w (with_connections (change w) w) event did old (with_sessions sessions old) refl refl stands.sound (happens w)
-          (goes-map (go w stands.parts.sessions stands.parts.committing.local_is stands.parts.link.remote)
+          (goes-map (go w stands.parts.sessions stands.parts.committing.local_is stands.parts.link.remote_is)
           (sessions-parts first second old sessions (change w) w stands.parts)
           (sessions-parts first second old sessions w.primary.connections w stands.parts));
       cut = tt;
@@ -214,8 +216,9 @@ called-parts first second old sessions sequencer w c call stands sessions_stand 
       engine = EngineStands-grows first w.primary.calls (call ∷ []) w.primary.committer.position old.device old.contents old.is_faulted (primary-within w stands.sound) parts.engine;
       leads = record { groups_are = parts.leads.groups_are; stands = goes_on _ parts.leads.stands };
       epoch = parts.epoch;
-      link = LinkRefines-grows w.primary.calls (call ∷ []) old.link w.primary.link w.wire.frames parts.link;
-      arrivals = ArrivalsRefine-grows old.link.epoch w.primary.calls (call ∷ []) old.link.frames.items old.arrivals w.standby.waiting w.wire.acknowledgements parts.arrivals;
+      link = LinkRefines-grows w.primary.calls (call ∷ []) old.link old.handed old.remote w.primary.link parts.link;
+      frames = AreFramesSent-grows old.link.epoch w.primary.calls (call ∷ []) old.frames w.wire.frames parts.frames;
+      arrivals = ArrivalsRefine-grows old.link.epoch w.primary.calls (call ∷ []) old.frames old.arrivals w.standby.waiting w.wire.acknowledgements parts.arrivals;
       standby = StandbyStands-grows second old.link.epoch w.primary.calls (call ∷ []) w.standby.position old.standby (standby-within w stands.sound) parts.standby;
     }
 
@@ -252,6 +255,7 @@ turn-steps first second old sessions sequencer w c false stands takes goes_on =
       leads = record { groups_are = before.leads.groups_are; stands = goes_on _ before.leads.stands };
       epoch = before.epoch;
       link = before.link;
+      frames = before.frames;
       arrivals = before.arrivals;
       standby = before.standby;
     } in

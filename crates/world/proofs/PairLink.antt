@@ -1,6 +1,6 @@
 -- What the events of the link and its acknowledgements do to the pair, of what they do to its parts.
-use Rattle.std.proofs.Common.{◌≡◌, ℕ, ◌≤◌, Bool, true, false, nat_lt, List, [], ◌++◌, length, option_map, slice_get, slice_index_or, Option, Some, Result, Ok, Err, IfOk, IfErr, OnOk, OnErr, refl, sym, ap, subst, ◌∙◌, arith, true≢false, cond, eq-eqb, All}
-use Rattle.std.proofs.lemmas.Bool.{lt-ltb, le-ltb, ltb-true}
+use Rattle.std.proofs.Common.{◌≡◌, ℕ, ◌≤◌, Bool, true, false, nat_lt, List, [], ◌∷◌, ◌++◌, length, option_map, slice_get, slice_index_or, Option, Some, None, Result, Ok, Err, refl, sym, ap, ap₂, subst, ◌∙◌, arith, true≢false, cond, eq-eqb, All}
+use Rattle.std.proofs.lemmas.Bool.{lt-ltb, le-ltb, ltb-true, ltb-false}
 use Rattle.std.proofs.lemmas.List.{length-map}
 use Rattle.std.proofs.lemmas.Option.{slice_get-get_or, slice_get-map, slice_get_within}
 use Rattle.kv_types.specs.declared.refusal.Refusal.{Refusal}
@@ -9,9 +9,11 @@ use Rattle.pipes.specs.Waiting.{Waiting}
 use Rattle.model.specs.declared.group.Group.{Group}
 use Rattle.model.specs.Standing.{Holder}
 use Rattle.standby.specs.declared.frame.Ack.{Ack}
-use Rattle.machine.specs.declared.event.Event.{Event}
+use Rattle.standby.specs.declared.frame.Frame.{Frame}
+use Rattle.standby.specs.Following.{IsCopy}
+use Rattle.standby_stream.specs.Stream.{Stream}
 use Rattle.machine.specs.declared.event.Event.TheVariants as events
-use Rattle.machine.specs.Event.{World, Link as MachineLink, Frame as Sent, Acknowledgement, Happens, may_happen, next_to_send, framed, sent_next, ready_again, handed, handed_to, option_items, knowing, told, with_link, with_committer, with_sent}
+use Rattle.machine.specs.Event.{World, Link as MachineLink, Frame as Sent, Span, Acknowledgement, may_happen, next_to_send, framed, sent, sent_next, ready_again, handed, handed_to, option_items, knowing, raised_remote, told, with_link, with_committer, with_sent}
 use Rattle.std.proofs.lemmas.List.Elements.{All-head}
 use Rattle.machine.specs.Sound.{IsToldWithin, Sound}
 use Rattle.machine.proofs.StandbyLemmas.{all-at}
@@ -19,32 +21,34 @@ use Rattle.machine.proofs.SoundEvents.{enabled-is}
 use Rattle.world.specs.Going.{Goes}
 use Rattle.world.specs.GroupSpan.{AreGroupsOf}
 use Rattle.world.specs.Committing.{Committing, CommittingRefines}
-use Rattle.world.specs.Link.{LinkRefines, KeepsFrames}
+use Rattle.world.specs.Link.{IsFrameOf, AreFramesSent, LinkRefines}
 use Rattle.world.specs.Standby.{StandbyStands, ArrivalsRefine, told_by}
-use Rattle.world.specs.Pair.{Pair, PartsRefine, PairRefines, Steps, Does}
-use Rattle.world.specs.declared.link.Link.{Link}
+use Rattle.world.specs.Pair.{Pair, PartsRefine, Does}
+use Rattle.world.proofs.FrameLemmas.{AreFramesSent-push, IsFrameOf-copy}
+use Rattle.world.proofs.LinkLemmas.{Answers as LinkAnswers, sends}
+use Rattle.world.proofs.AckLemmas.{known_at, knows}
 use Rattle.world.proofs.ArrivalLemmas.{ArrivalsRefine-frames}
 use Rattle.world.proofs.PairLemmas.{cut-same, goes-map, goes-steps, none-added, tells, untouched}
 use Rattle.world.proofs.PairCommitting.{shown-parts}
 
 -- ---- the link
 
--- the link with these groups waiting, and the committer
-abbrev pub with_handed : Committing → Link → Pair → Pair
-with_handed committing link pair = record pair { committing = committing; link = link }
+-- what waits for the link, and the committer
+abbrev pub with_handed : Committing → Waiting Group → Pair → Pair
+with_handed committing handed pair = record pair { committing = committing; handed = handed }
 
 pub hand-does : (old : Pair) (committing : Committing) (waiting : Waiting Group) (did : Bool)
-    → ((w : World) → Sound w → CommittingRefines w.primary.calls old.committing w.primary.committer → AreGroupsOf w.primary.calls old.link.waiting.items w.primary.link.waiting
+    → ((w : World) → Sound w → CommittingRefines w.primary.calls old.committing w.primary.committer → AreGroupsOf w.primary.calls old.handed.items w.primary.link.waiting
     → Goes (may_happen w events.Hand) did
     (CommittingRefines w.primary.calls committing (ready_again w.primary.committer) × AreGroupsOf w.primary.calls waiting.items (w.primary.link.waiting ++ handed w.primary.committer.stage))
     (CommittingRefines w.primary.calls committing w.primary.committer × AreGroupsOf w.primary.calls waiting.items w.primary.link.waiting))
-    → committing.waiting ≡ old.committing.waiting → Does old events.Hand (Ok did) (with_handed committing (record old.link { waiting = waiting }) old)
+    → committing.waiting ≡ old.committing.waiting → Does old events.Hand (Ok did) (with_handed committing waiting old)
 hand-does old committing waiting did go same =
     record {
       steps = λ first second w stands.
           let parts = stands.parts in
           goes-steps first second w (with_link (handed_to (handed w.primary.committer.stage) w.primary.link) (with_committer (ready_again w.primary.committer) w)) events.Hand did
-          old (with_handed committing (record old.link { waiting = waiting }) old) refl refl stands.sound refl
+          old (with_handed committing waiting old) refl refl stands.sound refl
           (goes-map (go w stands.sound parts.committing parts.link.waiting)
           (λ moved.
           let shown = shown-parts first second old committing w (ready_again w.primary.committer) parts same moved.0 refl refl in
@@ -56,6 +60,7 @@ hand-does old committing waiting did go same =
             leads = shown.leads;
             epoch = parts.epoch;
             link = waits (handed_to (handed w.primary.committer.stage) w.primary.link) w parts.link refl moved.1;
+            frames = parts.frames;
             arrivals = parts.arrivals;
             standby = parts.standby;
           })
@@ -69,6 +74,7 @@ hand-does old committing waiting did go same =
             leads = shown.leads;
             epoch = parts.epoch;
             link = waits w.primary.link w parts.link refl stayed.1;
+            frames = parts.frames;
             arrivals = parts.arrivals;
             standby = parts.standby;
           }));
@@ -76,84 +82,135 @@ hand-does old committing waiting did go same =
       calls = none-added _ _ refl;
     }
   where
-    waits : (link : MachineLink) (w : World) → LinkRefines w.primary.calls old.link w.primary.link w.wire.frames → record w.primary.link { waiting = link.waiting } ≡ link → AreGroupsOf w.primary.calls waiting.items link.waiting
-        → LinkRefines w.primary.calls (record old.link { waiting = waiting }) link w.wire.frames
+    waits : (link : MachineLink) (w : World) → LinkRefines w.primary.calls old.link old.handed old.remote w.primary.link → record w.primary.link { waiting = link.waiting } ≡ link
+        → AreGroupsOf w.primary.calls waiting.items link.waiting → LinkRefines w.primary.calls old.link waiting old.remote link
     waits link w stands same_rest groups =
-        subst (λ (l : MachineLink). LinkRefines w.primary.calls (record old.link { waiting = waiting }) l w.wire.frames) same_rest
+        subst (λ (l : MachineLink). LinkRefines w.primary.calls old.link waiting old.remote l) same_rest
         (record {
           waiting = groups;
-          spans = stands.spans;
-          frames = stands.frames;
-          kept_within = stands.kept_within;
+          none_pending = stands.none_pending;
           kept = stands.kept;
-          again_within = stands.again_within;
+          next_within = stands.next_within;
           again = stands.again;
-          sent = stands.sent;
           known = stands.known;
-          remote = stands.remote;
+          remote_is = stands.remote_is;
         })
 
-abbrev pub with_frames : Link → Pair → Pair
-with_frames link pair = record pair { link = link }
+-- the link with what waits for it, the remote mark, and the frames that passed
+abbrev pub with_frames : Waiting Group → Stream → ℕ → List Frame → Pair → Pair
+with_frames waiting link remote frames pair = record pair { handed = waiting; link = link; remote = remote; frames = frames }
 
-pub link-parts : (first second : Holder) (old : Pair) (link : Link) (w : World) (machine : MachineLink) (frames : List Sent) → PartsRefine first second old w → KeepsFrames old.link link
-    → LinkRefines w.primary.calls link machine frames
-    → PartsRefine first second (with_frames link old) (record w { primary = record w.primary { link = machine }; wire = record w.wire { frames = frames } })
-link-parts first second old link w machine frames parts keeps link_stands =
-    let waiting = w.standby.waiting in
-    let told = w.wire.acknowledgements in
+pub link-parts : (first second : Holder) (old : Pair) (waiting : Waiting Group) (link : Stream) (remote : ℕ) (frames : List Frame) (w : World) (machine : MachineLink) (passed : List Sent)
+    → PartsRefine first second old w → link.epoch ≡ old.link.epoch → LinkRefines w.primary.calls link waiting remote machine → AreFramesSent old.link.epoch w.primary.calls frames passed
+    → ArrivalsRefine old.link.epoch w.primary.calls frames old.arrivals w.standby.waiting w.wire.acknowledgements
+    → PartsRefine first second (with_frames waiting link remote frames old) (record w { primary = record w.primary { link = machine }; wire = record w.wire { frames = passed } })
+link-parts first second old waiting link remote frames w machine passed parts same link_stands frames_passed arrivals_stand =
     record {
       sessions = parts.sessions;
       sequencer = parts.sequencer;
       committing = parts.committing;
       engine = parts.engine;
       leads = parts.leads;
-      epoch = keeps.epoch ∙ parts.epoch;
+      epoch = same ∙ parts.epoch;
       link = link_stands;
-      arrivals = subst (λ e. ArrivalsRefine e w.primary.calls link.frames.items old.arrivals waiting told) (sym keeps.epoch)
-          (subst (λ all. ArrivalsRefine old.link.epoch w.primary.calls all old.arrivals waiting told) keeps.frames.joined
-          (ArrivalsRefine-frames old.link.epoch w.primary.calls old.link.frames.items keeps.frames.rest old.arrivals waiting told parts.arrivals));
-      standby = subst (λ e. StandbyStands second e w.primary.calls w.standby.position old.standby) (sym keeps.epoch) parts.standby;
+      frames = subst (λ e. AreFramesSent e w.primary.calls frames passed) (sym same) frames_passed;
+      arrivals = subst (λ e. ArrivalsRefine e w.primary.calls frames old.arrivals w.standby.waiting w.wire.acknowledgements) (sym same) arrivals_stand;
+      standby = subst (λ e. StandbyStands second e w.primary.calls w.standby.position old.standby) (sym same) parts.standby;
     }
 
--- what the link did, of each sound world that it stood for
-abbrev pub LinkGoes : Event → (World → MachineLink) → (World → List Sent) → Bool → Link → Link → Type 0
-LinkGoes event change sends did old new =
-    (w : World) → Sound w → LinkRefines w.primary.calls old w.primary.link w.wire.frames
-    → Goes (may_happen w event) did (LinkRefines w.primary.calls new (change w) (sends w)) (LinkRefines w.primary.calls new w.primary.link w.wire.frames)
+-- no frame passed
+pub link-alone : (first second : Holder) (old : Pair) (waiting : Waiting Group) (link : Stream) (remote : ℕ) (w : World) (machine : MachineLink) → PartsRefine first second old w
+    → link.epoch ≡ old.link.epoch → LinkRefines w.primary.calls link waiting remote machine → PartsRefine first second (with_frames waiting link remote old.frames old) (with_link machine w)
+link-alone first second old waiting link remote w machine parts same link_stands =
+    link-parts first second old waiting link remote old.frames w machine w.wire.frames parts same link_stands parts.frames parts.arrivals
 
-link-steps : (event : Event) (change : World → MachineLink) (sends : World → List Sent)
-    → (old : Pair) (link : Link) (did : Bool)
-    → ((w : World) → old.link.epoch ≡ w.primary.epoch → Happens w event (record w { primary = record w.primary { link = change w }; wire = record w.wire { frames = sends w } }))
-    → LinkGoes event change sends did old.link link → KeepsFrames old.link link
-    → (first second : Holder) (w : World) → PairRefines first second old w → Steps first second w event did old (with_frames link old)
-link-steps event change sends old link did happens go keeps first second w stands =
-    goes-steps first second w (record w { primary = record w.primary { link = change w }; wire = record w.wire { frames = sends w } }) event did old (with_frames link old) refl refl stands.sound (happens w stands.parts.epoch)
-    (goes-map (go w stands.sound stands.parts.link)
-    (link-parts first second old link w (change w) (sends w) stands.parts keeps)
-    (link-parts first second old link w w.primary.link w.wire.frames stands.parts keeps))
+-- ---- sending
 
-pub link-does : (event : Event) (change : World → MachineLink) → ((w : World) → Happens w event (with_link (change w) w)) → (old : Pair) (link : Link) (did : Bool)
-    → LinkGoes event change (λ w. w.wire.frames) did old.link link → KeepsFrames old.link link → Does old event (Ok did) (with_frames link old)
-link-does event change happens old link did go keeps =
-    record { steps = link-steps event change (λ w. w.wire.frames) old link did (λ w same. happens w) go keeps; cut = tt; calls = none-added _ _ refl }
-
-pub send-does : (old : Pair) (link : Link) (result : Result Bool Refusal)
-    → IfOk result (λ did. LinkGoes events.Send (λ w. sent_next w.primary.link.again w.primary.link) (λ w. w.wire.frames ++ framed old.link.epoch (next_to_send w.primary.link)) did old.link link)
-    → OnOk result (KeepsFrames old.link link) → IfErr result (λ refusal. refusal ≡ Memory)
-    → OnErr result ((w : World) → LinkRefines w.primary.calls old.link w.primary.link w.wire.frames → may_happen w events.Send ≡ true) → Does old events.Send result (with_frames link old)
-send-does old link (Ok did) go keeps memory enabled =
+-- a frame that was kept is sent, and a copy of it passes
+pub send-does : (old : Pair) (waiting : Waiting Group) (link : Stream) (index : ℕ) (frame copy : Frame) (frames : List Frame) → LinkAnswers old.link old.handed (Ok (Some index)) link waiting
+    → slice_get link.kept index ≡ Some frame → IsCopy frame copy → frames ≡ old.frames ++ copy ∷ [] → Does old events.Send (Ok true) (with_frames waiting link old.remote frames old)
+send-does old waiting link index frame copy frames answers there same more =
     record {
-      steps = link-steps events.Send (λ w. sent_next w.primary.link.again w.primary.link) (λ w. w.wire.frames ++ framed old.link.epoch (next_to_send w.primary.link)) old link did
-          (λ w same. ap (λ epoch. with_sent (framed epoch (next_to_send w.primary.link)) (with_link (sent_next w.primary.link.again w.primary.link) w)) same) go keeps;
+      steps = λ first second w stands.
+          let parts = stands.parts in
+          let machine = w.primary.link in
+          let epoch = old.link.epoch in
+          let calls = w.primary.calls in
+          let at = sends calls old.link old.handed old.remote machine parts.link (Ok (Some index)) link waiting answers in
+          let own : at.frame ≡ frame = cc in
+          let is : IsFrameOf epoch calls copy at.span = IsFrameOf-copy epoch calls frame copy at.span (subst (λ (f : Frame). IsFrameOf epoch calls f at.span) own at.is) same in
+          let passed : AreFramesSent epoch calls (old.frames ++ copy ∷ []) (w.wire.frames ++ framed epoch (next_to_send machine)) =
+          subst (λ (spans : List Span). AreFramesSent epoch calls (old.frames ++ copy ∷ []) (w.wire.frames ++ framed epoch spans)) (sym at.next)
+          (AreFramesSent-push epoch calls old.frames w.wire.frames copy (record { epoch = epoch; span = at.span }) parts.frames (record { epoch_is = refl; has = is })) in
+          let w' = record w { primary = record w.primary { link = sent_next machine.again machine }; wire = record w.wire { frames = w.wire.frames ++ framed epoch (next_to_send machine) } } in
+          let moved : PartsRefine first second (with_frames waiting link old.remote frames old) w' =
+          subst (λ (fs : List Frame). PartsRefine first second (with_frames waiting link old.remote fs old) w') (sym more)
+          (link-parts first second old waiting link old.remote (old.frames ++ copy ∷ []) w (sent_next machine.again machine) (w.wire.frames ++ framed epoch (next_to_send machine)) parts at.epoch_is at.link passed
+          (ArrivalsRefine-frames epoch calls old.frames (copy ∷ []) old.arrivals w.standby.waiting w.wire.acknowledgements parts.arrivals)) in
+          goes-steps first second w w' events.Send true old (with_frames waiting link old.remote frames old) refl refl stands.sound
+          (ap (λ e. with_sent (framed e (next_to_send machine)) (with_link (sent_next machine.again machine) w)) parts.epoch)
+          (record { done = sym at.may; goes = λ did. moved; stays = λ did. absurd (true≢false did) });
       cut = tt;
       calls = none-added _ _ refl;
     }
-send-does old link (Err refusal) go keeps memory enabled =
+
+pub send-none : (old : Pair) (waiting : Waiting Group) (link : Stream) → LinkAnswers old.link old.handed (Ok None) link waiting → Does old events.Send (Ok false) (with_frames waiting link old.remote old.frames old)
+send-none old waiting link answers =
     record {
+      steps = λ first second w stands.
+          let none = sends w.primary.calls old.link old.handed old.remote w.primary.link stands.parts.link (Ok None) link waiting answers in
+          let stayed = link-alone first second old waiting link old.remote w w.primary.link stands.parts none.epoch_is none.link in
+          goes-steps first second w (sent w) events.Send false old (with_frames waiting link old.remote old.frames old) refl refl stands.sound refl
+          (record { done = sym none.may; goes = λ did. absurd (true≢false (sym did)); stays = λ did. stayed });
+      cut = tt;
+      calls = none-added _ _ refl;
+    }
+
+-- memory was refused for a frame that there is
+pub send-cut : (old : Pair) (waiting : Waiting Group) (link : Stream) (frames : List Frame) (result : Result Bool Refusal) (refusal : Refusal) → result ≡ Err refusal → refusal ≡ Memory
+    → ((w : World) → LinkRefines w.primary.calls old.link old.handed old.remote w.primary.link → may_happen w events.Send ≡ true)
+    → Does old events.Send result (with_frames waiting link old.remote frames old)
+send-cut old waiting link frames result refusal is memory enabled =
+    subst (λ (r : Result Bool Refusal). Does old events.Send r (with_frames waiting link old.remote frames old)) (sym is)
+    (record {
       steps = tt;
       cut = λ first second w stands.
-          cut-same first second events.Send refusal old (with_frames link old) w refl memory refl refl (tells old.sessions) (enabled w stands.parts.link) stands;
+          cut-same first second events.Send refusal old (with_frames waiting link old.remote frames old) w refl memory refl refl (tells old.sessions) (enabled w stands.parts.link) stands;
+      calls = none-added _ _ refl;
+    })
+
+-- ---- the remote mark
+
+pub raise-does : (old : Pair) (known : ℕ) (did : Bool) → known ≡ old.link.known → did ≡ nat_lt old.remote known
+    → Does old events.RaiseRemote (Ok did) (with_frames old.handed old.link known old.frames old)
+raise-does old known did same is =
+    record {
+      steps = λ first second w stands.
+          let parts = stands.parts in
+          let link = parts.link in
+          let machine = w.primary.link in
+          let highest : known ≡ machine.known = same ∙ link.known in
+          let raised : (remote : ℕ) → known ≡ remote → PartsRefine first second (with_frames old.handed old.link known old.frames old) (with_link (record machine { remote = remote }) w) =
+          (λ remote at.
+          link-alone first second old old.handed old.link known w (record machine { remote = remote }) parts refl
+          (record {
+            waiting = link.waiting;
+            none_pending = link.none_pending;
+            kept = link.kept;
+            next_within = link.next_within;
+            again = link.again;
+            known = link.known;
+            remote_is = at;
+          })) in
+          goes-steps first second w (with_link (raised_remote machine) w) events.RaiseRemote did old (with_frames old.handed old.link known old.frames old) refl refl stands.sound refl
+          (record {
+            done = is ∙ ap₂ nat_lt link.remote_is highest;
+            goes = λ rose. raised machine.known highest;
+            stays = λ stayed.
+                let low : known ≤ old.remote = ltb-false old.remote known (sym is ∙ stayed) in
+                raised machine.remote (omega (arith, low, highest, link.remote_is, stands.sound.link.remote));
+          });
+      cut = tt;
       calls = none-added _ _ refl;
     }
 
@@ -164,10 +221,9 @@ pub found-there : (xs ys : List Ack) (n : ℕ) (x : Ack) → xs ≡ ys → true 
 found-there xs ys n x same within is =
     subst (λ (all : List Ack). slice_get all n ≡ Some x) same (slice_get-get_or xs n x (ltb-true n (length xs) (sym within)) ∙ ap Some (sym is))
 
-pub ack-does : (old : Pair) (n : ℕ) (ack : Ack) (link : Link) → slice_get old.arrivals.acknowledgements.items n ≡ Some ack
-    → ((w : World) → Sound w → LinkRefines w.primary.calls old.link w.primary.link w.wire.frames → LinkRefines w.primary.calls link (knowing ack.position w.primary.link) w.wire.frames) → KeepsFrames old.link link
-    → Does old (events.AckDelivered n) (Ok true) (with_frames link old)
-ack-does old n ack link stands_there knows keeps =
+pub ack-does : (old : Pair) (n : ℕ) (ack : Ack) (link : Stream) → slice_get old.arrivals.acknowledgements.items n ≡ Some ack → (ack.epoch ≡ old.link.epoch → link ≡ known_at ack.position old.link)
+    → Does old (events.AckDelivered n) (Ok true) (with_frames old.handed link old.remote old.frames old)
+ack-does old n ack link stands_there learns =
     record {
       steps = λ first second w stands.
           let parts = stands.parts in
@@ -175,13 +231,20 @@ ack-does old n ack link stands_there knows keeps =
           ap (λ (all : List Acknowledgement). slice_get all n) (sym parts.arrivals.acknowledged)
           ∙ slice_get-map told_by old.arrivals.acknowledgements.items n ∙ ap (option_map told_by) stands_there in
           let own : ack.epoch ≡ w.primary.epoch = told-epoch w.primary.epoch w.standby.position w.wire.acknowledgements n (told_by ack) stands.sound.wire.acknowledged there in
+          let learned : link ≡ known_at ack.position old.link = learns (own ∙ sym parts.epoch) in
           let knows_now : told w.primary.epoch (slice_get w.wire.acknowledgements n) w.primary.link ≡ knowing ack.position w.primary.link =
           ap (λ (o : Option Acknowledgement). told w.primary.epoch o w.primary.link) there ∙ ap (λ b. cond b (knowing ack.position w.primary.link) w.primary.link) (eq-eqb ack.epoch w.primary.epoch own) in
-          goes-steps first second w (with_link (told w.primary.epoch (slice_get w.wire.acknowledgements n) w.primary.link) w) (events.AckDelivered n) true old (with_frames link old) refl refl stands.sound refl
+          let chain = stands.sound.link in
+          let now : LinkRefines w.primary.calls link old.handed old.remote (told w.primary.epoch (slice_get w.wire.acknowledgements n) w.primary.link) =
+          subst (λ (l : MachineLink). LinkRefines w.primary.calls link old.handed old.remote l) (sym knows_now)
+          (subst (λ (s : Stream). LinkRefines w.primary.calls s old.handed old.remote (knowing ack.position w.primary.link)) (sym learned)
+          (knows w.primary.calls old.link old.handed old.remote ack.position w.primary.link chain.kept_from stands.sound.sent parts.link chain.kept)) in
+          goes-steps first second w (with_link (told w.primary.epoch (slice_get w.wire.acknowledgements n) w.primary.link) w) (events.AckDelivered n) true old
+          (with_frames old.handed link old.remote old.frames old) refl refl stands.sound refl
           (record {
             done = sym (lt-ltb n (length w.wire.acknowledgements) (slice_get_within w.wire.acknowledgements n (told_by ack) there));
-            goes = λ did. link-parts first second old link w (told w.primary.epoch (slice_get w.wire.acknowledgements n) w.primary.link) w.wire.frames parts keeps
-                (subst (λ (l : MachineLink). LinkRefines w.primary.calls link l w.wire.frames) (sym knows_now) (knows w stands.sound parts.link));
+            goes = λ did. link-alone first second old old.handed link old.remote w (told w.primary.epoch (slice_get w.wire.acknowledgements n) w.primary.link) parts
+                (ap (λ (s : Stream). s.epoch) learned) now;
             stays = λ did. absurd (true≢false did);
           });
       cut = tt;

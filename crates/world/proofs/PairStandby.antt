@@ -6,33 +6,33 @@ use Rattle.kv_types.specs.declared.refusal.Refusal.TheVariants.{Memory, Fault, E
 use Rattle.model.specs.Standing.{Holder}
 use Rattle.standby.specs.declared.frame.Frame.{Frame}
 use Rattle.standby.specs.declared.frame.Ack.{Ack}
+use Rattle.standby_stream.specs.Stream.{Stream}
 use Rattle.machine.specs.declared.event.Event.TheVariants as events
-use Rattle.machine.specs.Event.{World, Standby as MachineStandby, Acknowledgement, Step, may_happen, opened_link, acknowledgement_of, sent, delivered, option_items, told, with_link, with_standby, with_acknowledged}
+use Rattle.machine.specs.Event.{World, Standby as MachineStandby, Acknowledgement, Step, may_happen, opened_link, acknowledgement_of, delivered, option_items, told, with_link, with_standby, with_acknowledged}
 use Rattle.machine.specs.Sound.{Sound}
 use Rattle.machine.proofs.SoundEvents.{sound-step, enabled-is}
 use Rattle.world.specs.Going.{Goes}
 use Rattle.world.specs.Cause.{Stretch, Breaks, RestsAtLimit, EndsBy, Resting}
 use Rattle.world.specs.Committing.{NearOnly, Moves, next_standby}
-use Rattle.world.specs.Link.{LinkRefines, KeepsFrames, AreFramesAt}
+use Rattle.world.specs.Link.{LinkRefines, AreFramesSent}
 use Rattle.world.specs.Standby.{Node, StandbyStands, ArrivalsRefine, AppliesFirst, told_by}
 use Rattle.world.specs.Pair.{Pair, PartsRefine, PairRefines, Steps, Does}
 use Rattle.world.specs.declared.arrivals.Arrivals.{Arrivals}
-use Rattle.world.specs.declared.link.Link.{Link}
 use Rattle.world.proofs.EngineLemmas.{Stands-engine, moves-same}
-use Rattle.world.proofs.ArrivalLemmas.{length-places}
+use Rattle.world.proofs.FrameLemmas.{length-sent}
 use Rattle.world.proofs.PairLemmas.{Led, cut-for, cut-same, goes-map, goes-steps, none-added, rests-primary, tells, untouched}
-use Rattle.world.proofs.PairLink.{link-parts}
+use Rattle.world.proofs.PairLink.{link-alone}
 
 -- ---- the standby
 
 abbrev pub with_arrivals : Arrivals → Pair → Pair
 with_arrivals arrivals pair = record pair { arrivals = arrivals }
 
-abbrev pub with_opened : Arrivals → Link → Pair → Pair
+abbrev pub with_opened : Arrivals → Stream → Pair → Pair
 with_opened arrivals link pair = record pair { arrivals = arrivals; link = link }
 
 arrivals-parts : (first second : Holder) (old : Pair) (arrivals : Arrivals) (w : World) (machine : MachineStandby) (told : List Acknowledgement) → PartsRefine first second old w → machine.position ≡ w.standby.position
-    → ArrivalsRefine old.link.epoch w.primary.calls old.link.frames.items arrivals machine.waiting told
+    → ArrivalsRefine old.link.epoch w.primary.calls old.frames arrivals machine.waiting told
     → PartsRefine first second (with_arrivals arrivals old) (record w { standby = machine; wire = record w.wire { acknowledgements = told } })
 arrivals-parts first second old arrivals w machine told parts position arrivals_stand =
     record {
@@ -43,6 +43,7 @@ arrivals-parts first second old arrivals w machine told parts position arrivals_
       leads = parts.leads;
       epoch = parts.epoch;
       link = parts.link;
+      frames = parts.frames;
       arrivals = arrivals_stand;
       standby = subst (λ p. StandbyStands second old.link.epoch w.primary.calls p old.standby) (sym position) parts.standby;
     }
@@ -57,20 +58,29 @@ Acknowledges ack old new =
     (epoch : ℕ) (frames : List Frame) (w : World) → ArrivalsRefine epoch w.primary.calls frames old w.standby.waiting w.wire.acknowledgements → told_by ack ≡ acknowledgement_of w.standby
     → ArrivalsRefine epoch w.primary.calls frames new w.standby.waiting (w.wire.acknowledgements ++ acknowledgement_of w.standby ∷ [])
 
-pub open-does : (old : Pair) (arrivals : Arrivals) (link : Link) (ack : Ack) → ack ≡ record { epoch = old.standby.epoch; position = old.standby.contents.current.position } → Acknowledges ack old.arrivals arrivals
-    → ((w : World) → LinkRefines w.primary.calls old.link w.primary.link w.wire.frames → LinkRefines w.primary.calls link (opened_link w.primary.link) w.wire.frames) → KeepsFrames old.link link
-    → Does old events.OpenLink (Ok true) (with_opened arrivals link old)
-open-does old arrivals link ack is acknowledges opens keeps =
+pub open-does : (old : Pair) (arrivals : Arrivals) (link : Stream) (ack : Ack) → ack ≡ record { epoch = old.standby.epoch; position = old.standby.contents.current.position } → Acknowledges ack old.arrivals arrivals
+    → link ≡ record old.link { next = 0 } → Does old events.OpenLink (Ok true) (with_opened arrivals link old)
+open-does old arrivals link ack is acknowledges reopened =
     record {
       steps = λ first second w stands.
           let parts = stands.parts in
           let epoch : ack.epoch ≡ w.standby.epoch = ap (λ (a : Ack). a.epoch) is ∙ own-epoch first second old w stands in
           let position : ack.position ≡ w.standby.position = ap (λ (a : Ack). a.position) is ∙ parts.standby.engine.contents_at.at in
           let own : told_by ack ≡ acknowledgement_of w.standby = ap₂ (λ e p. record { epoch = e; position = p }) epoch position in
-          let told = acknowledges old.link.epoch old.link.frames.items w parts.arrivals own in
+          let told = acknowledges old.link.epoch old.frames w parts.arrivals own in
           let w' = with_acknowledged (acknowledgement_of w.standby ∷ []) w in
           let heard : PartsRefine first second (with_arrivals arrivals old) w' = arrivals-parts first second old arrivals w w.standby (w.wire.acknowledgements ++ acknowledgement_of w.standby ∷ []) parts refl told in
-          let moved = link-parts first second (with_arrivals arrivals old) link w' (opened_link w.primary.link) w.wire.frames heard keeps (opens w parts.link) in
+          let opened : LinkRefines w.primary.calls (record old.link { next = 0 }) old.handed old.remote (opened_link w.primary.link) = record {
+            waiting = parts.link.waiting;
+            none_pending = parts.link.none_pending;
+            kept = parts.link.kept;
+            next_within = omega arith;
+            again = refl;
+            known = parts.link.known;
+            remote_is = parts.link.remote_is;
+          } in
+          let moved = link-alone first second (with_arrivals arrivals old) old.handed link old.remote w' (opened_link w.primary.link) heard (ap (λ (s : Stream). s.epoch) reopened)
+          (subst (λ (s : Stream). LinkRefines w.primary.calls s old.handed old.remote (opened_link w.primary.link)) (sym reopened) opened) in
           goes-steps first second w (with_link (opened_link w.primary.link) w') events.OpenLink true old (with_opened arrivals link old) refl refl stands.sound refl
           (record { done = refl; goes = λ did. moved; stays = λ did. absurd (true≢false did) });
       cut = tt;
@@ -87,32 +97,36 @@ open-cut old arrivals result refusal is memory =
       calls = none-added _ _ refl;
     })
 
-pub deliver-does : (old : Pair) (arrivals : Arrivals) (sent : List ℕ) (frame : ℕ) (result : Result Bool Refusal) → sent ≡ old.link.sent.items
-    → IfOk result (λ did. (epoch : ℕ) (frames : List Frame) (w : World) → ArrivalsRefine epoch w.primary.calls frames old.arrivals w.standby.waiting w.wire.acknowledgements
-    → AreFramesAt epoch w.primary.calls frames sent w.wire.frames
+pub deliver-does : (old : Pair) (arrivals : Arrivals) (frames : List Frame) (frame : ℕ) (result : Result Bool Refusal) → frames ≡ old.frames
+    → IfOk result (λ did. (epoch : ℕ) (w : World) → ArrivalsRefine epoch w.primary.calls frames old.arrivals w.standby.waiting w.wire.acknowledgements
+    → AreFramesSent epoch w.primary.calls frames w.wire.frames
     → Goes (may_happen w (events.Deliver frame)) did
     (ArrivalsRefine epoch w.primary.calls frames arrivals (delivered (option_items (slice_get w.wire.frames frame)) w.standby).waiting w.wire.acknowledgements)
     (ArrivalsRefine epoch w.primary.calls frames arrivals w.standby.waiting w.wire.acknowledgements))
-    → IfErr result (λ refusal. refusal ≡ Memory) → OnErr result (frame < length sent) → Does old (events.Deliver frame) result (with_arrivals arrivals old)
-deliver-does old arrivals sent frame (Ok did) same go memory some =
+    → IfErr result (λ refusal. refusal ≡ Memory) → OnErr result (frame < length frames) → Does old (events.Deliver frame) result (with_arrivals arrivals old)
+deliver-does old arrivals frames frame (Ok did) same go memory some =
     record {
       steps = λ first second w stands.
           let parts = stands.parts in
+          let epoch = old.link.epoch in
+          let calls = w.primary.calls in
           let came = delivered (option_items (slice_get w.wire.frames frame)) w.standby in
           goes-steps first second w (with_standby came w) (events.Deliver frame) did old (with_arrivals arrivals old) refl refl stands.sound refl
-          (goes-map (go old.link.epoch old.link.frames.items w parts.arrivals
-          (subst (λ (places : List ℕ). AreFramesAt old.link.epoch w.primary.calls old.link.frames.items places w.wire.frames) (sym same) parts.link.sent))
-          (arrivals-parts first second old arrivals w came w.wire.acknowledgements parts refl)
-          (arrivals-parts first second old arrivals w w.standby w.wire.acknowledgements parts refl));
+          (goes-map (go epoch w
+          (subst (λ (all : List Frame). ArrivalsRefine epoch calls all old.arrivals w.standby.waiting w.wire.acknowledgements) (sym same) parts.arrivals)
+          (subst (λ (all : List Frame). AreFramesSent epoch calls all w.wire.frames) (sym same) parts.frames))
+          (λ moved. arrivals-parts first second old arrivals w came w.wire.acknowledgements parts refl
+          (subst (λ (all : List Frame). ArrivalsRefine epoch calls all arrivals came.waiting w.wire.acknowledgements) same moved))
+          (λ stayed. arrivals-parts first second old arrivals w w.standby w.wire.acknowledgements parts refl
+          (subst (λ (all : List Frame). ArrivalsRefine epoch calls all arrivals w.standby.waiting w.wire.acknowledgements) same stayed)));
       cut = tt;
       calls = none-added _ _ refl;
     }
-deliver-does old arrivals sent frame (Err refusal) same go memory some =
+deliver-does old arrivals frames frame (Err refusal) same go memory some =
     record {
       steps = tt;
       cut = λ first second w stands.
-          let link = stands.parts.link in
-          let is : frame < length w.wire.frames = omega (arith, some, ap length same, length-places old.link.epoch w.primary.calls old.link.frames.items old.link.sent.items w.wire.frames link.sent) in
+          let is : frame < length w.wire.frames = omega (arith, some, ap length same, length-sent old.link.epoch w.primary.calls old.frames w.wire.frames stands.parts.frames) in
           cut-same first second (events.Deliver frame) refusal old (with_arrivals arrivals old) w refl memory refl refl (tells old.sessions) (lt-ltb frame (length w.wire.frames) is) stands;
       calls = none-added _ _ refl;
     }
@@ -121,7 +135,7 @@ abbrev pub with_node : Arrivals → Node → Pair → Pair
 with_node arrivals node pair = record pair { arrivals = arrivals; standby = node }
 
 apply-steps : (first second : Holder) (old : Pair) (arrivals : Arrivals) (node : Node) (w : World) (did : Bool) → PairRefines first second old w
-    → AppliesFirst second old.link.epoch old.link.frames.items w did arrivals old.standby node → Steps first second w events.Apply did old (with_node arrivals node old)
+    → AppliesFirst second old.link.epoch old.frames w did arrivals old.standby node → Steps first second w events.Apply did old (with_node arrivals node old)
 apply-steps first second old arrivals node w true stands applies =
     let parts = stands.parts in
     let moved = applies.goes refl in
@@ -142,7 +156,8 @@ apply-steps first second old arrivals node w true stands applies =
           leads = parts.leads;
           epoch = parts.epoch;
           link = parts.link;
-          arrivals = subst (λ (x : World). ArrivalsRefine old.link.epoch w.primary.calls old.link.frames.items arrivals x.standby.waiting x.wire.acknowledgements) applied.now moved.2;
+          frames = parts.frames;
+          arrivals = subst (λ (x : World). ArrivalsRefine old.link.epoch w.primary.calls old.frames arrivals x.standby.waiting x.wire.acknowledgements) applied.now moved.2;
           standby = subst (λ (x : World). StandbyStands second old.link.epoch w.primary.calls x.standby.position node) applied.now moved.3;
         };
       };
@@ -163,6 +178,7 @@ apply-steps first second old arrivals node w false stands applies =
       leads = before.leads;
       epoch = before.epoch;
       link = before.link;
+      frames = before.frames;
       arrivals = stayed.0;
       standby = subst (StandbyStands second old.link.epoch w.primary.calls w.standby.position) (sym stayed.1) before.standby;
     } in
@@ -180,7 +196,7 @@ ends-apply Fault P Q both ends = both Breaks ends
 ends-apply Exhausted P Q both ends = both RestsAtLimit ends
 ends-apply refusal P Q both ends = absurd ends
 
-pub apply-does : (old : Pair) (arrivals : Arrivals) (node : Node) (frames : List Frame) (result : Result Bool Refusal) → frames ≡ old.link.frames.items
+pub apply-does : (old : Pair) (arrivals : Arrivals) (node : Node) (frames : List Frame) (result : Result Bool Refusal) → frames ≡ old.frames
     → IfOk result (λ did. (holder : Holder) (w : World) → Sound w → old.standby.epoch ≡ w.standby.epoch → ArrivalsRefine old.standby.epoch w.primary.calls frames old.arrivals w.standby.waiting w.wire.acknowledgements
     → StandbyStands holder old.standby.epoch w.primary.calls w.standby.position old.standby
     → AppliesFirst holder old.standby.epoch frames w did arrivals old.standby node)

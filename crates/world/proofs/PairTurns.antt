@@ -1,5 +1,5 @@
 -- What the turns of the committer do to the pair: its own clauses refine the machine's events.
-use Rattle.std.proofs.Common.{◌≡◌, ◌⊎◌, ◌-◌, ◌<◌, ◌≤◌, Bool, true, false, not, [], ◌∷◌, ◌++◌, length, Some, None, Result, Ok, Err, inl, inr, refl, sym, ap, subst, ◌∙◌, arith}
+use Rattle.std.proofs.Common.{◌≡◌, ◌⊎◌, ◌-◌, ◌<◌, ◌≤◌, ℕ, Bool, true, false, not, List, [], ◌∷◌, ◌++◌, length, Some, None, Result, Ok, Err, inl, inr, refl, sym, ap, subst, ◌∙◌, arith}
 use Rattle.std.specs.Coded.{le_prop}
 use denote.Enum.Bare.{sameb}
 use Rattle.pmem.specs.Device.{State}
@@ -10,6 +10,8 @@ use Rattle.model.specs.declared.group.Group.{Group}
 use Rattle.model.specs.Group.{Contents, IsGroup}
 use Rattle.model.specs.Standing.{Holder}
 use Rattle.redis_core.specs.Sequencing.{Sequencing, IsAheadOf}
+use Rattle.standby.specs.declared.frame.Frame.{Frame}
+use Rattle.standby_stream.specs.Stream.{Stream}
 use Rattle.group_commit.specs.Committing.{Commits, raised, ready_again}
 use Rattle.group_commit.specs.Group.{AreGroups, after_groups}
 use Rattle.group_commit.specs.declared.committer.Committer.{Committer}
@@ -27,7 +29,6 @@ use Rattle.world.specs.Session.{SequencerRefines}
 use Rattle.world.specs.Standby.{Node}
 use Rattle.world.specs.Pair.{Pair, PartsRefine, PairRefines, Steps, Does}
 use Rattle.world.specs.declared.arrivals.Arrivals.{Arrivals}
-use Rattle.world.specs.declared.link.Link.{Link}
 use Rattle.world.specs.declared.sessions.Sessions.{Sessions}
 use Rattle.world.proofs.CommittingLemmas.{commit-busy, commit-ends, commit-full, commit-goes, commit-moments, commit-none, first-lawful, hand-goes, hand-none, hand-room, may-commit, raise-goes, raise-none}
 use Rattle.world.proofs.PairLemmas.{Led, cut-for, none-added, rests-standby, tells}
@@ -50,7 +51,7 @@ Waiting-same : (a b : Waiting Group) → a.items ≡ b.items → a ≡ b
 Waiting-same a b same =
     subst (λ items. (within : length items ≤ limits.PIPE_ITEMS) → a ≡ record { items = items; within = within }) same (λ within. ap (λ w. record a { within = w }) (le_prop a.within within)) b.within
 
-module _ {E : Type 0} (device : E → State) (contents : E → Contents) (is_faulted : E → Bool) (sessions : Sessions) (sequencer : Sequencing) (link : Link) (arrivals : Arrivals) (standby : Node) where
+module _ {E : Type 0} (device : E → State) (contents : E → Contents) (is_faulted : E → Bool) (sessions : Sessions) (sequencer : Sequencing) (link : Stream) (remote : ℕ) (frames : List Frame) (arrivals : Arrivals) (standby : Node) where
   -- a pair with this committer, with these groups waiting for it, and with these at the link
   abbrev pub pair_of : Committer E → Waiting Group → Waiting Group → Pair
   pair_of committer groups waiting = record {
@@ -60,7 +61,10 @@ module _ {E : Type 0} (device : E → State) (contents : E → Contents) (is_fau
     device = device committer.engine;
     contents = contents committer.engine;
     is_faulted = is_faulted committer.engine;
-    link = record link { waiting = waiting };
+    handed = waiting;
+    link = link;
+    remote = remote;
+    frames = frames;
     arrivals = arrivals;
     standby = standby;
   }
@@ -95,6 +99,7 @@ module _ {E : Type 0} (device : E → State) (contents : E → Contents) (is_fau
             };
             epoch = parts.epoch;
             link = parts.link;
+            frames = parts.frames;
             arrivals = parts.arrivals;
             standby = parts.standby;
           }

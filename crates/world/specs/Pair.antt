@@ -1,10 +1,14 @@
 -- How a pair of nodes with its connections refines the machine's.
-use Rattle.std.specs.Prelude.{◌≡◌, ℕ, ◌<◌, ◌≤◌, Bool, true, [], length, slice_index_or, vec_capacity, Result, IfOk, IfErr}
+use Rattle.std.specs.Prelude.{◌≡◌, ℕ, ◌<◌, ◌≤◌, Bool, true, List, [], length, slice_index_or, vec_capacity, Result, IfOk, IfErr}
 use Rattle.pmem.specs.Device.{State}
 use Rattle.kv_types.specs.declared.refusal.Refusal.{Refusal}
+use Rattle.model.specs.declared.group.Group.{Group}
 use Rattle.model.specs.Group.{Contents}
 use Rattle.model.specs.Standing.{Holder}
+use Rattle.pipes.specs.Waiting.{Waiting}
 use Rattle.redis_core.specs.Sequencing.{Sequencing}
+use Rattle.standby.specs.declared.frame.Frame.{Frame}
+use Rattle.standby_stream.specs.Stream.{Stream}
 use Rattle.machine.specs.declared.event.Event.{Event}
 use Rattle.machine.specs.declared.event.TheConstants.{SEATS}
 use Rattle.machine.specs.Event.{World, Step, is_enabled}
@@ -12,11 +16,10 @@ use Rattle.machine.specs.Promise.{released_in}
 use Rattle.machine.specs.Sound.{Sound}
 use Rattle.world.specs.Cause.{EndsBy}
 use Rattle.world.specs.Committing.{Committing, EngineStands, Leads, Moves, CommittingRefines, next_primary, next_standby}
-use Rattle.world.specs.Link.{LinkRefines}
+use Rattle.world.specs.Link.{AreFramesSent, LinkRefines}
 use Rattle.world.specs.Session.{SessionsRefine, SequencerRefines, AddsOne, released_of}
 use Rattle.world.specs.Standby.{Node, StandbyStands, ArrivalsRefine}
 use Rattle.world.specs.declared.arrivals.Arrivals.{Arrivals}
-use Rattle.world.specs.declared.link.Link.{Link}
 use Rattle.world.specs.declared.sessions.Sessions.{Sessions}
 
 -- what a pair is made of
@@ -29,7 +32,13 @@ pub record Pair : Type 0 where
   pub device : State
   pub contents : Contents
   pub is_faulted : Bool
-  pub link : Link
+  -- groups that were handed on to the link
+  pub handed : Waiting Group
+  pub link : Stream
+  -- the remote mark
+  pub remote : ℕ
+  -- all frames that passed over the link
+  pub frames : List Frame
   pub arrivals : Arrivals
   pub standby : Node
 
@@ -41,8 +50,9 @@ pub record PartsRefine (first second : Holder) (pair : Pair) (w : World) : Type 
   pub engine : EngineStands first w.primary.calls w.primary.committer.position pair.device pair.contents pair.is_faulted
   pub leads : Leads pair.contents pair.committing.waiting.items pair.sequencer
   pub epoch : pair.link.epoch ≡ w.primary.epoch
-  pub link : LinkRefines w.primary.calls pair.link w.primary.link w.wire.frames
-  pub arrivals : ArrivalsRefine pair.link.epoch w.primary.calls pair.link.frames.items pair.arrivals w.standby.waiting w.wire.acknowledgements
+  pub link : LinkRefines w.primary.calls pair.link pair.handed pair.remote w.primary.link
+  pub frames : AreFramesSent pair.link.epoch w.primary.calls pair.frames w.wire.frames
+  pub arrivals : ArrivalsRefine pair.link.epoch w.primary.calls pair.frames pair.arrivals w.standby.waiting w.wire.acknowledgements
   pub standby : StandbyStands second pair.link.epoch w.primary.calls w.standby.position pair.standby
 
 -- it refines a world that a run may reach

@@ -10,7 +10,7 @@ ghost use Rattle.standby.specs.Following.{Follows};
 ghost use Rattle.world.specs.Going.{Goes};
 ghost use Rattle.world.specs.Cause.{EndsBy};
 ghost use Rattle.world.specs.Committing.{NearOnly, next_standby};
-ghost use Rattle.world.specs.Link.{AreFramesAt};
+ghost use Rattle.world.specs.Link.{AreFramesSent};
 ghost use Rattle.world.specs.Standby.{StandbyStands, ArrivalsRefine, AppliesFirst, told_by};
 
 use kv_types::Refusal;
@@ -23,7 +23,7 @@ use wbl_engine::Durable;
 /// Frames on their way into the standby, and acknowledgements on their way out.
 #[derive(Drop)]
 pub(crate) struct Arrivals {
-    /// The indices, in the link's list of frames, of those that came to the standby and were not taken yet.
+    /// The indices, among the frames that were sent, of those that came to the standby and were not taken yet.
     pub(crate) delivered: VecDeque<usize>,
     /// All acknowledgements that the standby ever made.
     pub(crate) acknowledgements: Vec<Ack>,
@@ -49,23 +49,22 @@ impl Arrivals {
         Ok(())
     }
 
-    /// Delivers the sent frame with the number `frame` to the standby. Returns whether there is such a frame.
-    pub(crate) fn deliver(&mut self, sent: &[usize], frame: u64) -> Result<bool, Refusal>
-        ensures goes { IfOk result (λ did. (epoch : ℕ) (frames : List Frame) (w : World) → ArrivalsRefine epoch w.primary.calls frames self.old w.standby.waiting w.wire.acknowledgements
-            → AreFramesAt epoch w.primary.calls frames sent.now w.wire.frames
+    /// Delivers the sent frame with the index `frame` to the standby. Returns whether there is such a frame.
+    pub(crate) fn deliver(&mut self, frames: &[Frame], frame: u64) -> Result<bool, Refusal>
+        ensures goes { IfOk result (λ did. (epoch : ℕ) (w : World) → ArrivalsRefine epoch w.primary.calls frames.now self.old w.standby.waiting w.wire.acknowledgements
+            → AreFramesSent epoch w.primary.calls frames.now w.wire.frames
             → Goes (may_happen w (Deliver frame)) did
-            (ArrivalsRefine epoch w.primary.calls frames self.new (delivered (option_items (slice_get w.wire.frames frame)) w.standby).waiting w.wire.acknowledgements)
-            (ArrivalsRefine epoch w.primary.calls frames self.new w.standby.waiting w.wire.acknowledgements)) }
+            (ArrivalsRefine epoch w.primary.calls frames.now self.new (delivered (option_items (slice_get w.wire.frames frame)) w.standby).waiting w.wire.acknowledgements)
+            (ArrivalsRefine epoch w.primary.calls frames.now self.new w.standby.waiting w.wire.acknowledgements)) }
         ensures cause { IfErr result (λ refusal. refusal ≡ Refusal.Memory) }
-        ensures some { OnErr result (frame < length sent.now) }
+        ensures some { OnErr result (frame < length frames.now) }
     {
-        match sent.get(frame as usize) {
-            Some(place) => {
-                self.delivered.push_back(*place)?;
-                Ok(true)
-            }
-            None => Ok(false),
+        let number = frame as usize;
+        if number >= frames.len() {
+            return Ok(false);
         }
+        self.delivered.push_back(number)?;
+        Ok(true)
     }
 
     /// The standby takes the first frame that came. Returns whether there was one.

@@ -7,7 +7,8 @@ ghost use Rattle.wbl_engine.specs.Contents.{IsNew};
 ghost use Rattle.redis_core.specs.Sequencing.{IsAheadOf};
 ghost use Rattle.world.specs.Cause.{UnformedBy};
 ghost use Rattle.world.specs.Committing.{FormattingOnly};
-ghost use Rattle.world.specs.Link.{LinkRefines};
+ghost use Rattle.model.specs.declared.record.TheConstants.{FIRST_EPOCH};
+ghost use Rattle.standby_stream.specs.Stream.{new_stream};
 ghost use Rattle.world.specs.Standby.{ArrivalsRefine};
 ghost use Rattle.world.specs.Pair.{PairRefines};
 ghost use Rattle.world.specs.Session.{SessionsRefine, SequencerRefines};
@@ -16,7 +17,6 @@ ghost use Rattle.model.specs.Image.{entries_of_lines, first_extent_line};
 ghost use Rattle.wbl_engine.specs.Contents.{IsDurable};
 
 use crate::arrivals::Arrivals;
-use crate::link::Link;
 use crate::pair::{Pair, Stepper};
 use crate::sessions::Sessions;
 use extent_heap::ExtentHeap;
@@ -28,6 +28,7 @@ use pipes::LocalPipe;
 use pmem::Pmem;
 use redis_core::Sequencer;
 use standby::Standby;
+use standby_stream::Link;
 use std::alloc::Global;
 use wbl_engine::{Durable, Role, WblEngine};
 
@@ -37,6 +38,7 @@ struct Between<K: Keyspace> {
     sessions: Sessions,
     sequencer: Sequencer<K>,
     groups: LocalPipe<Group>,
+    handed: LocalPipe<Group>,
     link: Link,
     arrivals: Arrivals,
 }
@@ -54,9 +56,8 @@ fn make_between<K: Keyspace + Drop>(
     ensures sequencer { IfOk result (λ between. SequencerRefines [] 0 between.sequencer) }
     ensures underlies { IfOk result (λ between. (contents : Contents) → IsNew lines contents.current.role contents → IsAheadOf between.sequencer contents) }
     ensures no_group { IfOk result (λ between. between.groups.items ≡ []) }
-    ensures link { IfOk result (λ between. LinkRefines [] between.link start.primary.link []) }
-    ensures epoch { IfOk result (λ between. between.link.epoch ≡ FIRST_EPOCH) }
-    ensures no_frame { IfOk result (λ between. between.link.frames.items ≡ []) }
+    ensures link { IfOk result (λ between. between.link ≡ new_stream FIRST_EPOCH) }
+    ensures handed { IfOk result (λ between. between.handed.items ≡ []) }
     ensures arrivals { IfOk result (λ between. (epoch : ℕ) → ArrivalsRefine epoch [] [] between.arrivals [] []) }
     ensures cause { IfErr result (λ refusal. refusal ≡ Refusal.Memory) }
 {
@@ -64,6 +65,7 @@ fn make_between<K: Keyspace + Drop>(
         sessions: Sessions::new(alloc, calls)?,
         sequencer: Sequencer::new(alloc, keyspace, heap_of(lines), 0)?,
         groups: LocalPipe::new(alloc)?,
+        handed: LocalPipe::new(alloc)?,
         link: Link::new(alloc, FIRST_EPOCH)?,
         arrivals: Arrivals::new(alloc),
     })
@@ -119,7 +121,10 @@ pub(crate) fn form<P: Pmem, K: Keyspace + Drop>(
             sequencer: between.sequencer,
             groups: between.groups,
             committer: Committer::new(engine),
+            handed: between.handed,
             link: between.link,
+            remote: 0,
+            frames: Vec::new(alloc),
             arrivals: between.arrivals,
             standby: Standby {
                 engine: follower,

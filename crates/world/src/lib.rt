@@ -6,7 +6,6 @@ mod closing;
 mod connection;
 mod form;
 mod inbound;
-mod link;
 mod outbound;
 mod pair;
 mod playing;

@@ -6,7 +6,6 @@ ghost use Rattle.world.specs.Pair as specs;
 
 use crate::arrivals::Arrivals;
 use crate::closing::close_group;
-use crate::link::Link;
 use crate::sessions::Sessions;
 use bytes::Bytes;
 use group_commit::{Committer, Done, Stage};
@@ -17,7 +16,8 @@ use mv_keyspace::Keyspace;
 use pipes::LocalPipe;
 use redis_core::Sequencer;
 use reply_gate::Seen;
-use standby::Standby;
+use standby::{Frame, Standby};
+use standby_stream::Link;
 use std::alloc::Global;
 use wbl_engine::Durable;
 
@@ -45,7 +45,13 @@ pub(crate) struct Pair<E: Durable, K: Keyspace> {
     pub(crate) groups: LocalPipe<Group>,
     /// The primary's committer, with its engine.
     pub(crate) committer: Committer<E>,
+    /// Groups that were committed and handed on, and are not sent.
+    pub(crate) handed: LocalPipe<Group>,
     pub(crate) link: Link,
+    /// The remote mark.
+    pub(crate) remote: u64,
+    /// All frames that ever passed over the link, in the order of their sending.
+    pub(crate) frames: Vec<Frame>,
     pub(crate) arrivals: Arrivals,
     pub(crate) standby: Standby<E, K>,
 }
@@ -58,7 +64,10 @@ impl<E: Durable, K: Keyspace> Stepper for Pair<E, K> {
       device = E.device p.committer.engine;
       contents = E.contents p.committer.engine;
       is_faulted = E.is_faulted p.committer.engine;
+      handed = p.handed;
       link = p.link;
+      remote = p.remote;
+      frames = p.frames.items;
       arrivals = p.arrivals;
       standby = record {
         device = E.device p.standby.engine;
@@ -133,9 +142,7 @@ impl<E: Durable, K: Keyspace> Pair<E, K> {
         let Stage::Ready = self.committer.stage() else {
             return Ok(false);
         };
-        let done = self
-            .committer
-            .turn(&mut self.groups, &mut self.link.waiting)?;
+        let done = self.committer.turn(&mut self.groups, &mut self.handed)?;
         Ok(done != Done::Idle)
     }
 
@@ -145,9 +152,7 @@ impl<E: Durable, K: Keyspace> Pair<E, K> {
         let Stage::Durable(_) = self.committer.stage() else {
             return Ok(false);
         };
-        let done = self
-            .committer
-            .turn(&mut self.groups, &mut self.link.waiting)?;
+        let done = self.committer.turn(&mut self.groups, &mut self.handed)?;
         Ok(done != Done::Idle)
     }
 
@@ -157,9 +162,7 @@ impl<E: Durable, K: Keyspace> Pair<E, K> {
         let Stage::Shown(_) = self.committer.stage() else {
             return Ok(false);
         };
-        let done = self
-            .committer
-            .turn(&mut self.groups, &mut self.link.waiting)?;
+        let done = self.committer.turn(&mut self.groups, &mut self.handed)?;
         Ok(done != Done::Idle)
     }
 
@@ -174,13 +177,18 @@ impl<E: Durable, K: Keyspace> Pair<E, K> {
     fn send(&mut self) -> Result<bool, Refusal>
         ensures { Does (⟦<Pair<E, K> as Stepper>⟧.parts self.old) events.Send result (⟦<Pair<E, K> as Stepper>⟧.parts self.new) }
     {
-        self.link.send(self.alloc)
+        let Some(index) = self.link.next_frame(self.alloc, &mut self.handed)? else {
+            return Ok(false);
+        };
+        let frame = self.link.frame(index).clone()?;
+        self.frames.push(frame)?;
+        Ok(true)
     }
 
     fn deliver(&mut self, frame: u64) -> Result<bool, Refusal>
         ensures { Does (⟦<Pair<E, K> as Stepper>⟧.parts self.old) (events.Deliver frame) result (⟦<Pair<E, K> as Stepper>⟧.parts self.new) }
     {
-        self.arrivals.deliver(self.link.sent.as_slice(), frame)
+        self.arrivals.deliver(self.frames.as_slice(), frame)
     }
 
     fn apply(&mut self) -> Result<bool, Refusal>
@@ -188,7 +196,7 @@ impl<E: Durable, K: Keyspace> Pair<E, K> {
         ensures { Does (⟦<Pair<E, K> as Stepper>⟧.parts self.old) events.Apply result (⟦<Pair<E, K> as Stepper>⟧.parts self.new) }
     {
         self.arrivals
-            .apply(self.alloc, &mut self.standby, self.link.frames.as_slice())
+            .apply(self.alloc, &mut self.standby, self.frames.as_slice())
     }
 
     fn ack_delivered(&mut self, ack: u64) -> Result<bool, Refusal>
@@ -206,7 +214,10 @@ impl<E: Durable, K: Keyspace> Pair<E, K> {
     fn raise_remote(&mut self) -> Result<bool, Refusal>
         ensures { Does (⟦<Pair<E, K> as Stepper>⟧.parts self.old) events.RaiseRemote result (⟦<Pair<E, K> as Stepper>⟧.parts self.new) }
     {
-        Ok(self.link.raise_remote())
+        let known = self.link.known();
+        let rises = self.remote < known;
+        self.remote = known;
+        Ok(rises)
     }
 
     fn hold(&mut self, c: u64) -> Result<bool, Refusal>
@@ -220,7 +231,7 @@ impl<E: Durable, K: Keyspace> Pair<E, K> {
     {
         let marks = Seen {
             local: self.committer.local(),
-            remote: self.link.remote,
+            remote: self.remote,
         };
         Ok(self.sessions.read(c, mark, marks))
     }

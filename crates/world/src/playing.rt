@@ -149,7 +149,10 @@ fn play_on<P: Pmem, K: Keyspace + Drop>(
         sequencer: _sequencer,
         groups: _groups,
         committer,
-        link,
+        handed: _handed,
+        link: _link,
+        remote: _,
+        mut frames,
         arrivals,
         standby,
     } = pair;
@@ -160,10 +163,11 @@ fn play_on<P: Pmem, K: Keyspace + Drop>(
         replies: _replies,
     } = sessions;
     take_released(connections, &mut released);
+    drop_repeats(&mut frames);
     Played {
         calls,
         released,
-        frames: link.frames,
+        frames,
         acknowledgements: arrivals.acknowledgements,
         done,
         ended,
@@ -199,4 +203,14 @@ fn take_released(connections: Vec<Connection>, released: &mut Vec<Vec<u8>>)
     for connection in connections {
         released.push_reserved(connection.outbound.into_released());
     }
+}
+
+/// Drops the frames that were sent before: each group's frame ends above all earlier ones.
+fn drop_repeats(frames: &mut Vec<Frame>) {
+    let mut last = 0;
+    frames.retain(|frame| {
+        let is_new = frame.after > last;
+        last = last.max(frame.after);
+        is_new
+    });
 }

@@ -2,6 +2,7 @@ use Rattle.std.proofs.Common.{refl, ap, sym, subst, ◌∙◌}
 use Rattle.kv_types.specs.declared.refusal.Refusal.{Refusal}
 use Rattle.model.specs.declared.record.Role.TheVariants.{Primary, Standby}
 use Rattle.standby.proofs.NewLemmas.{HasAll}
+use Rattle.standby_stream.specs.Stream.{Stream}
 use Rattle.world.specs.Cause.{UnformedBy}
 use Rattle.world.proofs.FormLemmas.{engine-new, formatting-none, new-own, pair-starts, standby-new, unformed-first, unformed-second}
 use Rattle.world.proofs.form.form.Goals as goal
@@ -19,11 +20,12 @@ returns-in-Ok-format-2-clause-stands g c =
     let following = c.in-Ok-format-2.ensures in
     let all : HasAll (g.P.Pmem.state c.args.standby).lines c.heap_of-heap.result =
     subst (λ n. HasAll n c.heap_of-heap.result) c.lines.ensures.count (record { lines_free = c.heap_of-heap.ensures.lines; entries_free = c.heap_of-heap.ensures.entries }) in
+    let epoch = ap (λ (s : Stream). s.epoch) made.link in
     rw c.new.ensures (pair-starts _ _ _ made.sessions made.sequencer made.no_group refl serving.new.position
     (engine-new _ _ _ _ _ serving.new serving.durable serving.sound.0)
     (made.underlies _ (new-own _ _ _ _ (sym c.lines-2.ensures.count) serving.new))
-    made.link made.epoch made.no_frame made.arrivals
-    (standby-new _ _ _ _ following.new following.durable following.sound.0 all c.requires.following (following.new.epoch ∙ sym made.epoch) made.epoch))
+    made.link made.handed refl c.new-2.ensures.items made.arrivals
+    (standby-new _ _ _ _ following.new following.durable following.sound.0 all c.requires.following (following.new.epoch ∙ sym epoch) epoch))
 
 pub returns-in-Err-clause-cause : goal.returns-in-Err-clause-cause
 returns-in-Err-clause-cause g c =

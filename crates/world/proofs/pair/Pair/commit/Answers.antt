@@ -11,7 +11,7 @@ pub returns-in_default : goal.returns-in_default
 returns-in_default g c =
     let E = g.E.Durable in
     let pair = c.args.self.now in
-    commit-busy-does E.device E.contents E.is_faulted _ _ pair.link _ _ pair.committer pair.groups pair.link.waiting (λ ready. c.in_default.not-Ready (c.stage.ensures ∙ ready))
+    commit-busy-does E.device E.contents E.is_faulted _ _ pair.link _ _ _ _ pair.committer pair.groups pair.handed (λ ready. c.in_default.not-Ready (c.stage.ensures ∙ ready))
 
 pub returns-in_err-done : goal.returns-in_err-done
 returns-in_err-done g c =
@@ -21,7 +21,7 @@ returns-in_err-done g c =
     let ready = sym c.stage.ensures ∙ c.in-Ready.is in
     let turned = c.turn.ensures.ready ready in
     told-so _ _ _ _ _ (ap did_of c.in_err-done.was ∙ sym (exit.1 ∙ ap Err exit.2))
-    (commit-does E.device E.contents E.is_faulted _ _ pair.link _ _ pair.committer c.turn.new.self pair.groups c.turn.new.groups pair.link.waiting c.turn.new.link c.turn.result
+    (commit-does E.device E.contents E.is_faulted _ _ pair.link _ _ _ _ pair.committer c.turn.new.self pair.groups c.turn.new.groups pair.handed c.turn.new.link c.turn.result
     ready c.requires.stands.parts.leads.groups_are turned.0 turned.1)
 
 pub returns : goal.returns
@@ -31,5 +31,5 @@ returns g c =
     let ready = sym c.stage.ensures ∙ c.in-Ready.is in
     let turned = c.turn.ensures.ready ready in
     told-so _ _ _ _ _ (ap did_of c.in_ok-done.was ∙ ap Ok (did-done c.in_ok-done.done c.ne.result c.ne.ensures))
-    (commit-does E.device E.contents E.is_faulted _ _ pair.link _ _ pair.committer c.turn.new.self pair.groups c.turn.new.groups pair.link.waiting c.turn.new.link c.turn.result
+    (commit-does E.device E.contents E.is_faulted _ _ pair.link _ _ _ _ pair.committer c.turn.new.self pair.groups c.turn.new.groups pair.handed c.turn.new.link c.turn.result
     ready c.requires.stands.parts.leads.groups_are turned.0 turned.1)

@@ -1,7 +1,6 @@
-use Rattle.std.proofs.Common.{◌≡◌, ◌∙◌, ap}
+use Rattle.std.proofs.Common.{◌≡◌, ◌∙◌}
 use Rattle.std.proofs.lemmas.Result.{err_from_is_err_and}
 use Rattle.kv_types.specs.declared.refusal.Refusal.TheVariants.{Memory}
-use Rattle.standby.specs.declared.frame.Ack.{Ack}
 use Rattle.world.proofs.PairStandby.{open-does, open-cut}
 use Rattle.world.proofs.pair.Pair.open_link.Goals as goal
 
@@ -12,4 +11,4 @@ returns-in_err-acknowledge g c =
     open-cut _ c.acknowledge.new.self c.from_residual.result exit.0 exit.1 memory
 
 pub returns : goal.returns
-returns g c = open-does _ c.acknowledge.new.self c.reopen.new.self c.ack.result c.ack.ensures c.in_ok-acknowledge.ensures.stands c.reopen.ensures.stands c.reopen.ensures.keeps
+returns g c = open-does _ c.acknowledge.new.self c.reopen.new.self c.ack.result c.ack.ensures c.in_ok-acknowledge.ensures.stands c.reopen.ensures

@@ -1,0 +1,29 @@
+-- What a link holds after it took a group, and after it framed one.
+use Rattle.std.proofs.Common.{◌≡◌, ◌+◌, ◌++◌, [], ◌∷◌, Bool, true, List, Option, Some, None, refl, sym, ap, subst, ◌∙◌, true≢false}
+use Rattle.model.specs.declared.group.Group.{Group}
+use Rattle.standby.specs.declared.frame.Frame.{Frame}
+use Rattle.standby_stream.specs.Stream.{Stream, TakesNext, Adds, Frames, IsFrameOf}
+
+-- a frame was added, and is sent
+pub sends-added : (old new : Stream) (found : Option Group) (did : Bool) → Adds old found did new → did ≡ true → Frames old found (Some new.next) (record new { next = new.next + 1 })
+sends-added old new None did adds is = absurd (true≢false (sym is ∙ adds.0))
+sends-added old new (Some group) did adds is =
+    (ap (λ (s : Stream). Some s.next) adds.1.2, (adds.1.0, adds.1.1, ap (λ (s : Stream). record s { next = s.next + 1 }) adds.1.2))
+
+module _ {I : Type 0} (gives : I → Option Group → I → Type 0) (before after : I) (own now : Stream) (same : own ≡ now) (group : Group) (pending : Option Group) (is : pending ≡ Some group)
+    (takes : TakesNext gives own.pending before pending after) where
+  -- a group that was taken stays with the link
+  pub keeps-group : (found : Group) × TakesNext gives now.pending before (Some found) after × (record own { pending = pending } ≡ record now { pending = Some found })
+  keeps-group =
+      subst (λ (s : Stream). (found : Group) × TakesNext gives s.pending before (Some found) after × (record own { pending = pending } ≡ record s { pending = Some found })) same
+      (group, subst (λ found. TakesNext gives own.pending before found after) is takes, ap (λ p. record own { pending = p }) is)
+
+  -- its frame is kept last
+  pub adds-frame : (frame : Frame) (kept : List Frame) → IsFrameOf own.epoch group frame → kept ≡ own.kept ++ frame ∷ []
+      → (found : Option Group) × TakesNext gives now.pending before found after × Adds now found true (record own { kept = kept; pending = None })
+  adds-frame frame kept of more =
+      subst (λ (s : Stream). (found : Option Group) × TakesNext gives s.pending before found after × Adds s found true (record own { kept = kept; pending = None })) same (
+        Some group,
+        subst (λ found. TakesNext gives own.pending before found after) is takes,
+        (refl, (frame, of, ap (λ (frames : List Frame). record own { kept = frames; pending = None }) more)),
+      )

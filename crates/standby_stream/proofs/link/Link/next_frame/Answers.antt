@@ -1,0 +1,18 @@
+use Rattle.std.proofs.Common.{sym, subst, ◌∙◌, arith}
+use Rattle.standby_stream.specs.Stream.{Stream, TakesNext, IsDue, Adds}
+use Rattle.standby_stream.proofs.StreamLemmas.{sends-added}
+use Rattle.standby_stream.proofs.link.Link.next_frame.Goals.{else-self-len-via-then-self-len+in_ok-add_next+else-not-branch, else-self-len-via-else-self-len}
+use Rattle.standby_stream.proofs.link.Link.next_frame.Goals as goal
+
+pub returns-clause-next : goal.returns-clause-next
+returns-clause-next g c = λ due. elim c.else-self-len.branch [
+  | else-self-len-via-then-self-len+in_ok-add_next+else-not-branch w ↦
+      let added = w.in_ok-add_next.ensures.next due.room in
+      let new : Stream = record { epoch = c.self-2.inside.epoch; kept = c.self-2.inside.kept.items; next = c.self-2.inside.next; known = c.self-2.inside.known; pending = c.self-2.inside.pending } in (
+        added.0,
+        subst (λ after. TakesNext g.I.Inlet.take_gives c.args.self.now.pending c.args.groups.now added.0 after) (sym w.groups-is) added.1,
+        sends-added c.args.self.now new added.0 w.in_ok-add_next.field-0
+            (subst (Adds c.args.self.now added.0 w.in_ok-add_next.field-0) (sym w.self-is ∙ sym c.self-2.view_is) added.2) w.if-not-branch.false,
+      )
+  | else-self-len-via-else-self-len w ↦ let here = subst IsDue (sym c.self.view_is) due in absurd (w.if-self-len.false (omega (arith, here.all_sent)))
+]

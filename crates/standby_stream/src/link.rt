@@ -1,0 +1,184 @@
+//! The link: which frame is sent next, and which are kept.
+ghost use Rattle.std.specs.Prelude.{◌≡◌, ◌≢◌, ◌+◌, ◌-◌, ◌<◌, ◌≤◌, false, length, max, slice_get, Option, Some, None, Ok, IfOk, IfErr, IfSome};
+ghost use Rattle.std.specs.VecDeque.{deque_capacity};
+ghost use Rattle.model.specs.declared.group.Group.{Group};
+ghost use Rattle.pipes.specs.declared.limits.TheConstants.{KEPT_GROUPS};
+ghost use Rattle.standby_stream.specs.Stream.{TakesNext, IsFull, IsDue, Adds, Frames, new_stream, above};
+
+use crate::frame_of::frame_of;
+use kv_types::Refusal;
+use model::Group;
+use pipes::{Inlet, KEPT_GROUPS};
+use standby::{Ack, Frame};
+use std::alloc::{AllocError, Global};
+use std::collections::VecDeque;
+use std::marker::Model;
+
+/// Sends each committed group as a frame, in order, and keeps the frame until it is acknowledged. A clause sees a `Stream`.
+#[derive(Drop)]
+pub struct Link {
+    epoch: u64,
+    /// Frames that are not acknowledged, oldest first.
+    kept: VecDeque<Frame>,
+    /// The index in `kept` of the frame that is sent next.
+    next: usize,
+    /// The highest position that was acknowledged.
+    known: u64,
+    /// A group that was taken and has no frame yet, as memory was refused.
+    pending: Option<Group>,
+}
+
+impl Model for Link {
+    ghost use Rattle.std.specs.VecDeque.{deque_capacity};
+    ghost use Rattle.standby_stream.specs.Stream.{Stream, IsStream};
+
+    ghost Value = { Stream };
+
+    ghost view = { λ link. record {
+      epoch = link.epoch;
+      kept = link.kept.items;
+      next = link.next;
+      known = link.known;
+      pending = link.pending;
+    } };
+
+    // The room for all frames is made with the link, so that later calls take memory for a frame's changes alone.
+    ghost invariant = { λ link. IsStream link.kept.items link.next (deque_capacity link.kept) };
+}
+
+impl Link {
+    /// A link of this epoch that has sent nothing and knows of no acknowledgement.
+    ///
+    /// # Errors
+    ///
+    /// `AllocError` alone, where the room for its frames was refused.
+    pub fn new(alloc: Global, epoch: u64) -> Result<Link, AllocError>
+        ensures { IfOk result (λ link. link ≡ new_stream epoch) }
+    {
+        Ok(Link {
+            epoch,
+            kept: VecDeque::with_capacity(alloc, KEPT_GROUPS)?,
+            next: 0,
+            known: 0,
+            pending: None,
+        })
+    }
+
+    /// All kept frames are to be sent again, the oldest first.
+    pub fn reopen(&mut self)
+        ensures { self.new ≡ record self.old { next = 0 } }
+    {
+        self.next = 0;
+    }
+
+    /// The frame that is sent next, by its index for `frame`: of those that are to be sent again the oldest, or else that of the next group. It
+    /// answers `None`, and nothing changed, where all 256 frames that it may keep were sent and none is acknowledged, or where no group waits.
+    ///
+    /// # Errors
+    ///
+    /// `Memory` alone, where room for the changes of the next group was refused. The group stays with the link, and its frame comes next.
+    pub fn next_frame<I: Inlet<Item = Group>>(
+        &mut self,
+        alloc: Global,
+        groups: &mut I,
+    ) -> Result<Option<usize>, Refusal>
+        ensures again { (self.old).next < length (self.old).kept
+            → (result ≡ Ok (Some (self.old).next)) × (self.new ≡ record self.old { next = (self.old).next + 1 }) × (groups.new ≡ groups.old) }
+        ensures full { IsFull self.old → (result ≡ Ok None) × (self.new ≡ self.old) × (groups.new ≡ groups.old) }
+        ensures next { IsDue self.old
+            → IfOk result (λ given. (found : Option Group) × TakesNext I.take_gives (self.old).pending groups.old found groups.new × Frames self.old found given self.new) }
+        ensures kept { IfOk result (λ given. IfSome given (λ index. index < length (self.new).kept)) }
+        ensures refused { IfErr result (λ refusal. (refusal ≡ Refusal.Memory) × IsDue self.old
+            × ((group : Group) × TakesNext I.take_gives (self.old).pending groups.old (Some group) groups.new × (self.new ≡ record self.old { pending = Some group }))) }
+    {
+        if self.next == self.kept.len() && !self.add_next(alloc, groups)? {
+            return Ok(None);
+        }
+        let index = self.next;
+        self.next += 1;
+        Ok(Some(index))
+    }
+
+    /// A kept frame, by its index. An acknowledgement gives the frames other indices.
+    pub fn frame(&self, index: usize) -> &Frame
+        requires { index < length (self.now).kept }
+        ensures { slice_get (self.now).kept index ≡ Some result.now }
+    {
+        &self.kept[index]
+    }
+
+    /// Drops the oldest kept frames, as far as they end at the acknowledged position or below it. An acknowledgement of another epoch is none.
+    pub fn on_ack(&mut self, ack: Ack)
+        ensures own { ack.epoch ≡ (self.old).epoch → self.new ≡ record self.old {
+          kept = above ack.position (self.old).kept;
+          next = (self.old).next - (length (self.old).kept - length (above ack.position (self.old).kept));
+          known = max (self.old).known ack.position;
+        } }
+        ensures other { ack.epoch ≢ (self.old).epoch → self.new ≡ self.old }
+    {
+        if ack.epoch != self.epoch {
+            return;
+        }
+        let dropped = drop_known(&mut self.kept, ack.position);
+        self.next = self.next.saturating_sub(dropped);
+        self.known = self.known.max(ack.position);
+    }
+
+    /// The highest position that was acknowledged, 0 before the first.
+    pub fn known(&self) -> u64
+        ensures { result ≡ (self.now).known }
+    {
+        self.known
+    }
+
+    /// Keeps the frame of the next group, if there is one and fewer than 256 are kept. Answers whether it did.
+    fn add_next<I: Inlet<Item = Group>>(
+        &mut self,
+        alloc: Global,
+        groups: &mut I,
+    ) -> Result<bool, Refusal>
+        ensures full { KEPT_GROUPS ≤ length (self.old).kept → (result ≡ Ok false) × (self.new ≡ self.old) × (groups.new ≡ groups.old) }
+        ensures next { length (self.old).kept < KEPT_GROUPS
+            → IfOk result (λ did. (found : Option Group) × TakesNext I.take_gives (self.old).pending groups.old found groups.new × Adds self.old found did self.new) }
+        ensures refused { IfErr result (λ refusal. (refusal ≡ Refusal.Memory) × (length (self.old).kept < KEPT_GROUPS)
+            × ((group : Group) × TakesNext I.take_gives (self.old).pending groups.old (Some group) groups.new × (self.new ≡ record self.old { pending = Some group }))) }
+    {
+        if self.kept.len() >= KEPT_GROUPS {
+            return Ok(false);
+        }
+        take_next(&mut self.pending, groups);
+        let Some(group) = &self.pending else {
+            return Ok(false);
+        };
+        let frame = frame_of(alloc, group, self.epoch)?;
+        self.kept.push_back_reserved(frame);
+        self.pending = None;
+        Ok(true)
+    }
+}
+
+/// Takes the next group, unless there is one that was taken before.
+fn take_next<I: Inlet<Item = Group>>(pending: &mut Option<Group>, groups: &mut I)
+    ensures { TakesNext I.take_gives pending.old groups.old pending.new groups.new }
+{
+    if pending.is_none() {
+        *pending = groups.take();
+    }
+}
+
+/// Drops the oldest frames, as far as they end at this position or below it. Answers how many.
+fn drop_known(kept: &mut VecDeque<Frame>, position: u64) -> usize
+    ensures kept { kept.new.items ≡ above position kept.old.items }
+    ensures count { result + length kept.new.items ≡ length kept.old.items }
+    ensures capacity { deque_capacity kept.new ≡ deque_capacity kept.old }
+{
+    let mut dropped = 0;
+    while let Some(frame) = kept.front() {
+        if frame.after > position {
+            break;
+        }
+        let _ = kept.pop_front();
+        dropped += 1;
+    }
+    dropped
+}
