@@ -4,3 +4,4 @@ pub mod Outcomes
 pub mod Replies
 pub mod Contents
 pub mod Integers
+pub mod Records

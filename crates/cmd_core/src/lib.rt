@@ -8,6 +8,7 @@ mod lookup;
 mod outcome;
 mod plain_lookup;
 mod reading;
+mod record;
 mod shape;
 
 pub use bounds::stored;
@@ -16,4 +17,5 @@ pub use integer::{int_of, number_text};
 pub use lookup::Lookup;
 pub use outcome::{Answer, Outcome, Status};
 pub use reading::{check_hash, string_at};
+pub use record::{Record, count_fields_in, count_keys_in, field_in, fields_in, has_in, string_in};
 pub use shape::{Keys, WordCount};

@@ -1,27 +1,23 @@
 -- Rows that are filtered, and rows inserted among others.
-use Rattle.std.proofs.Common.{◌≡◌, ℕ, suc, ◌+◌, ◌<◌, Bool, true, false, cond, not, List, [], ◌∷◌, ◌++◌, map, length, take, drop, insert, get_or, Option, Some, None, refl, sym, ap, ◌∙◌, append_assoc, length-append, arith}
+use Rattle.std.proofs.Common.{◌≡◌, ℕ, suc, ◌+◌, ◌<◌, Bool, true, false, cond, not, List, [], ◌∷◌, ◌++◌, map, length, take, drop, insert, get_or, Option, Some, None, IsTrue, refl, sym, ap, ◌∙◌, append_assoc, length-append, arith}
 use Rattle.std.proofs.lemmas.List.{map-append, take-map, drop-map, get_or-map, drop_more, take_more}
 use Rattle.std.proofs.lemmas.List.Filters.{length-filter_both}
 use Rattle.std.specs.Prelude.{filter}
-use Rattle.std.specs.FinMap.Entries.{where_key, by_order}
-use Rattle.std.specs.Cmp.{both_ways}
+use Rattle.std.specs.FinMap.Entries.{where_key, by_order, is_sorted}
 use Rattle.std.specs.declared.cmp.Ordering.{Ordering}
 use Rattle.std.specs.declared.cmp.Ordering.TheVariants.{Less, Equal, Greater}
 use Rattle.std.specs.Ordering.{is_eq, is_lt}
 use Rattle.kv_types.specs.declared.record_id.RecordId.{RecordId}
 use Rattle.kv_types.specs.declared.change.Change.{Change}
-use Rattle.kv_types.specs.declared.record_id.RecordId.TheVariants.{Str}
 use Rattle.kv_types.specs.declared.place.EntryNo.{EntryNo}
-use Rattle.kv_types.specs.Keyspace.{record_cmp, value_at}
-use Rattle.kv_types.proofs.OrderLemmas.{same_record}
-use Rattle.kv_types.proofs.LookUpLemmas.{is_same, is_same_at}
-use Rattle.model.specs.Group.{ends_record}
-use Rattle.mv_keyspace.specs.declared.list_keyspace.Row.{Row}
-use Rattle.mv_keyspace.specs.Table.{Cell, Table, records, cell_at, with_cell, entries_of}
-use Rattle.mv_keyspace.specs.Row.{cell_of_row, table_of, numbers_of, ended_rows, spared_rows}
-
-same_back : (x y : RecordId) → is_same x y ≡ is_same y x
-same_back x y = both_ways (is_same x y) (is_same y x) (λ e. is_same_at y x (sym (same_record x y e))) (λ e. is_same_at x y (sym (same_record y x e)))
+use Rattle.kv_types.specs.Keyspace.{record_cmp}
+use Rattle.kv_types.proofs.PlayLemmas.{is_sorted-play}
+use Rattle.model.specs.declared.group.PlacedChange.{PlacedChange}
+use Rattle.model.specs.Group.{change_of, ends_record}
+use Rattle.mv_keyspace.specs.declared.row.Row.{Row}
+use Rattle.mv_keyspace.specs.Table.{Cell, Table, records, cell_at, with_cell, entries_of, place, place_all}
+use Rattle.mv_keyspace.proofs.TableLemmas.{records-place}
+use Rattle.mv_keyspace.specs.Row.{cell_of_row, records_of, records_of_table, table_of, numbers_of, ended_rows, spared_rows}
 
 length_map : {X Y : Type 0} (f : X → Y) (xs : List X) → length (map f xs) ≡ length xs
 length_map f [] = refl
@@ -109,20 +105,19 @@ module _ (id : RecordId) (rows : List Row) (n : ℕ) (row : Row) (prefix : Passe
   pub row_later : is_lt (record_cmp id row.id) ≡ false → PassesPrefix id (table_of rows) (n + 1)
   row_later above = place_later id (table_of rows) n (entry_of row) prefix lt_table is_table above
 
--- ---- the look-up, row by row
+-- ---- the order of rows
 
-module _ (key : List ℕ) (rows : List Row) (n : ℕ) (row : Row) (lt : n < length rows) (is : row ≡ get_or rows n row) where
-  abbrev string_among : List Row → Option (List ℕ)
-  string_among some = value_at (records (table_of some)) (Str key)
+sorted_placed : (position : ℕ) (table : Table) (changes : List PlacedChange) → IsTrue (is_sorted record_cmp (records table)) → IsTrue (is_sorted record_cmp (records (place_all position table changes)))
+sorted_placed position table [] sorted = sorted
+sorted_placed position table (change ∷ changes) sorted =
+    sorted_placed position (place position table change) changes
+    (ap (is_sorted record_cmp) (records-place position table change) ∙ is_sorted-play (records table) (change_of change) sorted)
 
-  among_rest : string_among (drop n rows) ≡ cond (is_same (Str key) row.id) (Some row.value) (string_among (drop (n + 1) rows))
-  among_rest = ap string_among (drop_more rows n row lt ∙ ap (λ r. r ∷ drop (n + 1) rows) (sym is))
-
-  pub string_here : is_same row.id (Str key) ≡ true → string_among (drop n rows) ≡ Some row.value
-  string_here same = among_rest ∙ ap (λ b. cond b (Some row.value) (string_among (drop (n + 1) rows))) (same_back (Str key) row.id ∙ same)
-
-  pub string_later : is_same row.id (Str key) ≡ false → string_among (drop n rows) ≡ string_among (drop (n + 1) rows)
-  string_later differ = among_rest ∙ ap (λ b. cond b (Some row.value) (string_among (drop (n + 1) rows))) (same_back (Str key) row.id ∙ differ)
+-- rows that became those after changes are in the order of records
+pub in_order-placed : (position : ℕ) (rows after : List Row) (changes : List PlacedChange) → table_of after ≡ place_all position (table_of rows) changes → IsTrue (is_sorted record_cmp (records_of rows)) → IsTrue (is_sorted record_cmp (records_of after))
+in_order-placed position rows after changes is sorted =
+    ap (is_sorted record_cmp) (records_of_table after ∙ ap records is)
+    ∙ sorted_placed position (table_of rows) changes (ap (is_sorted record_cmp) (sym (records_of_table rows)) ∙ sorted)
 
 -- ---- lengths
 

@@ -1,19 +1,29 @@
 -- The rows of a list, as a table.
-use Rattle.std.specs.Prelude.{ℕ, not, List, map}
+use Rattle.std.specs.Prelude.{◌≡◌, ℕ, not, List, [], ◌∷◌, map, refl}
+use Rattle.std.proofs.Common.{ap}
 use Rattle.std.specs.FinMap.Entries.{where_key}
 use Rattle.kv_types.specs.declared.place.EntryNo.{EntryNo}
 use Rattle.kv_types.specs.declared.change.Change.{Change}
-use Rattle.kv_types.specs.Keyspace.{record_cmp}
+use Rattle.kv_types.specs.Keyspace.{Keyspace, record_cmp}
 use Rattle.model.specs.declared.group.Put.{Put}
 use Rattle.model.specs.Group.{ends_record}
-use Rattle.mv_keyspace.specs.declared.list_keyspace.Row.{Row}
-use Rattle.mv_keyspace.specs.Table.{Cell, Table, cell_of_put}
+use Rattle.mv_keyspace.specs.declared.row.Row.{Row}
+use Rattle.mv_keyspace.specs.Table.{Cell, Table, records, cell_of_put}
 
 abbrev pub cell_of_row : Row → Cell
 cell_of_row row = record { value = row.value; entry = row.entry.0; position = row.position }
 
 abbrev pub table_of : List Row → Table
 table_of rows = map (λ row. (row.id, cell_of_row row)) rows
+
+-- the rows as a keyspace
+abbrev pub records_of : List Row → Keyspace
+records_of rows = map (λ row. (row.id, row.value)) rows
+
+-- which is that of their table
+pub records_of_table : (rows : List Row) → records_of rows ≡ records (table_of rows)
+records_of_table [] = refl
+records_of_table (row ∷ rows) = ap (λ s. (row.id, row.value) ∷ s) (records_of_table rows)
 
 -- the rows that the puts make at this position
 abbrev pub rows_of_puts : ℕ → List Put → Table

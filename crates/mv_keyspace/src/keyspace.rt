@@ -1,23 +1,17 @@
 //! The keyspace as a sequencer and a standby see it.
 ghost use Rattle.std.specs.Prelude.{◌≡◌, OnOk, OnErr, IfOk, IfErr};
-ghost use Rattle.std.specs.Option.{option_copied};
-ghost use Rattle.kv_types.specs.declared.record_id.RecordId.TheVariants.{Str};
 ghost use Rattle.kv_types.specs.declared.refusal.Refusal.TheVariants.{Memory};
-ghost use Rattle.kv_types.specs.Keyspace.{value_at, IsKeyspace};
 ghost use Rattle.mv_keyspace.specs.Table.{Table, records, place_all, puts_of, AreEnded, AreFresh, IsLawful};
 
-use kv_types::{EntryNo, Refusal, Value};
+use cmd_core::Lookup;
+use kv_types::{EntryNo, Refusal};
 use model::PlacedChange;
 use std::alloc::Global;
 
 /// The live records of a node, each with its value, its entry and the position of its change.
-pub trait Keyspace {
+pub trait Keyspace: Lookup {
     /// Each live record with its value, its entry and the position at which it was put, in the order of records.
     ghost table: { Self → Table };
-
-    /// The string at a key, or `None` where there is none.
-    fn get(&self, key: &[u8]) -> Option<&Value>
-        ensures { option_copied result ≡ value_at (records (table self.now)) (Str key.now) };
 
     /// Makes all changes of a command or of a frame at this position of the list, and returns the entries that they ended, each once.
     /// Refused with `Memory` where a growth was refused, and then nothing has changed.
@@ -33,4 +27,7 @@ pub trait Keyspace {
         ensures ended { IfOk result (λ ended. AreEnded position (table self.old) changes.now ended.items) }
         ensures err { OnErr result (table self.new ≡ table self.old) }
         ensures cause { IfErr result (λ refusal. refusal ≡ Memory) };
+
+    /// What a command reads is the table.
+    ghost reads: { (k : Self) → Self.keyspace k ≡ records (table k) };
 }

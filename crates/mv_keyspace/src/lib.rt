@@ -3,6 +3,7 @@
 
 mod keyspace;
 mod list_keyspace;
+mod row;
 
 pub use keyspace::Keyspace;
 pub use list_keyspace::ListKeyspace;

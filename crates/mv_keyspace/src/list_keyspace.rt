@@ -1,32 +1,25 @@
 //! The keyspace as a list of rows in the order of records.
-ghost use Rattle.std.specs.Prelude.{◌≡◌, ℕ, ◌+◌, ◌<◌, ◌≤◌, ◌==◌, ◌++◌, List, [], ◌∷◌, length, insert, IfOk, IfErr, vec_len, vec_capacity};
-ghost use Rattle.std.specs.Option.{option_copied};
+ghost use Rattle.std.specs.Prelude.{◌≡◌, ℕ, ◌+◌, ◌<◌, ◌≤◌, ◌==◌, ◌++◌, List, [], ◌∷◌, length, insert, IsTrue, IfOk, IfErr, vec_len, vec_capacity};
 ghost use Rattle.std.specs.Ordering.{eq_by_cmp};
+ghost use Rattle.std.specs.FinMap.Entries.{is_sorted};
 ghost use Rattle.kv_types.specs.declared.change.Change.TheVariants as kinds;
-ghost use Rattle.kv_types.specs.Keyspace.{value_at, record_cmp};
+ghost use Rattle.kv_types.specs.Keyspace.{record_cmp};
 ghost use Rattle.model.specs.Group.{change_of, ends_record};
-ghost use Rattle.mv_keyspace.specs.Table.{Cell, records, cell_at, entries_of, with_cell, cell_of_put, place_all, puts_of, AreEnded, AreFresh, IsLawful};
-ghost use Rattle.mv_keyspace.specs.Row.{cell_of_row, table_of, rows_of_puts, numbers_of, ended_rows, spared_rows};
+ghost use Rattle.mv_keyspace.specs.Table.{Cell, cell_at, entries_of, with_cell, cell_of_put, place_all, puts_of, AreEnded, AreFresh, IsLawful};
+ghost use Rattle.mv_keyspace.specs.Row.{cell_of_row, records_of, table_of, rows_of_puts, numbers_of, ended_rows, spared_rows};
 
 use crate::keyspace::Keyspace;
-use kv_types::{EntryNo, RecordId, Refusal, Value};
-use model::{PlacedChange, Put};
+use crate::row::{Row, row_of};
+use cmd_core::{Lookup, count_fields_in, count_keys_in, field_in, fields_in, has_in, string_in};
+use kv_types::{EntryNo, Field, RecordId, Refusal, Value};
+use model::PlacedChange;
 use std::alloc::{AllocError, Global};
-
-/// A live record, with the entry that holds it.
-#[derive(Debug, Drop)]
-struct Row {
-    id: RecordId,
-    value: Value,
-    entry: EntryNo,
-    /// The position of the list at which it was put.
-    position: u64,
-}
 
 /// The live records of a node, as a list in their order. Each change goes through the whole list.
 #[derive(Debug, Drop)]
 pub struct ListKeyspace {
     rows: Vec<Row>,
+    ghost in_order: { IsTrue (is_sorted record_cmp (records_of rows.items)) },
 }
 
 impl ListKeyspace {
@@ -56,14 +49,42 @@ impl ListKeyspace {
     }
 }
 
+impl Lookup for ListKeyspace {
+    ghost use Rattle.mv_keyspace.specs.Row.{records_of};
+
+    ghost keyspace = { λ keyspace. records_of keyspace.rows.items };
+
+    fn string(&self, key: &[u8]) -> Option<&Value> {
+        string_in(&self.rows, key)
+    }
+
+    fn field(&self, key: &[u8], field: &[u8]) -> Option<&Value> {
+        field_in(&self.rows, key, field)
+    }
+
+    fn has(&self, key: &[u8]) -> bool {
+        has_in(&self.rows, key)
+    }
+
+    fn count_keys(&self) -> u64 {
+        count_keys_in(&self.rows)
+    }
+
+    fn count_fields(&self, key: &[u8]) -> u64 {
+        count_fields_in(&self.rows, key)
+    }
+
+    fn fields(&self, alloc: Global, key: &[u8]) -> Result<Vec<(Field, Value)>, AllocError> {
+        fields_in(alloc, &self.rows, key)
+    }
+}
+
 impl Keyspace for ListKeyspace {
-    ghost use Rattle.mv_keyspace.specs.Row.{table_of};
+    ghost use Rattle.mv_keyspace.specs.Row.{table_of, records_of_table};
 
     ghost table = { λ keyspace. table_of keyspace.rows.items };
 
-    fn get(&self, key: &[u8]) -> Option<&Value> {
-        string_in(&self.rows, key)
-    }
+    ghost reads = { λ keyspace. records_of_table keyspace.rows.items };
 
     fn apply(
         &mut self,
@@ -78,18 +99,6 @@ impl Keyspace for ListKeyspace {
         play(&mut self.rows, changes, staged, &mut ended);
         Ok(ended)
     }
-}
-
-/// The string at a key.
-fn string_in<'a>(rows: &'a [Row], key: &[u8]) -> Option<&'a Value>
-    ensures { option_copied result ≡ value_at (records (table_of rows.now)) (RecordId.Str key.now) }
-{
-    for row in rows {
-        if is_string_at(&row.id, key) {
-            return Some(&row.value);
-        }
-    }
-    None
 }
 
 fn is_string_at(id: &RecordId, key: &[u8]) -> bool
@@ -113,18 +122,6 @@ fn stage(alloc: Global, changes: &[PlacedChange], position: u64) -> Result<Vec<R
         }
     }
     Ok(staged)
-}
-
-fn row_of(put: &Put, position: u64) -> Result<Row, AllocError>
-    ensures id { IfOk result (λ row. row.id ≡ put.now.id) }
-    ensures cell { IfOk result (λ row. cell_of_row row ≡ cell_of_put position put.now) }
-{
-    Ok(Row {
-        id: put.id.clone()?,
-        value: put.value.clone()?,
-        entry: put.entry,
-        position,
-    })
 }
 
 /// Makes the changes, whose puts have their rows staged. There is room for everything that they add.

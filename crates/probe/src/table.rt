@@ -5,6 +5,7 @@ ghost use Rattle.model.specs.Group.{put_of};
 use crate::answers::{add_number, done, hexed_or_none, refused};
 use crate::cause::Cause;
 use crate::words::{bytes, key, record_and_value, record_id};
+use cmd_core::Lookup;
 use kv_types::{EntryNo, Extent, Refusal};
 use model::{PlacedChange, Put};
 use mv_keyspace::{Keyspace, ListKeyspace};
@@ -36,7 +37,7 @@ impl TableProbe {
             }
             ["get", name] => {
                 let keyspace = self.keyspace.as_ref().ok_or(Cause::NotMade)?;
-                let value = keyspace.get(&bytes(alloc, name)?);
+                let value = keyspace.string(&bytes(alloc, name)?);
                 hexed_or_none(alloc, value.map(|value| value.as_slice()))
             }
             _ => Err(Cause::NoCall),

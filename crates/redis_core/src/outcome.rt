@@ -7,6 +7,7 @@ ghost use Rattle.redis_core.specs.Reading.{Fits, IsOutcome, command_of, misuse_o
 
 use crate::command::{Command, Misuse, read_command};
 use bytes::Bytes;
+use cmd_core::Lookup;
 use kv_types::{BoundedBytes, Change, Item, RecordId, Reply};
 use mv_keyspace::Keyspace;
 use std::alloc::{AllocError, Global};
@@ -73,7 +74,7 @@ fn run<K: Keyspace>(
 fn get<K: Keyspace>(alloc: Global, keyspace: &K, key: &[u8]) -> Result<Outcome, AllocError>
     ensures { IfOk result (λ outcome. IsOutcome outcome (meaning.does (records (K.table keyspace.now)) (meaning.Get key.now))) }
 {
-    let reply = match keyspace.get(key) {
+    let reply = match keyspace.string(key) {
         None => Reply::NullBulk,
         Some(value) => Reply::Bulk(value.to_bytes()?),
     };

@@ -1,0 +1,44 @@
+//! A live record, as the list keeps it.
+ghost use Rattle.std.specs.Prelude.{◌≡◌, IfOk};
+ghost use Rattle.mv_keyspace.specs.Table.{cell_of_put};
+ghost use Rattle.mv_keyspace.specs.Row.{cell_of_row};
+
+use cmd_core::Record;
+use kv_types::{EntryNo, RecordId, Value};
+use model::Put;
+use std::alloc::{AllocError, Global};
+
+/// A live record, with the entry that holds it.
+#[derive(Debug, Drop)]
+pub(crate) struct Row {
+    pub id: RecordId,
+    pub value: Value,
+    pub entry: EntryNo,
+    /// The position of the list at which it was put.
+    pub position: u64,
+}
+
+impl Record for Row {
+    ghost kept = { λ row. (row.id, row.value) };
+
+    fn id(&self) -> &RecordId {
+        &self.id
+    }
+
+    fn value(&self) -> &Value {
+        &self.value
+    }
+}
+
+/// The row that a put makes at this position.
+pub(crate) fn row_of(put: &Put, position: u64) -> Result<Row, AllocError>
+    ensures id { IfOk result (λ row. row.id ≡ put.now.id) }
+    ensures cell { IfOk result (λ row. cell_of_row row ≡ cell_of_put position put.now) }
+{
+    Ok(Row {
+        id: put.id.clone()?,
+        value: put.value.clone()?,
+        entry: put.entry,
+        position,
+    })
+}
