@@ -4,6 +4,7 @@ use Rattle.kv_types.specs.Keyspace.{Keyspace}
 use Rattle.cmd_core.specs.Outcomes.{Outcome, excluded}
 use Rattle.cmd_string.specs.Strings.{set, get, setnx, getdel, strlen, append, mset, msetnx, mget}
 use Rattle.cmd_string.specs.Counters.{incr, decr, incrby, decrby}
+use Rattle.cmd_string.specs.Keys.{del, exists, type_of, dbsize, flushdb}
 use Rattle.cmd_string.specs.Connection.{ping, echo, quit}
 use Rattle.cmd_table.specs.declared.name.CommandName.{CommandName}
 use Rattle.cmd_table.specs.declared.name.CommandName.TheVariants as name
@@ -18,6 +19,8 @@ does s name.SetNx = setnx s
 does s name.GetDel = getdel s
 does s name.StrLen = strlen s
 does s name.Append = append s
+does s name.Del = del s
+does s name.Exists = exists s
 does s name.MSet = mset
 does s name.MSetNx = msetnx s
 does s name.MGet = mget s
@@ -25,5 +28,8 @@ does s name.Incr = incr s
 does s name.Decr = decr s
 does s name.IncrBy = incrby s
 does s name.DecrBy = decrby s
+does s name.TypeOf = type_of s
+does s name.DbSize = dbsize s
+does s name.FlushDb = flushdb s
 -- the others are not served
 does s _ = λ arguments. excluded

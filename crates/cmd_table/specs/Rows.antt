@@ -65,11 +65,6 @@ row_now r = record { name = r.name.now; words = r.words; keys = r.keys }
 
 -- the other commands are served
 abbrev pub is_served : CommandName → Bool
-is_served name.Del = false
-is_served name.Exists = false
-is_served name.TypeOf = false
-is_served name.DbSize = false
-is_served name.FlushDb = false
 is_served name.HSet = false
 is_served name.HSetNx = false
 is_served name.HGet = false

@@ -31,6 +31,8 @@ pub fn run<L: Lookup>(
         CommandName::GetDel => cmd_string::getdel(alloc, lookup, arguments),
         CommandName::StrLen => cmd_string::strlen(alloc, lookup, arguments),
         CommandName::Append => cmd_string::append(alloc, lookup, arguments),
+        CommandName::Del => cmd_string::del(alloc, lookup, arguments),
+        CommandName::Exists => cmd_string::exists(alloc, lookup, arguments),
         CommandName::MSet => cmd_string::mset(alloc, arguments),
         CommandName::MSetNx => cmd_string::msetnx(alloc, lookup, arguments),
         CommandName::MGet => cmd_string::mget(alloc, lookup, arguments),
@@ -38,6 +40,9 @@ pub fn run<L: Lookup>(
         CommandName::Decr => cmd_string::decr(alloc, lookup, arguments),
         CommandName::IncrBy => cmd_string::incrby(alloc, lookup, arguments),
         CommandName::DecrBy => cmd_string::decrby(alloc, lookup, arguments),
+        CommandName::TypeOf => cmd_string::type_of(alloc, lookup, arguments),
+        CommandName::DbSize => cmd_string::dbsize(alloc, lookup, arguments),
+        CommandName::FlushDb => cmd_string::flushdb(alloc, lookup, arguments),
         _ => unreachable!(),
     }
 }

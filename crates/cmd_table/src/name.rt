@@ -93,11 +93,6 @@ impl CommandName {
         ensures { result ≡ spec.is_served self }
     {
         match self {
-            CommandName::Del => false,
-            CommandName::Exists => false,
-            CommandName::TypeOf => false,
-            CommandName::DbSize => false,
-            CommandName::FlushDb => false,
             CommandName::HSet => false,
             CommandName::HSetNx => false,
             CommandName::HGet => false,
