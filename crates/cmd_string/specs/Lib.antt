@@ -1,0 +1,5 @@
+pub mod Conditions
+pub mod Strings
+pub mod Counters
+pub mod Keys
+pub mod Connection

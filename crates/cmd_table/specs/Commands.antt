@@ -1,0 +1,32 @@
+-- From the words of a request to a command, or to why it is none (this project's profile).
+use Rattle.std.specs.Prelude.{ℕ, ◌+◌, not, if◌then◌else◌, List, [], ◌∷◌, length, Option, Some, None, Result, Ok, Err}
+use Rattle.cmd_core.specs.Shapes.{takes, are_short}
+use Rattle.cmd_table.specs.declared.name.CommandName.{CommandName}
+use Rattle.cmd_table.specs.declared.command.Command as code
+use Rattle.cmd_table.specs.declared.misuse.Misuse.{Misuse}
+use Rattle.cmd_table.specs.declared.misuse.Misuse.TheVariants.{UnknownName, WrongNumberOfWords, LongKey}
+use Rattle.cmd_table.specs.Rows.{row, command_named}
+
+pub record Command : Type 0 where
+  pub name : CommandName
+  -- the words after the name
+  pub arguments : List (List ℕ)
+
+abbrev pub read_arguments : CommandName → List (List ℕ) → Result Command Misuse
+read_arguments name arguments =
+    if not (takes (row name).words (length arguments + 1)) then Err (WrongNumberOfWords name)
+    else (if not (are_short (row name).keys arguments) then Err LongKey else Ok (record { name = name; arguments = arguments }))
+
+abbrev pub read_named : Option CommandName → List (List ℕ) → Result Command Misuse
+read_named None arguments = Err UnknownName
+read_named (Some name) arguments = read_arguments name arguments
+
+-- First the name, then the number of words, then the lengths of keys and fields.
+abbrev pub read_command : List (List ℕ) → Result Command Misuse
+read_command [] = Err UnknownName
+read_command (word ∷ arguments) = read_named (command_named word) arguments
+
+-- the reading as the code has it
+abbrev pub reading_now : Result code.Command Misuse → Result Command Misuse
+reading_now (Ok command) = Ok (record { name = command.name; arguments = command.arguments.now })
+reading_now (Err misuse) = Err misuse

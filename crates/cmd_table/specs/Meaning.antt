@@ -1,0 +1,35 @@
+-- What each command answers and what it changes. The arguments are the words after the name.
+use Rattle.std.specs.Prelude.{ℕ, List}
+use Rattle.kv_types.specs.Keyspace.{Keyspace}
+use Rattle.cmd_core.specs.Outcomes.{Outcome, excluded}
+use Rattle.cmd_string.specs.Strings.{set, get, setnx, getdel, strlen, append, mset, msetnx, mget}
+use Rattle.cmd_string.specs.Counters.{incr, decr, incrby, decrby}
+use Rattle.cmd_string.specs.Keys.{del, exists, type_of, dbsize, flushdb}
+use Rattle.cmd_string.specs.Connection.{ping, echo, quit}
+use Rattle.cmd_table.specs.declared.name.CommandName.{CommandName}
+use Rattle.cmd_table.specs.declared.name.CommandName.TheVariants as name
+
+abbrev pub does : Keyspace → CommandName → List (List ℕ) → Outcome
+does s name.Set = set s
+does s name.Get = get s
+does s name.Ping = ping
+does s name.Echo = echo
+does s name.Quit = quit
+does s name.SetNx = setnx s
+does s name.GetDel = getdel s
+does s name.StrLen = strlen s
+does s name.Append = append s
+does s name.Del = del s
+does s name.Exists = exists s
+does s name.MSet = mset
+does s name.MSetNx = msetnx s
+does s name.MGet = mget s
+does s name.Incr = incr s
+does s name.Decr = decr s
+does s name.IncrBy = incrby s
+does s name.DecrBy = decrby s
+does s name.TypeOf = type_of s
+does s name.DbSize = dbsize s
+does s name.FlushDb = flushdb s
+-- the others are not served
+does s _ = λ arguments. excluded

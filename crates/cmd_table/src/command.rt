@@ -1,0 +1,43 @@
+//! From the words of a request to a command, or to why it is none: tested once, over the table.
+ghost use Rattle.std.specs.Prelude.{◌≡◌, ◌≤◌, IsTrue, length, IfOk};
+ghost use Rattle.std.specs.List.{AllByRecursion};
+ghost use Rattle.kv_types.specs.declared.limits.TheConstants.{MAX_VALUE_BYTES};
+ghost use Rattle.cmd_core.specs.Shapes.{Fits};
+ghost use Rattle.cmd_table.specs.Commands as spec;
+ghost use Rattle.cmd_table.specs.Rows.{row, is_served};
+
+use crate::misuse::Misuse;
+use crate::name::CommandName;
+use bytes::Bytes;
+use kv_types::MAX_VALUE_BYTES;
+
+/// A command with the words after its name.
+#[derive(Clone, Copy)]
+pub struct Command<'a> {
+    pub name: CommandName,
+    pub arguments: &'a [Bytes],
+}
+
+/// The command that the words name, which is served and whose arguments are as its row asks. First the name is looked at, then the
+/// number of words, then the lengths of keys and fields.
+pub fn read_command(words: &[Bytes]) -> Result<Command<'_>, Misuse>
+    requires { AllByRecursion (λ word. length word ≤ MAX_VALUE_BYTES) words.now }
+    ensures read { spec.reading_now result ≡ spec.read_command words.now }
+    ensures fits { IfOk result (λ command. Fits (row command.name).words (row command.name).keys command.arguments.now) }
+    ensures served { IfOk result (λ command. IsTrue (is_served command.name)) }
+{
+    let Some((word, arguments)) = words.split_first() else {
+        return Err(Misuse::UnknownName);
+    };
+    let Some(name) = CommandName::named(word.as_slice()) else {
+        return Err(Misuse::UnknownName);
+    };
+    let row = name.row();
+    if !row.words.takes(words.len()) {
+        return Err(Misuse::WrongNumberOfWords(name));
+    }
+    if !row.keys.are_short(arguments) {
+        return Err(Misuse::LongKey);
+    }
+    Ok(Command { name, arguments })
+}

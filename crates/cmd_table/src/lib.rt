@@ -1,0 +1,19 @@
+//! The table of commands: from the words of a request to a command, and from a command to what it answers and changes.
+#![tactic(auto)]
+
+mod command;
+mod dispatch;
+mod find;
+mod laws;
+mod misuse;
+mod name;
+mod request;
+mod row;
+
+pub use command::{Command, read_command};
+pub use dispatch::run;
+pub use laws::every_command_is_found;
+pub use misuse::Misuse;
+pub use name::{COMMANDS, CommandName};
+pub use request::{closes, outcome_of_words};
+pub use row::Row;

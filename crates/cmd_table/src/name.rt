@@ -1,0 +1,116 @@
+//! The commands by name, and which of them are served.
+ghost use Rattle.std.specs.Prelude.{◌≡◌};
+ghost use Rattle.cmd_table.specs.Rows as spec;
+
+/// A command of the table, served or not.
+#[derive(Clone, Copy, Debug, PartialEq, Eq)]
+pub enum CommandName {
+    Set,
+    Get,
+    Ping,
+    Echo,
+    Quit,
+    SetNx,
+    GetDel,
+    StrLen,
+    Append,
+    Del,
+    Exists,
+    MSet,
+    MSetNx,
+    MGet,
+    Incr,
+    Decr,
+    IncrBy,
+    DecrBy,
+    TypeOf,
+    DbSize,
+    FlushDb,
+    HSet,
+    HSetNx,
+    HGet,
+    HMGet,
+    HDel,
+    HLen,
+    HExists,
+    HStrLen,
+    HIncrBy,
+    HGetAll,
+    HKeys,
+    HVals,
+    Multi,
+    Exec,
+    Discard,
+    Watch,
+    Unwatch,
+}
+
+/// Every command, in the order in which names are compared.
+pub const COMMANDS: [CommandName; 38] = [
+    CommandName::Set,
+    CommandName::Get,
+    CommandName::Ping,
+    CommandName::Echo,
+    CommandName::Quit,
+    CommandName::SetNx,
+    CommandName::GetDel,
+    CommandName::StrLen,
+    CommandName::Append,
+    CommandName::Del,
+    CommandName::Exists,
+    CommandName::MSet,
+    CommandName::MSetNx,
+    CommandName::MGet,
+    CommandName::Incr,
+    CommandName::Decr,
+    CommandName::IncrBy,
+    CommandName::DecrBy,
+    CommandName::TypeOf,
+    CommandName::DbSize,
+    CommandName::FlushDb,
+    CommandName::HSet,
+    CommandName::HSetNx,
+    CommandName::HGet,
+    CommandName::HMGet,
+    CommandName::HDel,
+    CommandName::HLen,
+    CommandName::HExists,
+    CommandName::HStrLen,
+    CommandName::HIncrBy,
+    CommandName::HGetAll,
+    CommandName::HKeys,
+    CommandName::HVals,
+    CommandName::Multi,
+    CommandName::Exec,
+    CommandName::Discard,
+    CommandName::Watch,
+    CommandName::Unwatch,
+];
+
+impl CommandName {
+    /// Whether the command is served. To serve one more, its line is taken out here and in the definition.
+    pub fn is_served(self) -> bool
+        ensures { result ≡ spec.is_served self }
+    {
+        match self {
+            CommandName::HSet => false,
+            CommandName::HSetNx => false,
+            CommandName::HGet => false,
+            CommandName::HMGet => false,
+            CommandName::HDel => false,
+            CommandName::HLen => false,
+            CommandName::HExists => false,
+            CommandName::HStrLen => false,
+            CommandName::HIncrBy => false,
+            CommandName::HGetAll => false,
+            CommandName::HKeys => false,
+            CommandName::HVals => false,
+            CommandName::Multi => false,
+            CommandName::Exec => false,
+            CommandName::Discard => false,
+            CommandName::Watch => false,
+            CommandName::Unwatch => false,
+            _ => true,
+        }
+    }
+}
