@@ -1,1 +1,2 @@
 pub mod RemovedLemmas
+mod WorkedCases

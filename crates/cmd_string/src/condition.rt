@@ -1,9 +1,11 @@
 //! The options of SET.
 ghost use Rattle.std.specs.Prelude.{◌≡◌};
 ghost use Rattle.std.specs.List.{list_all};
+ghost use Rattle.cmd_core.specs.Contents.{has_key};
 ghost use Rattle.cmd_string.specs.Conditions as spec;
 
 use bytes::Bytes;
+use cmd_core::Lookup;
 
 /// When SET writes.
 #[derive(Clone, Copy, Debug, PartialEq, Eq)]
@@ -31,14 +33,14 @@ impl Condition {
         }
     }
 
-    /// Whether to write, where the key is present or not.
-    pub(crate) fn allows(self, is_present: bool) -> bool
-        ensures { result ≡ spec.allows self is_present }
+    /// Whether to write to a key. It is looked up only where that decides.
+    pub(crate) fn allows<L: Lookup>(self, lookup: &L, key: &[u8]) -> bool
+        ensures { result ≡ spec.allows self (has_key (L.keyspace lookup.now) key.now) }
     {
         match self {
             Condition::Always => true,
-            Condition::IfAbsent => !is_present,
-            Condition::IfPresent => is_present,
+            Condition::IfAbsent => !lookup.has(key),
+            Condition::IfPresent => lookup.has(key),
         }
     }
 }

@@ -8,7 +8,7 @@ ghost use Rattle.cmd_core.specs.Outcomes.{outcome_now};
 ghost use Rattle.cmd_core.specs.Shapes.{Fits};
 ghost use Rattle.cmd_string.specs.Counters as spec;
 
-use crate::strings::puts;
+use crate::strings::put_string;
 use bytes::Bytes;
 use cmd_core::{Answer, CommandError, Lookup, Outcome, int_of, number_text, string_at};
 use kv_types::Value;
@@ -99,7 +99,7 @@ fn add<L: Lookup>(alloc: Global, lookup: &L, key: &[u8], amount: i64) -> Result<
         return Ok(Outcome::Fails(CommandError::Overflow));
     };
     let text = number_text(alloc, sum)?;
-    puts(alloc, Answer::Integer(sum), key, text)
+    put_string(alloc, Answer::Integer(sum), key, text)
 }
 
 /// The number of a string; 0 where the key is absent.

@@ -30,48 +30,36 @@ pub fn del<L: Lookup>(alloc: Global, lookup: &L, arguments: &[Bytes]) -> Result<
 }
 
 /// EXISTS key ..: how many of the keys are present, each counted as often as it is named.
-pub fn exists<L: Lookup>(
-    alloc: Global,
-    lookup: &L,
-    arguments: &[Bytes],
-) -> Result<Outcome, AllocError>
+pub fn exists<L: Lookup>(alloc: Global, lookup: &L, arguments: &[Bytes]) -> Outcome
     requires { Fits (AtLeast 2) All arguments.now }
-    ensures { IfOk result (λ o. outcome_now o ≡ spec.exists (L.keyspace lookup.now) arguments.now) }
+    ensures { outcome_now result ≡ spec.exists (L.keyspace lookup.now) arguments.now }
 {
     let count = count_present(lookup, arguments) as i64;
-    Ok(Outcome::reads(alloc, Answer::Integer(count)))
+    Outcome::reads(alloc, Answer::Integer(count))
 }
 
 /// TYPE key: what the key holds.
-pub fn type_of<L: Lookup>(
-    alloc: Global,
-    lookup: &L,
-    arguments: &[Bytes],
-) -> Result<Outcome, AllocError>
+pub fn type_of<L: Lookup>(alloc: Global, lookup: &L, arguments: &[Bytes]) -> Outcome
     requires { Fits (Exactly 2) First arguments.now }
-    ensures { IfOk result (λ o. outcome_now o ≡ spec.type_of (L.keyspace lookup.now) arguments.now) }
+    ensures { outcome_now result ≡ spec.type_of (L.keyspace lookup.now) arguments.now }
 {
     let [key] = arguments else {
         unreachable!();
     };
     let status = status_at(lookup, key.as_slice());
-    Ok(Outcome::reads(alloc, Answer::Simple(status)))
+    Outcome::reads(alloc, Answer::Simple(status))
 }
 
 /// DBSIZE: how many keys there are.
-pub fn dbsize<L: Lookup>(
-    alloc: Global,
-    lookup: &L,
-    arguments: &[Bytes],
-) -> Result<Outcome, AllocError>
+pub fn dbsize<L: Lookup>(alloc: Global, lookup: &L, arguments: &[Bytes]) -> Outcome
     requires { Fits (Exactly 1) shape.None arguments.now }
-    ensures { IfOk result (λ o. outcome_now o ≡ spec.dbsize (L.keyspace lookup.now) arguments.now) }
+    ensures { outcome_now result ≡ spec.dbsize (L.keyspace lookup.now) arguments.now }
 {
     let [] = arguments else {
         unreachable!();
     };
     let count = lookup.count_keys() as i64;
-    Ok(Outcome::reads(alloc, Answer::Integer(count)))
+    Outcome::reads(alloc, Answer::Integer(count))
 }
 
 /// FLUSHDB: removes all keys. It takes no option.

@@ -45,11 +45,11 @@ pub fn set<L: Lookup>(alloc: Global, lookup: &L, arguments: &[Bytes]) -> Result<
     let Some(condition) = Condition::of(options) else {
         return Ok(Outcome::Fails(CommandError::Syntax));
     };
-    if !condition.allows(lookup.has(key.as_slice())) {
+    if !condition.allows(lookup, key.as_slice()) {
         return Ok(Outcome::reads(alloc, Answer::Bulk(None)));
     }
     let value = stored(alloc, value.as_slice())?;
-    puts(alloc, Answer::Simple(Status::Ok), key.as_slice(), value)
+    put_string(alloc, Answer::Simple(Status::Ok), key.as_slice(), value)
 }
 
 /// SETNX key value: writes where the key is absent.
@@ -68,7 +68,7 @@ pub fn setnx<L: Lookup>(
         return Ok(Outcome::reads(alloc, Answer::Integer(0)));
     }
     let value = stored(alloc, value.as_slice())?;
-    puts(alloc, Answer::Integer(1), key.as_slice(), value)
+    put_string(alloc, Answer::Integer(1), key.as_slice(), value)
 }
 
 /// GETDEL key: the value of a string, shared, whose key is removed.
@@ -96,13 +96,9 @@ pub fn getdel<L: Lookup>(
 }
 
 /// STRLEN key: how many bytes a string has.
-pub fn strlen<L: Lookup>(
-    alloc: Global,
-    lookup: &L,
-    arguments: &[Bytes],
-) -> Result<Outcome, AllocError>
+pub fn strlen<L: Lookup>(alloc: Global, lookup: &L, arguments: &[Bytes]) -> Outcome
     requires { Fits (Exactly 2) First arguments.now }
-    ensures { IfOk result (λ o. outcome_now o ≡ spec.strlen (L.keyspace lookup.now) arguments.now) }
+    ensures { outcome_now result ≡ spec.strlen (L.keyspace lookup.now) arguments.now }
 {
     let [key] = arguments else {
         unreachable!();
@@ -110,9 +106,9 @@ pub fn strlen<L: Lookup>(
     match string_at(lookup, key.as_slice()) {
         Ok(value) => {
             let len = bytes_of(value).len() as i64;
-            Ok(Outcome::reads(alloc, Answer::Integer(len)))
+            Outcome::reads(alloc, Answer::Integer(len))
         }
-        Err(error) => Ok(Outcome::Fails(error)),
+        Err(error) => Outcome::Fails(error),
     }
 }
 
@@ -137,7 +133,7 @@ pub fn append<L: Lookup>(
     }
     let value = joined(alloc, old, more.as_slice())?;
     let len = value.len() as i64;
-    puts(alloc, Answer::Integer(len), key.as_slice(), value)
+    put_string(alloc, Answer::Integer(len), key.as_slice(), value)
 }
 
 /// MGET key ..: the value of each string, shared, and none for an absent key or a hash.
@@ -189,8 +185,8 @@ pub fn msetnx<L: Lookup>(
     })
 }
 
-/// A string is put at a key.
-pub(crate) fn puts(
+/// Answers, and puts a string at a key.
+pub(crate) fn put_string(
     alloc: Global,
     answer: Answer,
     key: &[u8],
