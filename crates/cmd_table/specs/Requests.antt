@@ -1,5 +1,5 @@
 -- What a request is answered and what it changes: it is read, and its command runs. A misuse is answered as its error.
-use Rattle.std.specs.Prelude.{ℕ, Bool, true, false, List, [], ◌∷◌, Option, Some, None, Result, Ok, Err}
+use Rattle.std.specs.Prelude.{ℕ, Bool, true, false, List, [], ◌∷◌, Option, Some, Result, Ok, Err}
 use Rattle.kv_types.specs.declared.change.Change.{Change}
 use Rattle.kv_types.specs.declared.reply.Reply.{Reply, Error}
 use Rattle.kv_types.specs.Keyspace.{Keyspace}
