@@ -15,7 +15,7 @@ use Rattle.kv_types.specs.Keyspace.{Keyspace, key_of, bytes_cmp, record_cmp}
 use Rattle.kv_types.proofs.OrderLemmas.{same_key}
 use Rattle.kv_types.proofs.LookUpLemmas.{is_same}
 use Rattle.cmd_core.specs.Contents.{same_bytes, has_key, keys_of, fields_of}
-use Rattle.cmd_core.specs.Records.{field_at, next_has_key}
+use Rattle.cmd_core.specs.Record.{field_at, next_has_key}
 
 -- ---- whether a record is one that is asked for
 

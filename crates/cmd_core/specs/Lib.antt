@@ -1,7 +1,7 @@
-pub mod Shapes
-pub mod Errors
-pub mod Outcomes
-pub mod Replies
+pub mod Shape
+pub mod Error
+pub mod Outcome
+pub mod Reply
 pub mod Contents
-pub mod Integers
-pub mod Records
+pub mod Integer
+pub mod Record

@@ -1,6 +1,6 @@
 //! Why a command answers an error.
 ghost use Rattle.std.specs.Prelude.{◌≡◌};
-ghost use Rattle.cmd_core.specs.Errors.{error_text};
+ghost use Rattle.cmd_core.specs.Error.{error_text};
 
 /// Why the run of a command answers an error. One that does changes nothing.
 #[derive(Clone, Copy, Debug, PartialEq, Eq)]

@@ -1,7 +1,7 @@
 //! Integers as the texts of values and of arguments.
 ghost use Rattle.std.specs.Prelude.{◌≡◌, IfOk};
 ghost use Rattle.std.specs.Fmt.{signed_decimal};
-ghost use Rattle.cmd_core.specs.Integers as spec;
+ghost use Rattle.cmd_core.specs.Integer as spec;
 
 use kv_types::{Value, read_int, write_int};
 use std::alloc::{AllocError, Global};

@@ -1,7 +1,7 @@
 //! What a command answers and what it changes.
 ghost use Rattle.std.specs.Prelude.{◌≡◌, IfOk};
-ghost use Rattle.cmd_core.specs.Outcomes.{answer_now, outcome_now, changes_of, reads};
-ghost use Rattle.cmd_core.specs.Replies.{status_text, bulk_or_null, reply_of_answer, reply_of};
+ghost use Rattle.cmd_core.specs.Outcome.{answer_now, outcome_now, changes_of, reads};
+ghost use Rattle.cmd_core.specs.Reply.{status_text, bulk_or_null, reply_of_answer, reply_of};
 
 use crate::error::CommandError;
 use bytes::Bytes;

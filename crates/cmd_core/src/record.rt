@@ -5,7 +5,7 @@ ghost use Rattle.std.specs.Ordering.{eq_by_cmp};
 ghost use Rattle.std.specs.FinMap.Entries.{is_sorted};
 ghost use Rattle.kv_types.specs.Keyspace.{key_of, value_at, record_cmp};
 ghost use Rattle.cmd_core.specs.Contents.{has_key, keys_of, fields_of, same_bytes};
-ghost use Rattle.cmd_core.specs.Records.{field_at, next_has_key};
+ghost use Rattle.cmd_core.specs.Record.{field_at, next_has_key};
 
 use kv_types::{Field, RecordId, Value};
 use std::alloc::{AllocError, Global};

@@ -1,6 +1,6 @@
 //! The shapes of requests: how many words, and which of them are keys or fields.
 ghost use Rattle.std.specs.Prelude.{◌≡◌};
-ghost use Rattle.cmd_core.specs.Shapes as spec;
+ghost use Rattle.cmd_core.specs.Shape as spec;
 
 use bytes::Bytes;
 use kv_types::MAX_KEY_BYTES;

@@ -9,7 +9,7 @@ use Rattle.kv_types.specs.declared.change.Change.TheVariants.{DropKey}
 use Rattle.kv_types.specs.Keyspace.{Keyspace, bytes_cmp}
 use Rattle.cmd_core.specs.Contents.{same_bytes, has_key}
 use Rattle.cmd_core.specs.declared.shape.Keys.TheVariants.{All}
-use Rattle.cmd_core.specs.Shapes.{are_short}
+use Rattle.cmd_core.specs.Shape.{are_short}
 use Rattle.cmd_string.specs.Keys.{removed}
 
 -- those of the keys that were not seen

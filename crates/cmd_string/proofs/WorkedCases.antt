@@ -7,9 +7,9 @@ use Rattle.kv_types.specs.Keyspace.{Keyspace}
 use Rattle.cmd_core.specs.declared.error.CommandError.TheVariants.{Syntax, NotAnInteger, Overflow, DecrementOverflow, WrongType}
 use Rattle.cmd_core.specs.declared.outcome.Status.TheVariants as status
 use Rattle.cmd_core.specs.Contents.{has_key, keys_of}
-use Rattle.cmd_core.specs.Integers.{int_of}
-use Rattle.cmd_core.specs.Outcomes.{Answers, Fails, Simple, Integer, Bulk, Bulks, reads}
-use Rattle.cmd_string.specs.Conditions.{is_option}
+use Rattle.cmd_core.specs.Integer.{int_of}
+use Rattle.cmd_core.specs.Outcome.{Answers, Fails, Simple, Integer, Bulk, Bulks, reads}
+use Rattle.cmd_string.specs.Condition.{is_option}
 use Rattle.cmd_string.specs.Connection.{ping}
 use Rattle.cmd_string.specs.Counters.{incr, decr, incrby, decrby}
 use Rattle.cmd_string.specs.Keys.{del, exists, type_of, dbsize, flushdb}

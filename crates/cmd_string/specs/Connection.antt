@@ -1,7 +1,7 @@
 -- The meaning of the commands that look at no key: the Redis page of each. The arguments are the words after the name.
 use Rattle.std.specs.Prelude.{ℕ, List, [], ◌∷◌, Some}
 use Rattle.cmd_core.specs.declared.outcome.Status.TheVariants as status
-use Rattle.cmd_core.specs.Outcomes.{Outcome, Simple, Bulk, reads, excluded}
+use Rattle.cmd_core.specs.Outcome.{Outcome, Simple, Bulk, reads, excluded}
 
 abbrev pub ping : List (List ℕ) → Outcome
 ping [] = reads (Simple status.Pong)

@@ -6,8 +6,8 @@ use Rattle.kv_types.specs.declared.change.Change.TheVariants.{Put}
 use Rattle.kv_types.specs.Keyspace.{Keyspace}
 use Rattle.cmd_core.specs.declared.error.CommandError.TheVariants.{NotAnInteger, Overflow, DecrementOverflow}
 use Rattle.cmd_core.specs.Contents.{string_at}
-use Rattle.cmd_core.specs.Integers.{int_of, is_in_range}
-use Rattle.cmd_core.specs.Outcomes.{Outcome, Answers, Fails, Integer, excluded, on_ok, on_some}
+use Rattle.cmd_core.specs.Integer.{int_of, is_in_range}
+use Rattle.cmd_core.specs.Outcome.{Outcome, Answers, Fails, Integer, excluded, on_ok, on_some}
 
 -- an absent string counts as 0
 abbrev pub number_of : Option (List ℕ) → Option ℤ

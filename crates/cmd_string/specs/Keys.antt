@@ -8,7 +8,7 @@ use Rattle.cmd_core.specs.declared.error.CommandError.TheVariants.{Syntax}
 use Rattle.cmd_core.specs.declared.outcome.Status.{Status}
 use Rattle.cmd_core.specs.declared.outcome.Status.TheVariants as status
 use Rattle.cmd_core.specs.Contents.{same_bytes, has_key, Kind, Absent, String, Hash, kind_at, keys_of}
-use Rattle.cmd_core.specs.Outcomes.{Outcome, Answers, Fails, Simple, Integer, reads, excluded}
+use Rattle.cmd_core.specs.Outcome.{Outcome, Answers, Fails, Simple, Integer, reads, excluded}
 
 -- each once, in the order of first naming
 abbrev pub firsts : List (List ℕ) → List (List ℕ)

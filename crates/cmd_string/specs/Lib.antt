@@ -1,4 +1,4 @@
-pub mod Conditions
+pub mod Condition
 pub mod Strings
 pub mod Counters
 pub mod Keys

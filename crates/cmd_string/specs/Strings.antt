@@ -9,8 +9,8 @@ use Rattle.kv_types.specs.Keyspace.{Keyspace, value_at}
 use Rattle.cmd_core.specs.declared.error.CommandError.TheVariants.{Syntax, LongString}
 use Rattle.cmd_core.specs.declared.outcome.Status.TheVariants as status
 use Rattle.cmd_core.specs.Contents.{has_key, string_at}
-use Rattle.cmd_core.specs.Outcomes.{Outcome, Answers, Fails, Simple, Integer, Bulk, Bulks, reads, excluded, on_ok, on_some}
-use Rattle.cmd_string.specs.Conditions.{condition_of, allows}
+use Rattle.cmd_core.specs.Outcome.{Outcome, Answers, Fails, Simple, Integer, Bulk, Bulks, reads, excluded, on_ok, on_some}
+use Rattle.cmd_string.specs.Condition.{condition_of, allows}
 
 -- an absent string has no bytes
 abbrev pub bytes_of : Option (List ℕ) → List ℕ

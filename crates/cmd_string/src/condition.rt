@@ -2,7 +2,7 @@
 ghost use Rattle.std.specs.Prelude.{◌≡◌};
 ghost use Rattle.std.specs.List.{list_all};
 ghost use Rattle.cmd_core.specs.Contents.{has_key};
-ghost use Rattle.cmd_string.specs.Conditions as spec;
+ghost use Rattle.cmd_string.specs.Condition as spec;
 
 use bytes::Bytes;
 use cmd_core::Lookup;

@@ -2,8 +2,8 @@
 ghost use Rattle.std.specs.Prelude.{◌≡◌, IfOk};
 ghost use Rattle.cmd_core.specs.declared.shape.WordCount.TheVariants.{Exactly, AtLeast, Between};
 ghost use Rattle.cmd_core.specs.declared.shape.Keys.TheVariants as keys;
-ghost use Rattle.cmd_core.specs.Outcomes.{outcome_now};
-ghost use Rattle.cmd_core.specs.Shapes.{Fits};
+ghost use Rattle.cmd_core.specs.Outcome.{outcome_now};
+ghost use Rattle.cmd_core.specs.Shape.{Fits};
 ghost use Rattle.cmd_string.specs.Connection as spec;
 
 use bytes::Bytes;

@@ -4,8 +4,8 @@ ghost use Rattle.std.specs.Option.{option_copied};
 ghost use Rattle.kv_types.specs.declared.limits.TheConstants.{MAX_KEY_BYTES};
 ghost use Rattle.cmd_core.specs.declared.shape.WordCount.TheVariants.{Exactly};
 ghost use Rattle.cmd_core.specs.declared.shape.Keys.TheVariants.{First};
-ghost use Rattle.cmd_core.specs.Outcomes.{outcome_now};
-ghost use Rattle.cmd_core.specs.Shapes.{Fits};
+ghost use Rattle.cmd_core.specs.Outcome.{outcome_now};
+ghost use Rattle.cmd_core.specs.Shape.{Fits};
 ghost use Rattle.cmd_string.specs.Counters as spec;
 
 use crate::strings::put_string;

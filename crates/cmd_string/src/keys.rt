@@ -6,8 +6,8 @@ ghost use Rattle.cmd_core.specs.declared.shape.WordCount.TheVariants.{Exactly, A
 ghost use Rattle.cmd_core.specs.declared.shape.Keys.TheVariants as shape;
 ghost use Rattle.cmd_core.specs.declared.shape.Keys.TheVariants.{First, All};
 ghost use Rattle.cmd_core.specs.Contents.{has_key, kind_at};
-ghost use Rattle.cmd_core.specs.Outcomes.{outcome_now};
-ghost use Rattle.cmd_core.specs.Shapes.{Fits};
+ghost use Rattle.cmd_core.specs.Outcome.{outcome_now};
+ghost use Rattle.cmd_core.specs.Shape.{Fits};
 ghost use Rattle.cmd_string.specs.Keys as spec;
 
 use bytes::Bytes;

@@ -8,8 +8,8 @@ ghost use Rattle.kv_types.specs.declared.record_id.RecordId.TheVariants.{Str};
 ghost use Rattle.cmd_core.specs.declared.shape.WordCount.TheVariants.{Exactly, AtLeast, OddFrom};
 ghost use Rattle.cmd_core.specs.declared.shape.Keys.TheVariants.{First, All, EverySecond};
 ghost use Rattle.cmd_core.specs.Contents.{has_key};
-ghost use Rattle.cmd_core.specs.Outcomes.{outcome_now, answer_now, Answers};
-ghost use Rattle.cmd_core.specs.Shapes.{Fits};
+ghost use Rattle.cmd_core.specs.Outcome.{outcome_now, answer_now, Answers};
+ghost use Rattle.cmd_core.specs.Shape.{Fits};
 ghost use Rattle.cmd_string.specs.Strings as spec;
 
 use crate::condition::Condition;

@@ -5,7 +5,7 @@ use Rattle.std.proofs.lemmas.Slice.Eq.{bytes_eq-Decides}
 use Rattle.cmd_table.specs.declared.name.CommandName.{CommandName}
 use Rattle.cmd_table.specs.declared.name.CommandName.TheVariants.{Get}
 use Rattle.cmd_table.specs.declared.name.TheConstants.{COMMANDS}
-use Rattle.cmd_table.specs.Rows.{row, find, is_named, if_served, command_named}
+use Rattle.cmd_table.specs.Row.{row, find, is_named, if_served, command_named}
 
 -- what is found depends on the word in lower case alone
 same_found : (cs : List CommandName) (a b : List ℕ) → str_to_ascii_lowercase a ≡ str_to_ascii_lowercase b → find cs a ≡ find cs b

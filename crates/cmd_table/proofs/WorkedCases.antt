@@ -5,12 +5,12 @@ use Rattle.kv_types.specs.declared.record_id.RecordId.TheVariants.{Str, Field}
 use Rattle.kv_types.specs.declared.reply.Reply.{Simple, Error, Int, Bulk}
 use Rattle.kv_types.specs.Keyspace.{Keyspace}
 use Rattle.cmd_core.specs.Contents.{has_key}
-use Rattle.cmd_core.specs.Shapes.{takes, are_short}
+use Rattle.cmd_core.specs.Shape.{takes, are_short}
 use Rattle.cmd_table.specs.declared.misuse.Misuse.TheVariants.{UnknownName, WrongNumberOfWords, LongKey}
 use Rattle.cmd_table.specs.declared.name.CommandName.TheVariants as name
-use Rattle.cmd_table.specs.Rows.{row, is_named, command_named}
-use Rattle.cmd_table.specs.Commands.{read_command}
-use Rattle.cmd_table.specs.Requests.{outcome_of_words, closes}
+use Rattle.cmd_table.specs.Row.{row, is_named, command_named}
+use Rattle.cmd_table.specs.Command.{read_command}
+use Rattle.cmd_table.specs.Request.{outcome_of_words, closes}
 
 -- ---- names
 

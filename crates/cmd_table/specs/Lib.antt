@@ -1,5 +1,5 @@
-pub mod Rows
-pub mod Misuses
-pub mod Commands
+pub mod Row
+pub mod Misuse
+pub mod Command
 pub mod Meaning
-pub mod Requests
+pub mod Request

@@ -1,7 +1,7 @@
 -- What each command answers and what it changes. The arguments are the words after the name.
 use Rattle.std.specs.Prelude.{ℕ, List}
 use Rattle.kv_types.specs.Keyspace.{Keyspace}
-use Rattle.cmd_core.specs.Outcomes.{Outcome, excluded}
+use Rattle.cmd_core.specs.Outcome.{Outcome, excluded}
 use Rattle.cmd_string.specs.Strings.{set, get, setnx, getdel, strlen, append, mset, msetnx, mget}
 use Rattle.cmd_string.specs.Counters.{incr, decr, incrby, decrby}
 use Rattle.cmd_string.specs.Keys.{del, exists, type_of, dbsize, flushdb}

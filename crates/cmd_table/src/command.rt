@@ -2,9 +2,9 @@
 ghost use Rattle.std.specs.Prelude.{◌≡◌, ◌≤◌, IsTrue, length, IfOk};
 ghost use Rattle.std.specs.List.{AllByRecursion};
 ghost use Rattle.kv_types.specs.declared.limits.TheConstants.{MAX_VALUE_BYTES};
-ghost use Rattle.cmd_core.specs.Shapes.{Fits};
-ghost use Rattle.cmd_table.specs.Commands as spec;
-ghost use Rattle.cmd_table.specs.Rows.{row, is_served};
+ghost use Rattle.cmd_core.specs.Shape.{Fits};
+ghost use Rattle.cmd_table.specs.Command as spec;
+ghost use Rattle.cmd_table.specs.Row.{row, is_served};
 
 use crate::misuse::Misuse;
 use crate::name::CommandName;

@@ -1,9 +1,9 @@
 //! From a command to its function.
 ghost use Rattle.std.specs.Prelude.{◌≡◌, IsTrue, IfOk};
-ghost use Rattle.cmd_core.specs.Outcomes.{outcome_now};
-ghost use Rattle.cmd_core.specs.Shapes.{Fits};
+ghost use Rattle.cmd_core.specs.Outcome.{outcome_now};
+ghost use Rattle.cmd_core.specs.Shape.{Fits};
 ghost use Rattle.cmd_table.specs.Meaning as spec;
-ghost use Rattle.cmd_table.specs.Rows.{row, is_served};
+ghost use Rattle.cmd_table.specs.Row.{row, is_served};
 
 use crate::command::Command;
 use crate::name::CommandName;

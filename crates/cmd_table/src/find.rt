@@ -1,6 +1,6 @@
 //! From the first word of a request to the command that it names.
 ghost use Rattle.std.specs.Prelude.{◌≡◌, IsTrue, IfSome};
-ghost use Rattle.cmd_table.specs.Rows as spec;
+ghost use Rattle.cmd_table.specs.Row as spec;
 
 use crate::name::{COMMANDS, CommandName};
 

@@ -2,7 +2,7 @@
 ghost use Rattle.std.specs.Prelude.{◌≡◌, ℕ, List, Some, IsTrue};
 ghost use Rattle.std.specs.Str.{str_to_ascii_lowercase};
 ghost use Rattle.cmd_table.specs.declared.name.CommandName.{CommandName};
-ghost use Rattle.cmd_table.specs.Rows.{row, if_served, is_named, command_named};
+ghost use Rattle.cmd_table.specs.Row.{row, if_served, is_named, command_named};
 
 /// A word that is the name of a command, in any ASCII case, finds this command where it is served, and none where it is not: no
 /// command is left out, and no two have one name. And a word that finds a command is its whole name.

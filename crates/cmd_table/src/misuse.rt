@@ -1,7 +1,7 @@
 //! Why a request names no command.
 ghost use Rattle.std.specs.Prelude.{◌≡◌, IfOk, IsErr};
 ghost use Rattle.cmd_table.specs.declared.name.CommandName.{CommandName};
-ghost use Rattle.cmd_table.specs.Misuses as spec;
+ghost use Rattle.cmd_table.specs.Misuse as spec;
 
 use crate::name::CommandName;
 use bytes::Bytes;

@@ -1,6 +1,6 @@
 //! The commands by name, and which of them are served.
 ghost use Rattle.std.specs.Prelude.{◌≡◌};
-ghost use Rattle.cmd_table.specs.Rows as spec;
+ghost use Rattle.cmd_table.specs.Row as spec;
 
 /// A command of the table, served or not.
 #[derive(Clone, Copy, Debug, PartialEq, Eq)]

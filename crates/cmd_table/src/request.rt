@@ -2,7 +2,7 @@
 ghost use Rattle.std.specs.Prelude.{◌≡◌, ◌≤◌, length, IfOk};
 ghost use Rattle.std.specs.List.{AllByRecursion};
 ghost use Rattle.kv_types.specs.declared.limits.TheConstants.{MAX_VALUE_BYTES};
-ghost use Rattle.cmd_table.specs.Requests as spec;
+ghost use Rattle.cmd_table.specs.Request as spec;
 
 use crate::command::read_command;
 use crate::dispatch::run;

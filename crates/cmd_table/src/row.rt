@@ -1,6 +1,6 @@
 //! The table: what a request of each command looks like.
 ghost use Rattle.std.specs.Prelude.{◌≡◌};
-ghost use Rattle.cmd_table.specs.Rows as spec;
+ghost use Rattle.cmd_table.specs.Row as spec;
 
 use crate::name::CommandName;
 use cmd_core::WordCount::{AtLeast, Between, EvenFrom, Exactly, OddFrom};

@@ -1,5 +1,5 @@
 use Rattle.std.proofs.Common.{◌≡◌, map}
-use Rattle.cmd_core.specs.Replies.{bulk_or_null}
+use Rattle.cmd_core.specs.Reply.{bulk_or_null}
 use Rattle.cmd_core.proofs.outcome.bulks.Given as goal
 
 abbrev pub invariant-loop-value : goal.invariant-loop-value

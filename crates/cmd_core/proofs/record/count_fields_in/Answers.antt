@@ -1,6 +1,6 @@
 use Rattle.std.proofs.Common.{true, false, length, sym, ap, ◌∙◌, arith}
 use Rattle.std.specs.Prelude.{is_some}
-use Rattle.cmd_core.specs.Records.{field_at}
+use Rattle.cmd_core.specs.Record.{field_at}
 use Rattle.cmd_core.proofs.RecordsLemmas.{fields_counted, fields_end, is_some-copied}
 use Rattle.cmd_core.proofs.record.count_fields_in.Goals as goal
 use Rattle.cmd_core.proofs.record.count_fields_in.Goals.{then-is_some, else-is_some}

@@ -1,6 +1,6 @@
 use Rattle.std.proofs.Common.{true, false, length, sym, ap, ◌∙◌, arith}
 use Rattle.kv_types.specs.Keyspace.{key_of}
-use Rattle.cmd_core.specs.Records.{next_has_key}
+use Rattle.cmd_core.specs.Record.{next_has_key}
 use Rattle.cmd_core.proofs.RecordsLemmas.{split_first, keys_counted, no_keys, sorted_later}
 use Rattle.cmd_core.proofs.record.count_keys_in.Goals as goal
 

@@ -1,7 +1,7 @@
 use Rattle.std.proofs.Common.{◌≡◌, ◌+◌, [], ◌∷◌, ◌++◌, map, drop, rules, sym, ap, ◌∙◌}
 use Rattle.std.specs.Option.{option_copied}
 use Rattle.cmd_core.specs.Contents.{fields_of}
-use Rattle.cmd_core.specs.Records.{field_at}
+use Rattle.cmd_core.specs.Record.{field_at}
 use Rattle.cmd_core.proofs.RecordsLemmas.{field_elsewhere, field_pushed, fields_end}
 use Rattle.cmd_core.proofs.record.fields_in.Goals as goal
 use Rattle.cmd_core.proofs.record.fields_in.Goals.{in-Some+in_ok-clone+in_ok-clone-2+in_ok-push, in_default}

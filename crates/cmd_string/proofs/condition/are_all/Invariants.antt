@@ -1,6 +1,6 @@
 use Rattle.std.proofs.Common.{◌≡◌, drop}
 use Rattle.std.specs.List.{list_all}
-use Rattle.cmd_string.specs.Conditions.{is_option}
+use Rattle.cmd_string.specs.Condition.{is_option}
 use Rattle.cmd_string.proofs.condition.are_all.Given as goal
 
 abbrev pub invariant-loop-option : goal.invariant-loop-option

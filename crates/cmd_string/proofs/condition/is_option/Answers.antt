@@ -1,5 +1,5 @@
 use Rattle.std.proofs.Common.{rules}
-use Rattle.cmd_string.specs.Conditions.{is_option}
+use Rattle.cmd_string.specs.Condition.{is_option}
 use Rattle.cmd_string.proofs.condition.is_option.Goals as goal
 
 pub returns : goal.returns

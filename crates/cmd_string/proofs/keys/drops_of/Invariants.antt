@@ -1,7 +1,7 @@
 use Rattle.std.proofs.Common.{◌≡◌, ◌++◌, drop, map, IsTrue}
 use Rattle.kv_types.specs.declared.change.Change.TheVariants.{DropKey}
 use Rattle.cmd_core.specs.declared.shape.Keys.TheVariants.{All}
-use Rattle.cmd_core.specs.Shapes.{are_short}
+use Rattle.cmd_core.specs.Shape.{are_short}
 use Rattle.cmd_string.specs.Keys.{removed}
 use Rattle.cmd_string.proofs.RemovedLemmas.{fresh}
 use Rattle.cmd_string.proofs.keys.drops_of.Given as goal

@@ -2,7 +2,7 @@ use Rattle.std.proofs.Common.{◌≡◌, ◌≤◌, ◌++◌, length, IsTrue}
 use Rattle.std.specs.List.{AllByRecursion}
 use Rattle.kv_types.specs.declared.limits.TheConstants.{MAX_VALUE_BYTES}
 use Rattle.cmd_core.specs.declared.shape.Keys.TheVariants.{EverySecond}
-use Rattle.cmd_core.specs.Shapes.{are_short}
+use Rattle.cmd_core.specs.Shape.{are_short}
 use Rattle.cmd_string.specs.Strings.{puts_of}
 use Rattle.cmd_string.proofs.strings.puts_of.Given as goal
 

@@ -1,5 +1,5 @@
 use Rattle.std.proofs.Common.{◌≡◌, drop}
-use Rattle.cmd_table.specs.Rows.{find}
+use Rattle.cmd_table.specs.Row.{find}
 use Rattle.cmd_table.proofs.find.find.Given as goal
 
 abbrev pub invariant-loop-command : goal.invariant-loop-command

@@ -1,5 +1,5 @@
 use Rattle.std.proofs.Common.{◌≡◌, length}
-use Rattle.cmd_core.specs.Shapes.{are_short}
+use Rattle.cmd_core.specs.Shape.{are_short}
 use Rattle.cmd_core.proofs.shape.Keys.are_short.Given as goal
 
 abbrev pub invariant-loop-words : goal.invariant-loop-words

@@ -4,8 +4,8 @@ use Rattle.kv_types.specs.declared.reply.Reply as reply
 use Rattle.kv_types.specs.declared.reply.Reply.{Reply}
 use Rattle.cmd_core.specs.declared.outcome.Status.{Status}
 use Rattle.cmd_core.specs.declared.outcome.Status.TheVariants as status
-use Rattle.cmd_core.specs.Errors.{error_text}
-use Rattle.cmd_core.specs.Outcomes.{Answer, Simple, Integer, Bulk, Bulks, Outcome, Answers, Fails}
+use Rattle.cmd_core.specs.Error.{error_text}
+use Rattle.cmd_core.specs.Outcome.{Answer, Simple, Integer, Bulk, Bulks, Outcome, Answers, Fails}
 
 abbrev pub status_text : Status → List ℕ
 status_text status.Ok = codes "OK"

@@ -2,7 +2,7 @@
 use Rattle.std.specs.Prelude.{ℕ, List, ◌++◌, codes}
 use Rattle.cmd_table.specs.declared.misuse.Misuse.{Misuse}
 use Rattle.cmd_table.specs.declared.misuse.Misuse.TheVariants.{UnknownName, WrongNumberOfWords, LongKey}
-use Rattle.cmd_table.specs.Rows.{row}
+use Rattle.cmd_table.specs.Row.{row}
 
 abbrev pub wrong_number_of_words : (name : List ℕ) → List ℕ
 wrong_number_of_words name = codes "ERR wrong number of arguments for '" ++ name ++ codes "' command"

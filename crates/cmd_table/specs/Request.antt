@@ -3,14 +3,14 @@ use Rattle.std.specs.Prelude.{ℕ, Bool, true, false, List, [], ◌∷◌, Optio
 use Rattle.kv_types.specs.declared.change.Change.{Change}
 use Rattle.kv_types.specs.declared.reply.Reply.{Reply, Error}
 use Rattle.kv_types.specs.Keyspace.{Keyspace}
-use Rattle.cmd_core.specs.Outcomes.{Outcome, changes_of}
-use Rattle.cmd_core.specs.Replies.{reply_of}
+use Rattle.cmd_core.specs.Outcome.{Outcome, changes_of}
+use Rattle.cmd_core.specs.Reply.{reply_of}
 use Rattle.cmd_table.specs.declared.name.CommandName.{CommandName}
 use Rattle.cmd_table.specs.declared.name.CommandName.TheVariants as name
 use Rattle.cmd_table.specs.declared.misuse.Misuse.{Misuse}
-use Rattle.cmd_table.specs.Rows.{command_named}
-use Rattle.cmd_table.specs.Misuses.{misuse_text}
-use Rattle.cmd_table.specs.Commands.{Command, read_command}
+use Rattle.cmd_table.specs.Row.{command_named}
+use Rattle.cmd_table.specs.Misuse.{misuse_text}
+use Rattle.cmd_table.specs.Command.{Command, read_command}
 use Rattle.cmd_table.specs.Meaning.{does}
 
 -- the reply, and the changes, one after another

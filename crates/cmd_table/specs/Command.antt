@@ -1,11 +1,11 @@
 -- From the words of a request to a command, or to why it is none (this project's profile).
 use Rattle.std.specs.Prelude.{ℕ, ◌+◌, not, if◌then◌else◌, List, [], ◌∷◌, length, Option, Some, None, Result, Ok, Err}
-use Rattle.cmd_core.specs.Shapes.{takes, are_short}
+use Rattle.cmd_core.specs.Shape.{takes, are_short}
 use Rattle.cmd_table.specs.declared.name.CommandName.{CommandName}
 use Rattle.cmd_table.specs.declared.command.Command as code
 use Rattle.cmd_table.specs.declared.misuse.Misuse.{Misuse}
 use Rattle.cmd_table.specs.declared.misuse.Misuse.TheVariants.{UnknownName, WrongNumberOfWords, LongKey}
-use Rattle.cmd_table.specs.Rows.{row, command_named}
+use Rattle.cmd_table.specs.Row.{row, command_named}
 
 pub record Command : Type 0 where
   pub name : CommandName
