@@ -24,7 +24,7 @@ returns-in-Ok-format-2-clause-stands g c =
     rw c.new.ensures (pair-starts _ _ _ made.sessions made.sequencer made.no_group refl serving.new.position
     (engine-new _ _ _ _ _ serving.new serving.durable serving.sound.0)
     (made.underlies _ (new-own _ _ _ _ (sym c.lines-2.ensures.count) serving.new))
-    made.link made.handed refl c.new-2.ensures.items made.arrivals
+    made.link made.handed refl c.new-in-Ok-format-2.ensures.items made.arrivals
     (standby-new _ _ _ _ following.new following.durable following.sound.0 all c.requires.following (following.new.epoch ∙ sym epoch) epoch))
 
 pub returns-in-Err-clause-cause : goal.returns-in-Err-clause-cause
