@@ -3,7 +3,7 @@
 # Calls and definitions that pages say come later. Once one is there, the pages say so and it is removed from here.
 LATER = [
     "Committer::turn", "IsFenced", "IsFrame", "IsRightDelta", "Promotes", "Reopens", "ReplyParser", "Sessions::call",
-    "claim", "clear_gap", "delta", "inspect", "pin", "promote", "raise_round", "rejoin", "run_hash", "run_string",
+    "claim", "clear_gap", "delta", "inspect", "pin", "promote", "raise_round", "rejoin", "run_hash",
     "stream_codec", "write_frame",
 ]
 
@@ -14,18 +14,22 @@ OUTSIDE = {
 
 # Public names that several items, calls or variants have, and why that is one meaning.
 REPEATED = {
+    "Bulk": "bytes, as a command answers them and as a reply holds them",
     "Clear": "everything is removed: a change, and the same change with its places",
     "Drop": "a record is removed: a change, and the same change with its places",
     "DropKey": "a key is removed: a change, and the same change with its places",
     "Put": "a record is written: a change, the same with its place, and that write by itself",
     "Fault": "a fence that failed, as an error and as a refusal; of an item, the protocol fault that it holds",
     "Field": "a field of a hash: its name, and the record that it names",
+    "None": "there is none: no key among the words of a request, nothing at a key",
     "PIPE_ITEMS": "how many items a pipe holds: of the code, and the same number in the machine's events",
     "Request": "the words of a request, and the item that holds one",
+    "Simple": "a status, as a command answers it and as a reply holds it",
     "Standby": "the node that follows, and the role that its image has",
     "Turn": "one turn of the sequencer: the event, and what it answers",
     "as_slice": "its content as a slice",
     "enter": "a connection takes a seat",
+    "field": "the field of a hash: of a record its name, of a keyspace what it holds",
     "finish": "an end of a ring is given up and keeps what it was",
     "get": "the string at a key",
     "into_device": "the device, given back",
@@ -36,5 +40,8 @@ REPEATED = {
     "new": "makes one at its beginning",
     "number": "the number that it is known by",
     "position": "a position of the list of calls up to which it stands",
+    "run": "does all of what it is given: a command, the events of a history",
+    "stored": "what is kept: bytes as a copy for a keyspace, a store in a device's history",
     "take": "takes out what comes first",
+    "text": "what a client is sent: of an error, a misuse or a status",
 }

@@ -61,6 +61,20 @@ class Played(Probing):
             (f"keyspace get {record(b'h')}", "none"),
         ])
 
+    def test_fields(self):
+        # the longer key beside h has fields too; of a string the error of a hash command
+        changes = [put((b"h", b"g"), b"2"), put((b"h", b""), b""), put((b"h", b"f"), b"1"), put((b"hh", b"f"), b"3"), put(K, b"v")]
+        wrong_type = hexed(b"WRONGTYPE Operation against a key holding the wrong kind of value")
+        fields = [("h", "3 -=- 66=31 67=32"), ("hh", "1 66=33"), ("k", wrong_type), ("f", "0"), ("", "0"), (513 * "h", "0")]
+        self.show_session([
+            ("keyspace new", "done"),
+            ("keyspace play-all " + " ".join(changes), "done"),
+            *((f"keyspace fields {hexed(key.encode())}", wanted) for key, wanted in fields),
+            ("keyspace play-all " + " ".join([drop((b"h", b"f")), drop((b"hh", b"f"))]), "done"),
+            ("keyspace fields 68", "2 -=- 67=32"),
+            ("keyspace fields 6868", "0"),
+        ])
+
 
 def short(data):
     return len(data).to_bytes(2, "big") + data

@@ -1,6 +1,6 @@
 //! How answers are written.
 use crate::cause::Cause;
-use kv_types::{RecordId, Refusal, Reply};
+use kv_types::{Change, RecordId, Refusal, Reply, Value};
 use resp_codec::write_reply;
 use std::alloc::{AllocError, Global};
 
@@ -49,6 +49,36 @@ pub fn record_text(alloc: Global, id: &RecordId) -> Result<String, AllocError> {
             let field = hexed(alloc, field.as_slice())?;
             format!(in alloc; "{key}.{field}")
         }
+    }
+}
+
+/// A record and its value, `RECORD=VALUE`.
+pub fn record_and_value_text(
+    alloc: Global,
+    id: &RecordId,
+    value: &Value,
+) -> Result<String, AllocError> {
+    let id = record_text(alloc, id)?;
+    let value = hexed(alloc, value.as_slice())?;
+    format!(in alloc; "{id}={value}")
+}
+
+/// `put:RECORD=VALUE`, `drop:RECORD`, `drop-key:KEY` or `clear`.
+pub fn change_text(alloc: Global, change: &Change) -> Result<String, AllocError> {
+    match change {
+        Change::Put(id, value) => {
+            let record = record_and_value_text(alloc, id, value)?;
+            format!(in alloc; "put:{record}")
+        }
+        Change::Drop(id) => {
+            let record = record_text(alloc, id)?;
+            format!(in alloc; "drop:{record}")
+        }
+        Change::DropKey(key) => {
+            let key = hexed(alloc, key.as_slice())?;
+            format!(in alloc; "drop-key:{key}")
+        }
+        Change::Clear => String::from_str(alloc, "clear"),
     }
 }
 

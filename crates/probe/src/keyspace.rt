@@ -1,8 +1,10 @@
 //! Keys, values, records, changes, and the plain keyspace on which they are played.
-use crate::answers::{add_word, done, hexed, hexed_or_none, record_text};
+use crate::answers::{add_word, done, hexed, hexed_or_none, record_and_value_text};
 use crate::cause::Cause;
-use crate::words::{change, changes, key, number, record_id};
+use crate::command;
+use crate::words::{bytes, change, changes, key, number, record_id};
 use bytes::Bytes;
+use cmd_core::{Lookup, check_hash};
 use kv_types::{Key, PlainKeyspace, Value, changes_fit};
 use std::alloc::Global;
 
@@ -92,6 +94,9 @@ impl KeyspaceProbe {
                 hexed_or_none(alloc, value.map(|value| value.as_slice()))
             }
             ["records"] => records_text(alloc, keyspace),
+            ["fields", key] => fields_text(alloc, keyspace, &bytes(alloc, key)?),
+            ["show", words @ ..] => command::show(alloc, keyspace, words),
+            ["serve", words @ ..] => command::serve(alloc, keyspace, words),
             _ => Err(Cause::NoCall),
         }
     }
@@ -101,9 +106,23 @@ impl KeyspaceProbe {
 pub fn records_text(alloc: Global, keyspace: &PlainKeyspace) -> Result<String, Cause> {
     let mut answer = format!(in alloc; "{} {}", keyspace.len(), keyspace.is_empty())?;
     for (id, value) in keyspace.records() {
-        let id = record_text(alloc, id)?;
-        let value = hexed(alloc, value.as_slice())?;
-        add_word(&mut answer, &format!(in alloc; "{id}={value}")?)?;
+        add_word(&mut answer, &record_and_value_text(alloc, id, value)?)?;
+    }
+    Ok(answer)
+}
+
+/// How many fields the hash at a key has, and each as `FIELD=VALUE`, whose value is looked up by itself; or the text of the error where
+/// the key holds a string.
+fn fields_text(alloc: Global, keyspace: &PlainKeyspace, key: &[u8]) -> Result<String, Cause> {
+    if let Err(error) = check_hash(keyspace, key) {
+        return Ok(hexed(alloc, error.text())?);
+    }
+    let mut answer = keyspace.count_fields(key).to_string(alloc)?;
+    for (field, _) in keyspace.fields(alloc, key)? {
+        let value = keyspace.field(key, field.as_slice());
+        let value = hexed_or_none(alloc, value.map(|value| value.as_slice()))?;
+        let field = hexed(alloc, field.as_slice())?;
+        add_word(&mut answer, &format!(in alloc; "{field}={value}")?)?;
     }
     Ok(answer)
 }

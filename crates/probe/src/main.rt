@@ -3,6 +3,7 @@
 
 mod answers;
 mod cause;
+mod command;
 mod device;
 mod frames;
 mod gate;

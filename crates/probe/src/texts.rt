@@ -87,6 +87,7 @@ fn event(alloc: Global, words: &[&str]) -> Result<Event, Cause> {
 fn call_laws() {
     call_laws_of_model();
     call_laws_of_machine();
+    cmd_table::every_command_is_found();
 }
 
 fn call_laws_of_model() {

@@ -94,7 +94,7 @@ pub fn item(alloc: Global, words: &[&str]) -> Result<Item, Cause> {
 }
 
 /// The request of these words, each in hexadecimal.
-fn request(alloc: Global, words: &[&str]) -> Result<Request, Cause> {
+pub fn request(alloc: Global, words: &[&str]) -> Result<Request, Cause> {
     if words.is_empty() || words.len() as u64 > FULL_LIMITS.words {
         return Err(Cause::OutOfRange);
     }
