@@ -2,8 +2,8 @@
 
 # Calls and definitions that pages say come later. Once one is there, the pages say so and it is removed from here.
 LATER = [
-    "Committer::turn", "IsFenced", "IsFrame", "IsRightDelta", "Promotes", "Reopens", "ReplyParser", "Sessions::call",
-    "claim", "clear_gap", "delta", "inspect", "pin", "promote", "raise_round", "rejoin", "run_hash",
+    "IsFenced", "IsFrame", "IsRightDelta", "Promotes", "Reopens", "ReplyParser", "Sessions::call",
+    "claim", "clear_gap", "cmd_hash", "delta", "inspect", "pin", "promote", "raise_round", "rejoin", "run_hash",
     "stream_codec", "write_frame",
 ]
 
@@ -20,7 +20,11 @@ REPEATED = {
     "DropKey": "a key is removed: a change, and the same change with its places",
     "Put": "a record is written: a change, the same with its place, and that write by itself",
     "Fault": "a fence that failed, as an error and as a refusal; of an item, the protocol fault that it holds",
+    "Committed": "a group is durable: what the engine returns, and what a turn of the committer did",
+    "Committer": "what commits groups: the one that does, and its seat at the marks",
+    "Durable": "what is durable: an engine that makes it so, and the stage of a group that is",
     "Field": "a field of a hash: its name, and the record that it names",
+    "Idle": "a turn had nothing to do: of the sequencer, and of the committer",
     "KEPT_GROUPS": "how many groups a link keeps: of the code, and the same number in the machine's events",
     "Link": "what sends groups to the standby: the frames that it keeps, and its seat at the marks",
     "None": "there is none: no key among the words of a request, nothing at a key",
@@ -46,4 +50,5 @@ REPEATED = {
     "stored": "what is kept: bytes as a copy for a keyspace, a store in a device's history",
     "take": "takes out what comes first",
     "text": "what a client is sent: of an error, a misuse or a status",
+    "turn": "does the one step that is due: of the sequencer, and of the committer",
 }

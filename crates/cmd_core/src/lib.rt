@@ -17,5 +17,7 @@ pub use integer::{int_of, number_text};
 pub use lookup::Lookup;
 pub use outcome::{Answer, Outcome, Status};
 pub use reading::{check_hash, string_at};
-pub use record::{Record, count_fields_in, count_keys_in, field_in, fields_in, has_in, string_in};
+pub use record::{
+    KeptRecord, count_fields_in, count_keys_in, field_in, fields_in, has_in, string_in,
+};
 pub use shape::{Keys, WordCount};

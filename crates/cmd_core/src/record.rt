@@ -11,7 +11,7 @@ use kv_types::{Field, RecordId, Value};
 use std::alloc::{AllocError, Global};
 
 /// A record as a list keeps it.
-pub trait Record {
+pub trait KeptRecord {
     ghost use Rattle.kv_types.specs.declared.record_id.RecordId.{RecordId};
 
     /// Its name and its value.
@@ -24,7 +24,7 @@ pub trait Record {
         ensures { result.now ≡ (kept self.now).1 };
 }
 
-impl Record for (RecordId, Value) {
+impl KeptRecord for (RecordId, Value) {
     ghost kept = { λ it. it };
 
     fn id(&self) -> &RecordId {
@@ -37,7 +37,7 @@ impl Record for (RecordId, Value) {
 }
 
 /// The string at a key.
-pub fn string_in<'a, R: Record>(records: &'a [R], key: &[u8]) -> Option<&'a Value>
+pub fn string_in<'a, R: KeptRecord>(records: &'a [R], key: &[u8]) -> Option<&'a Value>
     ensures { option_copied result ≡ value_at (map R.kept records.now) (RecordId.Str key.now) }
 {
     for record in records {
@@ -49,7 +49,7 @@ pub fn string_in<'a, R: Record>(records: &'a [R], key: &[u8]) -> Option<&'a Valu
 }
 
 /// The value of a field of the hash at a key.
-pub fn field_in<'a, R: Record>(records: &'a [R], key: &[u8], field: &[u8]) -> Option<&'a Value>
+pub fn field_in<'a, R: KeptRecord>(records: &'a [R], key: &[u8], field: &[u8]) -> Option<&'a Value>
     ensures { option_copied result ≡ value_at (map R.kept records.now) (RecordId.Field key.now field.now) }
 {
     for record in records {
@@ -61,7 +61,7 @@ pub fn field_in<'a, R: Record>(records: &'a [R], key: &[u8], field: &[u8]) -> Op
 }
 
 /// Whether there is a string or a hash at a key.
-pub fn has_in<R: Record>(records: &[R], key: &[u8]) -> bool
+pub fn has_in<R: KeptRecord>(records: &[R], key: &[u8]) -> bool
     ensures { result ≡ has_key (map R.kept records.now) key.now }
 {
     for record in records {
@@ -73,7 +73,7 @@ pub fn has_in<R: Record>(records: &[R], key: &[u8]) -> bool
 }
 
 /// How many keys there are in a list in the order of records, in which those of one key are next to one another.
-pub fn count_keys_in<R: Record>(records: &[R]) -> u64
+pub fn count_keys_in<R: KeptRecord>(records: &[R]) -> u64
     requires order { IsTrue (is_sorted record_cmp (map R.kept records.now)) }
     requires few { length records.now < 2 ^ 63 }
     ensures value { result ≡ length (keys_of (map R.kept records.now)) }
@@ -91,7 +91,7 @@ pub fn count_keys_in<R: Record>(records: &[R]) -> u64
 }
 
 /// How many fields the hash at a key has.
-pub fn count_fields_in<R: Record>(records: &[R], key: &[u8]) -> u64
+pub fn count_fields_in<R: KeptRecord>(records: &[R], key: &[u8]) -> u64
     requires few { length records.now < 2 ^ 63 }
     ensures value { result ≡ length (fields_of (map R.kept records.now) key.now) }
     ensures bound { result < 2 ^ 63 }
@@ -106,7 +106,7 @@ pub fn count_fields_in<R: Record>(records: &[R], key: &[u8]) -> u64
 }
 
 /// The fields of the hash at a key with their values, which are shared, in the order of the list.
-pub fn fields_in<R: Record>(
+pub fn fields_in<R: KeptRecord>(
     alloc: Global,
     records: &[R],
     key: &[u8],
@@ -147,7 +147,7 @@ fn is_of_key(id: &RecordId, key: &[u8]) -> bool
 }
 
 /// Whether the first record is one of this key.
-fn begins_with_key<R: Record>(records: &[R], key: &[u8]) -> bool
+fn begins_with_key<R: KeptRecord>(records: &[R], key: &[u8]) -> bool
     ensures { result ≡ next_has_key (map R.kept records.now) key.now }
 {
     match records {

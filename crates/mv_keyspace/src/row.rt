@@ -3,7 +3,7 @@ ghost use Rattle.std.specs.Prelude.{◌≡◌, IfOk};
 ghost use Rattle.mv_keyspace.specs.Table.{cell_of_put};
 ghost use Rattle.mv_keyspace.specs.Row.{cell_of_row};
 
-use cmd_core::Record;
+use cmd_core::KeptRecord;
 use kv_types::{EntryNo, RecordId, Value};
 use model::Put;
 use std::alloc::{AllocError, Global};
@@ -18,7 +18,7 @@ pub(crate) struct Row {
     pub position: u64,
 }
 
-impl Record for Row {
+impl KeptRecord for Row {
     ghost kept = { λ row. (row.id, row.value) };
 
     fn id(&self) -> &RecordId {

@@ -9,7 +9,7 @@ pub loop-record-preserved : goal.loop-record-preserved
 loop-record-preserved g c =
     let key = c.args.key.now in
     let found = ap (λ id. is_some (field_at id key)) (sym c.id.ensures) ∙ ap is_some (sym c.field_if_of.ensures) ∙ is_some-copied c.field_if_of.result ∙ sym c.is_some.ensures in
-    let step = fields_counted _ g.R.Record.kept c.args.records.now c.loop-record.record-index c.record-item.result c.loop-record-test.true c.record-item.is key in
+    let step = fields_counted _ g.R.KeptRecord.kept c.args.records.now c.loop-record.record-index c.record-item.result c.loop-record-test.true c.record-item.is key in
     elim c.if-is_some.branch [
       | then-is_some w ↦ let more = step true (found ∙ w.if-is_some.true) in (omega (arith, more, c.loop-record.invariant.0, w.count-is), omega (arith, c.loop-record.invariant.1, w.count-is))
       | else-is_some w ↦ let same = step false (found ∙ w.if-is_some.false) in (omega (arith, same, c.loop-record.invariant.0, w.count-is), omega (arith, c.loop-record.invariant.1, w.count-is))
@@ -17,5 +17,5 @@ loop-record-preserved g c =
 
 pub returns-clause-value : goal.returns-clause-value
 returns-clause-value g c =
-    let none = ap (λ fields. length fields) (fields_end _ g.R.Record.kept c.args.records.now c.loop-record.record-index c.args.key.now c.loop-record-test.false) in
+    let none = ap (λ fields. length fields) (fields_end _ g.R.KeptRecord.kept c.args.records.now c.loop-record.record-index c.args.key.now c.loop-record-test.false) in
     omega (arith, none, c.loop-record.invariant.0)

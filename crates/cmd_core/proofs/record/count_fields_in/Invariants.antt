@@ -4,4 +4,4 @@ use Rattle.cmd_core.proofs.record.count_fields_in.Given as goal
 
 abbrev pub invariant-loop-record : goal.invariant-loop-record
 invariant-loop-record g l =
-    (length (fields_of (map g.R.Record.kept l.records) l.key) ≡ l.count + length (fields_of (map g.R.Record.kept (drop l.record-index l.records)) l.key)) × (l.count ≤ l.record-index)
+    (length (fields_of (map g.R.KeptRecord.kept l.records) l.key) ≡ l.count + length (fields_of (map g.R.KeptRecord.kept (drop l.record-index l.records)) l.key)) × (l.count ≤ l.record-index)

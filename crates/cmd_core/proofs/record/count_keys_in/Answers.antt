@@ -6,7 +6,7 @@ use Rattle.cmd_core.proofs.record.count_keys_in.Goals as goal
 
 pub loop-rest-preserved-then-not-begins_with_key : goal.loop-rest-preserved-then-not-begins_with_key
 loop-rest-preserved-then-not-begins_with_key g c =
-    let kept = g.R.Record.kept in
+    let kept = g.R.KeptRecord.kept in
     let rest = c.loop-rest.rest.now in
     let split = split_first rest c.record-item.result (omega (arith, c.in-len1-up.len_at_least)) c.record-item.is in
     let key = c.as_slice.ensures ∙ c.key.ensures ∙ ap key_of c.id.ensures in
@@ -21,7 +21,7 @@ loop-rest-preserved-then-not-begins_with_key g c =
 
 pub loop-rest-preserved : goal.loop-rest-preserved
 loop-rest-preserved g c =
-    let kept = g.R.Record.kept in
+    let kept = g.R.KeptRecord.kept in
     let rest = c.loop-rest.rest.now in
     let split = split_first rest c.record-item.result (omega (arith, c.in-len1-up.len_at_least)) c.record-item.is in
     let key = c.as_slice.ensures ∙ c.key.ensures ∙ ap key_of c.id.ensures in
@@ -36,5 +36,5 @@ loop-rest-preserved g c =
 
 pub returns-clause-value : goal.returns-clause-value
 returns-clause-value g c =
-    let none = no_keys _ g.R.Record.kept c.loop-rest.rest.now c.in_default.len_below in
+    let none = no_keys _ g.R.KeptRecord.kept c.loop-rest.rest.now c.in_default.len_below in
     omega (arith, none, c.loop-rest.invariant.counted)

@@ -6,8 +6,8 @@ use Rattle.cmd_core.proofs.record.count_keys_in.Given as goal
 
 abbrev pub invariant-loop-rest : goal.invariant-loop-rest
 invariant-loop-rest g l = record {
-  counted : length (keys_of (map g.R.Record.kept l.fn.records)) ≡ l.count + length (keys_of (map g.R.Record.kept l.rest));
-  sorted : IsTrue (is_sorted record_cmp (map g.R.Record.kept l.rest));
+  counted : length (keys_of (map g.R.KeptRecord.kept l.fn.records)) ≡ l.count + length (keys_of (map g.R.KeptRecord.kept l.rest));
+  sorted : IsTrue (is_sorted record_cmp (map g.R.KeptRecord.kept l.rest));
   few : l.count + length l.rest ≤ length l.fn.records;
 }
 

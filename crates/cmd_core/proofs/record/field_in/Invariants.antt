@@ -4,4 +4,4 @@ use Rattle.kv_types.specs.Keyspace.{value_at}
 use Rattle.cmd_core.proofs.record.field_in.Given as goal
 
 abbrev pub invariant-loop-record : goal.invariant-loop-record
-invariant-loop-record g l = value_at (map g.R.Record.kept l.records) (Field l.key l.field) ≡ value_at (map g.R.Record.kept (drop l.record-index l.records)) (Field l.key l.field)
+invariant-loop-record g l = value_at (map g.R.KeptRecord.kept l.records) (Field l.key l.field) ≡ value_at (map g.R.KeptRecord.kept (drop l.record-index l.records)) (Field l.key l.field)

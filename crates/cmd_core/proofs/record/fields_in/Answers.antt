@@ -9,7 +9,7 @@ use Rattle.cmd_core.proofs.record.fields_in.Goals.{in-Some+in_ok-clone+in_ok-clo
 pub loop-record-preserved : goal.loop-record-preserved
 loop-record-preserved g c =
     let key = c.args.key.now in
-    let kept = g.R.Record.kept in
+    let kept = g.R.KeptRecord.kept in
     let found = ap (λ id. field_at id key) (sym c.id.ensures) ∙ sym c.field_if_of.ensures in
     elim c.match-field_if_of.branch [
       | in-Some+in_ok-clone+in_ok-clone-2+in_ok-push w ↦
@@ -24,5 +24,5 @@ loop-record-preserved g c =
 
 pub returns : goal.returns
 returns g c =
-    let none = fields_end _ g.R.Record.kept c.args.records.now c.loop-record.record-index c.args.key.now c.loop-record-test.false in
+    let none = fields_end _ g.R.KeptRecord.kept c.args.records.now c.loop-record.record-index c.args.key.now c.loop-record-test.false in
     search rules
