@@ -15,7 +15,7 @@ N = r"([\d,^]*\d)"
 
 LIMITS = [
     ("README.md", f"words of at most {N} bytes, for one connection", SERVED_BYTES),
-    ("README.md", f"values up to {N} bytes; transactions", VALUE),
+    ("README.md", f"values up to {N} bytes; every other command", VALUE),
     ("README.md", rf"today {N} of at most {N} bytes \(`SERVED_LIMITS`\)", SERVED_WORDS, SERVED_BYTES),
     ("README.md", rf"later {N} of at most {N} bytes \(`FULL_LIMITS`\)", FULL_WORDS, FULL_BYTES),
     ("README.md", rf"\| key \| {N} bytes \|", KEY),
