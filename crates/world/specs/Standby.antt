@@ -25,6 +25,11 @@ pub record Node : Type 0 where
   pub room : Room
   pub epoch : ℕ
 
+-- a standby of these parts, whose epoch is that of its record
+abbrev pub node_at : State → Contents → Bool → Table → Room → Node
+node_at device contents is_faulted table room =
+    record { device = device; contents = contents; is_faulted = is_faulted; table = table; room = room; epoch = contents.current.epoch }
+
 -- the standby of this epoch, which is that of its image, holds the list up to this position
 pub record StandbyStands (holder : Holder) (epoch : ℕ) (calls : List Call) (position : ℕ) (node : Node) : Type 0 where
   pub engine : EngineStands holder calls position node.device node.contents node.is_faulted

@@ -11,7 +11,7 @@ ghost use Rattle.world.specs.Going.{Goes};
 ghost use Rattle.world.specs.Cause.{EndsBy};
 ghost use Rattle.world.specs.Committing.{NearOnly, next_standby};
 ghost use Rattle.world.specs.Link.{AreFramesSent};
-ghost use Rattle.world.specs.Standby.{StandbyStands, ArrivalsRefine, AppliesFirst, told_by};
+ghost use Rattle.world.specs.Standby.{StandbyStands, ArrivalsRefine, AppliesFirst, node_at, told_by};
 
 use kv_types::Refusal;
 use mv_keyspace::Keyspace;
@@ -82,56 +82,21 @@ impl Arrivals {
         ensures applies { IfOk result (λ did. (holder : Holder) (w : World) → Sound w
             → (E.contents standby.old.engine).current.epoch ≡ w.standby.epoch
             → ArrivalsRefine (E.contents standby.old.engine).current.epoch w.primary.calls frames.now self.old w.standby.waiting w.wire.acknowledgements
-            → StandbyStands holder (E.contents standby.old.engine).current.epoch w.primary.calls w.standby.position (record {
-              device = E.device standby.old.engine;
-              contents = E.contents standby.old.engine;
-              is_faulted = E.is_faulted standby.old.engine;
-              table = K.table standby.old.keyspace;
-              room = standby.old.heap;
-              epoch = (E.contents standby.old.engine).current.epoch;
-            })
+            → StandbyStands holder (E.contents standby.old.engine).current.epoch w.primary.calls w.standby.position (node_at (E.device standby.old.engine) (E.contents standby.old.engine) (E.is_faulted standby.old.engine) (K.table standby.old.keyspace) standby.old.heap)
             → AppliesFirst holder (E.contents standby.old.engine).current.epoch frames.now w did self.new
-            (record {
-              device = E.device standby.old.engine;
-              contents = E.contents standby.old.engine;
-              is_faulted = E.is_faulted standby.old.engine;
-              table = K.table standby.old.keyspace;
-              room = standby.old.heap;
-              epoch = (E.contents standby.old.engine).current.epoch;
-            })
-            (record {
-              device = E.device standby.new.engine;
-              contents = E.contents standby.new.engine;
-              is_faulted = E.is_faulted standby.new.engine;
-              table = K.table standby.new.keyspace;
-              room = standby.new.heap;
-              epoch = (E.contents standby.new.engine).current.epoch;
-            })) }
+            (node_at (E.device standby.old.engine) (E.contents standby.old.engine) (E.is_faulted standby.old.engine) (K.table standby.old.keyspace) standby.old.heap)
+            (node_at (E.device standby.new.engine) (E.contents standby.new.engine) (E.is_faulted standby.new.engine) (K.table standby.new.keyspace) standby.new.heap)) }
         ensures cut { IfErr result (λ refusal. (holder : Holder) (w : World) → Sound w
             → (E.contents standby.old.engine).current.epoch ≡ w.standby.epoch
             → ArrivalsRefine (E.contents standby.old.engine).current.epoch w.primary.calls frames.now self.old w.standby.waiting w.wire.acknowledgements
-            → StandbyStands holder (E.contents standby.old.engine).current.epoch w.primary.calls w.standby.position (record {
-              device = E.device standby.old.engine;
-              contents = E.contents standby.old.engine;
-              is_faulted = E.is_faulted standby.old.engine;
-              table = K.table standby.old.keyspace;
-              room = standby.old.heap;
-              epoch = (E.contents standby.old.engine).current.epoch;
-            })
+            → StandbyStands holder (E.contents standby.old.engine).current.epoch w.primary.calls w.standby.position (node_at (E.device standby.old.engine) (E.contents standby.old.engine) (E.is_faulted standby.old.engine) (K.table standby.old.keyspace) standby.old.heap)
             → (may_happen w Apply ≡ true)
             × EndsBy refusal Apply (λ _ last. last holder w.primary.calls w.standby.position (next_standby w) (E.device standby.old.engine) (E.device standby.new.engine))) }
         // at any moment of the call
         ensures moments { (holder : Holder) (w : World) → Sound w
             → (E.contents standby.old.engine).current.epoch ≡ w.standby.epoch
             → ArrivalsRefine (E.contents standby.old.engine).current.epoch w.primary.calls frames.now self.old w.standby.waiting w.wire.acknowledgements
-            → StandbyStands holder (E.contents standby.old.engine).current.epoch w.primary.calls w.standby.position (record {
-              device = E.device standby.old.engine;
-              contents = E.contents standby.old.engine;
-              is_faulted = E.is_faulted standby.old.engine;
-              table = K.table standby.old.keyspace;
-              room = standby.old.heap;
-              epoch = (E.contents standby.old.engine).current.epoch;
-            })
+            → StandbyStands holder (E.contents standby.old.engine).current.epoch w.primary.calls w.standby.position (node_at (E.device standby.old.engine) (E.contents standby.old.engine) (E.is_faulted standby.old.engine) (K.table standby.old.keyspace) standby.old.heap)
             → NearOnly holder w.primary.calls w.standby.position (next_standby w) (E.device standby.old.engine) (E.device standby.new.engine) }
     {
         let Some(place) = self.delivered.front() else {

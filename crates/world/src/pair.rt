@@ -3,6 +3,7 @@ ghost use Rattle.std.specs.Prelude.{◌≡◌};
 ghost use Rattle.machine.specs.declared.event.Event.TheVariants as events;
 ghost use Rattle.world.specs.Pair.{Does, HasRoom, HasWorld};
 ghost use Rattle.world.specs.Pair as specs;
+ghost use Rattle.world.specs.Standby.{node_at};
 
 use crate::arrivals::Arrivals;
 use crate::closing::close_group;
@@ -69,14 +70,7 @@ impl<E: Durable, K: Keyspace> Stepper for Pair<E, K> {
       remote = p.remote;
       frames = p.frames.items;
       arrivals = p.arrivals;
-      standby = record {
-        device = E.device p.standby.engine;
-        contents = E.contents p.standby.engine;
-        is_faulted = E.is_faulted p.standby.engine;
-        table = K.table p.standby.keyspace;
-        room = p.standby.heap;
-        epoch = (E.contents p.standby.engine).current.epoch;
-      };
+      standby = node_at (E.device p.standby.engine) (E.contents p.standby.engine) (E.is_faulted p.standby.engine) (K.table p.standby.keyspace) p.standby.heap;
     } };
 
     fn step(&mut self, event: &Event) -> Result<bool, Refusal> {
