@@ -1,4 +1,12 @@
 pub mod FirstItem
 pub mod Pieces
+pub mod ReplyAgain
+pub mod ReplyBegins
+pub mod ReplyGrows
+pub mod ReplyHolds
+pub mod ReplyItems
+pub mod ReplyParts
+pub mod ReplyPieces
+pub mod ReplyTakes
 pub mod ReplyTexts
 pub mod WordsRead

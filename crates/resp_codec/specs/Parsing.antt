@@ -1,7 +1,7 @@
 -- What a parser has yet to give. A clause sees it as the bytes that were fed and not yet given as items, or as `None` once a fault was given.
 use Rattle.std.specs.Prelude.{◌≡◌, ℕ, List, [], ◌++◌, Option, None, Some, option_to_list}
 use Rattle.kv_types.specs.declared.item.Item.{Item}
-use Rattle.kv_types.specs.declared.limits.TheConstants.{SERVED_LIMITS}
+use Rattle.kv_types.specs.declared.limits.TheConstants.{REQUEST_LIMITS}
 use Rattle.kv_types.specs.Reading.{items_at}
 
 -- the parser after one more piece; after a fault no bytes are read
@@ -12,7 +12,7 @@ fed (Some unread) piece = Some (unread ++ piece)
 -- the items still to be given, if no more bytes come
 abbrev pub ahead : Option (List ℕ) → List Item
 ahead None = []
-ahead (Some unread) = items_at SERVED_LIMITS unread
+ahead (Some unread) = items_at REQUEST_LIMITS unread
 
 -- An item, or none, was given: whatever comes later, it is the first of those that were ahead, and the others are still ahead.
 abbrev pub Advances : Option (List ℕ) → Option Item → Option (List ℕ) → Type 0

@@ -4,7 +4,7 @@ ghost use Rattle.kv_types.specs.Reading.{is_digit, after_byte, number_from, numb
 ghost use Rattle.resp_codec.specs.Gives.{stop_of, Gives, skipped, IsWhole, IsFirst};
 
 use bytes::Bytes;
-use kv_types::{Item, Limits, ProtocolFault, Request, SERVED_LIMITS};
+use kv_types::{Item, Limits, ProtocolFault, REQUEST_LIMITS, Request};
 use std::alloc::{AllocError, Global};
 
 /// Why there is no whole request at the front: further bytes may complete one, or no further bytes can.
@@ -15,7 +15,7 @@ pub(crate) enum Stop {
 }
 
 /// What follows a first byte, which must be `expected`.
-fn after_byte(bytes: &[u8], expected: u8, fault: ProtocolFault) -> Result<&[u8], Stop>
+pub(crate) fn after_byte(bytes: &[u8], expected: u8, fault: ProtocolFault) -> Result<&[u8], Stop>
     ensures { Gives (λ rest. rest.now) result (after_byte expected fault bytes.now) }
 {
     match bytes.split_first() {
@@ -75,7 +75,7 @@ fn number_from(bytes: &[u8], n: u64, most: u64, fault: ProtocolFault) -> Result<
 }
 
 /// A number of at most `most` and its line end.
-fn number_at(bytes: &[u8], most: u64, fault: ProtocolFault) -> Result<(u64, &[u8]), Stop>
+pub(crate) fn number_at(bytes: &[u8], most: u64, fault: ProtocolFault) -> Result<(u64, &[u8]), Stop>
     ensures { Gives (λ x. (x.0, x.1.now)) result (number_at most fault bytes.now) }
 {
     match bytes.split_first() {
@@ -104,7 +104,7 @@ fn after_dollar(bytes: &[u8]) -> Result<&[u8], Stop>
 }
 
 /// A word of `len` bytes and its line end.
-fn payload_at(bytes: &[u8], len: u64) -> Result<(&[u8], &[u8]), Stop>
+pub(crate) fn payload_at(bytes: &[u8], len: u64) -> Result<(&[u8], &[u8]), Stop>
     ensures { Gives (λ x. (x.0.now, x.1.now)) result (payload_at len bytes.now) }
 {
     let len = len as usize;
@@ -192,10 +192,10 @@ pub(crate) fn first_item(alloc: Global, bytes: &[u8]) -> Result<(Option<Item>, &
 {
     let mut rest = bytes;
     loop {
-        match whole_request(rest, SERVED_LIMITS) {
+        match whole_request(rest, REQUEST_LIMITS) {
             Ok(whole) => {
                 if whole.count > 0 {
-                    let words = copy_words(alloc, whole.inside, SERVED_LIMITS, whole.count)?;
+                    let words = copy_words(alloc, whole.inside, REQUEST_LIMITS, whole.count)?;
                     return Ok((Some(Item::Request(Request::new(words))), whole.rest));
                 }
                 rest = whole.rest;
