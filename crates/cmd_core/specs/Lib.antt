@@ -4,4 +4,6 @@ pub mod Outcome
 pub mod Reply
 pub mod Contents
 pub mod Integer
+pub mod Counter
 pub mod Record
+pub mod Naming

@@ -2,9 +2,11 @@
 #![tactic(auto)]
 
 mod bounds;
+mod counter;
 mod error;
 mod integer;
 mod lookup;
+mod naming;
 mod outcome;
 mod plain_lookup;
 mod reading;
@@ -12,9 +14,11 @@ mod record;
 mod shape;
 
 pub use bounds::stored;
+pub use counter::increase;
 pub use error::CommandError;
 pub use integer::{int_of, number_text};
 pub use lookup::Lookup;
+pub use naming::firsts;
 pub use outcome::{Answer, Outcome, Status};
 pub use reading::{check_hash, string_at};
 pub use record::{

@@ -1,11 +1,12 @@
 //! What a command answers and what it changes.
-ghost use Rattle.std.specs.Prelude.{◌≡◌, IfOk};
-ghost use Rattle.cmd_core.specs.Outcome.{answer_now, outcome_now, changes_of, reads};
+ghost use Rattle.std.specs.Prelude.{◌≡◌, [], ◌∷◌, IfOk};
+ghost use Rattle.kv_types.specs.declared.change.Change.TheVariants.{Put};
+ghost use Rattle.cmd_core.specs.Outcome.{Answers, answer_now, outcome_now, changes_of, reads};
 ghost use Rattle.cmd_core.specs.Reply.{status_text, bulk_or_null, reply_of_answer, reply_of};
 
 use crate::error::CommandError;
 use bytes::Bytes;
-use kv_types::{Change, Listed, Reply};
+use kv_types::{Change, Listed, RecordId, Reply, Value};
 use std::alloc::{AllocError, Global};
 
 /// The word that a command answers as a simple string.
@@ -80,6 +81,19 @@ impl Outcome {
             answer,
             changes: Vec::new(alloc),
         }
+    }
+
+    /// An outcome whose one change puts a value at a record.
+    pub fn puts(
+        alloc: Global,
+        answer: Answer,
+        id: RecordId,
+        value: Value,
+    ) -> Result<Outcome, AllocError>
+        ensures { IfOk result (λ o. outcome_now o ≡ Answers (answer_now answer) (Put id value ∷ [])) }
+    {
+        let changes = vec![in alloc; Change::Put(id, value)]?;
+        Ok(Outcome::Answers { answer, changes })
     }
 
     /// The reply, and the changes to be made in order.

@@ -1,2 +1,1 @@
-pub mod RemovedLemmas
 mod WorkedCases

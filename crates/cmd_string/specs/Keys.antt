@@ -1,5 +1,5 @@
 -- The meaning of the commands on keys, whatever they hold: the Redis page of each. The arguments are the words after the name.
-use Rattle.std.specs.Prelude.{ℕ, pos, ◌==◌, map, not, if◌then◌else◌, List, [], ◌∷◌, length}
+use Rattle.std.specs.Prelude.{ℕ, pos, ◌==◌, map, if◌then◌else◌, List, [], ◌∷◌, length}
 use Rattle.std.specs.List.{filter}
 use Rattle.kv_types.specs.declared.change.Change.{Change}
 use Rattle.kv_types.specs.declared.change.Change.TheVariants.{DropKey, Clear}
@@ -7,13 +7,9 @@ use Rattle.kv_types.specs.Keyspace.{Keyspace}
 use Rattle.cmd_core.specs.declared.error.CommandError.TheVariants.{Syntax}
 use Rattle.cmd_core.specs.declared.outcome.Status.{Status}
 use Rattle.cmd_core.specs.declared.outcome.Status.TheVariants as status
-use Rattle.cmd_core.specs.Contents.{same_bytes, has_key, Kind, Absent, String, Hash, kind_at, keys_of}
+use Rattle.cmd_core.specs.Contents.{has_key, Kind, Absent, String, Hash, kind_at, keys_of}
+use Rattle.cmd_core.specs.Naming.{firsts}
 use Rattle.cmd_core.specs.Outcome.{Outcome, Answers, Fails, Simple, Integer, reads, excluded}
-
--- each once, in the order of first naming
-abbrev pub firsts : List (List ℕ) → List (List ℕ)
-firsts [] = []
-firsts (key ∷ keys) = key ∷ filter (λ other. not (same_bytes key other)) (firsts keys)
 
 -- the named keys that are present, each once
 abbrev pub removed : Keyspace → List (List ℕ) → List (List ℕ)

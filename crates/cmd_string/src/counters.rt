@@ -1,6 +1,5 @@
 //! The commands that count: a string that is the text of an integer goes up or down.
 ghost use Rattle.std.specs.Prelude.{◌≡◌, ◌≤◌, length, IfOk};
-ghost use Rattle.std.specs.Option.{option_copied};
 ghost use Rattle.kv_types.specs.declared.limits.TheConstants.{MAX_KEY_BYTES};
 ghost use Rattle.cmd_core.specs.declared.shape.WordCount.TheVariants.{Exactly};
 ghost use Rattle.cmd_core.specs.declared.shape.Keys.TheVariants.{First};
@@ -8,10 +7,9 @@ ghost use Rattle.cmd_core.specs.Outcome.{outcome_now};
 ghost use Rattle.cmd_core.specs.Shape.{Fits};
 ghost use Rattle.cmd_string.specs.Counters as spec;
 
-use crate::strings::put_string;
 use bytes::Bytes;
-use cmd_core::{Answer, CommandError, Lookup, Outcome, int_of, number_text, string_at};
-use kv_types::Value;
+use cmd_core::{CommandError, Lookup, Outcome, increase, int_of, stored, string_at};
+use kv_types::RecordId;
 use std::alloc::{AllocError, Global};
 
 /// INCR key: one more.
@@ -92,22 +90,6 @@ fn add<L: Lookup>(alloc: Global, lookup: &L, key: &[u8], amount: i64) -> Result<
         Ok(value) => value,
         Err(error) => return Ok(Outcome::Fails(error)),
     };
-    let Some(old) = number_of(value) else {
-        return Ok(Outcome::Fails(CommandError::NotAnInteger));
-    };
-    let Some(sum) = old.checked_add(amount) else {
-        return Ok(Outcome::Fails(CommandError::Overflow));
-    };
-    let text = number_text(alloc, sum)?;
-    put_string(alloc, Answer::Integer(sum), key, text)
-}
-
-/// The number of a string; 0 where the key is absent.
-fn number_of(value: Option<&Value>) -> Option<i64>
-    ensures { result ≡ spec.number_of (option_copied value.entry) }
-{
-    match value {
-        Some(value) => int_of(value.as_slice()),
-        None => Some(0),
-    }
+    let id = RecordId::Str(stored(alloc, key)?);
+    increase(alloc, id, value, amount, CommandError::NotAnInteger)
 }

@@ -1,5 +1,5 @@
 //! The commands on keys, whatever they hold.
-ghost use Rattle.std.specs.Prelude.{◌≡◌, ◌≤◌, length, map, IfOk};
+ghost use Rattle.std.specs.Prelude.{◌≡◌, ◌≤◌, length, map, IsTrue, IfOk};
 ghost use Rattle.std.specs.List.{filter};
 ghost use Rattle.kv_types.specs.declared.change.Change.TheVariants.{DropKey};
 ghost use Rattle.cmd_core.specs.declared.shape.WordCount.TheVariants.{Exactly, AtLeast};
@@ -7,14 +7,13 @@ ghost use Rattle.cmd_core.specs.declared.shape.Keys.TheVariants as shape;
 ghost use Rattle.cmd_core.specs.declared.shape.Keys.TheVariants.{First, All};
 ghost use Rattle.cmd_core.specs.Contents.{has_key, kind_at};
 ghost use Rattle.cmd_core.specs.Outcome.{outcome_now};
-ghost use Rattle.cmd_core.specs.Shape.{Fits};
+ghost use Rattle.cmd_core.specs.Shape.{Fits, are_short};
 ghost use Rattle.cmd_string.specs.Keys as spec;
 
 use bytes::Bytes;
-use cmd_core::{Answer, CommandError, Lookup, Outcome, Status, stored};
-use kv_types::Change;
+use cmd_core::{Answer, CommandError, Lookup, Outcome, Status, firsts, stored};
+use kv_types::{Change, Key};
 use std::alloc::{AllocError, Global};
-use std::collections::BTreeSet;
 
 /// DEL key ..: removes each key that is present, and answers how many.
 pub fn del<L: Lookup>(alloc: Global, lookup: &L, arguments: &[Bytes]) -> Result<Outcome, AllocError>
@@ -99,21 +98,35 @@ fn status_at<L: Lookup>(lookup: &L, key: &[u8]) -> Status
 
 /// The drops of the keys that are present, each once, in the order of first naming.
 fn drops_of<L: Lookup>(alloc: Global, lookup: &L, keys: &[Bytes]) -> Result<Vec<Change>, AllocError>
-    requires { Fits (AtLeast 2) All keys.now }
+    requires { IsTrue (are_short All keys.now) }
     ensures { IfOk result (λ drops. drops.items ≡ map DropKey (spec.removed (L.keyspace lookup.now) keys.now)) }
 {
-    let mut seen = BTreeSet::new(alloc);
+    let present = present_keys(alloc, lookup, keys)?;
     let mut drops = Vec::new(alloc);
-    for key in keys {
-        if !lookup.has(key.as_slice()) {
-            continue;
-        }
-        if !seen.insert(key.clone()?)? {
-            continue;
-        }
-        drops.push(Change::DropKey(stored(alloc, key.as_slice())?))?;
+    for key in firsts(alloc, present.as_slice())? {
+        drops.push(Change::DropKey(key))?;
     }
     Ok(drops)
+}
+
+/// The present ones of keys.
+fn present_keys<L: Lookup>(
+    alloc: Global,
+    lookup: &L,
+    keys: &[Bytes],
+) -> Result<Vec<Key>, AllocError>
+    requires { IsTrue (are_short All keys.now) }
+    ensures { IfOk result (λ present. present.items ≡ filter (has_key (L.keyspace lookup.now)) keys.now) }
+{
+    let mut present = Vec::new(alloc);
+    let mut left = keys;
+    while let [key, rest @ ..] = left {
+        if lookup.has(key.as_slice()) {
+            present.push(stored(alloc, key.as_slice())?)?;
+        }
+        left = rest;
+    }
+    Ok(present)
 }
 
 fn count_present<L: Lookup>(lookup: &L, keys: &[Bytes]) -> usize

@@ -186,7 +186,7 @@ pub fn msetnx<L: Lookup>(
 }
 
 /// Answers, and puts a string at a key.
-pub(crate) fn put_string(
+fn put_string(
     alloc: Global,
     answer: Answer,
     key: &[u8],
@@ -196,10 +196,7 @@ pub(crate) fn put_string(
     ensures { IfOk result (λ o. outcome_now o ≡ Answers (answer_now answer) (Put (Str key.now) value ∷ [])) }
 {
     let id = RecordId::Str(stored(alloc, key)?);
-    Ok(Outcome::Answers {
-        answer,
-        changes: vec![in alloc; Change::Put(id, value)]?,
-    })
+    Outcome::puts(alloc, answer, id, value)
 }
 
 /// The puts of keys and values by turns.

@@ -35,7 +35,7 @@ empty_name : command_named [] ≡ None
 unfolding is_named
 empty_name = refl
 
-not_served : command_named (codes "HGET") ≡ None
+not_served : command_named (codes "WATCH") ≡ None
 unfolding is_named
 not_served = refl
 
@@ -115,38 +115,38 @@ abbrev s : Keyspace
 s = (Str (codes "a"), codes "one") ∷ (Field (codes "h") (codes "f"), codes "1") ∷ []
 
 misuse_is_answered : outcome_of_words s (codes "TYPE" ∷ []) ≡ record { reply = Error (codes "ERR wrong number of arguments for 'type' command"); changes = [] }
-unfolding is_named
+unfolding outcome_of_words is_named
 misuse_is_answered = refl
 
 unknown_name_is_answered : outcome_of_words s (codes "NOSUCH" ∷ codes "a" ∷ []) ≡ record { reply = Error (codes "ERR unknown command"); changes = [] }
-unfolding is_named
+unfolding outcome_of_words is_named
 unknown_name_is_answered = refl
 
 -- the options are looked at in the run
 long_key_before_options : outcome_of_words s (codes "SET" ∷ long ∷ codes "1" ∷ codes "EX" ∷ []) ≡ record { reply = Error (codes "ERR key or field is longer than 512 bytes"); changes = [] }
-unfolding is_named
+unfolding outcome_of_words is_named
 long_key_before_options = refl
 
 get_answers : outcome_of_words s (codes "get" ∷ codes "a" ∷ []) ≡ record { reply = Bulk (codes "one"); changes = [] }
-unfolding is_named
+unfolding outcome_of_words is_named
 get_answers = refl
 
 set_changes : outcome_of_words s (codes "Set" ∷ codes "h" ∷ codes "x" ∷ []) ≡ record { reply = Simple (codes "OK"); changes = Put (Str (codes "h")) (codes "x") ∷ [] }
-unfolding is_named
+unfolding outcome_of_words is_named
 set_changes = refl
 
 del_changes : outcome_of_words s (codes "DEL" ∷ codes "h" ∷ codes "b" ∷ codes "h" ∷ []) ≡ record { reply = Int (pos 1); changes = DropKey (codes "h") ∷ [] }
-unfolding is_named has_key
+unfolding outcome_of_words is_named has_key
 del_changes = refl
 
 error_changes_nothing : outcome_of_words s (codes "APPEND" ∷ codes "h" ∷ codes "x" ∷ []) ≡ record { reply = Error (codes "WRONGTYPE Operation against a key holding the wrong kind of value"); changes = [] }
-unfolding is_named has_key
+unfolding outcome_of_words is_named has_key
 error_changes_nothing = refl
 
 quit_closes : closes (codes "Quit" ∷ codes "now" ∷ []) ≡ true
-unfolding is_named
+unfolding closes is_named
 quit_closes = refl
 
 get_does_not_close : closes (codes "GET" ∷ codes "quit" ∷ []) ≡ false
-unfolding is_named
+unfolding closes is_named
 get_does_not_close = refl

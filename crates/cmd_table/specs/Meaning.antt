@@ -6,6 +6,10 @@ use Rattle.cmd_string.specs.Strings.{set, get, setnx, getdel, strlen, append, ms
 use Rattle.cmd_string.specs.Counters.{incr, decr, incrby, decrby}
 use Rattle.cmd_string.specs.Keys.{del, exists, type_of, dbsize, flushdb}
 use Rattle.cmd_string.specs.Connection.{ping, echo, quit}
+use Rattle.cmd_hash.specs.Writing.{hset, hsetnx, hdel}
+use Rattle.cmd_hash.specs.Reading.{hget, hmget, hexists, hstrlen}
+use Rattle.cmd_hash.specs.Whole.{hlen, hgetall, hkeys, hvals}
+use Rattle.cmd_hash.specs.Counter.{hincrby}
 use Rattle.cmd_table.specs.declared.name.CommandName.{CommandName}
 use Rattle.cmd_table.specs.declared.name.CommandName.TheVariants as name
 
@@ -31,5 +35,17 @@ does s name.DecrBy = decrby s
 does s name.TypeOf = type_of s
 does s name.DbSize = dbsize s
 does s name.FlushDb = flushdb s
+does s name.HSet = hset s
+does s name.HSetNx = hsetnx s
+does s name.HGet = hget s
+does s name.HMGet = hmget s
+does s name.HDel = hdel s
+does s name.HLen = hlen s
+does s name.HExists = hexists s
+does s name.HStrLen = hstrlen s
+does s name.HIncrBy = hincrby s
+does s name.HGetAll = hgetall s
+does s name.HKeys = hkeys s
+does s name.HVals = hvals s
 -- the others are not served
 does s _ = λ arguments. excluded

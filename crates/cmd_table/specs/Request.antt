@@ -28,7 +28,7 @@ abbrev pub effect_of_reading : Keyspace → Result Command Misuse → Effect
 effect_of_reading s (Ok command) = effect_of (does s command.name command.arguments)
 effect_of_reading s (Err misuse) = refusing misuse
 
-abbrev pub outcome_of_words : Keyspace → List (List ℕ) → Effect
+unfoldable pub outcome_of_words : Keyspace → List (List ℕ) → Effect
 outcome_of_words s words = effect_of_reading s (read_command words)
 
 abbrev pub is_quit : Option CommandName → Bool
@@ -36,6 +36,6 @@ is_quit (Some name.Quit) = true
 is_quit _ = false
 
 -- after this request nothing more is taken from its connection: the Redis page of QUIT
-abbrev pub closes : List (List ℕ) → Bool
+unfoldable pub closes : List (List ℕ) → Bool
 closes [] = false
 closes (word ∷ arguments) = is_quit (command_named word)

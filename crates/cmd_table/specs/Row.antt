@@ -65,18 +65,6 @@ row_now r = record { name = r.name.now; words = r.words; keys = r.keys }
 
 -- the other commands are served
 abbrev pub is_served : CommandName → Bool
-is_served name.HSet = false
-is_served name.HSetNx = false
-is_served name.HGet = false
-is_served name.HMGet = false
-is_served name.HDel = false
-is_served name.HLen = false
-is_served name.HExists = false
-is_served name.HStrLen = false
-is_served name.HIncrBy = false
-is_served name.HGetAll = false
-is_served name.HKeys = false
-is_served name.HVals = false
 is_served name.Multi = false
 is_served name.Exec = false
 is_served name.Discard = false

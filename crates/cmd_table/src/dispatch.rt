@@ -43,6 +43,18 @@ pub fn run<L: Lookup>(
         CommandName::TypeOf => Ok(cmd_string::type_of(alloc, lookup, arguments)),
         CommandName::DbSize => Ok(cmd_string::dbsize(alloc, lookup, arguments)),
         CommandName::FlushDb => cmd_string::flushdb(alloc, lookup, arguments),
+        CommandName::HSet => cmd_hash::hset(alloc, lookup, arguments),
+        CommandName::HSetNx => cmd_hash::hsetnx(alloc, lookup, arguments),
+        CommandName::HGet => cmd_hash::hget(alloc, lookup, arguments),
+        CommandName::HMGet => cmd_hash::hmget(alloc, lookup, arguments),
+        CommandName::HDel => cmd_hash::hdel(alloc, lookup, arguments),
+        CommandName::HLen => Ok(cmd_hash::hlen(alloc, lookup, arguments)),
+        CommandName::HExists => Ok(cmd_hash::hexists(alloc, lookup, arguments)),
+        CommandName::HStrLen => Ok(cmd_hash::hstrlen(alloc, lookup, arguments)),
+        CommandName::HIncrBy => cmd_hash::hincrby(alloc, lookup, arguments),
+        CommandName::HGetAll => cmd_hash::hgetall(alloc, lookup, arguments),
+        CommandName::HKeys => cmd_hash::hkeys(alloc, lookup, arguments),
+        CommandName::HVals => cmd_hash::hvals(alloc, lookup, arguments),
         _ => unreachable!(),
     }
 }

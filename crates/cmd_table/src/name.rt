@@ -93,18 +93,6 @@ impl CommandName {
         ensures { result ≡ spec.is_served self }
     {
         match self {
-            CommandName::HSet => false,
-            CommandName::HSetNx => false,
-            CommandName::HGet => false,
-            CommandName::HMGet => false,
-            CommandName::HDel => false,
-            CommandName::HLen => false,
-            CommandName::HExists => false,
-            CommandName::HStrLen => false,
-            CommandName::HIncrBy => false,
-            CommandName::HGetAll => false,
-            CommandName::HKeys => false,
-            CommandName::HVals => false,
             CommandName::Multi => false,
             CommandName::Exec => false,
             CommandName::Discard => false,

@@ -14,6 +14,7 @@ use std::alloc::{AllocError, Global};
 
 /// The reply to a request, and the changes to be made in order, where the keyspace is as it is shown. A misuse is answered as its
 /// error, and changes nothing.
+#[tactic(auto, unfolding(crate::specs::Request::outcome_of_words))]
 pub fn outcome_of_words<L: Lookup>(
     alloc: Global,
     lookup: &L,
@@ -33,6 +34,7 @@ pub fn outcome_of_words<L: Lookup>(
 }
 
 /// Whether the connection is over once the request is answered.
+#[tactic(auto, unfolding(crate::specs::Request::closes))]
 pub fn closes(words: &[Bytes]) -> bool
     ensures { result ≡ spec.closes words.now }
 {

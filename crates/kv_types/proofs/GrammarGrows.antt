@@ -20,16 +20,16 @@ with_more more read = (read.0, read.1 ++ more)
 abbrev pub longer : List ℕ → List ℕ → List ℕ
 longer more bytes = bytes ++ more
 
-Keeps-bind : {A B : Type 0} (grow_a : A → A) (grow_b : B → B) (f : A → Result B Stop) → ((x : A) → Keeps grow_b (f x) (f (grow_a x))) → (r later : Result A Stop) → Keeps grow_a r later → Keeps grow_b (r >>= f) (later >>= f)
+pub Keeps-bind : {A B : Type 0} (grow_a : A → A) (grow_b : B → B) (f : A → Result B Stop) → ((x : A) → Keeps grow_b (f x) (f (grow_a x))) → (r later : Result A Stop) → Keeps grow_a r later → Keeps grow_b (r >>= f) (later >>= f)
 Keeps-bind grow_a grow_b f each (Ok x) later e = rw e (each x)
 Keeps-bind grow_a grow_b f each (Err Short) later e = tt
 Keeps-bind grow_a grow_b f each (Err (Broken fault)) later e = rw e refl
 
-Keeps-if : {A : Type 0} (grow : A → A) (test : Bool) (x y x' y' : Result A Stop) → Keeps grow x x' → Keeps grow y y' → Keeps grow (cond test x y) (cond test x' y')
+pub Keeps-if : {A : Type 0} (grow : A → A) (test : Bool) (x y x' y' : Result A Stop) → Keeps grow x x' → Keeps grow y y' → Keeps grow (cond test x y) (cond test x' y')
 Keeps-if grow true x y x' y' h k = h
 Keeps-if grow false x y x' y' h k = k
 
-after_byte-more : (more : List ℕ) (expected : ℕ) (fault : ProtocolFault) (bytes : List ℕ) → Keeps (longer more) (after_byte expected fault bytes) (after_byte expected fault (bytes ++ more))
+pub after_byte-more : (more : List ℕ) (expected : ℕ) (fault : ProtocolFault) (bytes : List ℕ) → Keeps (longer more) (after_byte expected fault bytes) (after_byte expected fault (bytes ++ more))
 after_byte-more more expected fault [] = tt
 after_byte-more more expected fault (byte ∷ bytes) = Keeps-if (longer more) (byte == expected) _ _ _ _ refl refl
 
@@ -69,7 +69,7 @@ payload_at-cases len bytes more false c h =
     let fits : len ≤ length bytes = (h refl).1 in
     rw ((h refl).0, take-append-le len bytes more fits, drop-append-le len bytes more fits) (line_end_after-more more (take len bytes) (drop len bytes))
 
-payload_at-more : (more : List ℕ) (len : ℕ) (bytes : List ℕ) → Keeps (with_more more) (payload_at len bytes) (payload_at len (bytes ++ more))
+pub payload_at-more : (more : List ℕ) (len : ℕ) (bytes : List ℕ) → Keeps (with_more more) (payload_at len bytes) (payload_at len (bytes ++ more))
 payload_at-more more len bytes =
     payload_at-cases len bytes more (nat_lt (length bytes) len) (nat_lt (length (bytes ++ more)) len)
     (λ e. let fits : len ≤ length bytes = ltb-false _ _ e in (le-ltb _ _ (omega (arith, length-append bytes more)), fits))

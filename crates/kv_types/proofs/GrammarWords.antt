@@ -29,14 +29,14 @@ IsProperPrefix-same same_prefix same_whole p =
 abbrev pub line_end_after : List ℕ → List ℕ → Result (Read (List ℕ)) Stop
 line_end_after word bytes = after_byte 13 ExpectedLineEnd bytes >>= λ rest. after_byte 10 ExpectedLineEnd rest >>= λ after. Ok (word, after)
 
-line_end_after-takes : (word bytes w rest : List ℕ) → line_end_after word bytes ≡ Ok (w, rest) → (word ≡ w) × (bytes ≡ 13 ∷ 10 ∷ rest)
+pub line_end_after-takes : (word bytes w rest : List ℕ) → line_end_after word bytes ≡ Ok (w, rest) → (word ≡ w) × (bytes ≡ 13 ∷ 10 ∷ rest)
 line_end_after-takes word bytes w rest e =
     let first = bind_ok (λ rest. after_byte 10 ExpectedLineEnd rest >>= λ after. Ok (word, after)) (after_byte 13 ExpectedLineEnd bytes) (w, rest) e in
     let second = bind_ok (λ after. Ok (word, after)) (after_byte 10 ExpectedLineEnd first.0) (w, rest) first.2 in
     let parts = ok_parts word w second.0 rest second.2 in
     (parts.0, after_byte-takes 13 ExpectedLineEnd bytes first.0 first.1 ∙ ap (λ x. 13 ∷ x) (after_byte-takes 10 ExpectedLineEnd first.0 second.0 second.1 ∙ ap (λ x. 10 ∷ x) parts.1))
 
-line_end_after-short : (word bytes : List ℕ) → line_end_after word bytes ≡ Err Short → IsProperPrefix bytes line_end
+pub line_end_after-short : (word bytes : List ℕ) → line_end_after word bytes ≡ Err Short → IsProperPrefix bytes line_end
 line_end_after-short word bytes e =
     elim (bind_err (λ rest. after_byte 10 ExpectedLineEnd rest >>= λ after. Ok (word, after)) (after_byte 13 ExpectedLineEnd bytes) Short e) [
       | inl h ↦ record { byte = 13; rest = 10 ∷ []; joined = ap (λ x. x ++ (13 ∷ 10 ∷ [])) (after_byte-short 13 ExpectedLineEnd bytes h) }
@@ -78,7 +78,7 @@ payload_at-again word rest =
     ∙ ap (λ w. line_end_after w (drop (length word) (word ++ (13 ∷ 10 ∷ rest)))) (take_at word (13 ∷ 10 ∷ rest) (length word) refl)
     ∙ ap (line_end_after word) (drop_at word (13 ∷ 10 ∷ rest) (length word) refl)
 
-payload_at-takes : (len : ℕ) (bytes word rest : List ℕ) → payload_at len bytes ≡ Ok (word, rest) → (length word ≡ len) × (bytes ≡ word ++ (13 ∷ 10 ∷ rest))
+pub payload_at-takes : (len : ℕ) (bytes word rest : List ℕ) → payload_at len bytes ≡ Ok (word, rest) → (length word ≡ len) × (bytes ≡ word ++ (13 ∷ 10 ∷ rest))
 payload_at-takes len bytes word rest e =
     elim (chosen (nat_lt (length bytes) len) (Err Short) (line_end_after (take len bytes) (drop len bytes)) (Ok (word, rest)) e) [
       | inl h ↦ absurd (cc)

@@ -4,7 +4,7 @@ use Rattle.std.specs.Fmt.{digits}
 use Rattle.kv_types.specs.declared.change.Change.TheVariants.{Put, Drop, DropKey, Clear}
 use Rattle.kv_types.specs.declared.item.Item.TheVariants.{Request, Fault}
 use Rattle.kv_types.specs.declared.item.ProtocolFault.TheVariants.{ExpectedArray, InvalidMultibulkLength, ExpectedBulk, InvalidBulkLength, ExpectedLineEnd}
-use Rattle.kv_types.specs.declared.limits.TheConstants.{FULL_LIMITS, SERVED_LIMITS}
+use Rattle.kv_types.specs.declared.limits.TheConstants.{REQUEST_LIMITS}
 use Rattle.kv_types.specs.declared.record_id.RecordId.TheVariants.{Str, Field}
 use Rattle.kv_types.specs.declared.reply.Reply.{Reply, Simple, Error, Int, Bulk, NullBulk, Array, NullArray}
 use Rattle.kv_types.specs.declared.reply.Reply.TheBlock.{hidden-the_row-Reply-0}
@@ -17,9 +17,9 @@ use Rattle.kv_types.specs.Request.{number_line, spelling}
 use Rattle.kv_types.specs.Reply.{text_of}
 use Rattle.kv_types.proofs.ReplyLemmas.{text_of-Array}
 
--- ---- requests and faults, under the full limits; a fault comes with the byte that makes it, and not before
+-- ---- requests and faults; a fault comes with the byte that makes it, and not before
 
-set_of_a : items_at FULL_LIMITS (codes "*3\r\n$3\r\nSET\r\n$1\r\na\r\n$1\r\n1\r\n") ≡ Request (codes "SET" ∷ codes "a" ∷ codes "1" ∷ []) ∷ []
+set_of_a : items_at REQUEST_LIMITS (codes "*3\r\n$3\r\nSET\r\n$1\r\na\r\n$1\r\n1\r\n") ≡ Request (codes "SET" ∷ codes "a" ∷ codes "1" ∷ []) ∷ []
 unfolding items_at
 set_of_a = refl
 
@@ -27,115 +27,65 @@ spelling_of_a : spelling (codes "SET" ∷ codes "a" ∷ codes "1" ∷ []) ≡ co
 unfolding digits
 spelling_of_a = refl
 
-empty_array_before_ping : items_at FULL_LIMITS (codes "*0\r\n*1\r\n$4\r\nPING\r\n") ≡ Request (codes "PING" ∷ []) ∷ []
+empty_array_before_ping : items_at REQUEST_LIMITS (codes "*0\r\n*1\r\n$4\r\nPING\r\n") ≡ Request (codes "PING" ∷ []) ∷ []
 unfolding items_at
 empty_array_before_ping = refl
 
-leading_zero : items_at FULL_LIMITS (codes "*01") ≡ Fault InvalidMultibulkLength ∷ []
+leading_zero : items_at REQUEST_LIMITS (codes "*01") ≡ Fault InvalidMultibulkLength ∷ []
 unfolding items_at
 leading_zero = refl
 
-before_leading_zero : items_at FULL_LIMITS (codes "*0") ≡ []
+before_leading_zero : items_at REQUEST_LIMITS (codes "*0") ≡ []
 unfolding items_at
 before_leading_zero = refl
 
-word_of_65537 : items_at FULL_LIMITS (codes "*1\r\n$65537") ≡ Fault InvalidBulkLength ∷ []
+word_of_65537 : items_at REQUEST_LIMITS (codes "*1\r\n$65537") ≡ Fault InvalidBulkLength ∷ []
 unfolding items_at
 word_of_65537 = refl
 
-before_word_of_65537 : items_at FULL_LIMITS (codes "*1\r\n$6553") ≡ []
+before_word_of_65537 : items_at REQUEST_LIMITS (codes "*1\r\n$6553") ≡ []
 unfolding items_at
 before_word_of_65537 = refl
 
-word_of_65536 : items_at FULL_LIMITS (codes "*1\r\n$65536\r\n") ≡ []
+word_of_65536 : items_at REQUEST_LIMITS (codes "*1\r\n$65536\r\n") ≡ []
 unfolding items_at
 word_of_65536 = refl
 
-count_of_1025 : items_at FULL_LIMITS (codes "*1025") ≡ Fault InvalidMultibulkLength ∷ []
+count_of_1025 : items_at REQUEST_LIMITS (codes "*1025") ≡ Fault InvalidMultibulkLength ∷ []
 unfolding items_at
 count_of_1025 = refl
 
-before_count_of_1025 : items_at FULL_LIMITS (codes "*102") ≡ []
+before_count_of_1025 : items_at REQUEST_LIMITS (codes "*102") ≡ []
 unfolding items_at
 before_count_of_1025 = refl
 
-count_of_1024 : items_at FULL_LIMITS (codes "*1024\r\n") ≡ []
+count_of_1024 : items_at REQUEST_LIMITS (codes "*1024\r\n") ≡ []
 unfolding items_at
 count_of_1024 = refl
 
-no_array : items_at FULL_LIMITS (codes "P") ≡ Fault ExpectedArray ∷ []
+no_array : items_at REQUEST_LIMITS (codes "P") ≡ Fault ExpectedArray ∷ []
 unfolding items_at
 no_array = refl
 
-no_bulk : items_at FULL_LIMITS (codes "*1\r\n:") ≡ Fault (ExpectedBulk 58) ∷ []
+no_bulk : items_at REQUEST_LIMITS (codes "*1\r\n:") ≡ Fault (ExpectedBulk 58) ∷ []
 unfolding items_at
 no_bulk = refl
 
-before_no_bulk : items_at FULL_LIMITS (codes "*1\r\n") ≡ []
+before_no_bulk : items_at REQUEST_LIMITS (codes "*1\r\n") ≡ []
 unfolding items_at
 before_no_bulk = refl
 
-bulk_and_x : items_at FULL_LIMITS (codes "*1\r\n$4\r\nPINGX") ≡ Fault ExpectedLineEnd ∷ []
+bulk_and_x : items_at REQUEST_LIMITS (codes "*1\r\n$4\r\nPINGX") ≡ Fault ExpectedLineEnd ∷ []
 unfolding items_at
 bulk_and_x = refl
 
-before_bulk_and_x : items_at FULL_LIMITS (codes "*1\r\n$4\r\nPING") ≡ []
+before_bulk_and_x : items_at REQUEST_LIMITS (codes "*1\r\n$4\r\nPING") ≡ []
 unfolding items_at
 before_bulk_and_x = refl
 
-fault_after_request : items_at FULL_LIMITS (codes "*1\r\n$4\r\nPING\r\nPING") ≡ Request (codes "PING" ∷ []) ∷ Fault ExpectedArray ∷ []
+fault_after_request : items_at REQUEST_LIMITS (codes "*1\r\n$4\r\nPING\r\nPING") ≡ Request (codes "PING" ∷ []) ∷ Fault ExpectedArray ∷ []
 unfolding items_at
 fault_after_request = refl
-
--- ---- the same under the limits that are served, of 3 words and 9 bytes
-
-served_set_of_a : items_at SERVED_LIMITS (codes "*3\r\n$3\r\nSET\r\n$1\r\na\r\n$1\r\n1\r\n") ≡ Request (codes "SET" ∷ codes "a" ∷ codes "1" ∷ []) ∷ []
-unfolding items_at
-served_set_of_a = refl
-
-served_empty_array_before_ping : items_at SERVED_LIMITS (codes "*0\r\n*1\r\n$4\r\nPING\r\n") ≡ Request (codes "PING" ∷ []) ∷ []
-unfolding items_at
-served_empty_array_before_ping = refl
-
-served_leading_zero : items_at SERVED_LIMITS (codes "*01") ≡ Fault InvalidMultibulkLength ∷ []
-unfolding items_at
-served_leading_zero = refl
-
-word_of_65 : items_at SERVED_LIMITS (codes "*1\r\n$65") ≡ Fault InvalidBulkLength ∷ []
-unfolding items_at
-word_of_65 = refl
-
-before_word_of_65 : items_at SERVED_LIMITS (codes "*1\r\n$6") ≡ []
-unfolding items_at
-before_word_of_65 = refl
-
-word_of_9 : items_at SERVED_LIMITS (codes "*1\r\n$9\r\nlong name\r\n") ≡ Request (codes "long name" ∷ []) ∷ []
-unfolding items_at
-word_of_9 = refl
-
-count_of_10 : items_at SERVED_LIMITS (codes "*10") ≡ Fault InvalidMultibulkLength ∷ []
-unfolding items_at
-count_of_10 = refl
-
-before_count_of_10 : items_at SERVED_LIMITS (codes "*1") ≡ []
-unfolding items_at
-before_count_of_10 = refl
-
-count_of_4 : items_at SERVED_LIMITS (codes "*4") ≡ Fault InvalidMultibulkLength ∷ []
-unfolding items_at
-count_of_4 = refl
-
-served_no_array : items_at SERVED_LIMITS (codes "P") ≡ Fault ExpectedArray ∷ []
-unfolding items_at
-served_no_array = refl
-
-served_no_bulk : items_at SERVED_LIMITS (codes "*1\r\n:") ≡ Fault (ExpectedBulk 58) ∷ []
-unfolding items_at
-served_no_bulk = refl
-
-served_bulk_and_x : items_at SERVED_LIMITS (codes "*1\r\n$4\r\nPINGX") ≡ Fault ExpectedLineEnd ∷ []
-unfolding items_at
-served_bulk_and_x = refl
 
 -- ---- what a client is told of a fault
 

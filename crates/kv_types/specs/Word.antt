@@ -2,7 +2,7 @@
 use Rattle.std.specs.Prelude.{ℕ, ◌<◌, ◌≤◌, List, length}
 use Rattle.std.specs.List.{AllByRecursion}
 use Rattle.kv_types.specs.declared.limits.Limits.{Limits}
-use Rattle.kv_types.specs.declared.limits.TheConstants.{FULL_LIMITS}
+use Rattle.kv_types.specs.declared.limits.TheConstants.{REQUEST_LIMITS}
 
 -- no more words than the limit, and none longer than the limit
 pub record IsWithin (limits : Limits) (words : List (List ℕ)) : Type 0 where
@@ -12,4 +12,4 @@ pub record IsWithin (limits : Limits) (words : List (List ℕ)) : Type 0 where
 -- the words of one command: at least its name, and within the full limits
 pub record AreWords (words : List (List ℕ)) : Type 0 where
   pub named : 0 < length words
-  pub within : IsWithin FULL_LIMITS words
+  pub within : IsWithin REQUEST_LIMITS words

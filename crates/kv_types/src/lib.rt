@@ -25,9 +25,7 @@ pub use laws::{
     array_text, keyspace_stays, look_up_after_change, look_ups_tell_apart, play_in_two_parts,
     records_are_found,
 };
-pub use limits::{
-    FULL_LIMITS, Limits, MAX_CHANGE_BYTES, MAX_KEY_BYTES, MAX_VALUE_BYTES, SERVED_LIMITS,
-};
+pub use limits::{Limits, MAX_CHANGE_BYTES, MAX_KEY_BYTES, MAX_VALUE_BYTES, REQUEST_LIMITS};
 pub use listed::Listed;
 pub use place::{EntryNo, Extent};
 pub use plain_keyspace::PlainKeyspace;

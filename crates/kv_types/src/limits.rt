@@ -21,14 +21,8 @@ pub struct Limits {
     pub word_bytes: u64,
 }
 
-/// The limits of the protocol: the type `Request` holds no request beyond them.
-pub const FULL_LIMITS: Limits = Limits {
+/// The limits of the protocol. The type `Request` holds no request beyond them.
+pub const REQUEST_LIMITS: Limits = Limits {
     words: 1_024,
     word_bytes: 65_536,
-};
-
-/// The limits that are served today.
-pub const SERVED_LIMITS: Limits = Limits {
-    words: 3,
-    word_bytes: 9,
 };

@@ -1,5 +1,5 @@
 //! The plain, slow keyspace: a list of records, with which every faster one is compared.
-ghost use Rattle.std.specs.Prelude.{◌≡◌, ℕ, List, ◌<◌, ◌≤◌, ◌==◌, [], length, take, insert, slice_index_or, slice_set, OnOk, OnErr, IfOk, IfErr, vec_len, vec_capacity};
+ghost use Rattle.std.specs.Prelude.{◌≡◌, ℕ, List, ◌+◌, ◌<◌, ◌≤◌, ◌==◌, [], length, insert, slice_index_or, slice_set, OnOk, OnErr, IfOk, IfErr, vec_len, vec_capacity};
 ghost use Rattle.std.specs.Option.{option_copied};
 ghost use Rattle.std.specs.Ordering.{eq_by_cmp};
 ghost use Rattle.kv_types.specs.Keyspace.{IsKeyspace, value_at, record_cmp, with_record, without_record, without_key, play, play_all};
@@ -73,14 +73,13 @@ impl PlainKeyspace {
         play_on(&mut self.records, change)
     }
 
-    /// Plays the changes in order. If memory is refused, exactly the changes before the refused one have been played.
+    /// Plays the changes in order: all of them or, where memory is refused, none.
     pub fn play_all(&mut self, changes: Vec<Change>) -> Result<(), AllocError>
         ensures ok { OnOk result (self.new ≡ play_all self.old changes.items) }
-        ensures err { OnErr result ((n : ℕ) × (n < length changes.items) × (self.new ≡ play_all self.old (take n changes.items))) }
+        ensures err { OnErr result (self.new ≡ self.old) }
     {
-        for change in changes {
-            self.play(change)?;
-        }
+        self.records.reserve(changes.len())?;
+        play_each(&mut self.records, changes);
         Ok(())
     }
 }
@@ -97,9 +96,25 @@ fn value_in<'a>(records: &'a [(RecordId, Value)], id: &RecordId) -> Option<&'a V
     None
 }
 
+/// Plays the changes in order, in the room that there is.
+fn play_each(records: &mut Vec<(RecordId, Value)>, changes: Vec<Change>)
+    requires { vec_len records.old + vec_len changes ≤ vec_capacity records.old }
+    ensures { records.new.items ≡ play_all records.old.items changes.items }
+{
+    for change in changes {
+        match play_on(records, change) {
+            Ok(()) => {}
+            Err(_) => unreachable!(),
+        }
+    }
+}
+
 fn play_on(records: &mut Vec<(RecordId, Value)>, change: Change) -> Result<(), AllocError>
     ensures ok { OnOk result (records.new.items ≡ play records.old.items change) }
     ensures err { OnErr result (records.new.items ≡ records.old.items) }
+    ensures len { vec_len records.new ≤ vec_len records.old + 1 }
+    ensures capacity { vec_capacity records.old ≤ vec_capacity records.new }
+    ensures full { OnErr result (vec_capacity records.old ≤ vec_len records.old) }
 {
     match change {
         Change::Put(id, value) => put(records, id, value)?,
@@ -114,6 +129,9 @@ fn play_on(records: &mut Vec<(RecordId, Value)>, change: Change) -> Result<(), A
 fn put(records: &mut Vec<(RecordId, Value)>, id: RecordId, value: Value) -> Result<(), AllocError>
     ensures ok { OnOk result (records.new.items ≡ play records.old.items (Change.Put id value)) }
     ensures err { OnErr result (records.new.items ≡ records.old.items) }
+    ensures len { vec_len records.new ≤ vec_len records.old + 1 }
+    ensures capacity { vec_capacity records.old ≤ vec_capacity records.new }
+    ensures full { OnErr result (vec_capacity records.old ≤ vec_len records.old) }
 {
     // Room first: what follows drops records, and must not fail after that.
     records.reserve(1)?;
@@ -131,6 +149,8 @@ fn put_record(
     value: Value,
 ) -> Result<(), AllocError>
     ensures ok { OnOk result (records.new.items ≡ with_record id value records.old.items) }
+    ensures len { vec_len records.new ≤ vec_len records.old + 1 }
+    ensures capacity { vec_capacity records.old ≤ vec_capacity records.new }
     ensures full { OnErr result (vec_capacity records.old ≤ vec_len records.old) }
 {
     match place_of(records, &id) {
@@ -158,7 +178,9 @@ fn place_of(records: &[(RecordId, Value)], id: &RecordId) -> Result<usize, usize
 }
 
 fn drop_record(records: &mut Vec<(RecordId, Value)>, id: &RecordId)
-    ensures { records.new.items ≡ without_record id.now records.old.items }
+    ensures items { records.new.items ≡ without_record id.now records.old.items }
+    ensures len { vec_len records.new ≤ vec_len records.old }
+    ensures capacity { vec_capacity records.new ≡ vec_capacity records.old }
 {
     records.retain(|record| record.0 != *id);
 }

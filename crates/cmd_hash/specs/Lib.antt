@@ -1,0 +1,5 @@
+pub mod Hash
+pub mod Reading
+pub mod Whole
+pub mod Writing
+pub mod Counter
