@@ -1,1 +1,10 @@
+pub mod Counting
+pub mod CutLemmas
+pub mod FitLemmas
+pub mod HeapLemmas
+pub mod JoinLemmas
+pub mod Pools
 pub mod Rooms
+pub mod RunsLemmas
+pub mod SameRuns
+pub mod SplitLemmas

@@ -1,88 +1,137 @@
 -- What the definitions of a room imply together.
-use Rattle.std.proofs.Common.{◌≡◌, ℕ, zero, suc, ◌+◌, ◌-◌, ◌<◌, ◌≤◌, Bool, true, false, not, ◌&&◌, nat_eq, nat_lt, nat_le, IsTrue, refl, sym, ◌∙◌, ap, subst, min, add-one, if◌then◌else◌, arith}
-use Rattle.std.proofs.lemmas.Bool.{and_parts}
+use Rattle.std.proofs.Common.{◌≡◌, ℕ, ◌+◌, ◌-◌, ◌<◌, ◌≤◌, Bool, true, false, not, ◌&&◌, ◌||◌, nat_eq, IsTrue, List, refl, sym, ◌∙◌, ap, ap₂, subst, arith}
+use Rattle.std.proofs.lemmas.Bool.{and_parts, true≢false}
 use Rattle.std.proofs.lemmas.Bool.Decides.{nat_tests}
 use Rattle.kv_types.specs.declared.place.EntryNo.{EntryNo}
 use Rattle.kv_types.specs.declared.place.Extent.{Extent}
-use Rattle.extent_heap.specs.Room.{Room, is_free_line, is_line_of, is_free_entry, IsFreeRun, free_lines_below, TakesExtent, TakesEntry}
+use Rattle.extent_heap.specs.Extents.{is_line_of}
+use Rattle.extent_heap.specs.Runs.{has_line}
+use Rattle.extent_heap.specs.Room.{Room, IsRoom, is_free_line, is_free_entry, IsFreeRun, TakesExtent, GivesExtent, IsOut, TakesEntry, GivesEntry, IsOutEntry}
+use Rattle.extent_heap.proofs.RunsLemmas.{line_bounds}
+use Rattle.extent_heap.proofs.SameRuns.{runs_same, end_of_line}
 
--- a line is free if it is from the next one up to but not including the end
-pub free_line : (room : Room) (line : ℕ) → room.next_line ≤ line → line < room.end_line → IsTrue (is_free_line room line)
-free_line room line low high = grind (arith, nat_tests)
+-- ---- what was taken is no longer free, and nothing else changed
 
-pub free_line-bounds : (room : Room) (line : ℕ) → IsTrue (is_free_line room line) → (room.next_line ≤ line) × (line < room.end_line)
-free_line-bounds room line free = grind (arith, nat_tests)
-
--- the lowest run begins at the next line
-pub TakesExtent-first : (old : Room) (extent : Extent) (new : Room) → 0 < extent.lines → TakesExtent old extent new → extent.first_line ≡ old.next_line
-TakesExtent-first old extent new some takes =
-    let prefix = free_line-bounds old extent.first_line (takes.free extent.first_line (omega arith) (omega arith)) in
-    let last = extent.first_line + (extent.lines - 1) in
-    let back = free_line-bounds old last (takes.free last (omega arith) (omega arith)) in
-    let low = takes.lowest old.next_line (λ line from below. free_line old line from (omega arith)) in
-    omega arith
-
--- a room is determined by what was handed out of it and what is left
-pub room_before_extent : (old : Room) (extent : Extent) (new : Room) → 0 < extent.lines → TakesExtent old extent new → record new { next_line = extent.first_line } ≡ old
-room_before_extent old extent new some takes =
-    ap (λ (room : Room). record room { next_line = extent.first_line }) takes.after
-    ∙ ap (λ first. record old { next_line = first }) (TakesExtent-first old extent new some takes)
-
-pub TakesEntry-first : (old : Room) (entry : EntryNo) (new : Room) → TakesEntry old entry new → entry.0 ≡ old.next_entry
-TakesEntry-first old entry new takes =
-    let low = takes.free in
-    let high = takes.lowest old.next_entry in
-    grind (arith, nat_tests)
-
-pub room_before_entry : (old : Room) (entry : EntryNo) (new : Room) → TakesEntry old entry new → record new { next_entry = entry.0 } ≡ old
-room_before_entry old entry new takes =
-    ap (λ (room : Room). record room { next_entry = entry.0 }) takes.after
-    ∙ ap (λ first. record old { next_entry = first }) (TakesEntry-first old entry new takes)
-
--- the free lines below a line are those from the next one up to it or to the end
-below_more : (next end line : ℕ) (free : Bool) → free ≡ (nat_le next line && nat_lt line end)
-    → (if free then 1 else 0) + (min line end - next) ≡ min (line + 1) end - next
-below_more next end line true is = grind (arith, nat_tests)
-below_more next end line false is = grind (arith, nat_tests)
-
-pub free_lines_below-is : (room : Room) (line : ℕ) → free_lines_below room line ≡ min line room.end_line - room.next_line
-free_lines_below-is room zero = omega arith
-free_lines_below-is room (suc line) =
-    let before = free_lines_below-is room line in
-    rw before (below_more room.next_line room.end_line line (is_free_line room line) refl ∙ ap (λ n. min n room.end_line - room.next_line) (add-one line))
-
--- ---- a room hands out one entry and nothing else
-
--- what was taken is no longer free
 pub TakesEntry-gone : (old : Room) (entry : EntryNo) (new : Room) → TakesEntry old entry new → is_free_entry new entry.0 ≡ false
-TakesEntry-gone old entry new takes = grind (arith, nat_tests, takes.taken entry.0)
+TakesEntry-gone old entry new takes = takes.after.taken entry.0 ∙ gone (is_free_entry old entry.0) (nat_eq entry.0 entry.0) (same entry.0)
+  where
+    same : (i : ℕ) → nat_eq i i ≡ true
+    same i = grind (arith, nat_tests)
+
+    gone : (a b : Bool) → b ≡ true → (a && not b) ≡ false
+    gone true true is = refl
+    gone true false is = sym is
+    gone false b is = refl
 
 -- what is free afterwards was free before
 pub TakesEntry-free : (old : Room) (entry : EntryNo) (new : Room) (i : ℕ) → TakesEntry old entry new → IsTrue (is_free_entry new i) → IsTrue (is_free_entry old i)
-TakesEntry-free old entry new i takes free = (and_parts (is_free_entry old i) (not (nat_eq i entry.0)) (sym (takes.taken i) ∙ free)).0
+TakesEntry-free old entry new i takes free = (and_parts (is_free_entry old i) (not (nat_eq i entry.0)) (sym (takes.after.taken i) ∙ free)).0
 
 pub TakesEntry-line : (old : Room) (entry : EntryNo) (new : Room) (line : ℕ) → TakesEntry old entry new → is_free_line new line ≡ is_free_line old line
-TakesEntry-line old entry new line takes = ap (λ room. is_free_line room line) takes.after
+TakesEntry-line old entry new line takes = ap (λ (runs : List Extent). has_line runs line) takes.after.lines
+
+gone_line : (has is : Bool) → IsTrue is → (has && not is) ≡ false
+gone_line true true given = refl
+gone_line true false given = sym given
+gone_line false is given = refl
+
+line_of : (extent : Extent) (line : ℕ) → extent.first_line ≤ line → line < extent.first_line + extent.lines → IsTrue (is_line_of extent line)
+line_of extent line low high = grind (arith, nat_tests)
+
+pub TakesExtent-gone : (old : Room) (extent : Extent) (new : Room) (line : ℕ) → TakesExtent old extent new → extent.first_line ≤ line → line < extent.first_line + extent.lines → is_free_line new line ≡ false
+TakesExtent-gone old extent new line takes low high = takes.after.taken line ∙ gone_line (is_free_line old line) (is_line_of extent line) (line_of extent line low high)
+
+pub TakesExtent-free : (old : Room) (extent : Extent) (new : Room) (line : ℕ) → TakesExtent old extent new → IsTrue (is_free_line new line) → IsTrue (is_free_line old line)
+TakesExtent-free old extent new line takes free = (and_parts (is_free_line old line) (not (is_line_of extent line)) (sym (takes.after.taken line) ∙ free)).0
+
+pub TakesExtent-entry : (old : Room) (extent : Extent) (new : Room) (i : ℕ) → TakesExtent old extent new → is_free_entry new i ≡ is_free_entry old i
+TakesExtent-entry old extent new i takes = ap (λ (runs : List Extent). has_line runs i) takes.after.entries
+
+-- ---- a room is what its parts say
+
+room_same : (a b : Room) → a.lines ≡ b.lines → a.end_line ≡ b.end_line → a.held ≡ b.held → a.entries ≡ b.entries → a.end_entry ≡ b.end_entry → a ≡ b
+room_same a b lines end_line held entries end_entry =
+    ap₂ (λ (x : List Extent) (y : ℕ). record a { lines = x; end_line = y }) lines end_line
+    ∙ ap₂ (λ (x : ℕ) (y : List Extent). record b { held = x; entries = y; end_entry = a.end_entry }) held entries
+    ∙ ap (λ (x : ℕ). record b { end_entry = x }) end_entry
+
+-- rooms with the same free lines and entries have the same runs
+same_lines : (a b : Room) → IsRoom a → IsRoom b → ((line : ℕ) → is_free_line a line ≡ is_free_line b line) → a.lines ≡ b.lines
+same_lines a b room room' same = runs_same 0 (a.end_line + 1) 0 (b.end_line + 1) a.lines b.lines room.lines room'.lines same
+
+same_entries : (a b : Room) → IsRoom a → IsRoom b → ((i : ℕ) → is_free_entry a i ≡ is_free_entry b i) → a.entries ≡ b.entries
+same_entries a b room room' same = runs_same 0 (a.end_entry + 1) 0 (b.end_entry + 1) a.entries b.entries room.entries room'.entries same
 
 pub TakesEntry-same : (old : Room) (entry entry' : EntryNo) (new new' : Room) → TakesEntry old entry new → TakesEntry old entry' new' → new ≡ new'
 TakesEntry-same old entry entry' new new' takes takes' =
     let low = takes.lowest entry'.0 takes'.free in
     let high = takes'.lowest entry.0 takes.free in
     let same : entry.0 ≡ entry'.0 = omega arith in
-    takes.after ∙ ap (λ i. record old { next_entry = i + 1 }) same ∙ sym takes'.after
-
-pub TakesExtent-gone : (old : Room) (extent : Extent) (new : Room) (line : ℕ) → TakesExtent old extent new → extent.first_line ≤ line → line < extent.first_line + extent.lines → is_free_line new line ≡ false
-TakesExtent-gone old extent new line takes low high = grind (arith, nat_tests, takes.taken line)
-
-pub TakesExtent-free : (old : Room) (extent : Extent) (new : Room) (line : ℕ) → TakesExtent old extent new → IsTrue (is_free_line new line) → IsTrue (is_free_line old line)
-TakesExtent-free old extent new line takes free = (and_parts (is_free_line old line) (not (is_line_of extent line)) (sym (takes.taken line) ∙ free)).0
-
-pub TakesExtent-entry : (old : Room) (extent : Extent) (new : Room) (i : ℕ) → TakesExtent old extent new → is_free_entry new i ≡ is_free_entry old i
-TakesExtent-entry old extent new i takes = ap (λ room. is_free_entry room i) takes.after
+    let after = takes.after in
+    let after' = takes'.after in
+    let entries = same_entries new new' after.still_room after'.still_room
+    (λ i. after.taken i ∙ ap (λ j. is_free_entry old i && not (nat_eq i j)) same ∙ sym (after'.taken i)) in
+    room_same new new' (after.lines ∙ sym after'.lines) (after.end_line ∙ sym after'.end_line) (after.held ∙ sym after'.held) entries (after.end_entry ∙ sym after'.end_entry)
 
 pub TakesExtent-same : (old : Room) (extent extent' : Extent) (new new' : Room) → extent.lines ≡ extent'.lines → TakesExtent old extent new → TakesExtent old extent' new' → new ≡ new'
 TakesExtent-same old extent extent' new new' count takes takes' =
     let low = takes.lowest extent'.first_line (subst (IsFreeRun old extent'.first_line) (sym count) takes'.free) in
     let high = takes'.lowest extent.first_line (subst (IsFreeRun old extent.first_line) count takes.free) in
-    let same : extent.first_line + extent.lines ≡ extent'.first_line + extent'.lines = omega arith in
-    takes.after ∙ ap (λ end. record old { next_line = end }) same ∙ sym takes'.after
+    let first : extent.first_line ≡ extent'.first_line = omega arith in
+    let same : extent ≡ extent' = ap₂ (λ (x y : ℕ). record extent { first_line = x; lines = y }) first count in
+    let after = takes.after in
+    let after' = takes'.after in
+    let lines = same_lines new new' after.still_room after'.still_room
+    (λ line. after.taken line ∙ ap (λ (e : Extent). is_free_line old line && not (is_line_of e line)) same ∙ sym (after'.taken line)) in
+    room_same new new' lines (after.end_line ∙ sym after'.end_line) (after.held ∙ sym after'.held) (after.entries ∙ sym after'.entries) (after.end_entry ∙ sym after'.end_entry)
+
+-- ---- what was taken can be given back, and then the room is as before
+
+pub free_within : (room : Room) (first lines : ℕ) → IsRoom room → 0 < lines → IsFreeRun room first lines → first + lines ≤ room.end_line
+free_within room first lines is some free =
+    let last = first + (lines - 1) in
+    let below = end_of_line room.end_line room.lines last is.lines (free last (omega arith) (omega arith)) in
+    omega arith
+
+pub out_again : (before : Room) (extent : Extent) (room : Room) → 0 < extent.lines → TakesExtent before extent room → IsOut room extent
+out_again before extent room some takes =
+    let held = takes.after.held in
+    let within = free_within before extent.first_line extent.lines takes.after.is_room some takes.free in
+    record {
+      some = some;
+      within = subst (λ end. extent.first_line + extent.lines ≤ end) (sym takes.after.end_line) within;
+      held = omega arith;
+      taken = λ line low high. TakesExtent-gone before extent room line takes low high;
+    }
+
+back : (has is : Bool) → (IsTrue is → has ≡ true) → ((has && not is) || is) ≡ has
+back true true given = refl
+back true false given = refl
+back false true given = absurd (true≢false (sym (given refl)))
+back false false given = refl
+
+pub undo_extent : (before : Room) (extent : Extent) (room new : Room) → TakesExtent before extent room → GivesExtent room extent new → new ≡ before
+undo_extent before extent room new takes gives =
+    let after = takes.after in
+    let lines = same_lines new before gives.still_room after.is_room
+    (λ line. gives.given line ∙ ap (λ b. b || is_line_of extent line) (after.taken line)
+    ∙ back (is_free_line before line) (is_line_of extent line) (λ is. let bounds = line_bounds extent line is in takes.free line bounds.0 bounds.1)) in
+    let held = gives.held in
+    let held' = after.held in
+    room_same new before lines (gives.end_line ∙ after.end_line) (omega arith) (gives.entries ∙ after.entries) (gives.end_entry ∙ after.end_entry)
+
+pub out_entry_again : (before : Room) (entry : EntryNo) (room : Room) → TakesEntry before entry room → IsOutEntry room entry
+out_entry_again before entry room takes =
+    let within = end_of_line before.end_entry before.entries entry.0 takes.after.is_room.entries takes.free in
+    record { within = subst (λ end. entry.0 < end) (sym takes.after.end_entry) within; taken = TakesEntry-gone before entry room takes }
+
+same_number : (i j : ℕ) → IsTrue (nat_eq i j) → i ≡ j
+same_number i j is = grind (arith, nat_tests)
+
+pub undo_entry : (before : Room) (entry : EntryNo) (room new : Room) → TakesEntry before entry room → GivesEntry room entry new → new ≡ before
+undo_entry before entry room new takes gives =
+    let after = takes.after in
+    let entries = same_entries new before gives.still_room after.is_room
+    (λ i. gives.given i ∙ ap (λ b. b || nat_eq i entry.0) (after.taken i)
+    ∙ back (is_free_entry before i) (nat_eq i entry.0) (λ is. subst (λ j. IsTrue (is_free_entry before j)) (sym (same_number i entry.0 is)) takes.free)) in
+    room_same new before (gives.lines ∙ after.lines) (gives.end_line ∙ after.end_line) (gives.held ∙ after.held) entries (gives.end_entry ∙ after.end_entry)

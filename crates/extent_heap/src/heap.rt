@@ -1,80 +1,133 @@
-//! The free lines and entries of an image, which are handed out in rising order and, unless given back, never again.
-ghost use Rattle.std.specs.Prelude.{◌≡◌, ℕ, ◌+◌, ◌-◌, ◌<◌, ◌≤◌, ◌↔◌, false, IsTrue, IfOk, IfErr, OnErr};
-ghost use Rattle.extent_heap.specs.Room.{Room, fresh_room, is_free_line, is_free_entry, IsFreeRun, free_lines_below, TakesExtent, TakesEntry};
+//! The free lines and entries of an image.
+ghost use Rattle.std.specs.Prelude.{◌≡◌, ℕ, ◌+◌, ◌^◌, ◌<◌, ◌≤◌, ◌↔◌, ◌⊎◌, false, IsTrue, IfOk, IfErr, OnOk, OnErr, IsErrOf, length, vec_len};
+ghost use Rattle.std.specs.Vec.{vec_capacity};
+ghost use Rattle.extent_heap.specs.Extents.{entry_run};
+ghost use Rattle.extent_heap.specs.Runs.{some_run};
+ghost use Rattle.extent_heap.specs.Room.{Room, fresh_room, is_free_line, is_free_entry, IsFreeRun, free_lines_below, ClaimsExtent, TakesExtent, GivesExtent, IsOut, ClaimsEntry, TakesEntry, GivesEntry, IsOutEntry};
 
+use crate::runs;
+use crate::spare::Spare;
+use crate::tree::Tree;
 use kv_types::{EntryNo, Extent, Refusal};
+use std::alloc::{AllocError, Global};
 use std::marker::Model;
+use std::mem;
 
 /// The free lines and entries of an image. A clause sees which they are, as a `Room`.
 ///
-/// No call takes memory.
-#[derive(Debug, Drop)]
+/// Finding the lowest run that is long enough, and taking, claiming and giving back, each go a few times down a tree of the free runs. `new`, `take`
+/// and `claim` ask for memory: they make the room that the other calls will want, which ask for none.
+#[derive(Drop)]
 pub struct ExtentHeap {
-    next_line: u64,
+    lines: Tree,
+    line_forks: Spare,
     end_line: u64,
-    next_entry: u64,
+    /// How many lines are free.
+    free: u64,
+    /// How many extents were handed out and not given back.
+    held: usize,
+    entries: Tree,
+    entry_forks: Spare,
     end_entry: u64,
 }
 
 impl Model for ExtentHeap {
     ghost use Rattle.extent_heap.specs.Room.{Room};
+    ghost use Rattle.extent_heap.specs.Pool.{AreLines, AreEntries};
 
     ghost Value = { Room };
 
     ghost view = { λ heap. record {
-      next_line = heap.next_line;
+      lines = heap.lines;
       end_line = heap.end_line;
-      next_entry = heap.next_entry;
+      held = heap.held;
+      entries = heap.entries;
       end_entry = heap.end_entry;
     } };
+
+    ghost invariant = { λ heap. AreLines heap.end_line heap.lines heap.line_forks heap.free heap.held
+        × AreEntries heap.end_entry heap.entries heap.entry_forks };
 }
 
 impl ExtentHeap {
     /// A heap in which all lines from `first` up to but not including `end` are free, and all entries below `entries`.
-    pub fn new(first: u64, end: u64, entries: u64) -> ExtentHeap
-        ensures room { result ≡ fresh_room first end entries }
-        ensures lines { (line : ℕ) → IsTrue (is_free_line result line) ↔ ((first ≤ line) × (line < end)) }
-        ensures entries { (i : ℕ) → IsTrue (is_free_entry result i) ↔ (i < entries) }
+    ///
+    /// Makes the room for all entry numbers: some 32 bytes for each entry. `Refusal::Memory` where a growth was refused.
+    pub fn new(alloc: Global, first: u64, end: u64, entries: u64) -> Result<ExtentHeap, Refusal>
+        ensures room { IfOk result (λ heap. heap ≡ fresh_room first end entries) }
+        ensures lines { IfOk result (λ heap. (line : ℕ) → IsTrue (is_free_line heap line) ↔ ((first ≤ line) × (line < end))) }
+        ensures entries { IfOk result (λ heap. (i : ℕ) → IsTrue (is_free_entry heap i) ↔ (i < entries)) }
+        ensures cause { IfErr result (λ refusal. refusal ≡ Refusal.Memory) }
     {
-        ExtentHeap {
-            next_line: first,
+        let free = end.saturating_sub(first);
+        let (lines, line_forks) = fresh(alloc, first, free, 1)?;
+        let (entry_runs, entry_forks) = fresh(alloc, 0, entries, (entries / 2) as usize + 2)?;
+        Ok(ExtentHeap {
+            lines,
+            line_forks,
             end_line: end,
-            next_entry: 0,
+            free,
+            held: 0,
+            entries: entry_runs,
+            entry_forks,
             end_entry: entries,
-        }
+        })
     }
 
-    /// Hands out the lowest run of `lines` free lines. `Refusal::Full` if no run is long enough, and then nothing changed.
+    /// Hands out the lowest run of `lines` free lines.
+    ///
+    /// `Refusal::Full` if no run is long enough, `Refusal::Memory` where a growth was refused; then nothing changed.
     pub fn take(&mut self, lines: u64) -> Result<Extent, Refusal>
         requires { 0 < lines }
         ensures count { IfOk result (λ extent. extent.lines ≡ lines) }
         ensures ok { IfOk result (λ extent. TakesExtent self.old extent self.new) }
-        ensures full { IfErr result (λ refusal. refusal ≡ Refusal.Full) }
-        ensures full_only { OnErr result ((first : ℕ) → ¬ IsFreeRun self.old first lines) }
+        ensures causes { IfErr result (λ refusal. (refusal ≡ Refusal.Full) ⊎ (refusal ≡ Refusal.Memory)) }
+        ensures full_only { IsErrOf result Refusal.Full → (first : ℕ) → ¬ IsFreeRun self.old first lines }
         ensures err { OnErr result (self.new ≡ self.old) }
     {
-        if self.end_line.saturating_sub(self.next_line) < lines {
+        let Some(run) = self.lines.first_fit(lines) else {
             return Err(Refusal::Full);
-        }
-        let first_line = self.next_line;
-        self.next_line = first_line + lines;
-        Ok(Extent { first_line, lines })
+        };
+        let extent = Extent {
+            first_line: run.first_line,
+            lines,
+        };
+        self.claim(extent)?;
+        Ok(extent)
     }
 
-    /// Gives back the extent that was taken last. The heap is again as it was before the extent was taken.
-    pub fn give(&mut self, extent: Extent)
+    /// Hands out this extent, whose lines are all free. `Refusal::Memory` where a growth was refused, and then nothing changed.
+    pub fn claim(&mut self, extent: Extent) -> Result<(), AllocError>
         requires some { 0 < extent.lines }
-        requires last { (before : Room) × TakesExtent before extent self.old }
-        ensures { (before : Room) → TakesExtent before extent self.old → self.new ≡ before }
+        requires free { IsFreeRun self.old extent.first_line extent.lines }
+        ensures ok { OnOk result (ClaimsExtent self.old extent self.new) }
+        ensures err { OnErr result (self.new ≡ self.old) }
     {
-        self.next_line = extent.first_line;
+        self.line_forks.make(self.held + 2)?;
+        let lines = mem::replace(&mut self.lines, Tree::new());
+        self.lines = runs::claim(lines, &mut self.line_forks, extent);
+        self.free -= extent.lines;
+        self.held += 1;
+        Ok(())
+    }
+
+    /// Gives an extent back, which may be a part of what was handed out, or more than one. Free runs that touch become one.
+    pub fn give(&mut self, extent: Extent)
+        requires { IsOut self.old extent }
+        ensures after { GivesExtent self.old extent self.new }
+        ensures undoes { (before : Room) → TakesExtent before extent self.old → self.new ≡ before }
+    {
+        let lines = mem::replace(&mut self.lines, Tree::new());
+        self.lines = runs::give(lines, &mut self.line_forks, extent);
+        self.free += extent.lines;
+        self.held -= 1;
     }
 
     /// How many lines are free.
     pub fn free_lines(&self) -> u64
         ensures { result ≡ free_lines_below self.now (self.now).end_line }
     {
-        self.end_line.saturating_sub(self.next_line)
+        self.free
     }
 
     /// Hands out the lowest free entry. `Refusal::Full` if none is free, and then nothing changed.
@@ -84,19 +137,59 @@ impl ExtentHeap {
         ensures full_only { OnErr result ((i : ℕ) → is_free_entry self.old i ≡ false) }
         ensures err { OnErr result (self.new ≡ self.old) }
     {
-        if self.next_entry >= self.end_entry {
+        let Some(run) = self.entries.first_fit(1) else {
             return Err(Refusal::Full);
-        }
-        let entry = EntryNo(self.next_entry);
-        self.next_entry += 1;
+        };
+        let entry = EntryNo(run.first_line);
+        self.claim_entry(entry);
         Ok(entry)
     }
 
-    /// Gives back the entry that was taken last. The heap is again as it was before the entry was taken.
-    pub fn give_entry(&mut self, entry: EntryNo)
-        requires { (before : Room) × TakesEntry before entry self.old }
-        ensures { (before : Room) → TakesEntry before entry self.old → self.new ≡ before }
+    /// Hands out this entry, which is free.
+    pub fn claim_entry(&mut self, entry: EntryNo)
+        requires { IsTrue (is_free_entry self.old entry.0) }
+        ensures { ClaimsEntry self.old entry self.new }
     {
-        self.next_entry = entry.0;
+        let entries = mem::replace(&mut self.entries, Tree::new());
+        self.entries = runs::claim(entries, &mut self.entry_forks, run_of(entry));
     }
+
+    /// Gives an entry back.
+    pub fn give_entry(&mut self, entry: EntryNo)
+        requires { IsOutEntry self.old entry }
+        ensures after { GivesEntry self.old entry self.new }
+        ensures undoes { (before : Room) → TakesEntry before entry self.old → self.new ≡ before }
+    {
+        let entries = mem::replace(&mut self.entries, Tree::new());
+        self.entries = runs::give(entries, &mut self.entry_forks, run_of(entry));
+    }
+}
+
+/// The run of this entry alone.
+fn run_of(entry: EntryNo) -> Extent
+    ensures { result ≡ entry_run entry }
+{
+    Extent {
+        first_line: entry.0,
+        lines: 1,
+    }
+}
+
+/// One run, if it has a line, and so many forks.
+fn fresh(
+    alloc: Global,
+    first_line: u64,
+    lines: u64,
+    forks: usize,
+) -> Result<(Tree, Spare), AllocError>
+    requires { 0 < forks }
+    ensures runs { IfOk result (λ made. made.0 ≡ some_run (record { first_line = first_line; lines = lines })) }
+    ensures counted { IfOk result (λ made. (made.1).made ≡ vec_len (made.1).forks + length made.0) }
+    ensures room { IfOk result (λ made. (made.1).made ≤ vec_capacity (made.1).forks) }
+    ensures enough { IfOk result (λ made. forks ≤ (made.1).made) }
+{
+    let mut spare = Spare::new(alloc);
+    spare.make(forks)?;
+    let runs = spare.push(Tree::new(), Extent { first_line, lines });
+    Ok((runs, spare))
 }

@@ -2,5 +2,8 @@
 #![tactic(auto)]
 
 mod heap;
+mod runs;
+mod spare;
+mod tree;
 
 pub use heap::ExtentHeap;

@@ -1,0 +1,149 @@
+-- Facts on lists of runs.
+use Rattle.std.proofs.Common.{◌≡◌, ℕ, ◌+◌, ◌<◌, ◌≤◌, ◌==◌, max, Bool, true, false, ◌||◌, IsTrue, if◌then◌else◌, List, [], ◌∷◌, ◌++◌, length, Option, None, Some, MatchOption, refl, sym, ap, subst, ◌∙◌, append_assoc, arith}
+use Rattle.std.proofs.lemmas.Bool.Decides.{nat_tests}
+use Rattle.kv_types.specs.declared.place.Extent.{Extent}
+use Rattle.extent_heap.specs.Extents.{is_line_of}
+use Rattle.extent_heap.specs.Runs.{has_line, AreRuns, longest, total, some_run, IsFirstFit}
+
+-- ---- the longest run
+
+longest-append : (xs ys : List Extent) → longest (xs ++ ys) ≡ max (longest xs) (longest ys)
+longest-append [] ys = omega arith
+longest-append (x ∷ xs) ys = omega (arith, longest-append xs ys)
+
+pub longest_fork : (left : List Extent) (run : Extent) (right : List Extent) → longest (left ++ run ∷ right) ≡ max (max (longest left) run.lines) (longest right)
+longest_fork left run right = omega (arith, longest-append left (run ∷ right))
+
+-- where no run before or at the fork is long enough, the first fit is behind it
+pub fit_behind : (lines : ℕ) (left : List Extent) (run : Extent) (right runs : List Extent) (found : Option Extent) → runs ≡ left ++ run ∷ right → longest left < lines → run.lines < lines
+    → MatchOption found (longest right < lines) (λ r. IsFirstFit lines right r) → MatchOption found (longest runs < lines) (λ r. IsFirstFit lines runs r)
+fit_behind lines left run right runs None is short shorter none = subst (λ (all : List Extent). longest all < lines) (sym is) (omega (arith, longest_fork left run right))
+fit_behind lines left run right runs (Some r) is short shorter fit = record {
+  before = left ++ run ∷ fit.before;
+  after = fit.after;
+  is = is ∙ ap (λ (rest : List Extent). left ++ run ∷ rest) fit.is ∙ sym (append_assoc left (run ∷ fit.before) (r ∷ fit.after));
+  shorter = let before = fit.shorter in omega (arith, longest_fork left run fit.before);
+  fits = fit.fits;
+}
+
+-- ---- parts of a list of runs
+
+pub has_line-append : (xs ys : List Extent) (line : ℕ) → has_line (xs ++ ys) line ≡ (has_line xs line || has_line ys line)
+has_line-append [] ys line = refl
+has_line-append (x ∷ xs) ys line = or_assoc (is_line_of x line) (has_line xs line) (has_line ys line) (has_line (xs ++ ys) line) (has_line-append xs ys line)
+  where
+    or_assoc : (a b c d : Bool) → d ≡ (b || c) → (a || d) ≡ ((a || b) || c)
+    or_assoc true b c d e = refl
+    or_assoc false b c d e = e
+
+pub total-append : (xs ys : List Extent) → total (xs ++ ys) ≡ total xs + total ys
+total-append [] ys = omega arith
+total-append (x ∷ xs) ys = omega (arith, total-append xs ys)
+
+-- a weaker bound from below
+pub AreRuns-lower : (low low' high : ℕ) (xs : List Extent) → low' ≤ low → AreRuns low high xs → AreRuns low' high xs
+AreRuns-lower low low' high [] less runs = tt
+AreRuns-lower low low' high (x ∷ xs) less runs = let from = runs.0 in (omega arith, runs.1, runs.2, runs.3)
+
+pub AreRuns-join : (low between between' high : ℕ) (xs ys : List Extent) → between ≤ between' → low ≤ between' → between ≤ high → AreRuns low between xs → AreRuns between' high ys → AreRuns low high (xs ++ ys)
+AreRuns-join low between between' high [] ys gap less within runs rest = AreRuns-lower between' low high ys less rest
+AreRuns-join low between between' high (x ∷ xs) ys gap less within runs rest =
+    let end = runs.2 in
+    (runs.0, runs.1, omega arith, AreRuns-join (x.first_line + x.lines + 1) between between' high xs ys gap (omega arith) within runs.3 rest)
+
+pub AreRuns-front : (low high : ℕ) (xs ys : List Extent) → AreRuns low high (xs ++ ys) → AreRuns low high xs
+AreRuns-front low high [] ys runs = tt
+AreRuns-front low high (x ∷ xs) ys runs = (runs.0, runs.1, runs.2, AreRuns-front (x.first_line + x.lines + 1) high xs ys runs.3)
+
+pub AreRuns-back : (low high : ℕ) (xs ys : List Extent) → AreRuns low high (xs ++ ys) → AreRuns low high ys
+AreRuns-back low high [] ys runs = runs
+AreRuns-back low high (x ∷ xs) ys runs =
+    let from = runs.0 in
+    AreRuns-lower (x.first_line + x.lines + 1) low high ys (omega arith) (AreRuns-back (x.first_line + x.lines + 1) high xs ys runs.3)
+
+-- the runs before and behind one of them
+pub record AtRun (low high : ℕ) (xs : List Extent) (run : Extent) (ys : List Extent) : Type 0 where
+  pub before : AreRuns low run.first_line xs
+  pub from : low ≤ run.first_line
+  pub some : 0 < run.lines
+  pub within : run.first_line + run.lines < high
+  pub behind : AreRuns (run.first_line + run.lines + 1) high ys
+
+pub at_run : (low high : ℕ) (xs : List Extent) (run : Extent) (ys : List Extent) → AreRuns low high (xs ++ run ∷ ys) → AtRun low high xs run ys
+at_run low high [] run ys runs = record { before = tt; from = runs.0; some = runs.1; within = runs.2; behind = runs.3 }
+at_run low high (x ∷ xs) run ys runs =
+    let rest = at_run (x.first_line + x.lines + 1) high xs run ys runs.3 in
+    let from = runs.0 in
+    let below = rest.from in
+    record { before = (runs.0, runs.1, omega arith, rest.before); from = omega arith; some = rest.some; within = rest.within; behind = rest.behind }
+
+pub AreRuns-some : (low high : ℕ) (run : Extent) → low ≤ run.first_line → run.first_line + run.lines < high → AreRuns low high (some_run run)
+AreRuns-some low high run from within =
+    elim (run.lines == 0) as (λ none. (run.lines == 0) ≡ none → AreRuns low high (if none then [] else run ∷ [])) [
+      | true ↦ λ is. tt
+      | false ↦ λ is. (from, grind (arith, nat_tests), within, tt)
+    ] refl
+
+pub total-some : (run : Extent) → total (some_run run) ≡ run.lines
+total-some run =
+    elim (run.lines == 0) as (λ none. (run.lines == 0) ≡ none → total (if none then [] else run ∷ []) ≡ run.lines) [
+      | true ↦ λ is. grind (arith, nat_tests)
+      | false ↦ λ is. omega arith
+    ] refl
+
+pub has_line-some : (run : Extent) (line : ℕ) → has_line (some_run run) line ≡ is_line_of run line
+has_line-some run line =
+    elim (run.lines == 0) as (λ none. (run.lines == 0) ≡ none → has_line (if none then [] else run ∷ []) line ≡ is_line_of run line) [
+      | true ↦ λ is. grind (arith, nat_tests)
+      | false ↦ λ is. or_false (is_line_of run line)
+    ] refl
+  where
+    or_false : (b : Bool) → (b || false) ≡ b
+    or_false true = refl
+    or_false false = refl
+
+-- ---- lines
+
+pub line_bounds : (run : Extent) (line : ℕ) → IsTrue (is_line_of run line) → (run.first_line ≤ line) × (line < run.first_line + run.lines)
+line_bounds run line is = grind (arith, nat_tests)
+
+pub line_within : (run : Extent) (line : ℕ) → run.first_line ≤ line → line < run.first_line + run.lines → IsTrue (is_line_of run line)
+line_within run line from below = grind (arith, nat_tests)
+
+pub line_below : (run : Extent) (line : ℕ) → line < run.first_line → is_line_of run line ≡ false
+line_below run line below = grind (arith, nat_tests)
+
+pub line_behind : (run : Extent) (line : ℕ) → run.first_line + run.lines ≤ line → is_line_of run line ≡ false
+line_behind run line from = grind (arith, nat_tests)
+
+-- no run has a line below or above all of them
+pub none_below : (low high : ℕ) (xs : List Extent) (line : ℕ) → AreRuns low high xs → line < low → has_line xs line ≡ false
+none_below low high [] line runs below = refl
+none_below low high (x ∷ xs) line runs below =
+    let from = runs.0 in
+    rw (line_below x line (omega arith)) (none_below (x.first_line + x.lines + 1) high xs line runs.3 (omega arith))
+
+pub none_above : (low high : ℕ) (xs : List Extent) (line : ℕ) → AreRuns low high xs → high ≤ line + 1 → has_line xs line ≡ false
+none_above low high [] line runs above = refl
+none_above low high (x ∷ xs) line runs above =
+    let within = runs.2 in
+    rw (line_behind x line (omega arith)) (none_above (x.first_line + x.lines + 1) high xs line runs.3 above)
+
+-- all lines and the gaps between them lie between the bounds
+pub total-bound : (low high : ℕ) (xs : List Extent) → AreRuns low high xs → low ≤ high → total xs + length xs + low ≤ high
+total-bound low high [] runs less = omega arith
+total-bound low high (x ∷ xs) runs less =
+    let from = runs.0 in
+    let within = runs.2 in
+    let rest = total-bound (x.first_line + x.lines + 1) high xs runs.3 (omega arith) in
+    omega arith
+
+-- a run and the gap behind it take two lines at least
+pub length-bound : (low high : ℕ) (xs : List Extent) → AreRuns low high xs → low ≤ high → length xs + length xs + low ≤ high
+length-bound low high [] runs less = omega arith
+length-bound low high (x ∷ xs) runs less =
+    let from = runs.0 in
+    let some = runs.1 in
+    let within = runs.2 in
+    let rest = length-bound (x.first_line + x.lines + 1) high xs runs.3 (omega arith) in
+    omega arith

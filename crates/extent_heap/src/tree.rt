@@ -1,0 +1,209 @@
+//! Runs in order, in a balanced tree: each fork knows the length of the longest run at and below it.
+//!
+//! The tree is a treap (Seidel and Aragon, "Randomized search trees", 1996): no fork has a lower rank than those below it, and ranks are spread as
+//! if by chance. So it is some 2 log2(runs) deep. Nothing but the time that a call takes rests on the ranks.
+ghost use Rattle.std.specs.Prelude.{◌≡◌, ◌<◌, [], ◌∷◌, ◌++◌, MatchOption};
+ghost use Rattle.extent_heap.specs.Runs.{longest, IsFirstFit};
+ghost use Rattle.extent_heap.specs.Split.{IsSplit};
+
+use kv_types::Extent;
+use std::marker::Model;
+use std::mem;
+
+/// Runs in order. A clause sees them as a list.
+#[cycle(tree)]
+#[derive(Drop)]
+pub(crate) struct Tree {
+    root: Option<Box<Fork>>,
+}
+
+/// A run, with those before it and those behind it.
+#[cycle(tree)]
+#[derive(Drop)]
+pub(crate) struct Fork {
+    left: Tree,
+    pub(crate) run: Extent,
+    right: Tree,
+    /// How many lines the longest run at and below this fork has.
+    longest: u64,
+    /// No fork below has a higher rank.
+    rank: u64,
+}
+
+impl Model for Tree {
+    ghost use Rattle.std.specs.Prelude.{List, length};
+    ghost use Rattle.kv_types.specs.declared.place.Extent.{Extent};
+
+    ghost Value = { List Extent };
+
+    ghost use Rattle.extent_heap.specs.Tree.{runs_of, IsSummed};
+
+    ghost view = { λ tree. runs_of tree.root };
+
+    ghost invariant = { λ tree. IsSummed tree.root };
+
+    ghost size = { length };
+
+    ghost use Rattle.std.proofs.Common.{arith, length-append};
+
+    ghost size_decreases = { λ tree summed. Prim.grind (arith, length-append) };
+}
+
+impl Fork {
+    /// A fork that holds no run yet.
+    pub(crate) fn new(rank: u64) -> Fork {
+        Fork {
+            left: Tree::new(),
+            run: Extent {
+                first_line: 0,
+                lines: 0,
+            },
+            right: Tree::new(),
+            longest: 0,
+            rank,
+        }
+    }
+}
+
+impl Tree {
+    pub(crate) fn new() -> Tree
+        ensures { result ≡ [] }
+    {
+        Tree { root: None }
+    }
+
+    /// How many lines the longest run has: 0 if there is no run.
+    pub(crate) fn longest(&self) -> u64
+        ensures { result ≡ longest self.now }
+    {
+        match &self.root {
+            None => 0,
+            Some(fork) => fork.longest,
+        }
+    }
+
+    /// The fork with the runs before and behind it. Its own sum is made anew.
+    #[tactic(auto, using(crate::proofs::RunsLemmas::longest_fork))]
+    fn of(mut fork: Box<Fork>) -> Tree
+        ensures { result ≡ fork.value.left ++ fork.value.run ∷ fork.value.right }
+    {
+        fork.longest = fork
+            .left
+            .longest()
+            .max(fork.run.lines)
+            .max(fork.right.longest());
+        Tree { root: Some(fork) }
+    }
+
+    /// One run, in a fork that was not in use.
+    pub(crate) fn single(mut fork: Box<Fork>, run: Extent) -> Tree
+        ensures { result ≡ run ∷ [] }
+    {
+        fork.left = Tree::new();
+        fork.run = run;
+        fork.right = Tree::new();
+        Tree::of(fork)
+    }
+
+    /// These runs, and then the others.
+    pub(crate) fn join(self, others: Tree) -> Tree
+        ensures { result ≡ self ++ others }
+    {
+        let Some(mut before) = self.root else {
+            return others;
+        };
+        let Some(mut after) = others.root else {
+            return Tree { root: Some(before) };
+        };
+        if before.rank >= after.rank {
+            let inner = mem::replace(&mut before.right, Tree::new());
+            before.right = inner.join(Tree { root: Some(after) });
+            Tree::of(before)
+        } else {
+            let inner = mem::replace(&mut after.left, Tree::new());
+            after.left = Tree { root: Some(before) }.join(inner);
+            Tree::of(after)
+        }
+    }
+
+    /// The runs that begin below the line, and the others.
+    pub(crate) fn split(self, line: u64) -> (Tree, Tree)
+        ensures { IsSplit line self result.0 result.1 }
+    {
+        let Some(mut fork) = self.root else {
+            return (Tree::new(), Tree::new());
+        };
+        if fork.run.first_line < line {
+            let inner = mem::replace(&mut fork.right, Tree::new());
+            let (below, rest) = inner.split(line);
+            fork.right = below;
+            (Tree::of(fork), rest)
+        } else {
+            let inner = mem::replace(&mut fork.left, Tree::new());
+            let (below, rest) = inner.split(line);
+            fork.left = rest;
+            (below, Tree::of(fork))
+        }
+    }
+
+    /// Takes the last run out, with its fork. The fork's other parts mean nothing.
+    pub(crate) fn pop_last(self) -> (Tree, Option<Box<Fork>>)
+        ensures { MatchOption result.1 ((self ≡ []) × (result.0 ≡ [])) (λ fork. self ≡ result.0 ++ fork.value.run ∷ []) }
+    {
+        let Some(mut fork) = self.root else {
+            return (Tree::new(), None);
+        };
+        let inner = mem::replace(&mut fork.right, Tree::new());
+        let (rest, last) = inner.pop_last();
+        match last {
+            None => {
+                let left = mem::replace(&mut fork.left, Tree::new());
+                (left, Some(fork))
+            }
+            Some(last) => {
+                fork.right = rest;
+                (Tree::of(fork), Some(last))
+            }
+        }
+    }
+
+    /// Takes the first run out, with its fork. The fork's other parts mean nothing.
+    pub(crate) fn pop_first(self) -> (Option<Box<Fork>>, Tree)
+        ensures { MatchOption result.0 ((self ≡ []) × (result.1 ≡ [])) (λ fork. self ≡ fork.value.run ∷ result.1) }
+    {
+        let Some(mut fork) = self.root else {
+            return (None, Tree::new());
+        };
+        let inner = mem::replace(&mut fork.left, Tree::new());
+        let (first, rest) = inner.pop_first();
+        match first {
+            None => {
+                let right = mem::replace(&mut fork.right, Tree::new());
+                (Some(fork), right)
+            }
+            Some(first) => {
+                fork.left = rest;
+                (Some(first), Tree::of(fork))
+            }
+        }
+    }
+
+    /// The first run of at least this many lines.
+    pub(crate) fn first_fit(&self, lines: u64) -> Option<Extent>
+        requires { 0 < lines }
+        ensures { MatchOption result (longest self.now < lines) (λ run. IsFirstFit lines self.now run) }
+    {
+        match &self.root {
+            None => None,
+            Some(fork) => {
+                if fork.left.longest() >= lines {
+                    fork.left.first_fit(lines)
+                } else if fork.run.lines >= lines {
+                    Some(fork.run)
+                } else {
+                    fork.right.first_fit(lines)
+                }
+            }
+        }
+    }
+}
