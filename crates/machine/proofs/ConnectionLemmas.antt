@@ -1,8 +1,7 @@
 -- Laws of the list of connections: what a change to one of them does to it and to the others.
-use Rattle.std.proofs.Common.{◌≡◌, ◌≢◌, ℕ, zero, suc, ◌<◌, ◌≤◌, ◌+◌, true, cond, List, [], ◌∷◌, ◌++◌, length, All, refl, sym, ap, subst, arith}
+use Rattle.std.proofs.Common.{◌≡◌, ◌≢◌, ℕ, zero, suc, ◌<◌, ◌≤◌, ◌+◌, true, false, cond, List, [], ◌∷◌, ◌++◌, length, refl, sym, ap, subst, arith}
 use Rattle.std.proofs.Common.{inl, inr}
 use Rattle.std.proofs.lemmas.Bool.{cases_eq}
-use Rattle.std.proofs.lemmas.List.Elements.{All-nil, All-cons, All-head, All-tail, All-push}
 use Rattle.machine.specs.Event.{Connection, no_connection, new_connection, get_connection, count_open, changed_at}
 use Rattle.machine.specs.Sound.{SoundConnections}
 use Rattle.machine.specs.declared.event.TheConstants.{SEATS}
@@ -36,6 +35,19 @@ get-past [] c le = refl
 get-past (connection ∷ connections) zero le = absurd (omega arith)
 get-past (connection ∷ connections) (suc c) le = get-past connections c (omega arith)
 
+-- those that were there stay
+pub get-before : (connections more : List Connection) (c : ℕ) → c < length connections → get_connection (connections ++ more) c ≡ get_connection connections c
+get-before [] more c lt = absurd (omega arith)
+get-before (connection ∷ connections) more zero lt = refl
+get-before (connection ∷ connections) more (suc c) lt = get-before connections more c (omega arith)
+
+-- What holds of each connection after one entered: it holds of that one, and of each other one as before.
+pub each-entered : (P : ℕ → Connection → Type 0) (connections : List Connection) → ((d : ℕ) → P d (get_connection connections d)) → P (length connections) new_connection → (d : ℕ) → P d (get_connection (connections ++ new_connection ∷ []) d)
+each-entered P [] others own zero = own
+each-entered P [] others own (suc d) = others (suc d)
+each-entered P (connection ∷ connections) others own zero = others zero
+each-entered P (connection ∷ connections) others own (suc d) = each-entered (λ e. P (suc e)) connections (λ e. others (suc e)) own d
+
 -- What holds of each connection after a change to one of them: it holds of that one changed, and of each other one unchanged.
 pub each-changed : (P : ℕ → Connection → Type 0) (c : ℕ) (change : Connection → Connection) (connections : List Connection) → c < length connections
     → P c (change (get_connection connections c)) → ((d : ℕ) → c ≢ d → P d (get_connection connections d)) → (d : ℕ) → P d (get_connection (changed_at c change connections) d)
@@ -62,30 +74,27 @@ open-lt [] c e = cc
 open-lt (connection ∷ connections) zero e = omega arith
 open-lt (connection ∷ connections) (suc c) e = let lt = open-lt connections c e in omega arith
 
-abbrev AreOpen : List Connection → Type 0
-AreOpen = All (λ (connection : Connection). connection.is_open ≡ true)
+-- what changes of a connection when its condition stays leaves as many open
+pub count-changed : (c : ℕ) (change : Connection → Connection) (connections : List Connection) → ((connection : Connection) → (change connection).is_open ≡ connection.is_open) → count_open (changed_at c change connections) ≡ count_open connections
+count-changed c change [] same = refl
+count-changed zero change (connection ∷ connections) same = ap (λ b. cond b 1 0 + count_open connections) (same connection)
+count-changed (suc c) change (connection ∷ connections) same = ap (λ n. cond connection.is_open 1 0 + n) (count-changed c change connections same)
 
-pub open-at : (connections : List Connection) (c : ℕ) → AreOpen connections → c < length connections → (get_connection connections c).is_open ≡ true
-open-at [] c all lt = absurd (omega arith)
-open-at (connection ∷ connections) zero all lt = All-head (λ (x : Connection). x.is_open ≡ true) connection connections all
-open-at (connection ∷ connections) (suc c) all lt = open-at connections c (All-tail (λ (x : Connection). x.is_open ≡ true) connection connections all) (omega arith)
+-- one that enters is one more
+pub count-entered : (connections : List Connection) → count_open (connections ++ new_connection ∷ []) ≡ count_open connections + 1
+count-entered [] = refl
+count-entered (connection ∷ connections) = let rest = count-entered connections in omega (arith, rest)
 
-pub count-open : (connections : List Connection) → AreOpen connections → count_open connections ≡ length connections
-count-open [] all = refl
-count-open (connection ∷ connections) all =
-    let rest = count-open connections (All-tail (λ (x : Connection). x.is_open ≡ true) connection connections all) in
-    let one : ◌≡◌ {A = ℕ} (cond connection.is_open 1 0) 1 = ap (λ b. cond b 1 0) (All-head (λ (x : Connection). x.is_open ≡ true) connection connections all) in
-    omega (arith, rest, one)
-
-open-changed : (c : ℕ) (change : Connection → Connection) (connections : List Connection) → ((connection : Connection) → (change connection).is_open ≡ connection.is_open) → AreOpen connections → AreOpen (changed_at c change connections)
-open-changed c change [] same all = all
-open-changed zero change (connection ∷ connections) same all =
-    All-cons (λ (x : Connection). x.is_open ≡ true) (change connection) connections (rw (same connection) (All-head (λ (x : Connection). x.is_open ≡ true) connection connections all))
-    (All-tail (λ (x : Connection). x.is_open ≡ true) connection connections all)
-open-changed (suc c) change (connection ∷ connections) same all =
-    All-cons (λ (x : Connection). x.is_open ≡ true) connection (changed_at c change connections) (All-head (λ (x : Connection). x.is_open ≡ true) connection connections all)
-    (open-changed c change connections same (All-tail (λ (x : Connection). x.is_open ≡ true) connection connections all))
+-- and one that leaves is one less
+pub count-left : (c : ℕ) (change : Connection → Connection) (connections : List Connection) → (get_connection connections c).is_open ≡ true → ((connection : Connection) → (change connection).is_open ≡ false)
+    → count_open connections ≡ count_open (changed_at c change connections) + 1
+count-left c change [] e shut = cc
+count-left zero change (connection ∷ connections) e shut =
+    let was : count_open (connection ∷ connections) ≡ 1 + count_open connections = ap (λ b. cond b 1 0 + count_open connections) e in
+    let now : count_open (change connection ∷ connections) ≡ 0 + count_open connections = ap (λ b. cond b 1 0 + count_open connections) (shut connection) in
+    omega (arith, was, now)
+count-left (suc c) change (connection ∷ connections) e shut = let rest = count-left c change connections e shut in omega (arith, rest)
 
 pub connections-changed : (c : ℕ) (change : Connection → Connection) (connections : List Connection) → ((connection : Connection) → (change connection).is_open ≡ connection.is_open) → SoundConnections connections
     → SoundConnections (changed_at c change connections)
-connections-changed c change connections same s = record { are_open = open-changed c change connections same s.are_open; seats = omega (arith, s.seats, length-changed_at c change connections) }
+connections-changed c change connections same s = record { seats = omega (arith, s.seats, count-changed c change connections same) }

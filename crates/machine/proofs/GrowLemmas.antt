@@ -5,10 +5,10 @@ use Rattle.model.specs.Call.{IsPrefix, cut_at, keyspace_after, position_of}
 use Rattle.model.proofs.PrefixLemmas.{IsPrefix-itself, IsPrefix-of_append, IsPrefix-trans}
 use Rattle.model.proofs.CallsLemmas.{keyspace_after-cut_at-append}
 use Rattle.machine.specs.declared.event.Event.{Event}
-use Rattle.machine.specs.declared.event.Event.TheVariants.{Enter, Feed, Offer, Turn, CloseGroup, Commit, RaiseLocal, Hand, OpenLink, Send, Deliver, Apply, AckDelivered, RaiseRemote, Hold, Read, Release, Write}
+use Rattle.machine.specs.declared.event.Event.TheVariants.{Enter, Feed, Offer, Turn, CloseGroup, Commit, RaiseLocal, Hand, OpenLink, Send, Deliver, Apply, AckDelivered, RaiseRemote, Hold, Read, Release, Write, Leave}
 use Rattle.machine.specs.declared.event.Mark.{Mark}
 use Rattle.machine.specs.declared.event.Mark.TheVariants.{Local, Remote}
-use Rattle.machine.specs.Event.{Inbound, Outbound, Connection, Span, Frame, Acknowledgement, Committer, Link, Standby, Wire, World, get_connection, changed_at, with_inbound, with_outbound, with_connections, on_inbound, on_outbound, with_call, with_committer, with_link, with_standby, with_sent, with_acknowledged, sent, fed_with, offered_next, taken_first, with_made, called, closed_group, committed_first, raised_local, ready_again, handed, handed_to, opened_link, acknowledgement_of, next_to_send, framed, sent_next, delivered, without_first, Takes, told, knowing, raised_remote, held_first, having_read, having_released, written, option_items, Happens, Step, Run, start, last_world}
+use Rattle.machine.specs.Event.{Inbound, Outbound, Connection, Span, Frame, Acknowledgement, Committer, Link, Standby, Wire, World, get_connection, changed_at, with_inbound, with_outbound, with_connections, on_inbound, on_outbound, with_call, with_committer, with_link, with_standby, with_sent, with_acknowledged, sent, fed_with, offered_next, taken_first, with_made, called, closed_group, committed_first, raised_local, ready_again, handed, handed_to, opened_link, acknowledgement_of, next_to_send, framed, sent_next, delivered, without_first, Takes, told, knowing, raised_remote, held_first, having_read, having_released, written, left, option_items, Happens, Step, Run, start, last_world}
 use Rattle.machine.specs.Promise.{released_in}
 use Rattle.machine.specs.Sound.{IsChain, Sound}
 use Rattle.machine.specs.Law.{Grows}
@@ -226,6 +226,8 @@ grows-happens w (Hold c) new h s = subst (Grows w) (sym h) (grows-outbound w c h
 grows-happens w (Read c mark) new h s = subst (Grows w) (sym h) (grows-outbound w c (having_read mark w) (grows-read w mark))
 grows-happens w (Release c) new h s = subst (Grows w) (sym h) (grows-outbound w c having_released (λ outbound. IsPrefix-itself outbound.released))
 grows-happens w (Write c n) new h s = subst (Grows w) (sym h) (grows-outbound w c (written n) (λ outbound. IsPrefix-of_append outbound.released (take n outbound.pending)))
+grows-happens w (Leave c) new h s =
+    subst (Grows w) (sym h) (grows-connections w (changed_at c left w.primary.connections) (released-changed c left w.primary.connections (λ connection. IsPrefix-itself connection.outbound.released)))
 
 pub grows-step : (old : World) (event : Event) (did : Bool) (new : World) → Step old event did new → Sound old → Grows old new
 grows-step old event true new step s = grows-happens old event new (step.happens refl) s
@@ -236,7 +238,7 @@ grows-from w [] [] [] run s = grows-itself w
 grows-from w (event ∷ events) (did ∷ done) (new ∷ worlds) run s = grows-trans (grows-step w event did new run.0 s) (grows-from new events done worlds run.1 (sound-step w event did new run.0 s))
 grows-from w events done worlds run s = absurd run
 
-last_world-split : (n : ℕ) (w : World) (worlds : List World) → last_world (last_world w (take n worlds)) (drop n worlds) ≡ last_world w worlds
+pub last_world-split : (n : ℕ) (w : World) (worlds : List World) → last_world (last_world w (take n worlds)) (drop n worlds) ≡ last_world w worlds
 last_world-split zero w worlds = refl
 last_world-split (suc n) w [] = refl
 last_world-split (suc n) w (new ∷ worlds) = last_world-split n new worlds

@@ -1,23 +1,23 @@
 -- A connection's items after each event: those that were asked for come in order, each once.
-use Rattle.std.proofs.Common.{◌≡◌, ◌≢◌, ℕ, ◌<◌, false, List, [], ◌∷◌, ◌++◌, length, take, drop, refl, sym, ap, ◌∙◌, arith, append_assoc, length-append, length-take, length-drop, take-append-drop}
-use Rattle.std.proofs.Math.Seq.{take-add}
+use Rattle.std.proofs.Common.{◌≡◌, ◌≢◌, ℕ, ◌<◌, false, List, [], ◌∷◌, ◌++◌, ◌+◌, ◌-◌, length, take, drop, refl, sym, ap, subst, ◌∙◌, arith, append_assoc, append-nil, length-append, length-take, length-drop, take-append-drop}
+use Rattle.std.proofs.Math.Seq.{take-add, take-append_seam}
 use Rattle.std.proofs.lemmas.List.{take-append-le}
-use Rattle.kv_types.specs.declared.limits.TheConstants.{SERVED_LIMITS}
+use Rattle.kv_types.specs.declared.limits.TheConstants.{REQUEST_LIMITS}
 use Rattle.kv_types.specs.Reading.{items_at}
 use Rattle.kv_types.proofs.GrammarItems.{items_at-append, later_items, unread_at}
 use Rattle.model.specs.declared.call.Call.{Call}
 use Rattle.model.specs.Call.{items_of, up_to_closing}
 use Rattle.model.proofs.ServesLemmas.{up_to_closing-open, up_to_closing-all, items_of-push_own, items_of-push_other}
 use Rattle.machine.specs.declared.event.TheConstants.{PIPE_ITEMS}
-use Rattle.machine.specs.Event.{Inbound, no_connection, asked, is_closed_by, fed_with, offered_next, taken_first}
+use Rattle.machine.specs.Event.{Inbound, no_connection, asked, is_closed_by, fed_with, offered_next, taken_first, left_inbound}
 use Rattle.machine.specs.Sound.{SoundInbound}
 
 -- what more bytes ask for comes after what was asked for, where nothing closes the connection
-pub asked-append : (fed piece : List ℕ) → is_closed_by fed ≡ false → asked (fed ++ piece) ≡ asked fed ++ up_to_closing (later_items SERVED_LIMITS (unread_at SERVED_LIMITS fed) piece)
+pub asked-append : (fed piece : List ℕ) → is_closed_by fed ≡ false → asked (fed ++ piece) ≡ asked fed ++ up_to_closing (later_items REQUEST_LIMITS (unread_at REQUEST_LIMITS fed) piece)
 asked-append fed piece stays =
-    let items = items_at SERVED_LIMITS fed in
-    let later = later_items SERVED_LIMITS (unread_at SERVED_LIMITS fed) piece in
-    ap up_to_closing (items_at-append SERVED_LIMITS fed piece) ∙ up_to_closing-open items later stays
+    let items = items_at REQUEST_LIMITS fed in
+    let later = later_items REQUEST_LIMITS (unread_at REQUEST_LIMITS fed) piece in
+    ap up_to_closing (items_at-append REQUEST_LIMITS fed piece) ∙ up_to_closing-open items later stays
     ∙ ap (λ prefix. prefix ++ up_to_closing later) (sym (up_to_closing-all items stays))
 
 pub inbound-start : (c : ℕ) → SoundInbound [] c no_connection.inbound
@@ -25,7 +25,7 @@ inbound-start c = record { offered = omega arith; order = refl; few = omega arit
 
 pub inbound-fed : (calls : List Call) (c : ℕ) (inbound : Inbound) (piece : List ℕ) → is_closed_by inbound.fed ≡ false → SoundInbound calls c inbound → SoundInbound calls c (fed_with piece inbound)
 inbound-fed calls c inbound piece stays s =
-    let later = up_to_closing (later_items SERVED_LIMITS (unread_at SERVED_LIMITS inbound.fed) piece) in
+    let later = up_to_closing (later_items REQUEST_LIMITS (unread_at REQUEST_LIMITS inbound.fed) piece) in
     let grown = asked-append inbound.fed piece stays in
     record {
       offered = omega (arith, s.offered, ap length grown, length-append (asked inbound.fed) later);
@@ -58,3 +58,17 @@ inbound-called_own calls c inbound call own first s =
 pub inbound-called_other : (calls : List Call) (c : ℕ) (inbound : Inbound) (call : Call) → call.connection ≢ c → SoundInbound calls c inbound → SoundInbound (calls ++ call ∷ []) c inbound
 inbound-called_other calls c inbound call differ s =
     record { offered = s.offered; order = ap (λ items. items ++ inbound.waiting) (items_of-push_other c calls call differ) ∙ s.order; few = s.few }
+
+-- what waits is dropped: the items that were handed over and not dropped are those of the calls
+pub inbound-left : (calls : List Call) (c : ℕ) (inbound : Inbound) → SoundInbound calls c inbound → SoundInbound calls c (left_inbound inbound)
+inbound-left calls c inbound s =
+    let items = items_of c calls in
+    let all = asked inbound.fed in
+    let rest = drop inbound.offered all in
+    let few : length items ≡ inbound.offered - length inbound.waiting = omega (arith, s.offered, ap length s.order, length-append items inbound.waiting, length-take inbound.offered all) in
+    let joined : items ++ (inbound.waiting ++ rest) ≡ all = sym (append_assoc items inbound.waiting rest) ∙ ap (λ prefix. prefix ++ rest) s.order ∙ take-append-drop inbound.offered all in
+    record {
+      offered = omega (arith, s.offered);
+      order = append-nil items ∙ sym (take-append_seam items (inbound.waiting ++ rest)) ∙ ap (take (length items)) joined ∙ ap (λ n. take n all) few;
+      few = omega arith;
+    }

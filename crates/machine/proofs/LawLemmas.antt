@@ -4,11 +4,12 @@ use Rattle.std.proofs.lemmas.List.Elements.{All-weaker}
 use Rattle.model.specs.State.{start_state}
 use Rattle.model.specs.Call.{state_after, position_of}
 use Rattle.machine.specs.declared.event.Event.{Event}
-use Rattle.machine.specs.declared.event.Event.TheVariants.{Enter, Feed, Offer, Turn, CloseGroup, Commit, RaiseLocal, Hand, OpenLink, Send, Deliver, Apply, AckDelivered, RaiseRemote, Hold, Read, Release, Write}
+use Rattle.machine.specs.declared.event.Event.TheVariants.{Enter, Feed, Offer, Turn, CloseGroup, Commit, RaiseLocal, Hand, OpenLink, Send, Deliver, Apply, AckDelivered, RaiseRemote, Hold, Read, Release, Write, Leave}
 use Rattle.machine.specs.Event.{World, Frame, Acknowledgement, Link, told, knowing, nodes_run, may_happen, is_enabled, Happens, Step, Run, start, last_world}
 use Rattle.machine.specs.Sound.{IsFrameWithin, IsToldWithin, Sound, answers_from, answers_to}
 use Rattle.machine.specs.Law.{IsInOrder, FramesAreCommitted, AnswersBearPositions, RaisesNoRemote, NothingIsReleasedUnacknowledged, OnlyWhatWasMadeIsDelivered}
 use Rattle.machine.proofs.AnswerLemmas.{answers_from-append, answers_to-push_own}
+use Rattle.machine.proofs.OverLemmas.{sound-released}
 use Rattle.machine.proofs.GroupLemmas.{chain-le, frames_within-weaker}
 use Rattle.machine.proofs.SoundEvents.{sent-remote}
 use Rattle.machine.proofs.RunLemmas.{sound-run}
@@ -27,8 +28,8 @@ in_order w s =
       epoch = s.standby.epoch_is;
       frames = All-weaker (IsFrameWithin w.primary.epoch s.sent) (λ (frame : Frame). frame.epoch ≡ w.primary.epoch) (λ frame h. h.epoch_is) w.wire.frames s.wire.frames;
       told = All-weaker (IsToldWithin w.primary.epoch w.standby.position) (λ (ack : Acknowledgement). ack.epoch ≡ w.primary.epoch) (λ ack h. h.epoch_is) w.wire.acknowledgements s.wire.acknowledged;
-      read_local = λ c. (s.outbound c).local_read;
-      read_remote = λ c. (s.outbound c).remote_read;
+      read_local = λ c. (sound-released w s c).local_read;
+      read_remote = λ c. (sound-released w s c).remote_read;
     }
 
 pub frames_are_committed : FramesAreCommitted
@@ -74,6 +75,7 @@ remote-happens w (Hold c) new none h = ap (λ x. x.primary.link.remote) h
 remote-happens w (Read c mark) new none h = ap (λ x. x.primary.link.remote) h
 remote-happens w (Release c) new none h = ap (λ x. x.primary.link.remote) h
 remote-happens w (Write c n) new none h = ap (λ x. x.primary.link.remote) h
+remote-happens w (Leave c) new none h = ap (λ x. x.primary.link.remote) h
 
 raises-parts : (event : Event) (did : Bool) (events : List Event) (done : List Bool) → RaisesNoRemote (event ∷ events) (did ∷ done) → RaisesNoRemote (event ∷ []) (did ∷ []) × RaisesNoRemote events done
 raises-parts RaiseRemote true events done none = absurd none

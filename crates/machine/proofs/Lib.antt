@@ -3,6 +3,7 @@ pub mod GroupLemmas
 pub mod AnswerLemmas
 pub mod InboundLemmas
 pub mod OutboundLemmas
+pub mod OverLemmas
 pub mod CommitterLemmas
 pub mod LinkLemmas
 pub mod StandbyLemmas
@@ -12,5 +13,7 @@ pub mod RunLemmas
 pub mod FedLemmas
 pub mod PromiseLemmas
 pub mod GrowLemmas
+pub mod StayLemmas
+pub mod CountLemmas
 pub mod LawLemmas
 pub mod WorkedRun

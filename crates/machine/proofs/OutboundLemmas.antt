@@ -42,9 +42,6 @@ covered-weaker local remote local' remote' replies le le' all =
 
 -- ---- the events
 
-pub outbound-start : (c : ℕ) → SoundOutbound [] c 0 0 no_connection.outbound
-outbound-start c = record { out = []; replies = refl; texts = refl; covered = All-nil (IsCoveredBy 0 0); local_read = omega arith; remote_read = omega arith; few = omega arith }
-
 pub outbound-marked : (calls : List Call) (c local remote local' remote' : ℕ) (outbound : Outbound) → local ≤ local' → remote ≤ remote' → SoundOutbound calls c local remote outbound → SoundOutbound calls c local' remote' outbound
 outbound-marked calls c local remote local' remote' outbound le le' s =
     record {

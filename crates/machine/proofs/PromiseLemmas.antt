@@ -1,19 +1,21 @@
 -- Every run keeps the promise.
-use Rattle.std.proofs.Common.{◌≡◌, ℕ, ◌+◌, ◌<◌, ◌≤◌, Bool, List, [], ◌∷◌, ◌++◌, length, drop, All, refl, sym, ap, subst, ◌∙◌, arith, append_assoc, length-append, take-append-drop}
+use Rattle.std.proofs.Common.{◌≡◌, ℕ, ◌+◌, ◌<◌, ◌≤◌, Bool, true, List, [], ◌∷◌, ◌++◌, length, drop, All, refl, sym, ap, subst, ◌∙◌, arith, append_assoc, length-append, take-append-drop}
 use Rattle.std.proofs.lemmas.List.Elements.{All-head, All-tail}
 use mathlib.Core.Path.{fun_ext}
-use Rattle.kv_types.specs.declared.limits.TheConstants.{SERVED_LIMITS}
+use Rattle.kv_types.specs.declared.limits.TheConstants.{REQUEST_LIMITS}
 use Rattle.kv_types.specs.declared.reply.Held.{Held}
 use Rattle.kv_types.specs.Reading.{items_at}
 use Rattle.kv_types.specs.Reply.{text_of}
 use Rattle.model.specs.declared.call.Call.{Call}
 use Rattle.model.specs.State.{start_state}
-use Rattle.model.specs.Call.{Serves, items_of, position_of, replies_to, state_after}
+use Rattle.model.specs.Call.{IsPrefix, Serves, items_of, position_of, replies_to, state_after}
+use Rattle.model.proofs.PrefixLemmas.{IsPrefix-length, IsPrefix-trans}
 use Rattle.machine.specs.declared.event.Event.{Event}
-use Rattle.machine.specs.Event.{World, Run, start, last_world, connection_of, asked, texts_of}
+use Rattle.machine.specs.Event.{World, Run, start, last_world, connection_of, is_open, asked, texts_of}
 use Rattle.machine.specs.Promise.{Tells, IsReleased, HasMarks, IsPromised, EveryRunIsPromised, released_in, fed_to}
 use Rattle.machine.specs.Sound.{IsCoveredBy, Sound, answers_from, answers_to}
 use Rattle.machine.proofs.AnswerLemmas.{answers_from-append, answers_to-push_own, texts_of-answers_to, texts_of-append}
+use Rattle.machine.proofs.OverLemmas.{sound-released}
 use Rattle.machine.proofs.GroupLemmas.{chain-le}
 use Rattle.machine.proofs.RunLemmas.{some-last, sound-run}
 use Rattle.machine.proofs.FedLemmas.{fed-run}
@@ -36,24 +38,29 @@ pub released-covered : (w : World) → Sound w → (prefix : List Call) (call : 
     → (position_of (prefix ++ call ∷ []) ≤ w.primary.committer.local) × (position_of (prefix ++ call ∷ []) ≤ w.primary.link.remote)
 released-covered w s prefix call released =
     let c = call.connection in
-    let outbound = (connection_of w c).outbound in
-    let o = s.outbound c in
+    let r = sound-released w s c in
     let reply : Held = record { reply = call.reply; position = position_of (prefix ++ call ∷ []) } in
     let more = answers_from (state_after (prefix ++ call ∷ [])) (0 + position_of (prefix ++ call ∷ [])) c released.rest in
-    let all : o.out ++ (outbound.held ++ outbound.made) ≡ answers_to c prefix ++ reply ∷ more =
-    o.replies ∙ ap (answers_to c) (released.stands ∙ sym (append_assoc prefix (call ∷ []) released.rest)) ∙ answers_from-append start_state 0 c (prefix ++ call ∷ []) released.rest
+    let all : r.out ++ r.replies.rest ≡ answers_to c prefix ++ reply ∷ more =
+    r.replies.joined ∙ ap (answers_to c) (released.stands ∙ sym (append_assoc prefix (call ∷ []) released.rest)) ∙ answers_from-append start_state 0 c (prefix ++ call ∷ []) released.rest
     ∙ ap (λ answers. answers ++ more) (answers_to-push_own c prefix call refl) ∙ append_assoc (answers_to c prefix) (reply ∷ []) more in
     let before = ap length (texts_of-answers_to c prefix) in
-    let having_released = length-append outbound.released outbound.pending in
-    let covered = among (IsCoveredBy w.primary.committer.local w.primary.link.remote) o.out (outbound.held ++ outbound.made) (answers_to c prefix) reply more all (omega (arith, released.written, ap length o.texts)) o.covered in
+    let enough = IsPrefix-length r.texts in
+    let covered = among (IsCoveredBy w.primary.committer.local w.primary.link.remote) r.out r.replies.rest (answers_to c prefix) reply more all (omega (arith, released.written, enough, before)) r.covered in
     (covered.on_primary, covered.on_standby)
 
--- what was released and what waits are the replies
-pub replies-add_up : (w : World) → Sound w → (c : ℕ) → let outbound = (connection_of w c).outbound in
+-- what was released begins the replies
+released-begins : (w : World) → Sound w → (c : ℕ) → IsPrefix (released_in w c) (replies_to c w.primary.calls)
+released-begins w s c =
+    let r = sound-released w s c in
+    IsPrefix-trans r.texts (record { rest = texts_of r.replies.rest; joined = sym (texts_of-append r.out r.replies.rest) ∙ ap texts_of r.replies.joined ∙ texts_of-answers_to c w.primary.calls })
+
+-- what was released to an open connection and what waits are the replies
+pub replies-add_up : (w : World) → Sound w → (c : ℕ) → is_open w c ≡ true → let outbound = (connection_of w c).outbound in
     outbound.released ++ (outbound.pending ++ (texts_of outbound.held ++ texts_of outbound.made)) ≡ replies_to c w.primary.calls
-replies-add_up w s c =
+replies-add_up w s c is_one =
     let outbound = (connection_of w c).outbound in
-    let o = s.outbound c in
+    let o = s.outbound c is_one in
     sym (append_assoc outbound.released outbound.pending (texts_of outbound.held ++ texts_of outbound.made))
     ∙ ap (λ prefix. prefix ++ (texts_of outbound.held ++ texts_of outbound.made)) o.texts
     ∙ ap (λ rest. texts_of o.out ++ rest) (sym (texts_of-append outbound.held outbound.made)) ∙ sym (texts_of-append o.out (outbound.held ++ outbound.made))
@@ -61,7 +68,7 @@ replies-add_up w s c =
 
 -- ---- the promise
 
-pub serves-run : (events : List Event) (done : List Bool) (worlds : List World) → Run start events done worlds → Serves (λ c. items_at SERVED_LIMITS (fed_to c events done)) (last_world start worlds).primary.calls
+pub serves-run : (events : List Event) (done : List Bool) (worlds : List World) → Run start events done worlds → Serves (λ c. items_at REQUEST_LIMITS (fed_to c events done)) (last_world start worlds).primary.calls
 serves-run events done worlds run = λ c.
     let w = last_world start worlds in
     let inbound = (connection_of w c).inbound in
@@ -83,9 +90,7 @@ every_run_is_promised events done worlds run =
       tells = record { list = refl; bytes = λ c. refl; primary_position = refl; standby_position = refl };
       legal = s.legal;
       serves = serves-run events done worlds run;
-      begins = λ c.
-          let outbound = (connection_of w c).outbound in
-          record { rest = outbound.pending ++ (texts_of outbound.held ++ texts_of outbound.made); joined = replies-add_up w s c };
+      begins = released-begins w s;
       covered = λ prefix call released.
           let marks = released-covered w s prefix call released in
           some-last (HasMarks prefix call) start worlds

@@ -2,11 +2,11 @@
 use Rattle.std.proofs.Common.{◌≡◌, ℕ, zero, suc, Bool, true, false, List, [], ◌∷◌, ◌++◌, length, take, drop, All, refl, sym, ap, arith, inl, inr, true≢false}
 use Rattle.std.proofs.lemmas.List.Elements.{All-nil, All-cons}
 use Rattle.machine.specs.declared.event.Event.{Event}
-use Rattle.machine.specs.Event.{Connection, World, is_enabled, Happens, Step, Run, start, last_world}
+use Rattle.machine.specs.Event.{World, is_enabled, Happens, Step, Run, start, last_world}
 use Rattle.machine.specs.Promise.{SomeWorld}
 use Rattle.machine.specs.Sound.{Sound}
 use Rattle.machine.proofs.InboundLemmas.{inbound-start}
-use Rattle.machine.proofs.OutboundLemmas.{outbound-start}
+use Rattle.machine.proofs.OverLemmas.{over-start}
 use Rattle.machine.proofs.CommitterLemmas.{committer-start}
 use Rattle.machine.proofs.LinkLemmas.{link-start}
 use Rattle.machine.proofs.StandbyLemmas.{standby-start, wire-start}
@@ -69,10 +69,11 @@ pub sound-start : Sound start
 sound-start =
     record {
       nodes = record { primary = refl; standby = refl };
-      connections = record { are_open = All-nil (λ (connection : Connection). connection.is_open ≡ true); seats = omega arith };
+      connections = record { seats = omega arith };
       legal = tt;
       inbound = inbound-start;
-      outbound = outbound-start;
+      outbound = λ c is_one. cc;
+      over = λ c shut. over-start c;
       committer = committer-start;
       sent = 0;
       link = link-start;

@@ -1,18 +1,18 @@
 -- What each event of one connection leaves sound.
-use Rattle.std.proofs.Common.{◌≡◌, ℕ, ◌+◌, ◌<◌, ◌≤◌, Bool, true, false, not, cond, ◌&&◌, nat_lt, nat_le, List, [], ◌∷◌, ◌++◌, length, take, refl, sym, subst, ◌∙◌, arith, length-append}
+use Rattle.std.proofs.Common.{◌≡◌, ℕ, ◌+◌, ◌<◌, ◌≤◌, Bool, true, false, not, cond, ◌&&◌, nat_lt, nat_le, List, [], ◌∷◌, ◌++◌, length, take, refl, sym, ap, subst, ◌∙◌, arith, append-nil, le_refl}
 use Rattle.std.proofs.lemmas.Bool.{ltb-true, not-true}
-use Rattle.std.proofs.lemmas.List.Elements.{All-push}
 use Rattle.model.specs.declared.call.Call.{Call}
-use Rattle.model.specs.Call.{MayReply, is_nonempty, is_changing, state_after, position_of}
+use Rattle.model.specs.Call.{MayReply, is_nonempty, is_changing, items_of, state_after, position_of}
 use Rattle.model.proofs.CallsLemmas.{IsLegal-push, position_of-push, position_of_grows}
 use Rattle.machine.specs.declared.event.TheConstants.{SEATS, PIPE_ITEMS, OPEN_CHANGES}
-use Rattle.machine.specs.declared.event.Event.TheVariants.{Enter, Feed, Offer, Turn, Hold, Read, Release, Write}
+use Rattle.machine.specs.declared.event.Event.TheVariants.{Enter, Feed, Offer, Turn, Hold, Read, Release, Write, Leave}
 use Rattle.machine.specs.declared.event.Mark.{Mark}
-use Rattle.machine.specs.Event.{Inbound, Outbound, Connection, World, new_connection, get_connection, connection_of, count_open, changed_at, with_inbound, with_outbound, on_inbound, on_outbound, asked, is_closed_by, is_open, open_changes, has_room, may_happen, entered, fed_with, offered_next, taken_first, with_made, called, Turns, sent, held_first, having_read, having_released, written}
-use Rattle.machine.specs.Sound.{SoundInbound, SoundOutbound, Sound}
-use Rattle.machine.proofs.ConnectionLemmas.{get-changed_same, get-changed_other, length-changed_at, get-entered, each-changed, open-lt, count-open, connections-changed}
-use Rattle.machine.proofs.InboundLemmas.{inbound-fed, inbound-offered, inbound-called_own, inbound-called_other}
+use Rattle.machine.specs.Event.{Inbound, Outbound, Connection, World, no_connection, get_connection, connection_of, count_open, changed_at, with_inbound, with_outbound, with_connections, on_inbound, on_outbound, asked, is_closed_by, is_open, open_changes, has_room, may_happen, entered, fed_with, offered_next, taken_first, with_made, called, Turns, sent, held_first, having_read, having_released, written, left}
+use Rattle.machine.specs.Sound.{SoundInbound, SoundOutbound, SoundOver, Sound}
+use Rattle.machine.proofs.ConnectionLemmas.{get-changed_same, get-changed_other, length-changed_at, get-entered, get-past, each-changed, each-entered, open-lt, count-entered, count-left, connections-changed}
+use Rattle.machine.proofs.InboundLemmas.{inbound-fed, inbound-offered, inbound-called_own, inbound-called_other, inbound-left}
 use Rattle.machine.proofs.OutboundLemmas.{outbound-called_own, outbound-called_other, outbound-held, outbound-read, outbound-having_released, outbound-written}
+use Rattle.machine.proofs.OverLemmas.{over-called, over-left, outbound-new}
 use Rattle.machine.proofs.CommitterLemmas.{committer-called}
 
 -- ---- what an event's test says
@@ -26,6 +26,11 @@ three true true c e = (refl, refl, e)
 three true false c e = cc
 three false b c e = cc
 
+-- no test says both
+pub both_ways : (b : Bool) → b ≡ true → b ≡ false → ⊥
+both_ways true e shut = cc
+both_ways false e shut = cc
+
 pub four : (a b c d : Bool) → (a && b && c && d) ≡ true → (a ≡ true) × (b ≡ true) × (c ≡ true) × (d ≡ true)
 four true true true d e = (refl, refl, refl, e)
 four true true false d e = cc
@@ -33,6 +38,13 @@ four true false c d e = cc
 four false b c d e = cc
 
 -- ---- one connection
+
+-- what holds of it while it is open, and once it is over
+abbrev OpenStands : List Call → ℕ → ℕ → ℕ → Connection → Type 0
+OpenStands calls local remote c connection = connection.is_open ≡ true → SoundOutbound calls c local remote connection.outbound
+
+abbrev OverStands : List Call → ℕ → ℕ → ℕ → Connection → Type 0
+OverStands calls local remote c connection = connection.is_open ≡ false → SoundOver calls c local remote connection
 
 sound-inbound : (w : World) (c : ℕ) (change : Inbound → Inbound) → is_open w c ≡ true → SoundInbound w.primary.calls c (change (connection_of w c).inbound) → Sound w → Sound (on_inbound c change w)
 sound-inbound w c change is_one own s =
@@ -43,7 +55,8 @@ sound-inbound w c change is_one own s =
       connections = connections-changed c (with_inbound change) connections (λ connection. refl) s.connections;
       legal = s.legal;
       inbound = each-changed (λ d connection. SoundInbound w.primary.calls d connection.inbound) c (with_inbound change) connections lt own (λ d differ. s.inbound d);
-      outbound = each-changed (λ d connection. SoundOutbound w.primary.calls d w.primary.committer.local w.primary.link.remote connection.outbound) c (with_inbound change) connections lt (s.outbound c) (λ d differ. s.outbound d);
+      outbound = each-changed (OpenStands w.primary.calls w.primary.committer.local w.primary.link.remote) c (with_inbound change) connections lt (s.outbound c) (λ d differ. s.outbound d);
+      over = each-changed (OverStands w.primary.calls w.primary.committer.local w.primary.link.remote) c (with_inbound change) connections lt (λ e. absurd (both_ways (is_open w c) is_one e)) (λ d differ. s.over d);
       committer = s.committer;
       sent = s.sent;
       link = s.link;
@@ -60,7 +73,8 @@ sound-outbound w c change is_one own s =
       connections = connections-changed c (with_outbound change) connections (λ connection. refl) s.connections;
       legal = s.legal;
       inbound = each-changed (λ d connection. SoundInbound w.primary.calls d connection.inbound) c (with_outbound change) connections lt (s.inbound c) (λ d differ. s.inbound d);
-      outbound = each-changed (λ d connection. SoundOutbound w.primary.calls d w.primary.committer.local w.primary.link.remote connection.outbound) c (with_outbound change) connections lt own (λ d differ. s.outbound d);
+      outbound = each-changed (OpenStands w.primary.calls w.primary.committer.local w.primary.link.remote) c (with_outbound change) connections lt (λ e. own) (λ d differ. s.outbound d);
+      over = each-changed (OverStands w.primary.calls w.primary.committer.local w.primary.link.remote) c (with_outbound change) connections lt (λ e. absurd (both_ways (is_open w c) is_one e)) (λ d differ. s.over d);
       committer = s.committer;
       sent = s.sent;
       link = s.link;
@@ -68,18 +82,47 @@ sound-outbound w c change is_one own s =
       wire = s.wire;
     }
 
+-- no call is of a connection that has not entered
+uncalled : (w : World) → Sound w → items_of (length w.primary.connections) w.primary.calls ≡ []
+uncalled w s =
+    let c = length w.primary.connections in
+    let none : SoundInbound w.primary.calls c no_connection.inbound =
+    subst (λ (x : Connection). SoundInbound w.primary.calls c x.inbound) (get-past w.primary.connections c (le_refl c)) (s.inbound c) in
+    sym (append-nil (items_of c w.primary.calls)) ∙ none.order
+
 pub sound-Enter : (w : World) → may_happen w Enter ≡ true → Sound w → Sound (entered w)
 sound-Enter w e s =
     let connections = w.primary.connections in
+    let local = w.primary.committer.local in
+    let remote = w.primary.link.remote in
     record {
       nodes = s.nodes;
-      connections = record {
-        are_open = All-push (λ (connection : Connection). connection.is_open ≡ true) connections new_connection s.connections.are_open refl;
-        seats = omega (arith, length-append connections (new_connection ∷ []), ltb-true (count_open connections) SEATS e, count-open connections s.connections.are_open);
-      };
+      connections = record { seats = omega (arith, count-entered connections, ltb-true (count_open connections) SEATS e) };
       legal = s.legal;
       inbound = λ c. subst (SoundInbound w.primary.calls c) (sym (get-entered (λ connection. connection.inbound) refl connections c)) (s.inbound c);
-      outbound = λ c. subst (SoundOutbound w.primary.calls c w.primary.committer.local w.primary.link.remote) (sym (get-entered (λ connection. connection.outbound) refl connections c)) (s.outbound c);
+      outbound = each-entered (OpenStands w.primary.calls local remote) connections s.outbound (λ is_one. outbound-new w.primary.calls (length connections) local remote (uncalled w s));
+      over = each-entered (OverStands w.primary.calls local remote) connections s.over (λ e. cc);
+      committer = s.committer;
+      sent = s.sent;
+      link = s.link;
+      standby = s.standby;
+      wire = s.wire;
+    }
+
+pub sound-Leave : (w : World) (c : ℕ) → may_happen w (Leave c) ≡ true → Sound w → Sound (with_connections (changed_at c left w.primary.connections) w)
+sound-Leave w c e s =
+    let connections = w.primary.connections in
+    let calls = w.primary.calls in
+    let local = w.primary.committer.local in
+    let remote = w.primary.link.remote in
+    let lt = open-lt connections c e in
+    record {
+      nodes = s.nodes;
+      connections = record { seats = omega (arith, s.connections.seats, count-left c left connections e (λ connection. refl)) };
+      legal = s.legal;
+      inbound = each-changed (λ d connection. SoundInbound calls d connection.inbound) c left connections lt (inbound-left calls c (connection_of w c).inbound (s.inbound c)) (λ d differ. s.inbound d);
+      outbound = each-changed (OpenStands calls local remote) c left connections lt (λ shut. cc) (λ d differ. s.outbound d);
+      over = each-changed (OverStands calls local remote) c left connections lt (λ shut. over-left calls c local remote (connection_of w c) (s.outbound c e)) (λ d differ. s.over d);
       committer = s.committer;
       sent = s.sent;
       link = s.link;
@@ -124,18 +167,25 @@ sound-called w c call own first may e s =
     each-changed (λ d x. SoundInbound calls d x.inbound) c (with_inbound taken_first) connections lt
     (inbound-called_own old c connection.inbound call own first (s.inbound c))
     (λ d differ. inbound-called_other old d (connection_of w d).inbound call (λ same. differ (sym own ∙ same)) (s.inbound d)) in
-    let outbound : (d : ℕ) → SoundOutbound calls d local remote (get_connection (changed_at c (with_outbound made) taken) d).outbound =
-    each-changed (λ d x. SoundOutbound calls d local remote x.outbound) c (with_outbound made) taken lt'
-    (subst (λ x. SoundOutbound calls c local remote (made x.outbound)) (sym (get-changed_same c (with_inbound taken_first) connections lt))
-    (outbound-called_own old c local remote connection.outbound call own (ltb-true (length connection.outbound.made) PIPE_ITEMS parts.2) (s.outbound c)))
-    (λ d differ. subst (λ x. SoundOutbound calls d local remote x.outbound) (sym (get-changed_other c d (with_inbound taken_first) connections differ))
-    (outbound-called_other old d local remote (connection_of w d).outbound call (λ same. differ (sym own ∙ same)) (s.outbound d))) in
+    let same : get_connection taken c ≡ with_inbound taken_first connection = get-changed_same c (with_inbound taken_first) connections lt in
+    let outbound : (d : ℕ) → OpenStands calls local remote d (get_connection (changed_at c (with_outbound made) taken) d) =
+    each-changed (OpenStands calls local remote) c (with_outbound made) taken lt'
+    (λ is_one. subst (λ (x : Connection). SoundOutbound calls c local remote (made x.outbound)) (sym same)
+    (outbound-called_own old c local remote connection.outbound call own (ltb-true (length connection.outbound.made) PIPE_ITEMS parts.2) (s.outbound c parts.0)))
+    (λ d differ. subst (OpenStands calls local remote d) (sym (get-changed_other c d (with_inbound taken_first) connections differ))
+    (λ is_one. outbound-called_other old d local remote (connection_of w d).outbound call (λ same. differ (sym own ∙ same)) (s.outbound d is_one))) in
+    let over : (d : ℕ) → OverStands calls local remote d (get_connection (changed_at c (with_outbound made) taken) d) =
+    each-changed (OverStands calls local remote) c (with_outbound made) taken lt'
+    (λ shut. absurd (both_ways connection.is_open parts.0 (sym (ap (λ (x : Connection). x.is_open) same) ∙ shut)))
+    (λ d differ. subst (OverStands calls local remote d) (sym (get-changed_other c d (with_inbound taken_first) connections differ))
+    (λ shut. over-called old d local remote (connection_of w d) call (λ same. differ (sym own ∙ same)) (s.over d shut))) in
     record {
       nodes = s.nodes;
       connections = connections-changed c (with_outbound made) taken (λ connection. refl) (connections-changed c (with_inbound taken_first) connections (λ connection. refl) s.connections);
       legal = IsLegal-push old call s.legal may;
       inbound = each-changed (λ d x. SoundInbound calls d x.inbound) c (with_outbound made) taken lt' (inbound c) (λ d differ. inbound d);
       outbound = outbound;
+      over = over;
       committer = committer-called (position_of old) (position_of calls) w.primary.committer (position_of_grows old (call ∷ [])) (position_of-push_le old call)
           (ltb-true (open_changes w) OPEN_CHANGES parts.3) s.committer;
       sent = s.sent;
@@ -151,19 +201,19 @@ pub sound-Hold : (w : World) (c : ℕ) → may_happen w (Hold c) ≡ true → So
 sound-Hold w c e s =
     let outbound = (connection_of w c).outbound in
     let parts = both (is_open w c) (is_nonempty outbound.made) e in
-    sound-outbound w c held_first parts.0 (outbound-held w.primary.calls c w.primary.committer.local w.primary.link.remote outbound (s.outbound c)) s
+    sound-outbound w c held_first parts.0 (outbound-held w.primary.calls c w.primary.committer.local w.primary.link.remote outbound (s.outbound c parts.0)) s
 
 pub sound-Read : (w : World) (c : ℕ) (mark : Mark) → may_happen w (Read c mark) ≡ true → Sound w → Sound (on_outbound c (having_read mark w) w)
-sound-Read w c mark e s = sound-outbound w c (having_read mark w) e (outbound-read w.primary.calls c mark w (connection_of w c).outbound (s.outbound c)) s
+sound-Read w c mark e s = sound-outbound w c (having_read mark w) e (outbound-read w.primary.calls c mark w (connection_of w c).outbound (s.outbound c e)) s
 
 pub sound-Release : (w : World) (c : ℕ) → may_happen w (Release c) ≡ true → Sound w → Sound (on_outbound c having_released w)
 sound-Release w c e s =
     let outbound = (connection_of w c).outbound in
     let parts = both (is_open w c) _ e in
-    sound-outbound w c having_released parts.0 (outbound-having_released w.primary.calls c w.primary.committer.local w.primary.link.remote outbound (s.outbound c)) s
+    sound-outbound w c having_released parts.0 (outbound-having_released w.primary.calls c w.primary.committer.local w.primary.link.remote outbound (s.outbound c parts.0)) s
 
 pub sound-Write : (w : World) (c n : ℕ) → may_happen w (Write c n) ≡ true → Sound w → Sound (on_outbound c (written n) w)
 sound-Write w c n e s =
     let outbound = (connection_of w c).outbound in
     let parts = both (is_open w c) (nat_le n (length outbound.pending)) e in
-    sound-outbound w c (written n) parts.0 (outbound-written w.primary.calls c w.primary.committer.local w.primary.link.remote n outbound (s.outbound c)) s
+    sound-outbound w c (written n) parts.0 (outbound-written w.primary.calls c w.primary.committer.local w.primary.link.remote n outbound (s.outbound c parts.0)) s

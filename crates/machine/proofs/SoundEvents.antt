@@ -5,15 +5,16 @@ use Rattle.std.proofs.lemmas.List.Elements.{All-head}
 use Rattle.model.specs.Call.{is_nonempty, position_of}
 use Rattle.machine.specs.declared.event.TheConstants.{PIPE_ITEMS}
 use Rattle.machine.specs.declared.event.Event.{Event}
-use Rattle.machine.specs.declared.event.Event.TheVariants.{Enter, Feed, Offer, Turn, CloseGroup, Commit, RaiseLocal, Hand, OpenLink, Send, Deliver, Apply, AckDelivered, RaiseRemote, Hold, Read, Release, Write}
+use Rattle.machine.specs.declared.event.Event.TheVariants.{Enter, Feed, Offer, Turn, CloseGroup, Commit, RaiseLocal, Hand, OpenLink, Send, Deliver, Apply, AckDelivered, RaiseRemote, Hold, Read, Release, Write, Leave}
 use Rattle.machine.specs.Event.{Span, Acknowledgement, Link, Standby, World, connection_of, with_committer, with_link, with_standby, with_acknowledged, open_changes, has_room, is_ready, nodes_run, may_happen, is_enabled, closed_group, committed_first, raised_local, ready_again, handed, handed_to, opened_link, acknowledgement_of, sent_waiting, sent_next, next_to_send, framed, sent, delivered, without_first, Applies, told, knowing, raised_remote, option_items, Happens, Step}
-use Rattle.machine.specs.Sound.{IsChain, IsFrameWithin, IsToldWithin, SoundOutbound, SoundCommitter, SoundStandby, Sound}
+use Rattle.machine.specs.Sound.{IsChain, IsFrameWithin, IsToldWithin, SoundOutbound, SoundOver, SoundCommitter, SoundStandby, Sound}
 use Rattle.machine.proofs.GroupLemmas.{framed-within}
 use Rattle.machine.proofs.OutboundLemmas.{outbound-marked}
+use Rattle.machine.proofs.OverLemmas.{over-marked}
 use Rattle.machine.proofs.CommitterLemmas.{committer-closed_group, committer-committed, committer-raised, committer-handed}
 use Rattle.machine.proofs.LinkLemmas.{link-committed, link-raised, link-handed, link-opened, link-sent, link-knowing, link-raised_remote}
 use Rattle.machine.proofs.StandbyLemmas.{all-at, standby-sent, standby-known, standby-delivered, standby-without_first, standby-first, standby-takes, TakesWell, told-one, wire-sent, wire-told}
-use Rattle.machine.proofs.SoundConnection.{both, sound-Enter, sound-Feed, sound-Hold, sound-Offer, sound-Read, sound-Release, sound-Turn, sound-Write, three}
+use Rattle.machine.proofs.SoundConnection.{both, sound-Enter, sound-Feed, sound-Hold, sound-Leave, sound-Offer, sound-Read, sound-Release, sound-Turn, sound-Write, three}
 
 -- ---- the committer
 
@@ -27,6 +28,7 @@ sound-CloseGroup w e s =
       legal = s.legal;
       inbound = s.inbound;
       outbound = s.outbound;
+      over = s.over;
       committer = committer-closed_group (position_of w.primary.calls) committer (ltb-true 0 (open_changes w) parts.0) (ltb-true (length committer.waiting) PIPE_ITEMS parts.1) s.committer;
       sent = s.sent;
       link = s.link;
@@ -44,6 +46,7 @@ sound-committed w (group ∷ groups) some chain ready room committer s =
       legal = s.legal;
       inbound = s.inbound;
       outbound = s.outbound;
+      over = s.over;
       committer = committer;
       sent = s.sent;
       link = link-committed w.primary.committer group s.sent w.primary.link ready room chain.0 chain.1 s.link;
@@ -67,7 +70,8 @@ sound-RaiseLocal w s =
       connections = s.connections;
       legal = s.legal;
       inbound = s.inbound;
-      outbound = λ c. outbound-marked w.primary.calls c committer.local link.remote committer.position link.remote (connection_of w c).outbound s.committer.mark (le_refl link.remote) (s.outbound c);
+      outbound = λ c is_one. outbound-marked w.primary.calls c committer.local link.remote committer.position link.remote (connection_of w c).outbound s.committer.mark (le_refl link.remote) (s.outbound c is_one);
+      over = λ c shut. over-marked w.primary.calls c committer.local link.remote committer.position link.remote (connection_of w c) s.committer.mark (le_refl link.remote) (s.over c shut);
       committer = committer-raised (position_of w.primary.calls) committer s.committer;
       sent = s.sent;
       link = link-raised committer.stage committer.position s.sent link s.link;
@@ -85,6 +89,7 @@ sound-Hand w e s =
       legal = s.legal;
       inbound = s.inbound;
       outbound = s.outbound;
+      over = s.over;
       committer = committer-handed (position_of w.primary.calls) committer e s.committer;
       sent = s.sent;
       link = link-handed committer.stage committer.position s.sent w.primary.link e s.link;
@@ -103,6 +108,7 @@ sound-OpenLink w s =
       legal = s.legal;
       inbound = s.inbound;
       outbound = s.outbound;
+      over = s.over;
       committer = s.committer;
       sent = s.sent;
       link = link-opened w.primary.committer.stage w.primary.committer.position s.sent w.primary.link s.link;
@@ -137,7 +143,8 @@ sound-Send w e s =
       connections = s.connections;
       legal = s.legal;
       inbound = s.inbound;
-      outbound = λ c. subst (λ remote. SoundOutbound w.primary.calls c w.primary.committer.local remote (connection_of w c).outbound) (sym (sent-remote link.again link)) (s.outbound c);
+      outbound = λ c is_one. subst (λ remote. SoundOutbound w.primary.calls c w.primary.committer.local remote (connection_of w c).outbound) (sym (sent-remote link.again link)) (s.outbound c is_one);
+      over = λ c shut. subst (λ remote. SoundOver w.primary.calls c w.primary.committer.local remote (connection_of w c)) (sym (sent-remote link.again link)) (s.over c shut);
       committer = s.committer;
       sent = sends.after;
       link = sends.sound;
@@ -154,6 +161,7 @@ sound-knowing w position le s =
       legal = s.legal;
       inbound = s.inbound;
       outbound = s.outbound;
+      over = s.over;
       committer = s.committer;
       sent = s.sent;
       link = link-knowing w.primary.committer.stage w.primary.committer.position s.sent link s.link position (omega (arith, s.standby.behind));
@@ -179,7 +187,8 @@ sound-RaiseRemote w s =
       connections = s.connections;
       legal = s.legal;
       inbound = s.inbound;
-      outbound = λ c. outbound-marked w.primary.calls c local link.remote local link.known (connection_of w c).outbound (le_refl local) s.link.remote (s.outbound c);
+      outbound = λ c is_one. outbound-marked w.primary.calls c local link.remote local link.known (connection_of w c).outbound (le_refl local) s.link.remote (s.outbound c is_one);
+      over = λ c shut. over-marked w.primary.calls c local link.remote local link.known (connection_of w c) (le_refl local) s.link.remote (s.over c shut);
       committer = s.committer;
       sent = s.sent;
       link = link-raised_remote w.primary.committer.stage w.primary.committer.position s.sent link s.link;
@@ -196,6 +205,7 @@ sound-Deliver w frame s =
       legal = s.legal;
       inbound = s.inbound;
       outbound = s.outbound;
+      over = s.over;
       committer = s.committer;
       sent = s.sent;
       link = s.link;
@@ -220,6 +230,7 @@ sound-Apply w new applies s =
           legal = s.legal;
           inbound = s.inbound;
           outbound = s.outbound;
+          over = s.over;
           committer = s.committer;
           sent = s.sent;
           link = s.link;
@@ -249,6 +260,7 @@ sound-may w (Hold c) new e h s = subst Sound (sym h) (sound-Hold w c e s)
 sound-may w (Read c mark) new e h s = subst Sound (sym h) (sound-Read w c mark e s)
 sound-may w (Release c) new e h s = subst Sound (sym h) (sound-Release w c e s)
 sound-may w (Write c n) new e h s = subst Sound (sym h) (sound-Write w c n e s)
+sound-may w (Leave c) new e h s = subst Sound (sym h) (sound-Leave w c e s)
 
 -- what is enabled has something to do
 pub enabled-may : (w : World) (event : Event) → is_enabled w event ≡ true → may_happen w event ≡ true

@@ -6,11 +6,13 @@ use Rattle.kv_types.specs.declared.item.Item.TheVariants.{Request}
 use Rattle.kv_types.specs.declared.reply.Reply.{Reply, Simple}
 use Rattle.kv_types.specs.declared.reply.Held.{Held}
 use Rattle.kv_types.specs.Reading.{items_at}
+use Rattle.cmd_table.specs.Request.{outcome_of_words, closes}
+use Rattle.cmd_table.specs.Row.{is_named}
 use Rattle.model.specs.declared.call.Call.{Call}
 use Rattle.model.specs.Call.{MayReply, state_after}
 use Rattle.machine.specs.declared.event.Event.TheVariants.{Feed, Offer, Turn, Apply}
 use Rattle.model.specs.declared.record.TheConstants.{FIRST_EPOCH}
-use Rattle.machine.specs.Event.{Inbound, Outbound, Span, Frame, Stage, Ready, Durable, Shown, Committer, Link, Running, Standby, Wire, World, Step, Run, start}
+use Rattle.machine.specs.Event.{Inbound, Outbound, Span, Frame, Stage, Ready, Durable, Shown, Committer, Link, Running, Standby, Wire, World, Step, Run, start, connection_of, with_connections, left}
 use Rattle.machine.specs.Promise.{released_in}
 use Rattle.machine.proofs.RunLemmas.{step-does, step-stays}
 use Rattle.machine.specs.Worked.{set_request, worked_events, worked_done, FirstCaseIsARun}
@@ -114,6 +116,10 @@ took_it = far [] 1 (frame ∷ []) (0 ∷ 1 ∷ [])
 abbrev ends : List ℕ → List ℕ → World
 ends pending released = world (inbound set_request 1 []) (outbound [] [] pending released 1 1) (call ∷ []) handed_on acknowledged_link took_it
 
+-- the connection is over
+abbrev over : World
+over = with_connections (left (connection_of (ends [] text) 0) ∷ []) (ends [] text)
+
 abbrev worked_worlds : List World
 worked_worlds =
     idle new_inbound ∷ idle (inbound set_request 0 []) ∷ idle (inbound set_request 1 (item ∷ [])) ∷ called_once
@@ -132,7 +138,7 @@ worked_worlds =
     ∷ waits 1 0 handed_on (link [] [] 1 0) took_it
     ∷ waits 1 0 handed_on acknowledged_link took_it
     ∷ waits 1 1 handed_on acknowledged_link took_it
-    ∷ ends text [] ∷ ends [] text ∷ []
+    ∷ ends text [] ∷ ends [] text ∷ over ∷ []
 
 -- ---- the steps
 
@@ -141,16 +147,19 @@ unfolding items_at
 feeds = step-does refl refl
 
 offers : Step (idle (inbound set_request 0 [])) (Offer 0) true (idle (inbound set_request 1 (item ∷ [])))
-unfolding items_at
+unfolding items_at closes is_named
 offers = step-does refl refl
 
 may_reply : MayReply (state_after []) call
+unfolding outcome_of_words closes is_named
 may_reply = inr (inr (inl (omega arith, refl)))
 
 turns : Step (idle (inbound set_request 1 (item ∷ []))) (Turn 0) true called_once
+unfolding outcome_of_words closes is_named
 turns = step-does refl (record { call = call; connection = refl; first = refl; reply = may_reply; now = refl })
 
 applies : Step (waits 1 0 handed_on (link [] (group ∷ []) 0 0) (far (frame ∷ []) 0 (frame ∷ []) (0 ∷ []))) Apply true (waits 1 0 handed_on (link [] (group ∷ []) 0 0) took_it)
+unfolding outcome_of_words closes is_named
 applies =
     step-does refl (record {
       frame = frame;
@@ -162,6 +171,7 @@ applies =
     })
 
 worked_run : Run start worked_events worked_done worked_worlds
+unfolding outcome_of_words closes is_named
 worked_run = (
   step-does refl refl,
   (
@@ -206,7 +216,7 @@ worked_run = (
                                           step-does refl refl,
                                           (
                                             step-does refl refl,
-                                            (step-does refl refl, (step-does refl refl, (step-does refl refl, tt))),
+                                            (step-does refl refl, (step-does refl refl, (step-does refl refl, (step-does refl refl, tt)))),
                                           ),
                                         ),
                                       ),
@@ -278,4 +288,5 @@ worked =
       local = refl;
       remote = refl;
       reply = refl;
+      seats = refl;
     }

@@ -1,12 +1,12 @@
 -- The pair of nodes as a machine (this project's profile): which event may happen, what it does, and what a run is. The state is defined in
 -- `World`, whose definitions this file re-exports.
 pub use Rattle.machine.specs.World.{Inbound, Outbound, Connection, Span, Frame, Acknowledgement, Stage, Ready, Durable, Shown, Committer, Link, Life, Running, Stopped, Crashed, Primary, Standby, Wire, World, no_connection, new_connection, start_at, start, is_running, get_connection, connection_of, is_open, count_open, changed_at, with_inbound, with_outbound, with_primary, with_connections, on_inbound, on_outbound, with_committer, with_link, with_standby, with_sent, with_acknowledged, asked, is_closed_by, open_changes, has_room, is_ready, is_durable, is_shown, is_covered, covered_prefix, uncovered_rest, texts_of}
-use Rattle.std.specs.Prelude.{◌≡◌, ◌⊎◌, ℕ, ◌+◌, ◌<◌, ◌≤◌, Bool, true, false, not, ◌&&◌, ◌||◌, nat_lt, nat_le, nat_eq, if◌then◌else◌, max, List, [], ◌∷◌, ◌++◌, length, take, drop, map, filter, ◌≢◌, slice_get, Option, Some, None}
+use Rattle.std.specs.Prelude.{◌≡◌, ◌⊎◌, ℕ, ◌+◌, ◌-◌, ◌<◌, ◌≤◌, Bool, true, false, not, ◌&&◌, ◌||◌, nat_lt, nat_le, nat_eq, if◌then◌else◌, max, List, [], ◌∷◌, ◌++◌, length, take, drop, map, filter, ◌≢◌, slice_get, Option, Some, None}
 use Rattle.kv_types.specs.declared.reply.Held.{Held}
 use Rattle.model.specs.declared.call.Call.{Call}
 use Rattle.model.specs.Call.{MayReply, is_nonempty, position_of, state_after}
 use Rattle.machine.specs.declared.event.Event.{Event}
-use Rattle.machine.specs.declared.event.Event.TheVariants.{Enter, Feed, Offer, Turn, CloseGroup, Commit, RaiseLocal, Hand, OpenLink, Send, Deliver, Apply, AckDelivered, RaiseRemote, Hold, Read, Release, Write}
+use Rattle.machine.specs.declared.event.Event.TheVariants.{Enter, Feed, Offer, Turn, CloseGroup, Commit, RaiseLocal, Hand, OpenLink, Send, Deliver, Apply, AckDelivered, RaiseRemote, Hold, Read, Release, Write, Leave}
 use Rattle.machine.specs.declared.event.Mark.{Mark}
 use Rattle.machine.specs.declared.event.Mark.TheVariants.{Local, Remote}
 use Rattle.machine.specs.declared.event.TheConstants.{SEATS, OPEN_CHANGES, KEPT_GROUPS}
@@ -46,6 +46,7 @@ may_happen w (Release c) =
     let outbound = (connection_of w c).outbound in
     is_open w c && is_nonempty (covered_prefix outbound.local outbound.remote outbound.held)
 may_happen w (Write c n) = is_open w c && nat_le n (length (connection_of w c).outbound.pending)
+may_happen w (Leave c) = is_open w c
 
 abbrev pub is_enabled : World → Event → Bool
 is_enabled w event = nodes_run w event && may_happen w event
@@ -205,6 +206,18 @@ having_released outbound =
 abbrev pub written : ℕ → Outbound → Outbound
 written n outbound = record outbound { pending = drop n outbound.pending; released = outbound.released ++ take n outbound.pending }
 
+-- what was handed to the sequencer and not called is dropped
+abbrev pub left_inbound : Inbound → Inbound
+left_inbound inbound = record inbound { offered = inbound.offered - length inbound.waiting; waiting = [] }
+
+-- what was not written to the connection is dropped
+abbrev pub left_outbound : Outbound → Outbound
+left_outbound outbound = record outbound { made = []; held = []; pending = [] }
+
+-- the connection is over
+abbrev pub left : Connection → Connection
+left connection = record { is_open = false; inbound = left_inbound connection.inbound; outbound = left_outbound connection.outbound }
+
 abbrev pub option_items : {X : Type 0} → Option X → List X
 option_items None = []
 option_items (Some x) = x ∷ []
@@ -229,6 +242,7 @@ Happens w (Hold c) new = new ≡ on_outbound c held_first w
 Happens w (Read c mark) new = new ≡ on_outbound c (having_read mark w) w
 Happens w (Release c) new = new ≡ on_outbound c having_released w
 Happens w (Write c n) new = new ≡ on_outbound c (written n) w
+Happens w (Leave c) new = new ≡ with_connections (changed_at c left w.primary.connections) w
 
 -- One event: it does its step exactly where it is enabled, and otherwise changes nothing.
 pub record Step (old : World) (event : Event) (did : Bool) (new : World) : Type 0 where

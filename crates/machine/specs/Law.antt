@@ -1,15 +1,16 @@
 -- The laws of every run, stated.
-use Rattle.std.specs.Prelude.{◌≡◌, ℕ, ◌≤◌, Bool, true, false, List, [], ◌∷◌, ◌++◌, length, take, drop, All}
-use Rattle.kv_types.specs.declared.limits.TheConstants.{SERVED_LIMITS}
+use Rattle.std.specs.Prelude.{◌≡◌, ℕ, ◌<◌, ◌≤◌, Bool, true, false, List, [], ◌∷◌, ◌++◌, length, take, drop, All}
+use Rattle.kv_types.specs.declared.limits.TheConstants.{REQUEST_LIMITS}
 use Rattle.kv_types.specs.declared.reply.Held.{Held}
 use Rattle.kv_types.specs.Reading.{items_at}
 use Rattle.model.specs.declared.call.Call.{Call}
-use Rattle.model.specs.Call.{IsLegal, IsPrefix, Serves, cut_at, items_of, keyspace_after, position_of, replies_to}
+use Rattle.model.specs.Call.{IsLegal, IsPrefix, Serves, calls_of, cut_at, items_of, keyspace_after, position_of, replies_to}
 use Rattle.machine.specs.declared.event.Event.{Event}
 use Rattle.machine.specs.declared.event.Event.TheVariants.{AckDelivered, Deliver, RaiseRemote}
-use Rattle.machine.specs.Event.{World, Step, Run, start, last_world, connection_of, asked, texts_of, is_enabled}
+use Rattle.machine.specs.Event.{World, Step, Run, start, last_world, connection_of, is_open, count_open, asked, texts_of, is_enabled}
 use Rattle.machine.specs.Promise.{IsReleased, released_in, fed_to}
-use Rattle.machine.specs.Sound.{IsChain, IsFrameWithin, Sound, answers_to}
+use Rattle.machine.specs.Sound.{HasNothing, IsChain, IsFrameWithin, Sound, answers_to}
+use Rattle.machine.specs.declared.event.TheConstants.{SEATS}
 
 -- `P` holds of the world after every run, and so of each world of a run, since a prefix of a run is a run
 abbrev pub AfterEveryRun : (World → Type 0) → Type 0
@@ -65,7 +66,7 @@ EveryListIsLegal = AfterEveryRun (λ w. IsLegal w.primary.calls)
 abbrev pub EveryListServes : Type 0
 EveryListServes =
     (events : List Event) (done : List Bool) (worlds : List World) → Run start events done worlds
-    → Serves (λ c. items_at SERVED_LIMITS (fed_to c events done)) (last_world start worlds).primary.calls
+    → Serves (λ c. items_at REQUEST_LIMITS (fed_to c events done)) (last_world start worlds).primary.calls
 
 -- the items handed to the sequencer are those of the connection's calls and then those that wait
 abbrev pub ItemsComeInOrder : Type 0
@@ -74,16 +75,16 @@ ItemsComeInOrder =
 
 -- ---- replies
 
--- what was released and then what waits is the text of the replies to the connection's calls
+-- what was released to an open connection and then what waits is the text of the replies to its calls
 abbrev pub RepliesAddUp : Type 0
 RepliesAddUp =
-    AfterEveryRun (λ w. (c : ℕ) → let outbound = (connection_of w c).outbound in
+    AfterEveryRun (λ w. (c : ℕ) → is_open w c ≡ true → let outbound = (connection_of w c).outbound in
     outbound.released ++ (outbound.pending ++ (texts_of outbound.held ++ texts_of outbound.made)) ≡ replies_to c w.primary.calls)
 
--- the waiting replies are those of the last of the connection's calls, each with the position of the list after its call
+-- the waiting replies are those of the last of an open connection's calls, each with the position of the list after its call
 abbrev pub RepliesBearPositions : Type 0
 RepliesBearPositions =
-    AfterEveryRun (λ w. (c : ℕ) → let outbound = (connection_of w c).outbound in (out : List Held) × (out ++ (outbound.held ++ outbound.made) ≡ answers_to c w.primary.calls))
+    AfterEveryRun (λ w. (c : ℕ) → is_open w c ≡ true → let outbound = (connection_of w c).outbound in (out : List Held) × (out ++ (outbound.held ++ outbound.made) ≡ answers_to c w.primary.calls))
 
 -- and `answers_to` has, for each call of the connection, its reply with that position
 abbrev pub AnswersBearPositions : Type 0
@@ -96,6 +97,32 @@ abbrev pub ReleasedIsCovered : Type 0
 ReleasedIsCovered =
     AfterEveryRun (λ w. (prefix : List Call) (call : Call) → IsReleased w.primary.calls (released_in w) prefix call
     → (position_of (prefix ++ call ∷ []) ≤ w.primary.committer.local) × (position_of (prefix ++ call ∷ []) ≤ w.primary.link.remote))
+
+-- ---- connections that are over
+
+-- a connection that is over stays as it was: nothing is fed, called, released or written to it any more
+pub record StaysOver (c : ℕ) (old new : World) : Type 0 where
+  pub entered : c < length new.primary.connections
+  pub connection : connection_of new c ≡ connection_of old c
+  pub calls : calls_of c new.primary.calls ≡ calls_of c old.primary.calls
+
+abbrev pub ConnectionsStayOver : Type 0
+ConnectionsStayOver =
+    (n : ℕ) (events : List Event) (done : List Bool) (worlds : List World) → Run start events done worlds
+    → let old = last_world start (take n worlds) in
+    (c : ℕ) → c < length old.primary.connections → is_open old c ≡ false → StaysOver c old (last_world start worlds)
+
+-- nothing of it waits
+abbrev pub NothingWaitsOver : Type 0
+NothingWaitsOver = AfterEveryRun (λ w. (c : ℕ) → is_open w c ≡ false → HasNothing (connection_of w c))
+
+-- no more connections enter than events happen
+abbrev pub ConnectionsAreFew : Type 0
+ConnectionsAreFew = (events : List Event) (done : List Bool) (worlds : List World) → Run start events done worlds → length (last_world start worlds).primary.connections ≤ length events
+
+-- there is a seat for each open connection
+abbrev pub OpenOnesHaveSeats : Type 0
+OpenOnesHaveSeats = AfterEveryRun (λ w. count_open w.primary.connections ≤ SEATS)
 
 -- ---- positions
 

@@ -1,6 +1,6 @@
 -- What is promised of every run, in words that name no actor: one sequential Redis, its replies, and what is durable on both nodes.
 use Rattle.std.specs.Prelude.{◌≡◌, ◌⊎◌, ℕ, ◌<◌, ◌≤◌, Bool, true, nat_eq, if◌then◌else◌, List, [], ◌∷◌, ◌++◌, length}
-use Rattle.kv_types.specs.declared.limits.TheConstants.{SERVED_LIMITS}
+use Rattle.kv_types.specs.declared.limits.TheConstants.{REQUEST_LIMITS}
 use Rattle.kv_types.specs.Reading.{items_at}
 use Rattle.model.specs.declared.call.Call.{Call}
 use Rattle.model.specs.Call.{IsLegal, IsPrefix, Serves, position_of, replies_to}
@@ -55,7 +55,7 @@ pub record IsPromised (events : List Event) (done : List Bool) (calls : List Cal
   -- one sequential Redis answers this list
   pub legal : IsLegal calls
   -- it takes the requests of each connection in order
-  pub serves : Serves (λ c. items_at SERVED_LIMITS (fed_to c events done)) calls
+  pub serves : Serves (λ c. items_at REQUEST_LIMITS (fed_to c events done)) calls
   -- what was released begins the replies
   pub begins : (c : ℕ) → IsPrefix (released c) (replies_to c calls)
   -- each released call was covered at one moment since it was made

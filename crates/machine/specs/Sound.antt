@@ -1,11 +1,11 @@
 -- What holds of the pair of nodes between any two events (this project's profile): the facts from which the promise follows.
-use Rattle.std.specs.Prelude.{◌≡◌, ℕ, ◌+◌, ◌<◌, ◌≤◌, true, nat_eq, if◌then◌else◌, List, [], ◌∷◌, ◌++◌, length, take, All}
+use Rattle.std.specs.Prelude.{◌≡◌, ℕ, ◌+◌, ◌<◌, ◌≤◌, true, false, nat_eq, if◌then◌else◌, List, [], ◌∷◌, ◌++◌, length, take, All}
 use Rattle.kv_types.specs.declared.reply.Held.{Held}
 use Rattle.model.specs.declared.call.Call.{Call}
 use Rattle.model.specs.State.{State, start_state}
-use Rattle.model.specs.Call.{IsLegal, after_call, is_changing, items_of, position_of}
+use Rattle.model.specs.Call.{IsLegal, IsPrefix, after_call, is_changing, items_of, position_of}
 use Rattle.machine.specs.declared.event.TheConstants.{SEATS, PIPE_ITEMS, OPEN_CHANGES, KEPT_GROUPS}
-use Rattle.machine.specs.Event.{Span, Frame, Acknowledgement, Stage, Ready, Durable, Shown, Inbound, Outbound, Connection, Committer, Link, Life, Running, Primary, Standby, Wire, World, asked, connection_of, count_open, texts_of}
+use Rattle.machine.specs.Event.{Span, Frame, Acknowledgement, Stage, Ready, Durable, Shown, Inbound, Outbound, Connection, Committer, Link, Life, Running, Primary, Standby, Wire, World, asked, connection_of, is_open, count_open, texts_of}
 
 -- ---- replies
 
@@ -78,7 +78,7 @@ pub record SoundInbound (calls : List Call) (c : ℕ) (inbound : Inbound) : Type
   pub order : items_of c calls ++ inbound.waiting ≡ take inbound.offered (asked inbound.fed)
   pub few : length inbound.waiting ≤ PIPE_ITEMS
 
--- the replies to the connection's calls are those that were released and then those that wait, and both marks cover what was released
+-- of an open connection: the replies to its calls are those that were released and then those that wait, and both marks cover what was released
 pub record SoundOutbound (calls : List Call) (c : ℕ) (local remote : ℕ) (outbound : Outbound) : Type 0 where
   -- what was released
   pub out : List Held
@@ -88,6 +88,28 @@ pub record SoundOutbound (calls : List Call) (c : ℕ) (local remote : ℕ) (out
   pub local_read : outbound.local ≤ local
   pub remote_read : outbound.remote ≤ remote
   pub few : length outbound.made ≤ PIPE_ITEMS
+
+-- of any connection: what was written to it is of the first replies to its calls, of the last of them perhaps a part only, and both marks cover these
+pub record SoundReleased (calls : List Call) (c : ℕ) (local remote : ℕ) (outbound : Outbound) : Type 0 where
+  -- what was released
+  pub out : List Held
+  pub replies : IsPrefix out (answers_to c calls)
+  pub texts : IsPrefix outbound.released (texts_of out)
+  pub covered : All (IsCoveredBy local remote) out
+  pub local_read : outbound.local ≤ local
+  pub remote_read : outbound.remote ≤ remote
+
+-- nothing waits at the connection, on either side
+pub record HasNothing (connection : Connection) : Type 0 where
+  pub waiting : connection.inbound.waiting ≡ []
+  pub made : connection.outbound.made ≡ []
+  pub held : connection.outbound.held ≡ []
+  pub pending : connection.outbound.pending ≡ []
+
+-- what holds of a connection that is over, and of a number that no connection has yet
+pub record SoundOver (calls : List Call) (c : ℕ) (local remote : ℕ) (connection : Connection) : Type 0 where
+  pub nothing : HasNothing connection
+  pub released : SoundReleased calls c local remote connection.outbound
 
 -- what holds of the committer, given the position of the list of calls
 pub record SoundCommitter (position : ℕ) (committer : Committer) : Type 0 where
@@ -125,10 +147,9 @@ pub record SoundWire (epoch sent position : ℕ) (wire : Wire) : Type 0 where
   pub frames : All (IsFrameWithin epoch sent) wire.frames
   pub acknowledged : All (IsToldWithin epoch position) wire.acknowledgements
 
--- no connection is over, and there is a seat for each
+-- there is a seat for each open connection
 pub record SoundConnections (connections : List Connection) : Type 0 where
-  pub are_open : All (λ connection. connection.is_open ≡ true) connections
-  pub seats : length connections ≤ SEATS
+  pub seats : count_open connections ≤ SEATS
 
 -- both nodes run
 pub record DoRun (primary_life standby_life : Life) : Type 0 where
@@ -140,7 +161,8 @@ pub record Sound (w : World) : Type 0 where
   pub connections : SoundConnections w.primary.connections
   pub legal : IsLegal w.primary.calls
   pub inbound : (c : ℕ) → SoundInbound w.primary.calls c (connection_of w c).inbound
-  pub outbound : (c : ℕ) → SoundOutbound w.primary.calls c w.primary.committer.local w.primary.link.remote (connection_of w c).outbound
+  pub outbound : (c : ℕ) → is_open w c ≡ true → SoundOutbound w.primary.calls c w.primary.committer.local w.primary.link.remote (connection_of w c).outbound
+  pub over : (c : ℕ) → is_open w c ≡ false → SoundOver w.primary.calls c w.primary.committer.local w.primary.link.remote (connection_of w c)
   pub committer : SoundCommitter (position_of w.primary.calls) w.primary.committer
   -- groups were sent up to this position
   pub sent : ℕ

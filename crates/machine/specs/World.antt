@@ -3,7 +3,7 @@
 use Rattle.std.specs.Prelude.{ℕ, zero, suc, Bool, true, false, ◌&&◌, nat_lt, nat_le, if◌then◌else◌, List, [], ◌∷◌, ◌++◌, length, ◌+◌, ◌-◌}
 use Rattle.std.specs.List.{flat_map, list_any}
 use Rattle.kv_types.specs.declared.item.Item.{Item}
-use Rattle.kv_types.specs.declared.limits.TheConstants.{SERVED_LIMITS}
+use Rattle.kv_types.specs.declared.limits.TheConstants.{REQUEST_LIMITS}
 use Rattle.kv_types.specs.declared.reply.Held.{Held}
 use Rattle.kv_types.specs.Reading.{items_at}
 use Rattle.kv_types.specs.Reply.{text_of}
@@ -19,7 +19,7 @@ use Rattle.model.specs.declared.record.TheConstants.{FIRST_EPOCH}
 pub record Inbound : Type 0 where
   -- all bytes fed to it
   pub fed : List ℕ
-  -- how many of the items that they ask for were handed to the sequencer
+  -- how many of the items that they ask for were handed to the sequencer, and not dropped when the connection left
   pub offered : ℕ
   -- those of them that wait to be run
   pub waiting : List Item
@@ -226,11 +226,11 @@ with_acknowledged acknowledgements w = record w { wire = record w.wire { acknowl
 
 -- the items that the bytes of a connection ask for, up to and including the one that closes it
 abbrev pub asked : List ℕ → List Item
-asked fed = up_to_closing (items_at SERVED_LIMITS fed)
+asked fed = up_to_closing (items_at REQUEST_LIMITS fed)
 
 -- the bytes hold an item that closes the connection
 abbrev pub is_closed_by : List ℕ → Bool
-is_closed_by fed = list_any closes (items_at SERVED_LIMITS fed)
+is_closed_by fed = list_any closes (items_at REQUEST_LIMITS fed)
 
 -- how many changing commands wait to be closed into a group
 abbrev pub open_changes : World → ℕ

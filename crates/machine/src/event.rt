@@ -24,7 +24,8 @@ pub enum Mark {
     Remote,
 }
 
-/// One turn of one actor. A connection is named by its number: connections count from 0, in the order in which they entered.
+/// One turn of one actor. A connection is named by its number, which stays its own when it is over: connections count from 0, in the
+/// order in which they entered.
 #[derive(Debug, Drop)]
 pub enum Event {
     /// A new connection takes a seat.
@@ -63,4 +64,6 @@ pub enum Event {
     Release(u64),
     /// The given number of released bytes is written to the connection.
     Write(u64, u64),
+    /// A connection is over. Its calls stay; what it asked for and was not called, and what was not written to it, is dropped. Its seat is free again.
+    Leave(u64),
 }

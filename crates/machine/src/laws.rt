@@ -13,6 +13,10 @@ ghost use Rattle.machine.specs.Law.{
   RepliesBearPositions,
   AnswersBearPositions,
   ReleasedIsCovered,
+  ConnectionsStayOver,
+  NothingWaitsOver,
+  OpenOnesHaveSeats,
+  ConnectionsAreFew,
   PositionsAreInOrder,
   GroupsAreInOrder,
   FramesAreCommitted,
@@ -52,12 +56,21 @@ pub fn calls_take_requests_in_order()
     ensures waiting { ItemsComeInOrder }
 {}
 
-/// The replies of a connection's calls are what was released to it and what waits, in order, each with the position of the list after its call.
+/// The replies of an open connection's calls are what was released to it and what waits, in order, each with the position of the list after its call.
 pub fn replies_add_up()
     ensures texts { RepliesAddUp }
     ensures waiting { RepliesBearPositions }
     ensures positions { AnswersBearPositions }
     ensures covered { ReleasedIsCovered }
+{}
+
+/// A connection that is over stays over, as it was: its calls and what was released to it stay, and nothing of it waits. There is a seat for each open
+/// connection, and no more connections enter than events happen.
+pub fn connections_stay_over()
+    ensures stays { ConnectionsStayOver }
+    ensures nothing { NothingWaitsOver }
+    ensures seats { OpenOnesHaveSeats }
+    ensures few { ConnectionsAreFew }
 {}
 
 /// Each of these numbers is at most the next: the local mark, the primary's position, that of the closed groups, the list's; and the remote mark,

@@ -6,7 +6,8 @@ mod laws;
 
 pub use event::{Event, KEPT_GROUPS, Mark, OPEN_CHANGES, PIPE_ITEMS, SEATS};
 pub use laws::{
-    calls_take_requests_in_order, every_run_is_promised, every_world_is_sound, first_case_is_a_run,
-    frames_are_committed_groups, nothing_comes_of_nothing, positions_are_in_order, replies_add_up,
-    runs_are_made_of_steps, worlds_grow,
+    calls_take_requests_in_order, connections_stay_over, every_run_is_promised,
+    every_world_is_sound, first_case_is_a_run, frames_are_committed_groups,
+    nothing_comes_of_nothing, positions_are_in_order, replies_add_up, runs_are_made_of_steps,
+    worlds_grow,
 };

@@ -10,7 +10,13 @@ use Rattle.kv_types.specs.Change.{changes_size}
 use Rattle.model.specs.declared.call.Call.{Call}
 use Rattle.model.specs.declared.call.TheConstants.{MAX_CHANGE_TEXT_BYTES}
 use Rattle.model.specs.declared.outcome.Outcome.{Outcome as Computed}
-use Rattle.model.specs.Command.{Command, Get, Set, Misuse, Outcome, does, bulk_or_null, refusing, outcome_of_reading, outcome_of, read_command}
+use Rattle.cmd_core.specs.Outcome.{Outcome as CommandOutcome, Answers, Fails}
+use Rattle.cmd_core.specs.Outcome as command
+use Rattle.cmd_table.specs.declared.misuse.Misuse.{Misuse}
+use Rattle.cmd_table.specs.Command.{Command, read_command}
+use Rattle.cmd_table.specs.Meaning.{does}
+use Rattle.cmd_table.specs.Request.{effect_of, effect_of_reading, outcome_of_words}
+use Rattle.model.specs.Command.{Outcome, refusing, outcome_of}
 use Rattle.model.specs.State.{State}
 use Rattle.model.specs.Call.{MayStand, MayReply, unless_error, outcome_at, changes_of, IsLegal, state_after, keyspace_after, position_of, is_nonempty}
 use Rattle.model.specs.RightCall.{within_limit, right_outcome, right_call, Gives}
@@ -27,22 +33,26 @@ MayReply-right s connection item = let outcome = outcome_at s connection item in
 
 -- ---- an error changes nothing
 
-bulk_or_null-error : (value : Option (List ℕ)) → unless_error (bulk_or_null value) [] ≡ []
-bulk_or_null-error None = refl
-bulk_or_null-error (Some value) = refl
+effect_of-error : (outcome : CommandOutcome) → unless_error (effect_of outcome).reply (effect_of outcome).changes ≡ (effect_of outcome).changes
+effect_of-error (Fails error) = refl
+effect_of-error (Answers (command.Simple status) changes) = refl
+effect_of-error (Answers (command.Integer n) changes) = refl
+effect_of-error (Answers (command.Bulk None) changes) = refl
+effect_of-error (Answers (command.Bulk (Some value)) changes) = refl
+effect_of-error (Answers (command.Bulks values) changes) = refl
 
-does-error : (s : Keyspace) (command : Command) → unless_error (does s command).reply (does s command).changes ≡ (does s command).changes
-does-error s (Get key) = bulk_or_null-error (value_at s (Str key))
-does-error s (Set key value []) = refl
-does-error s (Set key value (option ∷ options)) = refl
+effect_of_reading-error : (s : Keyspace) (reading : Result Command Misuse)
+    → unless_error (effect_of_reading s reading).reply (effect_of_reading s reading).changes ≡ (effect_of_reading s reading).changes
+effect_of_reading-error s (Ok command) = effect_of-error (does s command.name command.arguments)
+effect_of_reading-error s (Err misuse) = refl
 
-outcome_of_reading-error : (s : Keyspace) (reading : Result Command Misuse) → unless_error (outcome_of_reading s reading).reply (outcome_of_reading s reading).changes ≡ (outcome_of_reading s reading).changes
-outcome_of_reading-error s (Ok command) = does-error s command
-outcome_of_reading-error s (Err misuse) = refl
+outcome_of_words-error : (s : Keyspace) (words : List (List ℕ)) → unless_error (outcome_of_words s words).reply (outcome_of_words s words).changes ≡ (outcome_of_words s words).changes
+unfolding outcome_of_words
+outcome_of_words-error s words = effect_of_reading-error s (read_command words)
 
 -- the outcome of an item that is answered with an error has no changes
 pub outcome_of-error : (s : Keyspace) (item : Item) → unless_error (outcome_of s item).reply (outcome_of s item).changes ≡ (outcome_of s item).changes
-outcome_of-error s (Request words) = outcome_of_reading-error s (read_command words)
+outcome_of-error s (Request words) = outcome_of_words-error s words
 outcome_of-error s (Fault fault) = refl
 
 -- what the right call changes

@@ -1,12 +1,15 @@
--- The worked cases of SET and GET and of lists of calls, computed from the definitions.
+-- The worked cases of requests and of lists of calls, computed from the definitions.
 use Rattle.std.proofs.Common.{◌≡◌, ℕ, List, [], ◌∷◌, codes, replicate, inl, inr, refl, lit≤}
 use Rattle.std.specs.Fmt.{digits}
 use Rattle.kv_types.specs.declared.change.Change.TheVariants.{Put}
 use Rattle.kv_types.specs.declared.item.Item.TheVariants.{Request, Fault}
 use Rattle.kv_types.specs.declared.item.ProtocolFault.TheVariants.{ExpectedBulk}
-use Rattle.kv_types.specs.declared.record_id.RecordId.TheVariants.{Str}
+use Rattle.kv_types.specs.declared.record_id.RecordId.TheVariants.{Str, Field}
 use Rattle.kv_types.specs.declared.reply.Reply.{Reply, Simple, Bulk, NullBulk}
 use Rattle.kv_types.specs.Keyspace.{Keyspace}
+use Rattle.cmd_core.specs.Contents.{has_key}
+use Rattle.cmd_table.specs.Row.{is_named}
+use Rattle.cmd_table.specs.Request.{outcome_of_words, closes}
 use Rattle.model.specs.declared.call.Call.{Call}
 use Rattle.model.specs.Command.{outcome_of, refusing}
 use Rattle.model.specs.State.{idle_session}
@@ -19,44 +22,63 @@ abbrev holds_a : Keyspace
 holds_a = (Str (codes "a"), codes "1") ∷ []
 
 get_absent : outcome_of [] (Request (codes "GET" ∷ codes "z" ∷ [])) ≡ record { reply = NullBulk; changes = [] }
+unfolding outcome_of_words is_named has_key
 get_absent = refl
 
 get_present : outcome_of holds_a (Request (codes "get" ∷ codes "a" ∷ [])) ≡ record { reply = Bulk (codes "1"); changes = [] }
+unfolding outcome_of_words is_named has_key
 get_present = refl
 
 set_writes : outcome_of [] (Request (codes "sEt" ∷ codes "a" ∷ codes "1" ∷ [])) ≡ record { reply = Simple (codes "OK"); changes = Put (Str (codes "a")) (codes "1") ∷ [] }
+unfolding outcome_of_words is_named has_key
 set_writes = refl
 
 -- the empty value
 set_empty : outcome_of [] (Request (codes "SET" ∷ codes "e" ∷ [] ∷ [])) ≡ record { reply = Simple (codes "OK"); changes = Put (Str (codes "e")) [] ∷ [] }
+unfolding outcome_of_words is_named has_key
 set_empty = refl
 
 get_alone : outcome_of [] (Request (codes "gEt" ∷ [])) ≡ refusing (codes "ERR wrong number of arguments for 'get' command")
+unfolding outcome_of_words is_named has_key
 get_alone = refl
 
 get_of_two : outcome_of holds_a (Request (codes "GET" ∷ codes "a" ∷ codes "b" ∷ [])) ≡ refusing (codes "ERR wrong number of arguments for 'get' command")
+unfolding outcome_of_words is_named has_key
 get_of_two = refl
 
 set_of_key : outcome_of [] (Request (codes "SET" ∷ codes "a" ∷ [])) ≡ refusing (codes "ERR wrong number of arguments for 'set' command")
+unfolding outcome_of_words is_named has_key
 set_of_key = refl
 
-set_with_option : outcome_of [] (Request (codes "SET" ∷ codes "a" ∷ codes "1" ∷ codes "NX" ∷ [])) ≡ refusing (codes "ERR syntax error")
-set_with_option = refl
+append_to_hash : outcome_of ((Field (codes "h") (codes "f"), codes "1") ∷ []) (Request (codes "APPEND" ∷ codes "h" ∷ codes "x" ∷ [])) ≡ refusing (codes "WRONGTYPE Operation against a key holding the wrong kind of value")
+unfolding outcome_of_words is_named has_key
+append_to_hash = refl
+
+-- one call with two changes
+mset_writes : outcome_of [] (Request (codes "MSET" ∷ codes "a" ∷ codes "1" ∷ codes "b" ∷ codes "2" ∷ []))
+    ≡ record { reply = Simple (codes "OK"); changes = Put (Str (codes "a")) (codes "1") ∷ Put (Str (codes "b")) (codes "2") ∷ [] }
+unfolding outcome_of_words is_named has_key
+mset_writes = refl
 
 unknown_name : outcome_of [] (Request (codes "NOSUCH" ∷ codes "a" ∷ [])) ≡ refusing (codes "ERR unknown command")
+unfolding outcome_of_words is_named has_key
 unknown_name = refl
 
 -- a key of 512 bytes is a key, one of 513 is too long; its length is checked after the number of arguments
 long_key : outcome_of [] (Request (codes "GET" ∷ replicate 513 107 ∷ [])) ≡ refusing (codes "ERR key or field is longer than 512 bytes")
+unfolding outcome_of_words is_named has_key
 long_key = refl
 
 longest_key : outcome_of [] (Request (codes "GET" ∷ replicate 512 107 ∷ [])) ≡ record { reply = NullBulk; changes = [] }
+unfolding outcome_of_words is_named has_key
 longest_key = refl
 
 long_key_and_words : outcome_of [] (Request (codes "GET" ∷ replicate 513 107 ∷ codes "x" ∷ [])) ≡ refusing (codes "ERR wrong number of arguments for 'get' command")
+unfolding outcome_of_words is_named has_key
 long_key_and_words = refl
 
 long_key_and_option : outcome_of [] (Request (codes "SET" ∷ replicate 513 107 ∷ codes "1" ∷ codes "NX" ∷ [])) ≡ refusing (codes "ERR key or field is longer than 512 bytes")
+unfolding outcome_of_words is_named has_key
 long_key_and_option = refl
 
 fault_answered : outcome_of holds_a (Fault (ExpectedBulk 7)) ≡ refusing (codes "ERR Protocol error: expected '$', got '?'")
@@ -76,10 +98,12 @@ worked_list =
     set_a (codes "1") (Simple (codes "OK")) ∷ get_a 1 (Bulk (codes "1")) ∷ set_a (codes "2") memory_reply ∷ set_a (codes "3") full_reply ∷ get_a 0 (Bulk (codes "1")) ∷ set_a (codes "4") (Simple (codes "OK")) ∷ []
 
 worked_list_legal : IsLegal worked_list
+unfolding outcome_of_words is_named has_key
 worked_list_legal =
     (inr (inr (inl (lit≤ tt, refl))), (inr (inr (inl (lit≤ tt, refl))), (inl refl, (inr (inr (inr (lit≤ tt, refl, refl))), (inr (inr (inl (lit≤ tt, refl))), (inr (inr (inl (lit≤ tt, refl))), tt))))))
 
 worked_list_keyspace : keyspace_after worked_list ≡ (Str (codes "a"), codes "4") ∷ []
+unfolding outcome_of_words is_named has_key
 worked_list_keyspace = refl
 
 -- neither a write nor a refusal begins a transaction
@@ -88,22 +112,32 @@ worked_list_sessions connection = refl
 
 -- reads and refused writes do not count
 worked_list_position : position_of worked_list ≡ 2
+unfolding outcome_of_words is_named has_key
 worked_list_position = refl
 
 -- the cut keeps what follows its last change and changes nothing
 worked_list_cut : cut_at worked_list 1 ≡ set_a (codes "1") (Simple (codes "OK")) ∷ get_a 1 (Bulk (codes "1")) ∷ set_a (codes "2") memory_reply ∷ set_a (codes "3") full_reply ∷ get_a 0 (Bulk (codes "1")) ∷ []
+unfolding outcome_of_words is_named has_key
 worked_list_cut = refl
 
 worked_list_cut_keyspace : keyspace_after (cut_at worked_list 1) ≡ holds_a
+unfolding outcome_of_words is_named has_key
 worked_list_cut_keyspace = refl
 
 worked_list_change : changes_at worked_list 1 ≡ Put (Str (codes "a")) (codes "4") ∷ []
+unfolding outcome_of_words is_named has_key
 worked_list_change = refl
 
 replies_of_one : replies_to 1 worked_list ≡ codes "$1\r\n1\r\n"
 unfolding digits
 replies_of_one = refl
 
--- nothing is asked for after a protocol fault
+-- nothing is asked for after a request to quit
+nothing_after_quit : up_to_closing (Request (codes "GET" ∷ codes "a" ∷ []) ∷ Request (codes "quit" ∷ []) ∷ Request (codes "GET" ∷ codes "a" ∷ []) ∷ []) ≡ Request (codes "GET" ∷ codes "a" ∷ []) ∷ Request (codes "quit" ∷ []) ∷ []
+unfolding closes is_named
+nothing_after_quit = refl
+
+-- nor after a protocol fault
 nothing_after_fault : up_to_closing (Request (codes "GET" ∷ codes "a" ∷ []) ∷ Fault (ExpectedBulk 7) ∷ Request (codes "GET" ∷ codes "a" ∷ []) ∷ []) ≡ Request (codes "GET" ∷ codes "a" ∷ []) ∷ Fault (ExpectedBulk 7) ∷ []
+unfolding closes is_named
 nothing_after_fault = refl

@@ -173,6 +173,8 @@ pub record Contents : Type 0 where
 
 -- all that a commit requires of a group
 pub record IsGroup (contents : Contents) (group : Group) : Type 0 where
+  -- the epoch of the record, or, where nothing was committed yet, a later one
+  pub epoch : (group.epoch ≡ contents.current.epoch) ⊎ ((contents.current.position ≡ 0) × (contents.current.epoch < group.epoch))
   pub before : group.before ≡ contents.current.position
   pub some : 0 < length group.parts.items
   pub few : length group.parts.items ≤ MAX_PARTS
@@ -186,7 +188,7 @@ abbrev pub last_position : ℕ → List Part → ℕ
 last_position before [] = before
 last_position before (part ∷ parts) = last_position part.position parts
 
--- the record after a group: each part takes one stamp
+-- the record after a group: each part takes one stamp, and the epoch is the group's
 abbrev pub next_record : Record → Group → Record
 next_record r group =
     record {
@@ -194,7 +196,7 @@ next_record r group =
       position = last_position r.position group.parts.items;
       cp = r.cp + length group.parts.items;
       cd = r.cp + length group.parts.items + 1 + STAMP_WINDOW;
-      epoch = r.epoch;
+      epoch = group.epoch;
       role = r.role;
       gaps = r.gaps;
     }

@@ -35,6 +35,8 @@ pub struct Part {
 /// Commands that commit together, 1 to 64 of them; on a standby, one frame.
 #[derive(Debug, Drop)]
 pub struct Group {
+    /// Which primary of the pair committed it first, from 1.
+    pub epoch: u64,
     /// The position of the list before it.
     pub before: u64,
     /// In the order of the list.

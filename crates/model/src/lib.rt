@@ -26,5 +26,6 @@ pub use laws::{
 pub use layout::{
     FIELD_LENGTH_UNIT, GAPS_WORD, LAYOUT, LINE_BYTES, LINE_WORDS, Layout, VERSION_1, WORD_BYTES,
 };
+pub use outcome::{Outcome, closes, outcome_of};
 pub use record::{FIRST_EPOCH, Gap, MAX_GAPS, Record, Role};
 pub use redis::Redis;

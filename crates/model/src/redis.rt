@@ -1,5 +1,5 @@
 //! One sequential Redis: the plain, slow program with which every faster one is compared.
-ghost use Rattle.std.specs.Prelude.{◌≡◌, ◌≤◌, [], ◌∷◌, ◌++◌, length, OnOk, OnErr, IfOk};
+ghost use Rattle.std.specs.Prelude.{◌≡◌, [], ◌∷◌, ◌++◌, OnOk, OnErr, IfOk};
 ghost use Rattle.kv_types.specs.Keyspace.{play_all};
 ghost use Rattle.model.specs.Call.{IsLegal, state_after, keyspace_after, position_of, is_nonempty};
 ghost use Rattle.model.specs.RightCall.{right_call};
@@ -87,9 +87,8 @@ impl Redis {
     }
 }
 
-/// Plays the changes of a call, at most one, and returns whether there was one.
+/// Plays the changes of a call, all of them or, where memory is refused, none. Returns whether there were any.
 fn played(keyspace: &mut PlainKeyspace, changes: Vec<Change>) -> Result<bool, AllocError>
-    requires { length changes.items ≤ 1 }
     ensures ok { OnOk result (keyspace.new ≡ play_all keyspace.old changes.items) }
     ensures changing { IfOk result (λ changing. changing ≡ is_nonempty changes.items) }
     ensures err { OnErr result (keyspace.new ≡ keyspace.old) }

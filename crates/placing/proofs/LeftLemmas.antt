@@ -95,15 +95,16 @@ module _ (Good : ℕ → ℕ → Type 0) where
 
 -- ---- the contents after parts
 
-abbrev pub after_parts : Contents → List Part → Contents
-after_parts contents parts =
+-- in this epoch
+abbrev pub after_parts : ℕ → Contents → List Part → Contents
+after_parts epoch contents parts =
     record {
       current = record {
         number = contents.current.number + 1;
         position = last_position contents.current.position parts;
         cp = contents.current.cp + length parts;
         cd = contents.current.cp + length parts + 1 + STAMP_WINDOW;
-        epoch = contents.current.epoch;
+        epoch = epoch;
         role = contents.current.role;
         gaps = contents.current.gaps;
       };
@@ -116,8 +117,8 @@ pub still_free : (a b : Bool) → IsTrue a → b ≡ false → IsTrue (a && not 
 still_free a b free none = ap (λ x. x && not b) free ∙ ap not none
 
 -- what the heap has left besides the parts is free after them
-pub left-after_parts : (contents : Contents) (room : Room) (parts : List Part) → IsLeftOf contents room → AllByRecursion (IsTaken room) (flat_map puts_of_part parts) → IsLeftOf (after_parts contents parts) room
-left-after_parts contents room parts left taken =
+pub left-after_parts : (epoch : ℕ) (contents : Contents) (room : Room) (parts : List Part) → IsLeftOf contents room → AllByRecursion (IsTaken room) (flat_map puts_of_part parts) → IsLeftOf (after_parts epoch contents parts) room
+left-after_parts epoch contents room parts left taken =
     let puts = flat_map puts_of_part parts in
     record {
       entries = λ i free.
@@ -129,5 +130,5 @@ left-after_parts contents room parts left taken =
     }
 
 -- and so it is after one
-pub left-after : (contents : Contents) (room : Room) (part : Part) → IsLeftOf contents room → AllByRecursion (IsTaken room) (puts_of_part part) → IsLeftOf (after_parts contents (part ∷ [])) room
-left-after contents room part left taken = left-after_parts contents room (part ∷ []) left (puts_alone (IsTaken room) part taken)
+pub left-after : (epoch : ℕ) (contents : Contents) (room : Room) (part : Part) → IsLeftOf contents room → AllByRecursion (IsTaken room) (puts_of_part part) → IsLeftOf (after_parts epoch contents (part ∷ [])) room
+left-after epoch contents room part left taken = left-after_parts epoch contents room (part ∷ []) left (puts_alone (IsTaken room) part taken)

@@ -1,5 +1,5 @@
 -- Parts with one more after them, and a part as a group of its own.
-use Rattle.std.proofs.Common.{◌≡◌, ℕ, ◌<◌, ◌≤◌, List, [], ◌∷◌, ◌++◌, length, refl, sym, ap, subst, ◌∙◌, arith, append-nil}
+use Rattle.std.proofs.Common.{◌≡◌, ℕ, ◌<◌, ◌≤◌, List, [], ◌∷◌, ◌++◌, length, inl, refl, sym, ap, subst, ◌∙◌, arith, append-nil}
 use Rattle.std.proofs.lemmas.Grind.{flat_map-append}
 use Rattle.std.specs.List.{flat_map, AllByRecursion}
 use Rattle.model.specs.declared.group.Group.{Group}
@@ -31,7 +31,7 @@ puts_of_parts-append parts part = flat_map-append puts_of_part parts (part ∷ [
 pub puts_alone : (P : Put → Type 0) (part : Part) → AllByRecursion P (puts_of_part part) → AllByRecursion P (flat_map puts_of_part (part ∷ []))
 puts_alone P part h = subst (AllByRecursion P) (sym (append-nil (puts_of_part part))) h
 
-module _ (contents : Contents) (part : Part) (group : Group) (one : group.parts.items ≡ part ∷ []) (before : group.before ≡ contents.current.position) where
+module _ (contents : Contents) (part : Part) (group : Group) (one : group.parts.items ≡ part ∷ []) (before : group.before ≡ contents.current.position) (epoch : group.epoch ≡ contents.current.epoch) where
   all_of_group : (P : Put → Type 0) → AllByRecursion P (puts_of_part part) → AllByRecursion P (flat_map puts_of_part group.parts.items)
   all_of_group P h = subst (λ items. AllByRecursion P (flat_map puts_of_part items)) (sym one) (puts_alone P part h)
 
@@ -39,6 +39,7 @@ module _ (contents : Contents) (part : Part) (group : Group) (one : group.parts.
   pub IsGroup-alone : contents.current.position < part.position → NamesEnded contents.versions part → AllByRecursion (IsPlaced contents.lines) (puts_of_part part) → AllByRecursion HasItsLines (puts_of_part part)
       → AllByRecursion (IsUnused contents.versions contents.is_free) (puts_of_part part) → AreAllApart (puts_of_part part) → IsGroup contents group
   IsGroup-alone later names placed fitting unused apart = record {
+    epoch = inl epoch;
     before = before;
     some = subst (λ (items : List Part). 0 < length items) (sym one) (omega arith);
     few = subst (λ (items : List Part). length items ≤ MAX_PARTS) (sym one) (omega arith);

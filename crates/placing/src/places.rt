@@ -17,7 +17,7 @@ use std::alloc::Global;
 const LINE_BYTES: usize = 64;
 
 /// The changes, each put with a place taken from the heap, in turn. `Refusal::Full` where the heap has no room for all of them, `Refusal::Memory`
-/// where the growth of the list was refused; then the heap is as it was.
+/// where a growth was refused; then the heap is as it was.
 pub(crate) fn place_all(
     alloc: Global,
     heap: &mut ExtentHeap,
@@ -42,16 +42,20 @@ pub(crate) fn place_all(
     Ok(placed)
 }
 
-/// The change with its place, if it is a put. `Refusal::Full` where the heap has no room for it, and then the heap is as it was.
+/// The change with its place, if it is a put. `Refusal::Full` where the heap has no room for it, `Refusal::Memory` where a growth was refused; then the
+/// heap is as it was.
 fn place(heap: &mut ExtentHeap, change: Change) -> Result<PlacedChange, Refusal>
     ensures same { IfOk result (λ placed. change_of placed ≡ change) }
     ensures places { IfOk result (λ placed. TakesPlaces heap.old (put_of placed) heap.new) }
     ensures err { OnErr result (heap.new ≡ heap.old) }
-    ensures cause { IfErr result (λ refusal. refusal ≡ Refusal.Full) }
-    ensures full_only { OnErr result ((placed : PlacedChange) (left : Room) → change_of placed ≡ change → ¬ TakesPlaces heap.old (put_of placed) left) }
+    ensures causes { IfErr result (λ refusal. (refusal ≡ Refusal.Full) ⊎ (refusal ≡ Refusal.Memory)) }
+    ensures full_only { IsErrOf result Refusal.Full → (placed : PlacedChange) (left : Room) → change_of placed ≡ change → ¬ TakesPlaces heap.old (put_of placed) left }
 {
     match change {
-        Change::Put(id, value) => Ok(PlacedChange::Put(place_put(heap, id, value)?)),
+        Change::Put(id, value) => match place_put(heap, id, value) {
+            Ok(put) => Ok(PlacedChange::Put(put)),
+            Err(refusal) => Err(refusal),
+        },
         Change::Drop(id) => Ok(PlacedChange::Drop(id)),
         Change::DropKey(key) => Ok(PlacedChange::DropKey(key)),
         Change::Clear => Ok(PlacedChange::Clear),
@@ -63,8 +67,8 @@ fn place_put(heap: &mut ExtentHeap, id: RecordId, value: Value) -> Result<Put, R
     ensures same { IfOk result (λ put. (put.id ≡ id) × (put.value ≡ value)) }
     ensures place { IfOk result (λ put. TakesPlace heap.old put heap.new) }
     ensures err { OnErr result (heap.new ≡ heap.old) }
-    ensures cause { IfErr result (λ refusal. refusal ≡ Refusal.Full) }
-    ensures full_only { OnErr result ((put : Put) (left : Room) → put.id ≡ id → put.value ≡ value → ¬ TakesPlace heap.old put left) }
+    ensures causes { IfErr result (λ refusal. (refusal ≡ Refusal.Full) ⊎ (refusal ≡ Refusal.Memory)) }
+    ensures full_only { IsErrOf result Refusal.Full → (put : Put) (left : Room) → put.id ≡ id → put.value ≡ value → ¬ TakesPlace heap.old put left }
 {
     let entry = heap.take_entry()?;
     match heap.take(lines_for(&id, &value)) {

@@ -34,9 +34,13 @@ pub fn answer(alloc: Global, words: &[&str]) -> Result<String, Cause> {
 
 /// What a new standby answers to a frame, and what its image holds then.
 fn answer_to(alloc: Global, frame: &Frame) -> Result<String, Cause> {
+    let heap = match heap_of(alloc, MIN_LINES) {
+        Ok(heap) => heap,
+        Err(refusal) => return refused(alloc, refusal),
+    };
     match new_engine(alloc) {
         Ok(engine) => {
-            let (answer, device) = take(alloc, engine, ListKeyspace::new(alloc), frame);
+            let (answer, device) = take(alloc, engine, ListKeyspace::new(alloc), heap, frame);
             let answer = ack_text(alloc, answer)?;
             let contents = device_text(alloc, &device)?;
             Ok(format!(in alloc; "{answer}, {contents}")?)
@@ -74,12 +78,12 @@ fn new_engine(alloc: Global) -> Result<WblEngine<SimPmem>, Refusal>
 }
 
 /// The heap of a new image with `lines` lines: all its entries and extents are free.
-fn heap_of(lines: u64) -> ExtentHeap
-    ensures lines { (line : ℕ) → IsTrue (is_free_line result line) ↔ ((first_extent_line lines ≤ line) × (line < lines)) }
-    ensures entries { (i : ℕ) → IsTrue (is_free_entry result i) ↔ (i < entries_of_lines lines) }
+fn heap_of(alloc: Global, lines: u64) -> Result<ExtentHeap, Refusal>
+    ensures lines { IfOk result (λ heap. (line : ℕ) → IsTrue (is_free_line heap line) ↔ ((first_extent_line lines ≤ line) × (line < lines))) }
+    ensures entries { IfOk result (λ heap. (i : ℕ) → IsTrue (is_free_entry heap i) ↔ (i < entries_of_lines lines)) }
 {
     let entries = lines / 8;
-    ExtentHeap::new(8 + entries, lines, entries)
+    ExtentHeap::new(alloc, 8 + entries, lines, entries)
 }
 
 /// What a standby over a new image answers to a frame, and its device afterwards.
@@ -87,8 +91,11 @@ fn take<E: Durable, K: Keyspace + Drop>(
     alloc: Global,
     engine: E,
     keyspace: K,
+    heap: ExtentHeap,
     frame: &Frame,
 ) -> (Result<Ack, Refusal>, E::Device)
+    requires lines { (line : ℕ) → IsTrue (is_free_line heap line) ↔ ((first_extent_line MIN_LINES ≤ line) × (line < MIN_LINES)) }
+    requires entries { (i : ℕ) → IsTrue (is_free_entry heap i) ↔ (i < entries_of_lines MIN_LINES) }
     requires new { IsNew MIN_LINES Role.Standby (E.contents engine) }
     requires durable { IsDurable (E.device engine) (E.contents engine) }
     requires sound { E.is_faulted engine ≡ false }
@@ -97,7 +104,7 @@ fn take<E: Durable, K: Keyspace + Drop>(
     let mut standby = Standby {
         engine,
         keyspace,
-        heap: heap_of(MIN_LINES),
+        heap,
     };
     let answer = standby.on_frame(alloc, frame);
     (answer, standby.into_device())

@@ -16,9 +16,13 @@ pub struct HeapProbe {
 impl HeapProbe {
     pub fn answer(&mut self, alloc: Global, words: &[&str]) -> Result<String, Cause> {
         if let ["new", first, end, entries] = words {
-            let heap = ExtentHeap::new(number(first)?, number(end)?, number(entries)?);
-            self.heap = Some(heap);
-            return done(alloc);
+            return match ExtentHeap::new(alloc, number(first)?, number(end)?, number(entries)?) {
+                Ok(heap) => {
+                    self.heap = Some(heap);
+                    done(alloc)
+                }
+                Err(refusal) => refused(alloc, refusal),
+            };
         }
         let heap = self.heap.as_mut().ok_or(Cause::NotMade)?;
         match words {

@@ -1,10 +1,10 @@
 //! Replies as the protocol writes them.
-use crate::answers::hexed;
+use crate::answers::{add_word, hexed, reply_text};
 use crate::cause::Cause;
 use crate::words::{bytes, number};
 use bytes::{BufMut, Bytes, BytesMut};
 use kv_types::{Listed, Reply};
-use resp_codec::write_reply;
+use resp_codec::{ReplyItem, ReplyParser, write_reply};
 use std::alloc::Global;
 
 pub fn answer(alloc: Global, words: &[&str]) -> Result<String, Cause> {
@@ -16,6 +16,7 @@ pub fn answer(alloc: Global, words: &[&str]) -> Result<String, Cause> {
         ["within", most, words @ ..] => {
             within(alloc, number(most)? as usize, replies(alloc, words)?)
         }
+        ["read", pieces @ ..] => read(alloc, pieces),
         _ => Err(Cause::NoCall),
     }
 }
@@ -47,6 +48,35 @@ fn within(alloc: Global, most: usize, replies: Vec<Reply>) -> Result<String, Cau
     }
     let bytes = hexed(alloc, out.get_ref().as_slice())?;
     Ok(format!(in alloc; "{is_whole} {bytes}")?)
+}
+
+/// What a new parser of replies gives when it is fed the pieces and asked for all items after each: the items, and `/` after each piece.
+fn read(alloc: Global, pieces: &[&str]) -> Result<String, Cause> {
+    let mut parser = ReplyParser::new(alloc);
+    let mut answer = String::new(alloc);
+    for piece in pieces {
+        parser
+            .feed(bytes(alloc, piece)?)
+            .map_err(|_| Cause::Memory)?;
+        add_items(alloc, &mut parser, &mut answer)?;
+        add_word(&mut answer, "/")?;
+    }
+    Ok(answer)
+}
+
+/// Adds a word for each item that is ahead: a reply's bytes, or `fault`.
+fn add_items(alloc: Global, parser: &mut ReplyParser, answer: &mut String) -> Result<(), Cause> {
+    for _ in 0..u64::MAX {
+        match parser.next().map_err(|_| Cause::Memory)? {
+            None => break,
+            Some(ReplyItem::Fault) => add_word(answer, "fault")?,
+            Some(ReplyItem::Reply(reply)) => {
+                let text = reply_text(alloc, &reply)?;
+                add_word(answer, text.as_str())?;
+            }
+        }
+    }
+    Ok(())
 }
 
 /// The replies that the words spell, in order. An array is `*COUNT` before its replies, so the words are read from the last to the first.

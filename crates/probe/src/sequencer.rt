@@ -4,7 +4,7 @@ use crate::cause::Cause;
 use crate::words::{item, number};
 use extent_heap::ExtentHeap;
 use kv_types::{EntryNo, Held, Item, Refusal};
-use model::{Group, PlacedChange};
+use model::{FIRST_EPOCH, Group, PlacedChange};
 use mv_keyspace::ListKeyspace;
 use pipes::{Inlet, LocalPipe, Outlet, Seat};
 use redis_core::{Sequencer, Turn};
@@ -62,9 +62,9 @@ fn turn_text(alloc: Global, turn: Turn) -> Result<String, Cause> {
 
 impl Node {
     fn new(alloc: Global, end: u64, entries: u64) -> Result<Node, Refusal> {
-        let heap = ExtentHeap::new(FIRST_LINE, end, entries);
+        let heap = ExtentHeap::new(alloc, FIRST_LINE, end, entries)?;
         Ok(Node {
-            sequencer: Sequencer::new(alloc, ListKeyspace::new(alloc), heap, 0)?,
+            sequencer: Sequencer::new(alloc, ListKeyspace::new(alloc), heap, 0, FIRST_EPOCH)?,
             seats: Seat::all(alloc)?,
             requests: LocalPipe::new(alloc)?,
             replies: LocalPipe::new(alloc)?,

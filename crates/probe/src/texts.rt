@@ -79,6 +79,7 @@ fn event(alloc: Global, words: &[&str]) -> Result<Event, Cause> {
         ["read", connection, "local"] => Ok(Event::Read(number(connection)?, Mark::Local)),
         ["read", connection, "remote"] => Ok(Event::Read(number(connection)?, Mark::Remote)),
         ["write", connection, count] => Ok(Event::Write(number(connection)?, number(count)?)),
+        ["leave", connection] => Ok(Event::Leave(number(connection)?)),
         _ => Err(Cause::NotWord),
     }
 }
@@ -111,6 +112,7 @@ fn call_laws_of_machine() {
     machine::worlds_grow();
     machine::calls_take_requests_in_order();
     machine::replies_add_up();
+    machine::connections_stay_over();
     machine::positions_are_in_order();
     machine::frames_are_committed_groups();
     machine::nothing_comes_of_nothing();

@@ -2,7 +2,7 @@
 use crate::cause::Cause;
 use bytes::Bytes;
 use hex::FromHexError;
-use kv_types::{Change, FULL_LIMITS, Item, Key, ProtocolFault, RecordId, Request, Value};
+use kv_types::{Change, Item, Key, ProtocolFault, REQUEST_LIMITS, RecordId, Request, Value};
 use std::alloc::Global;
 
 pub fn number(word: &str) -> Result<u64, Cause> {
@@ -95,13 +95,13 @@ pub fn item(alloc: Global, words: &[&str]) -> Result<Item, Cause> {
 
 /// The request of these words, each in hexadecimal.
 pub fn request(alloc: Global, words: &[&str]) -> Result<Request, Cause> {
-    if words.is_empty() || words.len() as u64 > FULL_LIMITS.words {
+    if words.is_empty() || words.len() as u64 > REQUEST_LIMITS.words {
         return Err(Cause::OutOfRange);
     }
     let mut copies = Vec::new(alloc);
     for word in words {
         let copy = bytes(alloc, word)?;
-        if copy.len() as u64 > FULL_LIMITS.word_bytes {
+        if copy.len() as u64 > REQUEST_LIMITS.word_bytes {
             return Err(Cause::OutOfRange);
         }
         copies.push(copy)?;

@@ -16,7 +16,20 @@ use Rattle.kv_types.specs.declared.record_id.RecordId.TheVariants.{Str}
 use Rattle.model.specs.declared.group.PlacedChange.TheVariants as placed
 use Rattle.model.specs.declared.call.TheConstants.{MAX_CHANGE_TEXT_BYTES}
 use Rattle.model.specs.Call.{MayStand, is_put, writes, unless_error, changes_of, is_nonempty, memory_reply, full_reply, too_large_reply}
-use Rattle.model.specs.Command.{Command, Get, Set, Misuse, UnknownName, WrongNumberOfWords, LongKey, misuse_message, outcome_of, outcome_of_reading, read_command, bulk_or_null, does, closes}
+use Rattle.cmd_core.specs.declared.error.CommandError.{CommandError}
+use Rattle.cmd_core.specs.declared.error.CommandError.TheVariants.{Syntax, NotAnInteger, HashNotAnInteger, Overflow, DecrementOverflow, WrongType, LongString}
+use Rattle.cmd_core.specs.Error.{error_text}
+use Rattle.cmd_core.specs.Outcome as answer
+use Rattle.cmd_core.specs.Outcome.{Answer, Outcome as CommandOutcome, Answers as Does, Fails}
+use Rattle.cmd_core.specs.Reply.{reply_of_answer}
+use Rattle.cmd_table.specs.declared.misuse.Misuse.{Misuse}
+use Rattle.cmd_table.specs.declared.misuse.Misuse.TheVariants.{UnknownName, WrongNumberOfWords, LongKey}
+use Rattle.cmd_table.specs.Misuse.{misuse_text}
+use Rattle.cmd_table.specs.Command.{Command, read_command}
+use Rattle.cmd_table.specs.Meaning.{does}
+use Rattle.cmd_table.specs.Request.{effect_of, effect_of_reading, outcome_of_words}
+use Rattle.model.specs.Command.{outcome_of, closes}
+use Rattle.model.proofs.RightCallsLemmas.{outcome_of-error}
 use Rattle.mv_keyspace.specs.Table.{records}
 use Rattle.mv_keyspace.proofs.TableLemmas.{records-place_all}
 use Rattle.extent_heap.specs.Room.{Room}
@@ -27,70 +40,62 @@ use Rattle.redis_core.specs.Turn.{call_of, AddsPart, Moves, Answers}
 
 -- ---- what a command answers and what it changes
 
-no_changes : (reply : Reply) → unless_error reply [] ≡ []
-no_changes (Simple text) = refl
-no_changes (Error text) = refl
-no_changes (Int n) = refl
-no_changes (Bulk bytes) = refl
-no_changes NullBulk = refl
-no_changes (Array' shape replies) = refl
-no_changes NullArray = refl
-
-unless_error-does : (s : Keyspace) (command : Command) → unless_error (does s command).reply (does s command).changes ≡ (does s command).changes
-unless_error-does s (Get key) = no_changes (bulk_or_null (value_at s (Str key)))
-unless_error-does s (Set key value []) = refl
-unless_error-does s (Set key value (option ∷ options)) = refl
-
-unless_error-reading : (s : Keyspace) (reading : Result Command Misuse) → unless_error (outcome_of_reading s reading).reply (outcome_of_reading s reading).changes ≡ (outcome_of_reading s reading).changes
-unless_error-reading s (Ok command) = unless_error-does s command
-unless_error-reading s (Err misuse) = refl
-
--- a command that answers an error changes nothing
-pub unless_error-outcome : (s : Keyspace) (item : Item) → unless_error (outcome_of s item).reply (outcome_of s item).changes ≡ (outcome_of s item).changes
-unless_error-outcome s (Request words) = unless_error-reading s (read_command words)
-unless_error-outcome s (Fault fault) = refl
-
 abbrev SameByte : ℕ → ℕ → Type 0
 SameByte a b = a ≡ b
 
--- the sixth byte of an error, in which the texts differ
-abbrev error_byte : Reply → ℕ
-error_byte (Simple text) = 0
-error_byte (Error text) = get_or text 5 0
-error_byte (Int n) = 0
-error_byte (Bulk bytes) = 0
-error_byte NullBulk = 0
-error_byte (Array' shape replies) = 0
-error_byte NullArray = 0
+-- one byte of an error, in which two texts differ
+abbrev error_byte : ℕ → Reply → ℕ
+error_byte n (Simple text) = 0
+error_byte n (Error text) = get_or text n 0
+error_byte n (Int number) = 0
+error_byte n (Bulk bytes) = 0
+error_byte n NullBulk = 0
+error_byte n (Array' shape replies) = 0
+error_byte n NullArray = 0
 
-bulk_not_full : (value : Option (List ℕ)) → bulk_or_null value ≢ full_reply
-bulk_not_full None = λ e. cc
-bulk_not_full (Some value) = λ e. cc
+answer_not_full : (answer : Answer) → reply_of_answer answer ≢ full_reply
+answer_not_full (answer.Simple status) = λ e. cc
+answer_not_full (answer.Integer n) = λ e. cc
+answer_not_full (answer.Bulk None) = λ e. cc
+answer_not_full (answer.Bulk (Some value)) = λ e. cc
+answer_not_full (answer.Bulks values) = λ e. cc
 
-misuse_not_full : (misuse : Misuse) → Error (misuse_message misuse) ≢ full_reply
-misuse_not_full UnknownName = λ e. let byte : SameByte 110 116 = ap error_byte e in omega arith
-misuse_not_full (WrongNumberOfWords name) = λ e. let byte : SameByte 114 116 = ap error_byte e in omega arith
-misuse_not_full LongKey = λ e. let byte : SameByte 101 116 = ap error_byte e in omega arith
+command_error_not_full : (error : CommandError) → Error (error_text error) ≢ full_reply
+command_error_not_full Syntax = λ e. let byte : SameByte 121 116 = ap (error_byte 5) e in omega arith
+command_error_not_full NotAnInteger = λ e. let byte : SameByte 97 116 = ap (error_byte 5) e in omega arith
+command_error_not_full HashNotAnInteger = λ e. let byte : SameByte 97 116 = ap (error_byte 5) e in omega arith
+command_error_not_full Overflow = λ e. let byte : SameByte 110 116 = ap (error_byte 5) e in omega arith
+command_error_not_full DecrementOverflow = λ e. let byte : SameByte 101 116 = ap (error_byte 5) e in omega arith
+command_error_not_full WrongType = λ e. let byte : SameByte 84 116 = ap (error_byte 5) e in omega arith
+command_error_not_full LongString = λ e. let byte : SameByte 114 111 = ap (error_byte 6) e in omega arith
+
+misuse_not_full : (misuse : Misuse) → Error (misuse_text misuse) ≢ full_reply
+misuse_not_full UnknownName = λ e. let byte : SameByte 110 116 = ap (error_byte 5) e in omega arith
+misuse_not_full (WrongNumberOfWords command) = λ e. let byte : SameByte 114 116 = ap (error_byte 5) e in omega arith
+misuse_not_full LongKey = λ e. let byte : SameByte 101 116 = ap (error_byte 5) e in omega arith
 
 fault_not_full : (fault : ProtocolFault) → Error (fault_message fault) ≢ full_reply
-fault_not_full ExpectedArray = λ e. let byte : SameByte 114 116 = ap error_byte e in omega arith
-fault_not_full InvalidMultibulkLength = λ e. let byte : SameByte 114 116 = ap error_byte e in omega arith
-fault_not_full (ExpectedBulk byte) = λ e. let byte : SameByte 114 116 = ap error_byte e in omega arith
-fault_not_full InvalidBulkLength = λ e. let byte : SameByte 114 116 = ap error_byte e in omega arith
-fault_not_full ExpectedLineEnd = λ e. let byte : SameByte 114 116 = ap error_byte e in omega arith
+fault_not_full ExpectedArray = λ e. let byte : SameByte 114 116 = ap (error_byte 5) e in omega arith
+fault_not_full InvalidMultibulkLength = λ e. let byte : SameByte 114 116 = ap (error_byte 5) e in omega arith
+fault_not_full (ExpectedBulk byte) = λ e. let byte : SameByte 114 116 = ap (error_byte 5) e in omega arith
+fault_not_full InvalidBulkLength = λ e. let byte : SameByte 114 116 = ap (error_byte 5) e in omega arith
+fault_not_full ExpectedLineEnd = λ e. let byte : SameByte 114 116 = ap (error_byte 5) e in omega arith
 
-does_not_full : (s : Keyspace) (command : Command) → (does s command).reply ≢ full_reply
-does_not_full s (Get key) = bulk_not_full (value_at s (Str key))
-does_not_full s (Set key value []) = λ e. cc
-does_not_full s (Set key value (option ∷ options)) = λ e. let byte : SameByte 121 116 = ap error_byte e in omega arith
+effect_not_full : (outcome : CommandOutcome) → (effect_of outcome).reply ≢ full_reply
+effect_not_full (Does answer changes) = answer_not_full answer
+effect_not_full (Fails error) = command_error_not_full error
 
-reading_not_full : (s : Keyspace) (reading : Result Command Misuse) → (outcome_of_reading s reading).reply ≢ full_reply
-reading_not_full s (Ok command) = does_not_full s command
+reading_not_full : (s : Keyspace) (reading : Result Command Misuse) → (effect_of_reading s reading).reply ≢ full_reply
+reading_not_full s (Ok command) = effect_not_full (does s command.name command.arguments)
 reading_not_full s (Err misuse) = misuse_not_full misuse
+
+words_not_full : (s : Keyspace) (words : List (List ℕ)) → (outcome_of_words s words).reply ≢ full_reply
+unfolding outcome_of_words
+words_not_full s words = reading_not_full s (read_command words)
 
 -- no outcome has the reply that the store is full
 pub outcome_not_full : (s : Keyspace) (item : Item) → (outcome_of s item).reply ≢ full_reply
-outcome_not_full s (Request words) = reading_not_full s (read_command words)
+outcome_not_full s (Request words) = words_not_full s words
 outcome_not_full s (Fault fault) = fault_not_full fault
 
 -- ---- changes without a put need no room
@@ -143,15 +148,16 @@ position_moved (change ∷ changes) old new moves = moves.1.position ∙ moves.1
 -- ---- an item is served
 
 pub serves_outcome : (old : Sequencing) (item : Item) (reply : Reply) (changes : List Change) (new : Sequencing) → reply ≡ (outcome_at old item).reply → changes ≡ (outcome_at old item).changes
-    → changes_size changes ≤ MAX_CHANGE_TEXT_BYTES → Moves changes old new → new.before ≡ old.before → new.closed ≡ old.closed → Serves old item reply new
-serves_outcome old item reply changes new reply_is changes_are fits moves before closed =
+    → changes_size changes ≤ MAX_CHANGE_TEXT_BYTES → Moves changes old new → new.epoch ≡ old.epoch → new.before ≡ old.before → new.closed ≡ old.closed → Serves old item reply new
+serves_outcome old item reply changes new reply_is changes_are fits moves epoch before closed =
     let s = records old.table in
     let made : changes_of (state_of old) (call_of 0 item reply) ≡ changes =
-    ap (λ r. unless_error r (outcome_at old item).changes) reply_is ∙ unless_error-outcome s item ∙ sym changes_are in
+    ap (λ r. unless_error r (outcome_at old item).changes) reply_is ∙ outcome_of-error s item ∙ sym changes_are in
     record {
       legal = inr (inr (inl (subst (λ cs. changes_size cs ≤ MAX_CHANGE_TEXT_BYTES) changes_are fits, reply_is)));
       not_full = λ e. outcome_not_full s item (sym reply_is ∙ e);
       moves = subst (λ cs. Moves cs old new) (sym made) moves;
+      epoch = epoch;
       before = before;
       closed = closed;
     }
@@ -159,8 +165,9 @@ serves_outcome old item reply changes new reply_is changes_are fits moves before
 pub serves_too_large : (old : Sequencing) (item : Item) (changes : List Change) (reply : Reply) → changes ≡ (outcome_at old item).changes → MAX_CHANGE_TEXT_BYTES < changes_size changes → reply ≡ too_large_reply → Serves old item reply old
 serves_too_large old item changes reply changes_are large is = record {
   legal = inr (inl (subst (λ cs. MAX_CHANGE_TEXT_BYTES < changes_size cs) changes_are large, is));
-  not_full = λ e. let byte : SameByte 104 116 = ap error_byte (sym is ∙ e) in omega arith;
+  not_full = λ e. let byte : SameByte 104 116 = ap (error_byte 5) (sym is ∙ e) in omega arith;
   moves = subst (λ r. Moves (changes_of (state_of old) (call_of 0 item r)) old old) (sym is) (record { table = refl; room = refl; position = refl; waiting = refl });
+  epoch = refl;
   before = refl;
   closed = refl;
 }
@@ -180,6 +187,7 @@ module _ (old : Sequencing) (seat : ℕ) (item : Item) where
         keyspace = keyspace_moved changes old mid serves.moves;
         position = position_moved changes old mid serves.moves;
         moves = moves_closed changes old mid (slice_set mid.closed seat (closes item)) serves.moves;
+        epoch = serves.epoch;
         before = serves.before;
         closed = ap (λ seats. slice_set seats seat (closes item)) serves.closed;
       }
@@ -191,12 +199,13 @@ module _ (old : Sequencing) (seat : ℕ) (item : Item) where
     keyspace = refl;
     position = omega arith;
     moves = record { table = refl; room = refl; position = refl; waiting = refl };
+    epoch = refl;
     before = refl;
     closed = refl;
   }
 
   answers_memory : Answers old seat item memory_reply (after_seat old)
-  answers_memory = answers_error (codes "ERR out of memory") (inl refl) (λ e. let byte : SameByte 117 116 = ap error_byte e in absurd (omega arith))
+  answers_memory = answers_error (codes "ERR out of memory") (inl refl) (λ e. let byte : SameByte 117 116 = ap (error_byte 5) e in absurd (omega arith))
 
   answers_refused : (r : Refusal) → (r ≡ refusal.Full → IsTooFull old item) → Answers old seat item (refusal_reply r) (after_seat old)
   answers_refused refusal.Full full =

@@ -1,5 +1,5 @@
 -- A sequencer stays ahead of the contents of an engine: where a part begins to wait, and where all leave as a group.
-use Rattle.std.proofs.Common.{◌≡◌, ℕ, ◌+◌, ◌<◌, ◌≤◌, Bool, List, [], ◌∷◌, ◌++◌, length, None, refl, sym, ap, subst, ◌∙◌, arith}
+use Rattle.std.proofs.Common.{◌≡◌, ℕ, ◌+◌, ◌<◌, ◌≤◌, Bool, List, [], ◌∷◌, ◌++◌, length, None, inl, refl, sym, ap, subst, ◌∙◌, arith}
 use Rattle.std.specs.List.{AllByRecursion}
 use Rattle.kv_types.specs.declared.change.Change.{Change}
 use Rattle.model.specs.declared.group.Group.{Group}
@@ -39,7 +39,7 @@ module _ (s : Sequencing) (contents : Contents) (stands : IsAheadOf s contents) 
   new_distinct = AreDistinct-from_apart (puts_of_part part) (places_apart s.room (puts_of_part part) room takes)
 
   pub IsAheadOf-part : (closed : List Bool) → part.position ≡ s.position + 1 → AreEnded part.position s.table part.changes.items part.ended.items
-      → IsAheadOf (record { table = place_all part.position s.table part.changes.items; room = room; position = part.position; before = s.before; waiting = s.waiting ++ part ∷ []; closed = closed }) contents
+      → IsAheadOf (record { table = place_all part.position s.table part.changes.items; room = room; position = part.position; epoch = s.epoch; before = s.before; waiting = s.waiting ++ part ∷ []; closed = closed }) contents
   IsAheadOf-part closed next ended =
       let old = puts_of_parts s.waiting in
       let new = puts_of_part part in
@@ -47,6 +47,7 @@ module _ (s : Sequencing) (contents : Contents) (stands : IsAheadOf s contents) 
       let within = places_within s.room new room takes in
       let All = λ (P : Put → Type 0) (h : AllByRecursion P old) (k : AllByRecursion P new). subst (AllByRecursion P) (sym puts) (All-append P old new h k) in
       record {
+        epoch = stands.epoch;
         before = stands.before;
         last = last_position-append s.before s.waiting part;
         parts = AreParts-append s.before contents.versions s.waiting part stands.parts (omega (arith, stands.last, next))
@@ -65,6 +66,7 @@ module _ (s : Sequencing) (contents : Contents) (stands : IsAheadOf s contents) 
 -- which seats are closed does not matter
 pub IsAheadOf-closed : (s : Sequencing) (closed : List Bool) (contents : Contents) → IsAheadOf s contents → IsAheadOf (record s { closed = closed }) contents
 IsAheadOf-closed s closed contents stands = record {
+  epoch = stands.epoch;
   before = stands.before;
   last = stands.last;
   parts = stands.parts;
@@ -78,8 +80,9 @@ IsAheadOf-closed s closed contents stands = record {
 }
 
 -- a new sequencer is ahead of the contents that its tables are of
-pub IsAheadOf-starts : (table : Table) (room : Room) (position : ℕ) (closed : List Bool) (contents : Contents) → Underlies contents table room position → IsAheadOf (starts table room position closed) contents
-IsAheadOf-starts table room position closed contents under = record {
+pub IsAheadOf-starts : (table : Table) (room : Room) (position epoch : ℕ) (closed : List Bool) (contents : Contents) → Underlies contents table room position epoch → IsAheadOf (starts table room position epoch closed) contents
+IsAheadOf-starts table room position epoch closed contents under = record {
+  epoch = under.epoch_is;
   before = under.position_is;
   last = refl;
   parts = tt;
@@ -100,6 +103,7 @@ IsAheadOf-group old group new hands contents stands =
     let parts = old.waiting in
     let is : (P : List Part → Type 0) → P parts → P group.parts.items = λ P h. subst P (sym hands.all) h in
     let group_is : IsGroup contents group = record {
+      epoch = inl (hands.epoch ∙ stands.epoch);
       before = hands.before ∙ stands.before;
       some = is (λ items. 0 < length items) hands.some;
       few = is (λ items. length items ≤ MAX_PARTS) hands.few;
@@ -109,7 +113,8 @@ IsAheadOf-group old group new hands contents stands =
       unused = is (λ items. AllByRecursion (IsUnused contents.versions contents.is_free) (puts_of_parts items)) stands.unused;
       apart = is (λ items. AreAllApart (puts_of_parts items)) stands.apart;
     } in
-    let later : IsAheadOf (record old { before = old.position; waiting = [] }) (after_parts contents parts) = record {
+    let later : IsAheadOf (record old { before = old.position; waiting = [] }) (after_parts group.epoch contents parts) = record {
+      epoch = sym hands.epoch;
       before = sym stands.last ∙ ap (λ first. last_position first parts) stands.before;
       last = refl;
       parts = tt;
@@ -118,21 +123,21 @@ IsAheadOf-group old group new hands contents stands =
       unused = tt;
       apart = tt;
       taken = tt;
-      left = left-after_parts contents old.room parts stands.left stands.taken;
+      left = left-after_parts group.epoch contents old.room parts stands.left stands.taken;
       table = stands.table;
     } in
-    (group_is, subst (λ s. IsAheadOf s (after_group contents group)) (sym hands.after) (is (λ items. IsAheadOf (record old { before = old.position; waiting = [] }) (after_parts contents items)) later))
+    (group_is, subst (λ s. IsAheadOf s (after_group contents group)) (sym hands.after) (is (λ items. IsAheadOf (record old { before = old.position; waiting = [] }) (after_parts group.epoch contents items)) later))
 
 -- whatever a call moved, the sequencer stays ahead of the contents
-pub IsAheadOf-moves : (changes : List Change) (old new : Sequencing) → Moves changes old new → new.before ≡ old.before → (contents : Contents) → IsAheadOf old contents → IsAheadOf new contents
-IsAheadOf-moves [] old new moves before contents stands =
+pub IsAheadOf-moves : (changes : List Change) (old new : Sequencing) → Moves changes old new → new.epoch ≡ old.epoch → new.before ≡ old.before → (contents : Contents) → IsAheadOf old contents → IsAheadOf new contents
+IsAheadOf-moves [] old new moves epoch before contents stands =
     subst (λ s. IsAheadOf s contents)
-    (λ i. record { table = sym moves.table i; room = sym moves.room i; position = sym moves.position i; before = sym before i; waiting = sym moves.waiting i; closed = new.closed })
+    (λ i. record { table = sym moves.table i; room = sym moves.room i; position = sym moves.position i; epoch = sym epoch i; before = sym before i; waiting = sym moves.waiting i; closed = new.closed })
     (IsAheadOf-closed old new.closed contents stands)
-IsAheadOf-moves (change ∷ changes) old new moves before contents stands =
+IsAheadOf-moves (change ∷ changes) old new moves epoch before contents stands =
     let part = moves.0 in
     let adds = moves.1 in
     let performs = adds.performs in
     subst (λ s. IsAheadOf s contents)
-    (λ i. record { table = sym performs.table_is i; room = new.room; position = sym adds.position i; before = sym before i; waiting = sym adds.waiting i; closed = new.closed })
+    (λ i. record { table = sym performs.table_is i; room = new.room; position = sym adds.position i; epoch = sym epoch i; before = sym before i; waiting = sym adds.waiting i; closed = new.closed })
     (IsAheadOf-part old contents stands part new.room performs.places new.closed performs.position_is performs.ended)

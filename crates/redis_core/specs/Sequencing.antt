@@ -1,5 +1,5 @@
 -- What a sequencer holds, and when its tables say what an engine will hold once the waiting parts have committed.
-use Rattle.std.specs.Prelude.{◌≡◌, ℕ, Bool, false, List, [], ◌∷◌, slice_index_or, length, ◌≤◌, ◌<◌}
+use Rattle.std.specs.Prelude.{◌≡◌, ℕ, Bool, false, List, [], ◌∷◌, slice_index_or, slice_set, length, ◌≤◌, ◌<◌}
 use Rattle.std.specs.List.{flat_map, AllByRecursion}
 use Rattle.model.specs.declared.group.Group.{Group}
 use Rattle.model.specs.declared.group.TheConstants.{MAX_PARTS}
@@ -18,6 +18,8 @@ pub record Sequencing : Type 0 where
   pub room : Room
   -- the position of the list of calls
   pub position : ℕ
+  -- which primary of the pair this is: the epoch of each group
+  pub epoch : ℕ
   -- the position before the oldest part that waits
   pub before : ℕ
   -- what each changing command that is in no group yet did, oldest first
@@ -32,12 +34,17 @@ state_of s = idle_state (records s.table)
 abbrev pub is_closed : Sequencing → ℕ → Bool
 is_closed s seat = slice_index_or s.closed seat false
 
+-- this seat is open
+abbrev pub opened : ℕ → Sequencing → Sequencing
+opened seat s = record s { closed = slice_set s.closed seat false }
+
 abbrev pub puts_of_parts : List Part → List Put
 puts_of_parts = flat_map puts_of_part
 
 -- The sequencer is ahead of an engine with these contents by the parts that wait, and by nothing else: what commits will require of these parts
 -- holds, and the table is that of the versions after them.
 pub record IsAheadOf (s : Sequencing) (contents : Contents) : Type 0 where
+  pub epoch : s.epoch ≡ contents.current.epoch
   pub before : s.before ≡ contents.current.position
   pub last : last_position s.before s.waiting ≡ s.position
   pub parts : AreParts s.before contents.versions s.waiting
@@ -50,19 +57,21 @@ pub record IsAheadOf (s : Sequencing) (contents : Contents) : Type 0 where
   pub table : IsTable (parts_versions contents.versions s.waiting) s.table
 
 -- Tables with which a sequencer may start over these contents: nothing waits, and what the heap has left is free in the contents.
-pub record Underlies (contents : Contents) (table : Table) (room : Room) (position : ℕ) : Type 0 where
+pub record Underlies (contents : Contents) (table : Table) (room : Room) (position epoch : ℕ) : Type 0 where
   pub position_is : position ≡ contents.current.position
+  pub epoch_is : epoch ≡ contents.current.epoch
   pub left : IsLeftOf contents room
   pub table_is : IsTable contents.versions table
 
 -- a new sequencer over these tables
-abbrev pub starts : Table → Room → ℕ → List Bool → Sequencing
-starts table room position closed = record { table = table; room = room; position = position; before = position; waiting = []; closed = closed }
+abbrev pub starts : Table → Room → ℕ → ℕ → List Bool → Sequencing
+starts table room position epoch closed = record { table = table; room = room; position = position; epoch = epoch; before = position; waiting = []; closed = closed }
 
--- All parts that wait leave as one group.
+-- All parts that wait leave as one group, of the sequencer's epoch.
 pub record HandsOut (old : Sequencing) (group : Group) (new : Sequencing) : Type 0 where
   pub some : 0 < length old.waiting
   pub few : length old.waiting ≤ MAX_PARTS
   pub all : group.parts.items ≡ old.waiting
+  pub epoch : group.epoch ≡ old.epoch
   pub before : group.before ≡ old.before
   pub after : new ≡ record old { before = old.position; waiting = [] }

@@ -22,6 +22,7 @@ pub record Serves (old : Sequencing) (item : Item) (reply : Reply) (new : Sequen
   pub legal : MayStand (outcome_at old item) reply
   pub not_full : reply ≢ full_reply
   pub moves : Moves (changes_of (state_of old) (call_of 0 item reply)) old new
+  pub epoch : new.epoch ≡ old.epoch
   pub before : new.before ≡ old.before
   pub closed : new.closed ≡ old.closed
 

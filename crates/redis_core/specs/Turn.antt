@@ -43,6 +43,7 @@ pub record Answers (old : Sequencing) (seat : ℕ) (item : Item) (reply : Reply)
   pub keyspace : records new.table ≡ (after_call (state_of old) (call_of seat item reply)).keyspace
   pub position : new.position ≡ old.position + (if is_changing (state_of old) (call_of seat item reply) then 1 else 0)
   pub moves : Moves (changes_of (state_of old) (call_of seat item reply)) old new
+  pub epoch : new.epoch ≡ old.epoch
   pub before : new.before ≡ old.before
   -- the seat is closed from now on if the item closes its connection
   pub closed : new.closed ≡ slice_set old.closed seat (closes item)

@@ -1,8 +1,6 @@
 //! The sequencer: it turns what the connections ask into one list of calls, and hands out what changed as groups to commit.
 #![tactic(auto)]
 
-mod command;
-mod outcome;
 mod sequencer;
 mod turn;
 

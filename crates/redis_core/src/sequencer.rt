@@ -7,17 +7,18 @@ ghost use Rattle.model.specs.Command.{closes};
 ghost use Rattle.model.specs.Group.{Contents, IsGroup, after_group};
 ghost use Rattle.placing.specs.Left.{IsBeside};
 ghost use Rattle.placing.specs.Place.{HasRoomFor};
-ghost use Rattle.redis_core.specs.Sequencing.{IsAheadOf, HandsOut, Underlies, is_closed, starts};
+ghost use Rattle.redis_core.specs.Sequencing.{IsAheadOf, HandsOut, Underlies, is_closed, opened, starts};
 ghost use Rattle.redis_core.specs.Serving.{Serves, IsTooFull};
 ghost use Rattle.redis_core.specs.Serving as replies;
 ghost use Rattle.redis_core.specs.Turn.{Answers, Moves, OnServed, OnIdle, OnBlocked, OnGroupFull, OnEnded, OnUnserved};
 
-use crate::outcome::{Outcome, outcome_of};
 use crate::turn::Turn;
 use bytes::Bytes;
 use extent_heap::ExtentHeap;
 use kv_types::{Change, Held, Item, Refusal, Reply, changes_fit};
-use model::{COUNTER_LIMIT, Group, MAX_CHANGE_TEXT_BYTES, MAX_PARTS, Part};
+use model::{
+    COUNTER_LIMIT, Group, MAX_CHANGE_TEXT_BYTES, MAX_PARTS, Outcome, Part, closes, outcome_of,
+};
 use mv_keyspace::Keyspace;
 use pipes::{Inlet, MAX_SEATS, Outlet, Seat};
 use placing::perform;
@@ -33,6 +34,8 @@ pub struct Sequencer<K: Keyspace> {
     keyspace: K,
     heap: ExtentHeap,
     position: u64,
+    // Of each group that it hands out.
+    epoch: u64,
     before: u64,
     waiting: Vec<Part>,
     // By the number of the seat.
@@ -50,6 +53,7 @@ impl<K: Keyspace> Model for Sequencer<K> {
       table = K.table s.keyspace;
       room = s.heap;
       position = s.position;
+      epoch = s.epoch;
       before = s.before;
       waiting = s.waiting.items;
       closed = s.closed.items;
@@ -59,7 +63,8 @@ impl<K: Keyspace> Model for Sequencer<K> {
 }
 
 impl<K: Keyspace + Drop> Sequencer<K> {
-    /// A sequencer over a keyspace at this position of the list, with a heap of what is free beside it. No seat is closed and nothing waits.
+    /// A sequencer over a keyspace at this position of the list, with a heap of what is free beside it, whose groups are of this epoch. No seat is
+    /// closed and nothing waits.
     ///
     /// # Errors
     ///
@@ -69,10 +74,11 @@ impl<K: Keyspace + Drop> Sequencer<K> {
         keyspace: K,
         heap: ExtentHeap,
         position: u64,
+        epoch: u64,
     ) -> Result<Sequencer<K>, Refusal>
         requires { IsBeside (K.table keyspace) heap }
-        ensures ok { IfOk result (λ s. s ≡ starts (K.table keyspace) heap position (replicate MAX_SEATS false)) }
-        ensures stands { IfOk result (λ s. (contents : Contents) → Underlies contents (K.table keyspace) heap position → IsAheadOf s contents) }
+        ensures ok { IfOk result (λ s. s ≡ starts (K.table keyspace) heap position epoch (replicate MAX_SEATS false)) }
+        ensures stands { IfOk result (λ s. (contents : Contents) → Underlies contents (K.table keyspace) heap position epoch → IsAheadOf s contents) }
         ensures err { IfErr result (λ refusal. refusal ≡ Refusal.Memory) }
     {
         let waiting = Vec::with_capacity(alloc, MAX_PARTS)?;
@@ -81,6 +87,7 @@ impl<K: Keyspace + Drop> Sequencer<K> {
             keyspace,
             heap,
             position,
+            epoch,
             before: position,
             waiting,
             closed,
@@ -101,6 +108,15 @@ impl<K: Keyspace> Sequencer<K> {
         ensures { IsTrue result ↔ ((self.now).waiting ≢ []) }
     {
         !self.waiting.is_empty()
+    }
+
+    /// Opens a seat for the connection that was given it, whatever closed it for the one before.
+    pub fn open_seat(&mut self, seat: &Seat)
+        ensures opened { self.new ≡ opened seat.now self.old }
+        ensures open { is_closed self.new seat.now ≡ false }
+        ensures stands { (contents : Contents) → IsAheadOf self.old contents → IsAheadOf self.new contents }
+    {
+        self.closed[seat.number()] = false;
     }
 
     /// Answers one item of a seat, if there is one and there is room for its reply. It never waits.
@@ -153,7 +169,7 @@ impl<K: Keyspace> Sequencer<K> {
         }
     }
 
-    /// Hands out all parts that wait, as one group.
+    /// Hands out all parts that wait, as one group of the sequencer's epoch.
     ///
     /// # Errors
     ///
@@ -178,7 +194,12 @@ impl<K: Keyspace> Sequencer<K> {
         let empty = Vec::with_capacity(alloc, MAX_PARTS)?;
         let parts = std::mem::replace(&mut self.waiting, empty);
         let before = std::mem::replace(&mut self.before, self.position);
-        match outlet.offer(Group { before, parts }) {
+        let group = Group {
+            epoch: self.epoch,
+            before,
+            parts,
+        };
+        match outlet.offer(group) {
             Ok(()) => Ok(()),
             Err(_) => unreachable!(),
         }
@@ -191,7 +212,7 @@ impl<K: Keyspace> Sequencer<K> {
         ensures stands { (contents : Contents) → IsAheadOf self.old contents → IsAheadOf self.new contents }
     {
         let served = self.serve(alloc, item);
-        self.closed[seat.number()] = is_fault(item);
+        self.closed[seat.number()] = closes(item);
         reply_of(served)
     }
 
@@ -214,6 +235,7 @@ impl<K: Keyspace> Sequencer<K> {
     fn make(&mut self, alloc: Global, changes: Vec<Change>) -> Result<(), Refusal>
         requires { length (self.old).waiting < MAX_PARTS }
         ensures ok { OnOk result (Moves changes.items self.old self.new) }
+        ensures epoch { (self.new).epoch ≡ (self.old).epoch }
         ensures before { (self.new).before ≡ (self.old).before }
         ensures closed { (self.new).closed ≡ (self.old).closed }
         ensures err { OnErr result (self.new ≡ self.old) }
@@ -232,12 +254,6 @@ impl<K: Keyspace> Sequencer<K> {
         self.waiting.push_reserved(part);
         Ok(())
     }
-}
-
-fn is_fault(item: &Item) -> bool
-    ensures { result ≡ closes item.now }
-{
-    matches!(item, Item::Fault(_))
 }
 
 /// The item's own reply, or the one that says why the item was refused.

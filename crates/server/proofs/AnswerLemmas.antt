@@ -1,7 +1,7 @@
 -- The answer to one connection, from what a run promises.
-use Rattle.std.proofs.Common.{◌≡◌, ℕ, zero, suc, Bool, List, [], ◌∷◌, slice_index_or, Option, None, Result, Ok, Err, IfOk, sym, ap, subst, ◌∙◌}
+use Rattle.std.proofs.Common.{◌≡◌, ℕ, zero, suc, Bool, List, [], ◌∷◌, length, slice_index_or, Option, None, Result, Ok, Err, IfOk, sym, ap, subst, ◌∙◌, arith}
 use Rattle.pmem.specs.Device.{State}
-use Rattle.kv_types.specs.declared.limits.TheConstants.{SERVED_LIMITS}
+use Rattle.kv_types.specs.declared.limits.TheConstants.{REQUEST_LIMITS}
 use Rattle.kv_types.specs.Reading.{items_at}
 use Rattle.kv_types.proofs.GrammarItems.{items_at-append}
 use Rattle.model.specs.declared.call.Call.{Call}
@@ -10,7 +10,7 @@ use Rattle.model.proofs.PrefixLemmas.{IsPrefix-itself}
 use Rattle.model.proofs.ServesLemmas.{Serves-asked}
 use Rattle.machine.specs.declared.event.Event.{Event}
 use Rattle.machine.specs.declared.event.Event.TheVariants.{Enter}
-use Rattle.machine.specs.Event.{World, is_running, is_open, Run, start}
+use Rattle.machine.specs.Event.{World, is_running, Run, start}
 use Rattle.machine.specs.Promise.{IsPromised, fed_to}
 use Rattle.world.specs.Headline.{KeepsItsWord}
 use Rattle.world.specs.declared.trace.EarlyEnd.{EarlyEnd}
@@ -19,20 +19,20 @@ use Rattle.server.specs.Answer.{IsAnswer}
 use Rattle.server.proofs.FeedingLemmas.{IsServed, feeds-open, feeds-none}
 
 -- more bytes ask for more items
-asked-grows : {fed input : List ℕ} → IsPrefix fed input → IsPrefix (items_at SERVED_LIMITS fed) (items_at SERVED_LIMITS input)
+asked-grows : {fed input : List ℕ} → IsPrefix fed input → IsPrefix (items_at REQUEST_LIMITS fed) (items_at REQUEST_LIMITS input)
 asked-grows {fed} a = record {
   rest = _;
-  joined = sym (items_at-append SERVED_LIMITS fed a.rest) ∙ ap (items_at SERVED_LIMITS) a.joined;
+  joined = sym (items_at-append REQUEST_LIMITS fed a.rest) ∙ ap (items_at REQUEST_LIMITS) a.joined;
 }
 
--- the connection that enters first is open from then on
+-- the connection that enters first has entered from then on
 fed-schedule : (input : List ℕ) (rest : List Event) (done : List Bool) (worlds : List World) → ((c : ℕ) → given c rest ≡ alone input c) → Run start (Enter ∷ rest) done worlds
     → (c : ℕ) → IsPrefix (fed_to c (Enter ∷ rest) done) (alone input c)
 fed-schedule input rest [] worlds feeds run c = absurd run
 fed-schedule input rest (did ∷ done) [] feeds run c = absurd run
 fed-schedule input rest (did ∷ done) (new ∷ worlds) feeds run zero =
     let entered = run.0.happens run.0.done in
-    let served : IsServed new 0 = (ap (λ (w : World). is_running w.primary.life) entered, ap (λ (w : World). is_open w 0) entered) in
+    let served : IsServed new 0 = (ap (λ (w : World). is_running w.primary.life) entered, omega (arith, ap (λ (w : World). length w.primary.connections) entered)) in
     subst (λ whole. IsPrefix (fed_to 0 rest done) whole) (feeds 0) (feeds-open new rest done worlds 0 run.1 served)
 fed-schedule input rest (did ∷ done) (new ∷ worlds) feeds run (suc c) =
     subst (λ fed. IsPrefix fed []) (sym (feeds-none (suc c) rest done (feeds (suc c)))) (IsPrefix-itself [])
@@ -49,7 +49,7 @@ answer-promised input events done calls released primary standby answer schedule
   calls = calls;
   legal = promised.legal;
   serves =
-      Serves-asked (λ c. items_at SERVED_LIMITS (fed_to c events done)) (λ c. items_at SERVED_LIMITS (alone input c)) calls
+      Serves-asked (λ c. items_at REQUEST_LIMITS (fed_to c events done)) (λ c. items_at REQUEST_LIMITS (alone input c)) calls
       (λ c. asked-grows (fed-begins input events done promised.worlds schedule promised.run c)) promised.serves;
   begins = subst (λ (bytes : List ℕ). IsPrefix bytes (replies_to 0 calls)) (sym same) (promised.begins 0);
 }

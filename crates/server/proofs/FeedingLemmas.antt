@@ -1,58 +1,26 @@
--- What is fed to an open connection is a prefix of what the events have for it: once it is closed, no feed is done.
+-- What is fed to a connection is a prefix of what the events have for it: once it is closed or over, no feed is done.
 use Rattle.std.proofs.Common.{◌≡◌, ℕ, zero, suc, ◌<◌, Bool, true, false, not, ◌&&◌, cond, nat_eq, List, [], ◌∷◌, ◌++◌, length, refl, sym, ap, subst, ◌∙◌, append-nil, arith, eqb-true, ◌⊎◌, inl, inr}
 use Rattle.machine.specs.declared.event.Event.{Event}
-use Rattle.machine.specs.declared.event.Event.TheVariants.{Enter, Feed, Offer, Turn, CloseGroup, Commit, RaiseLocal, Hand, OpenLink, Send, Deliver, Apply, AckDelivered, RaiseRemote, Hold, Read, Release, Write}
-use Rattle.machine.specs.Event.{Inbound, Outbound, Connection, World, new_connection, is_running, get_connection, connection_of, is_open, with_inbound, with_outbound, on_inbound, on_outbound, is_closed_by, is_enabled, with_call, fed_with, offered_next, taken_first, held_first, having_read, having_released, written, Happens, Step, Run}
+use Rattle.machine.specs.declared.event.Event.TheVariants.{Enter, Feed, Offer, Turn, CloseGroup, Commit, RaiseLocal, Hand, OpenLink, Send, Deliver, Apply, AckDelivered, RaiseRemote, Hold, Read, Release, Write, Leave}
+use Rattle.machine.specs.Event.{Connection, World, is_running, connection_of, is_open, is_closed_by, is_enabled, Happens, Step, Run}
 use Rattle.machine.specs.Promise.{fed_by, fed_to}
-use Rattle.machine.proofs.ConnectionLemmas.{open-lt, same-changed}
+use Rattle.machine.proofs.CountLemmas.{count-step}
 use Rattle.machine.proofs.FedLemmas.{fed-step}
 use Rattle.machine.proofs.SoundEvents.{enabled-may}
-use Rattle.machine.proofs.SoundConnection.{both}
+use Rattle.machine.proofs.SoundConnection.{both, both_ways}
+use Rattle.machine.proofs.StayLemmas.{stays-step}
 use Rattle.model.specs.Call.{IsPrefix}
 use Rattle.model.proofs.PrefixLemmas.{IsPrefix-none, IsPrefix-same_prefix}
 use Rattle.server.specs.Schedule.{given}
 
--- ---- a connection that is open stays so
+-- ---- a connection that entered
 
 abbrev fed_in : World → ℕ → List ℕ
 fed_in w c = (connection_of w c).inbound.fed
 
--- the node that serves runs, and the connection is open
+-- the node that serves runs, and the connection has entered
 abbrev pub IsServed : World → ℕ → Type 0
-IsServed w d = (is_running w.primary.life ≡ true) × (is_open w d ≡ true)
-
-open-inbound : (w : World) (c d : ℕ) (change : Inbound → Inbound) → is_open (on_inbound c change w) d ≡ is_open w d
-open-inbound w c d change = same-changed (λ connection. connection.is_open) c (with_inbound change) w.primary.connections (λ connection. refl) d
-
-open-outbound : (w : World) (c d : ℕ) (change : Outbound → Outbound) → is_open (on_outbound c change w) d ≡ is_open w d
-open-outbound w c d change = same-changed (λ connection. connection.is_open) c (with_outbound change) w.primary.connections (λ connection. refl) d
-
-get-before : (connections : List Connection) (d : ℕ) → d < length connections → get_connection (connections ++ new_connection ∷ []) d ≡ get_connection connections d
-get-before [] d lt = absurd (omega arith)
-get-before (connection ∷ connections) zero lt = refl
-get-before (connection ∷ connections) (suc d) lt = get-before connections d (omega arith)
-
-open-happens : (w : World) (event : Event) (new : World) (d : ℕ) → Happens w event new → is_open w d ≡ true → is_open new d ≡ true
-open-happens w Enter new d h is_there =
-    ap (λ x. is_open x d) h ∙ ap (λ (connection : Connection). connection.is_open) (get-before w.primary.connections d (open-lt w.primary.connections d is_there)) ∙ is_there
-open-happens w (Feed c piece) new d h is_there = ap (λ x. is_open x d) h ∙ open-inbound w c d (fed_with piece) ∙ is_there
-open-happens w (Offer c) new d h is_there = ap (λ x. is_open x d) h ∙ open-inbound w c d offered_next ∙ is_there
-open-happens w (Turn c) new d h is_there =
-    ap (λ x. is_open x d) h.now ∙ open-outbound (on_inbound c taken_first (with_call h.call w)) c d _ ∙ open-inbound (with_call h.call w) c d taken_first ∙ is_there
-open-happens w CloseGroup new d h is_there = ap (λ x. is_open x d) h ∙ is_there
-open-happens w Commit new d h is_there = ap (λ x. is_open x d) h ∙ is_there
-open-happens w RaiseLocal new d h is_there = ap (λ x. is_open x d) h ∙ is_there
-open-happens w Hand new d h is_there = ap (λ x. is_open x d) h ∙ is_there
-open-happens w OpenLink new d h is_there = ap (λ x. is_open x d) h ∙ is_there
-open-happens w Send new d h is_there = ap (λ x. is_open x d) h ∙ is_there
-open-happens w (Deliver frame) new d h is_there = ap (λ x. is_open x d) h ∙ is_there
-open-happens w Apply new d h is_there = ap (λ x. is_open x d) h.now ∙ is_there
-open-happens w (AckDelivered a) new d h is_there = ap (λ x. is_open x d) h ∙ is_there
-open-happens w RaiseRemote new d h is_there = ap (λ x. is_open x d) h ∙ is_there
-open-happens w (Hold c) new d h is_there = ap (λ x. is_open x d) h ∙ open-outbound w c d held_first ∙ is_there
-open-happens w (Read c mark) new d h is_there = ap (λ x. is_open x d) h ∙ open-outbound w c d (having_read mark w) ∙ is_there
-open-happens w (Release c) new d h is_there = ap (λ x. is_open x d) h ∙ open-outbound w c d having_released ∙ is_there
-open-happens w (Write c n) new d h is_there = ap (λ x. is_open x d) h ∙ open-outbound w c d (written n) ∙ is_there
+IsServed w d = (is_running w.primary.life ≡ true) × (d < length w.primary.connections)
 
 abbrev runs_in : World → Bool
 runs_in w = is_running w.primary.life
@@ -76,10 +44,11 @@ runs-happens w (Hold c) new h = ap runs_in h
 runs-happens w (Read c mark) new h = ap runs_in h
 runs-happens w (Release c) new h = ap runs_in h
 runs-happens w (Write c n) new h = ap runs_in h
+runs-happens w (Leave c) new h = ap runs_in h
 
 served-step : (old : World) (event : Event) (did : Bool) (new : World) (d : ℕ) → Step old event did new → IsServed old d → IsServed new d
-served-step old event true new d step served = (runs-happens old event new (step.happens refl) ∙ served.0, open-happens old event new d (step.happens refl) served.1)
-served-step old event false new d step served = (ap runs_in (step.stands refl) ∙ served.0, ap (λ x. is_open x d) (step.stands refl) ∙ served.1)
+served-step old event true new d step served = (runs-happens old event new (step.happens refl) ∙ served.0, omega (arith, served.1, (count-step old event true new step).more))
+served-step old event false new d step served = (ap runs_in (step.stands refl) ∙ served.0, omega (arith, served.1, (count-step old event false new step).more))
 
 -- ---- one event
 
@@ -110,18 +79,30 @@ closed-by w (Feed c piece) false d e closed = refl
 closed-by w event true d e closed = refl
 closed-by w event false d e closed = fed_by-not d event
 
--- a served connection is fed what the event has for it, or the event is not done and the connection is closed
-open-by : (w : World) (event : Event) (did : Bool) (d : ℕ) → did ≡ is_enabled w event → IsServed w d
+-- an open connection is fed what the event has for it, or the event is not done and the connection is closed
+open-by : (w : World) (event : Event) (did : Bool) (d : ℕ) → did ≡ is_enabled w event → IsServed w d → is_open w d ≡ true
     → (fed_by d event did ≡ fed_by d event true) ⊎ ((did ≡ false) × (is_closed_by (fed_in w d) ≡ true))
-open-by w event true d e served = inl refl
-open-by w (Feed c piece) false d e served =
+open-by w event true d e served is_one = inl refl
+open-by w (Feed c piece) false d e served is_one =
     elim (nat_eq c d) as (λ b. nat_eq c d ≡ b → ([] ≡ cond b piece []) ⊎ ((false ≡ false) × (is_closed_by (fed_in w d) ≡ true))) [
       | true ↦ λ same.
-          let is_there : is_open w c ≡ true = ap (λ x. is_open w x) (eqb-true c d same) ∙ served.1 in
+          let is_there : is_open w c ≡ true = ap (λ x. is_open w x) (eqb-true c d same) ∙ is_one in
           inr (refl, ap (λ x. is_closed_by (fed_in w x)) (sym (eqb-true c d same)) ∙ not-false (runs_in w) (is_open w c) (is_closed_by (fed_in w c)) served.0 is_there (sym e))
       | false ↦ λ other. inl refl
     ] refl
-open-by w event false d e served = inl refl
+open-by w event false d e served is_one = inl refl
+
+-- one that is over is fed nothing
+over-by : (w : World) (event : Event) (did : Bool) (d : ℕ) → did ≡ is_enabled w event → is_open w d ≡ false → fed_by d event did ≡ []
+over-by w (Feed c piece) true d e shut =
+    let enabled = both (is_open w c) (not (is_closed_by (fed_in w c))) (enabled-may w (Feed c piece) (sym e)) in
+    elim (nat_eq c d) as (λ b. nat_eq c d ≡ b → cond b piece [] ≡ []) [
+      | true ↦ λ same. absurd (both_ways (is_open w c) enabled.0 (ap (λ x. is_open w x) (eqb-true c d same) ∙ shut))
+      | false ↦ λ other. refl
+    ] refl
+over-by w (Feed c piece) false d e shut = refl
+over-by w event true d e shut = refl
+over-by w event false d e shut = fed_by-not d event
 
 -- ---- a run
 
@@ -133,17 +114,29 @@ closed-from w (event ∷ events) (did ∷ done) (new ∷ worlds) d run closed =
     ap (λ piece. piece ++ fed_to d events done) none ∙ closed-from new events done worlds d run.1 (ap is_closed_by same ∙ closed)
 closed-from w events done worlds d run closed = absurd run
 
--- what is fed to an open connection is a prefix of what the events have for it
+over-from : (w : World) (events : List Event) (done : List Bool) (worlds : List World) (d : ℕ) → Run w events done worlds → d < length w.primary.connections → is_open w d ≡ false → fed_to d events done ≡ []
+over-from w [] [] [] d run lt shut = refl
+over-from w (event ∷ events) (did ∷ done) (new ∷ worlds) d run lt shut =
+    let stays = stays-step w event did new d lt shut run.0 in
+    ap (λ piece. piece ++ fed_to d events done) (over-by w event did d run.0.done shut)
+    ∙ over-from new events done worlds d run.1 stays.entered (ap (λ (x : Connection). x.is_open) stays.connection ∙ shut)
+over-from w events done worlds d run lt shut = absurd run
+
+-- what is fed to a connection is a prefix of what the events have for it
 pub feeds-open : (w : World) (events : List Event) (done : List Bool) (worlds : List World) (d : ℕ) → Run w events done worlds → IsServed w d → IsPrefix (fed_to d events done) (given d events)
 feeds-open w [] [] [] d run served = IsPrefix-none []
 feeds-open w (event ∷ events) (did ∷ done) (new ∷ worlds) d run served =
-    elim (open-by w event did d run.0.done served) [
-      | inl all ↦
-          subst (λ piece. IsPrefix (piece ++ fed_to d events done) (fed_by d event true ++ given d events)) (sym all)
-          (IsPrefix-same_prefix (fed_by d event true) (feeds-open new events done worlds d run.1 (served-step w event did new d run.0 served)))
-      | inr closed ↦
-          subst (λ fed. IsPrefix fed (fed_by d event true ++ given d events)) (sym (closed-from w (event ∷ events) (did ∷ done) (new ∷ worlds) d run closed.1)) (IsPrefix-none _)
-    ]
+    let none : fed_to d (event ∷ events) (did ∷ done) ≡ [] → IsPrefix (fed_to d (event ∷ events) (did ∷ done)) (fed_by d event true ++ given d events) =
+    λ none. subst (λ fed. IsPrefix fed (fed_by d event true ++ given d events)) (sym none) (IsPrefix-none _) in
+    elim (is_open w d) as (λ b. is_open w d ≡ b → IsPrefix (fed_to d (event ∷ events) (did ∷ done)) (fed_by d event true ++ given d events)) [
+      | true ↦ λ is_one. elim (open-by w event did d run.0.done served is_one) [
+        | inl all ↦
+            subst (λ piece. IsPrefix (piece ++ fed_to d events done) (fed_by d event true ++ given d events)) (sym all)
+            (IsPrefix-same_prefix (fed_by d event true) (feeds-open new events done worlds d run.1 (served-step w event did new d run.0 served)))
+        | inr closed ↦ none (closed-from w (event ∷ events) (did ∷ done) (new ∷ worlds) d run closed.1)
+      ]
+      | false ↦ λ shut. none (over-from w (event ∷ events) (did ∷ done) (new ∷ worlds) d run served.1 shut)
+    ] refl
 feeds-open w events done worlds d run served = absurd run
 
 append-none : (xs ys : List ℕ) → xs ++ ys ≡ [] → (xs ≡ []) × (ys ≡ [])

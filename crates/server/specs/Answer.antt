@@ -1,7 +1,7 @@
 -- The answer to one connection.
 use Rattle.std.specs.Prelude.{ℕ, List, Option, IfSome}
 use Rattle.std.specs.Io.KnownBytes.{Appends, Keeps}
-use Rattle.kv_types.specs.declared.limits.TheConstants.{SERVED_LIMITS}
+use Rattle.kv_types.specs.declared.limits.TheConstants.{REQUEST_LIMITS}
 use Rattle.kv_types.specs.Reading.{items_at}
 use Rattle.model.specs.declared.call.Call.{Call}
 use Rattle.model.specs.Call.{IsLegal, IsPrefix, Serves, replies_to}
@@ -16,7 +16,7 @@ pub record IsAnswer (input answer : List ℕ) : Type 0 where
   -- these are the replies of one sequential Redis, starting from the empty keyspace
   pub legal : IsLegal calls
   -- the requests are those of the input, in order, each once
-  pub serves : Serves (λ c. items_at SERVED_LIMITS (alone input c)) calls
+  pub serves : Serves (λ c. items_at REQUEST_LIMITS (alone input c)) calls
   pub begins : IsPrefix answer (replies_to 0 calls)
 
 -- If the reader says which bytes it has, an answer to them was appended to those of the writer, if the writer says which it holds.

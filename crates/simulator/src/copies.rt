@@ -27,5 +27,6 @@ pub fn copy_of(event: &Event) -> Result<Event, AllocError>
         Event::Read(connection, mark) => Event::Read(*connection, *mark),
         Event::Release(connection) => Event::Release(*connection),
         Event::Write(connection, count) => Event::Write(*connection, *count),
+        Event::Leave(connection) => Event::Leave(*connection),
     })
 }

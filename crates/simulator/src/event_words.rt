@@ -55,6 +55,7 @@ fn event_with_number(name: &[u8], words: &mut LineWords<'_>) -> Result<Event, Ca
         b"ack-delivered" => Ok(Event::AckDelivered(words.number()?)),
         b"hold" => Ok(Event::Hold(words.number()?)),
         b"release" => Ok(Event::Release(words.number()?)),
+        b"leave" => Ok(Event::Leave(words.number()?)),
         _ => Err(Cause::UnknownEvent),
     }
 }

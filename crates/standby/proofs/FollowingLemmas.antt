@@ -54,20 +54,20 @@ module _ (contents : Contents) (table : Table) (room : Room) (follows : Follows 
   distinct = AreDistinct-from_apart puts apart
 
   -- it is a group that a commit asks for
-  pub IsGroup-one : (group : Group) → group.parts.items ≡ part ∷ [] → group.before ≡ contents.current.position → contents.current.position < part.position → IsGroup contents group
-  IsGroup-one group one before later =
-      IsGroup-alone contents part group one before later (names-ended contents.versions table part empty distinct follows.table_is ended)
+  pub IsGroup-one : (group : Group) → group.parts.items ≡ part ∷ [] → group.before ≡ contents.current.position → group.epoch ≡ contents.current.epoch → contents.current.position < part.position → IsGroup contents group
+  IsGroup-one group one before epoch later =
+      IsGroup-alone contents part group one before epoch later (names-ended contents.versions table part empty distinct follows.table_is ended)
       (All-map (IsFree room) (IsPlaced contents.lines) (λ put. placed_of_free contents room put follows.left) puts free) (places_fitting room puts left takes)
       (All-map (IsFree room) (IsUnused contents.versions contents.is_free) (λ put. unused_of_free contents room put follows.left) puts free) apart
 
-  left_after : IsLeftOf (after_parts contents (part ∷ [])) left
-  left_after = left-after contents left part (left_within contents left room within follows.left) taken
+  left_after : (epoch : ℕ) → IsLeftOf (after_parts epoch contents (part ∷ [])) left
+  left_after epoch = left-after epoch contents left part (left_within contents left room within follows.left) taken
 
   -- the tables follow what the commit makes of the contents
   pub Follows-after : (group : Group) → group.parts.items ≡ part ∷ [] → IsGroup contents group → Follows (after_group contents group) (place_all part.position table part.changes.items) left
   Follows-after group one is = record {
     consistent = IsConsistent-after_group contents group follows.consistent is;
-    left = subst (λ items. IsLeftOf (after_parts contents items) left) (sym one) left_after;
+    left = subst (λ items. IsLeftOf (after_parts group.epoch contents items) left) (sym one) (left_after group.epoch);
     table_is = subst (λ items. IsTable (parts_versions contents.versions items) (place_all part.position table part.changes.items)) (sym one)
         (IsTable-changes part.position contents.versions table part.changes.items empty distinct follows.table_is);
   }
@@ -103,7 +103,7 @@ Follows-same old new table room same follows = record {
 -- ---- the frame whole
 
 module _ (contents : Contents) (table : Table) (frame : Frame) (part : Part) (same : map change_of part.changes.items ≡ frame.changes.items) (at : part.position ≡ frame.after)
-    (group : Group) (one : group.parts.items ≡ part ∷ []) where
+    (group : Group) (one : group.parts.items ≡ part ∷ []) (own : group.epoch ≡ contents.current.epoch) where
   position_after : (after_group contents group).current.position ≡ frame.after
   position_after = ap (last_position contents.current.position) one ∙ at
 
@@ -116,7 +116,7 @@ module _ (contents : Contents) (table : Table) (frame : Frame) (part : Part) (sa
     keyspace = ap records is ∙ keyspace_after;
     lines = stays.lines;
     role = ap (λ (r : Record). r.role) stays.current;
-    epoch = ap (λ (r : Record). r.epoch) stays.current;
+    epoch = ap (λ (r : Record). r.epoch) stays.current ∙ own;
   }
 
   pub IsWhole-group : (room : Room) → Follows (after_group contents group) (place_all part.position table part.changes.items) room → IsWhole frame contents table (after_group contents group)
@@ -124,7 +124,7 @@ module _ (contents : Contents) (table : Table) (frame : Frame) (part : Part) (sa
     position = position_after;
     line_count = refl;
     role = refl;
-    epoch = refl;
+    epoch = own;
     consistent = follows.consistent;
     map = subst (IsMapOf (after_group contents group).versions (entries_of_lines contents.lines)) keyspace_after
         (map-from_table (after_group contents group).versions (entries_of_lines contents.lines) (place_all part.position table part.changes.items) follows.consistent.beyond follows.table_is);

@@ -1,5 +1,5 @@
 -- A group that grows part by part, each with places from the heap that the previous part left.
-use Rattle.std.proofs.Common.{◌≡◌, ℕ, suc, add-one, ◌+◌, ◌<◌, ◌≤◌, IsTrue, List, [], ◌∷◌, ◌++◌, length, None, refl, sym, ap, subst, ◌∙◌}
+use Rattle.std.proofs.Common.{◌≡◌, ℕ, suc, add-one, ◌+◌, ◌<◌, ◌≤◌, IsTrue, List, [], ◌∷◌, ◌++◌, length, None, inl, refl, sym, ap, subst, ◌∙◌}
 use Rattle.std.specs.List.{flat_map, AllByRecursion}
 use Rattle.model.specs.declared.group.Group.{Group}
 use Rattle.model.specs.declared.group.Part.{Part}
@@ -12,6 +12,7 @@ use Rattle.mv_keyspace.specs.Table.{Table, IsTable, AreEnded, place_all}
 use Rattle.mv_keyspace.proofs.VersionTables.{AreEmpty}
 use Rattle.mv_keyspace.proofs.PartTables.{AreDistinct, IsTable-changes, names-ended, table-none}
 use Rattle.model.specs.declared.record.Role.{Role}
+use Rattle.model.specs.declared.record.TheConstants.{FIRST_EPOCH}
 use Rattle.wbl_engine.specs.Contents.{IsNew}
 use Rattle.placing.specs.Place.{TakesPlaces}
 use Rattle.placing.specs.Left.{IsBeside, IsLeftOf}
@@ -64,8 +65,9 @@ module _ (versions : Versions) (position : ℕ) (start : Room) (parts : List Par
 
 -- parts grown from the places that the contents leave free are a group
 pub grown-group : (contents : Contents) (start : Room) (group : Group) (table : Table) (room : Room) → IsLeftOf contents start → IsGrown contents.versions contents.current.position start group.parts.items table room
-    → group.before ≡ contents.current.position → 0 < length group.parts.items → length group.parts.items ≤ MAX_PARTS → IsGroup contents group
-grown-group contents start group table room left grown before some few = record {
+    → group.epoch ≡ contents.current.epoch → group.before ≡ contents.current.position → 0 < length group.parts.items → length group.parts.items ≤ MAX_PARTS → IsGroup contents group
+grown-group contents start group table room left grown epoch before some few = record {
+  epoch = inl epoch;
   before = before;
   some = some;
   few = few;
@@ -84,9 +86,9 @@ grown-group contents start group table room left grown before some few = record 
 
 -- parts grown from a new heap are a group for each new image
 pub group-new : (lines : ℕ) (role : Role) (start : Room) (group : Group) (table : Table) (room : Room) → HasAll lines start
-    → ((versions : Versions) → ((i : ℕ) → versions i ≡ None) → IsGrown versions 0 start group.parts.items table room) → group.before ≡ 0 → 0 < length group.parts.items → length group.parts.items ≤ MAX_PARTS
+    → ((versions : Versions) → ((i : ℕ) → versions i ≡ None) → IsGrown versions 0 start group.parts.items table room) → group.epoch ≡ FIRST_EPOCH → group.before ≡ 0 → 0 < length group.parts.items → length group.parts.items ≤ MAX_PARTS
     → (contents : Contents) → IsNew lines role contents → IsGroup contents group
-group-new lines role start group table room all grown before some few contents new =
+group-new lines role start group table room all grown epoch before some few contents new =
     grown-group contents start group table room (left-new lines role contents start new all)
     (subst (λ position. IsGrown contents.versions position start group.parts.items table room) (sym new.position) (grown contents.versions new.versions))
-    (before ∙ sym new.position) some few
+    (epoch ∙ sym new.epoch) (before ∙ sym new.position) some few

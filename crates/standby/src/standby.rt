@@ -157,7 +157,9 @@ impl<E: Durable, K: Keyspace> Standby<E, K> {
         let mut parts = Vec::with_capacity(alloc, 1)?;
         let part = make_part(alloc, &mut self.keyspace, &mut self.heap, frame)?;
         parts.push_reserved(part);
+        let epoch = frame.epoch;
         let group = Group {
+            epoch,
             before: frame.before,
             parts,
         };

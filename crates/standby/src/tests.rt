@@ -80,11 +80,12 @@ fn new_engine(alloc: Global) -> Result<WblEngine<SimPmem>, Refusal>
 }
 
 /// The heap of a new image with `lines` lines: all its entries and extents are free.
-fn heap_of(lines: u64) -> ExtentHeap
-    ensures lines { (line : ℕ) → IsTrue (is_free_line result line) ↔ ((first_extent_line lines ≤ line) × (line < lines)) }
-    ensures entries { (i : ℕ) → IsTrue (is_free_entry result i) ↔ (i < entries_of_lines lines) }
+fn heap_of(alloc: Global, lines: u64) -> Result<ExtentHeap, Refusal>
+    ensures lines { IfOk result (λ heap. (line : ℕ) → IsTrue (is_free_line heap line) ↔ ((first_extent_line lines ≤ line) × (line < lines))) }
+    ensures entries { IfOk result (λ heap. (i : ℕ) → IsTrue (is_free_entry heap i) ↔ (i < entries_of_lines lines)) }
 {
     ExtentHeap::new(
+        alloc,
         LAYOUT.first_extent_line(lines),
         lines,
         LAYOUT.entries_of_lines(lines),
@@ -140,7 +141,7 @@ fn group_of<K: Keyspace + Drop>(alloc: Global, keyspace: K, count: u8) -> Result
     ensures { IfOk result (λ group. (contents : Contents) → IsNew 4096 Role.Primary contents → IsGroup contents group) }
 {
     let mut keyspace = keyspace;
-    let mut heap = heap_of(4_096);
+    let mut heap = heap_of(alloc, 4_096)?;
     let mut parts = Vec::new(alloc);
     for before in 0..count {
         let after = before + 1;
@@ -148,7 +149,11 @@ fn group_of<K: Keyspace + Drop>(alloc: Global, keyspace: K, count: u8) -> Result
         let part = make_part(alloc, &mut keyspace, &mut heap, &frame)?;
         parts.push(part)?;
     }
-    Ok(Group { before: 0, parts })
+    Ok(Group {
+        epoch: 1,
+        before: 0,
+        parts,
+    })
 }
 
 /// Commits a group to a new image.

@@ -199,6 +199,7 @@ format_rest {a} {b} {c} {d} role many few first second third =
         limit = refl;
         number = omega arith;
         position = omega arith;
+        epoch = omega arith;
         room = omega arith;
         no_gap = λ stamp above. refl;
       };

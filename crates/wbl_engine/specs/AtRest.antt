@@ -28,6 +28,7 @@ pub record IsSound (r : Record) : Type 0 where
   pub limit : r.cd ≡ r.cp + 1 + STAMP_WINDOW
   pub number : r.number < COUNTER_LIMIT
   pub position : r.position < COUNTER_LIMIT
+  pub epoch : r.epoch < COUNTER_LIMIT
   pub room : r.cd < COUNTER_LIMIT
   -- no gap contains a future stamp
   pub no_gap : (stamp : ℕ) → r.cp < stamp → list_any (is_in_gap stamp) r.gaps.items ≡ false

@@ -30,11 +30,14 @@ pub record Same (old new : Contents) : Type 0 where
   pub versions : (i : ℕ) → new.versions i ≡ old.versions i
   pub is_free : (i : ℕ) → new.is_free i ≡ old.is_free i
 
--- a counter of the record would reach the limit
+-- a counter of the record would reach the limit, which the epoch does only where it rises
 abbrev pub Exhausts : Contents → Group → Type 0
 Exhausts contents group =
     let next = next_record contents.current group in
-    (COUNTER_LIMIT ≤ next.cd) ⊎ (COUNTER_LIMIT ≤ next.position) ⊎ (COUNTER_LIMIT ≤ next.number)
+    (COUNTER_LIMIT ≤ next.cd)
+    ⊎ (COUNTER_LIMIT ≤ next.position)
+    ⊎ (COUNTER_LIMIT ≤ next.number)
+    ⊎ ((contents.current.epoch < next.epoch) × (COUNTER_LIMIT ≤ next.epoch))
 
 -- the contents of a new image
 pub record IsNew (lines : ℕ) (role : Role) (contents : Contents) : Type 0 where

@@ -1,5 +1,5 @@
 //! The record after a group.
-ghost use Rattle.std.specs.Prelude.{◌≡◌, ◌⊎◌, ◌≤◌, length, IfSome, IfNone};
+ghost use Rattle.std.specs.Prelude.{◌≡◌, ◌⊎◌, ◌<◌, ◌≤◌, length, IfSome, IfNone};
 ghost use Rattle.model.specs.declared.group.TheConstants.{MAX_PARTS};
 ghost use Rattle.model.specs.Group.{next_record, last_position};
 ghost use Rattle.wbl_engine.specs.AtRest.{IsSound};
@@ -14,19 +14,24 @@ pub fn next_record(current: &Record, group: &Group) -> Option<Record>
     ensures next { IfSome result (λ next. next ≡ next_record current.now group.now) }
     ensures sound { IfSome result IsSound }
     ensures exhausted { IfNone result (let next = next_record current.now group.now in
-        (COUNTER_LIMIT ≤ next.cd) ⊎ (COUNTER_LIMIT ≤ next.position) ⊎ (COUNTER_LIMIT ≤ next.number)) }
+        (COUNTER_LIMIT ≤ next.cd) ⊎ (COUNTER_LIMIT ≤ next.position) ⊎ (COUNTER_LIMIT ≤ next.number)
+        ⊎ ((current.now.epoch < next.epoch) × (COUNTER_LIMIT ≤ next.epoch))) }
 {
     let number = current.number + 1;
     let position = last_position(current.position, group.parts.as_slice());
     let cp = current.cp + group.parts.len() as u64;
     let cd = cp + 1 + STAMP_WINDOW;
-    if cd < COUNTER_LIMIT && position < COUNTER_LIMIT && number < COUNTER_LIMIT {
+    if cd < COUNTER_LIMIT
+        && position < COUNTER_LIMIT
+        && number < COUNTER_LIMIT
+        && group.epoch < COUNTER_LIMIT
+    {
         Some(Record {
             number,
             position,
             cp,
             cd,
-            epoch: current.epoch,
+            epoch: group.epoch,
             role: current.role,
             gaps: copy_gaps(&current.gaps),
         })

@@ -28,7 +28,7 @@ use Rattle.machine.specs.Event.{Committer as Machine, Stage as MachineStage, Spa
 use Rattle.machine.specs.World as machine_stage
 use Rattle.machine.specs.Sound.{HasRoomFor, Sound}
 use Rattle.world.specs.Cause.{IsAtLimit, EndsBy}
-use Rattle.world.specs.Committing.{AreContentsAt, Committing, CommittingRefines, EngineStands, StageRefines, StandsAtEither, NearOnly, next_primary}
+use Rattle.world.specs.Committing.{AreContentsAt, AreOfEpoch, Committing, CommittingRefines, EngineStands, StageRefines, StandsAtEither, NearOnly, next_primary}
 use Rattle.world.specs.Going.{Goes}
 use Rattle.world.specs.GroupSpan.{AreGroupsOf, IsGroupOf}
 use Rattle.world.proofs.EngineLemmas.{AreContentsAt-after_group, Stands-engine, keeps-stands, rests-same}
@@ -82,6 +82,10 @@ AreGroupsOf-push calls (g ∷ groups) (s ∷ spans) group span are is = (are.0, 
 pub first-lawful : (contents : Contents) (groups : List Group) (group : Group) (rest : List Group) → AreGroups contents groups → groups ≡ group ∷ rest → IsGroup contents group
 first-lawful contents groups group rest are waits = let P : List Group → Type 0 = AreGroups contents in (subst P waits are).0
 
+-- and its epoch
+pub first-own : (epoch : ℕ) (groups : List Group) (group : Group) (rest : List Group) → AreOfEpoch epoch groups → groups ≡ group ∷ rest → group.epoch ≡ epoch
+first-own epoch groups group rest are waits = let P : List Group → Type 0 = AreOfEpoch epoch in (subst P waits are).0
+
 -- ---- the stage
 
 ready-ready : (calls : List Call) (machine : MachineStage) → StageRefines calls Ready machine → machine ≡ machine_stage.Ready
@@ -98,14 +102,14 @@ record NextGroup (holder : Holder) (calls : List Call) (position : ℕ) (content
   pub after : AreContentsAt holder calls firsts.first.after (after_group contents group)
 
 next-group : (holder : Holder) (calls : List Call) (position : ℕ) (contents : Contents) (group : Group) (rest : List Group) (spans : List Span) → AreContentsAt holder calls position contents → IsGroup contents group
-    → AreGroupsOf calls (group ∷ rest) spans → NextGroup holder calls position contents group rest spans
-next-group holder calls position contents group rest spans at lawful are =
+    → group.epoch ≡ contents.current.epoch → AreGroupsOf calls (group ∷ rest) spans → NextGroup holder calls position contents group rest spans
+next-group holder calls position contents group rest spans at lawful own are =
     let firsts = first-group calls group rest spans are in
     let begins : firsts.first.before ≡ position = sym firsts.is.before ∙ lawful.before ∙ at.at in
     record {
       firsts = firsts;
       begins = begins;
-      after = AreContentsAt-after_group holder calls contents group firsts.first (subst (λ p. AreContentsAt holder calls p contents) (sym begins) at) lawful firsts.is;
+      after = AreContentsAt-after_group holder calls contents group firsts.first (subst (λ p. AreContentsAt holder calls p contents) (sym begins) at) lawful own firsts.is;
     }
 
 all_three : (a b c : Bool) → a ≡ true → b ≡ true → c ≡ true → true ≡ (a && b && c)
@@ -168,14 +172,14 @@ may-commit w code group rest link ready room waits stands are =
 -- the first group that waits is committed
 pub commit-goes : (holder : Holder) (w : World) (old new : Committing) (group : Group) (link : List Group) (device device' : State) (contents contents' : Contents) (is_faulted is_faulted' : Bool)
     → old.stage ≡ Ready → length link < PIPE_ITEMS → old.waiting.items ≡ group ∷ new.waiting.items → new.stage ≡ Durable group → new.local ≡ old.local
-    → IsGroup contents group → Same (after_group contents group) contents' → IsDurable device' contents' → is_faulted' ≡ false
+    → IsGroup contents group → group.epoch ≡ contents.current.epoch → Same (after_group contents group) contents' → IsDurable device' contents' → is_faulted' ≡ false
     → CommittingRefines w.primary.calls old w.primary.committer → EngineStands holder w.primary.calls w.primary.committer.position device contents is_faulted → AreGroupsOf w.primary.calls link w.primary.link.waiting
     → Goes (may_happen w Commit) true
     (CommittingRefines w.primary.calls new (committed_first w.primary.committer.waiting w.primary.committer) × EngineStands holder w.primary.calls (committed_first w.primary.committer.waiting w.primary.committer).position device' contents' is_faulted')
     (CommittingRefines w.primary.calls new w.primary.committer × EngineStands holder w.primary.calls w.primary.committer.position device' contents' is_faulted')
-commit-goes holder w old new group link device device' contents contents' is_faulted is_faulted' ready room waits durable local lawful moved leaves sound stands engine are =
+commit-goes holder w old new group link device device' contents contents' is_faulted is_faulted' ready room waits durable local lawful own moved leaves sound stands engine are =
     let calls = w.primary.calls in
-    let next = next-group holder calls w.primary.committer.position contents group new.waiting.items w.primary.committer.waiting engine.contents_at lawful
+    let next = next-group holder calls w.primary.committer.position contents group new.waiting.items w.primary.committer.waiting engine.contents_at lawful own
     (subst (λ groups. AreGroupsOf calls groups w.primary.committer.waiting) waits stands.groups) in
     let span = next.firsts.first in
     let is_ready_now : w.primary.committer.stage ≡ machine_stage.Ready = ready-ready calls w.primary.committer.stage (subst (λ stage. StageRefines calls stage w.primary.committer.stage) ready stands.stage_is) in
@@ -199,15 +203,15 @@ commit-goes holder w old new group link device device' contents contents' is_fau
 
 -- at any moment of the engine's call, a crash leaves what was before it or what is after it
 pub commit-moments : (holder : Holder) (w : World) (code : Committing) (group : Group) (rest : List Group) (device device' : State) (contents : Contents) (is_faulted : Bool)
-    → code.waiting.items ≡ group ∷ rest → IsGroup contents group
+    → code.waiting.items ≡ group ∷ rest → IsGroup contents group → group.epoch ≡ contents.current.epoch
     → (is_faulted ≡ false → LeavesOnly device device' (λ image. Keeps contents image ⊎ Keeps (after_group contents group) image))
     → Sound w → CommittingRefines w.primary.calls code w.primary.committer → EngineStands holder w.primary.calls w.primary.committer.position device contents is_faulted
     → NearOnly holder w.primary.calls w.primary.committer.position (next_primary w) device device'
-commit-moments holder w code group rest device device' contents is_faulted waits lawful moments sound stands engine =
+commit-moments holder w code group rest device device' contents is_faulted waits lawful own moments sound stands engine =
     LeavesOnly-weaken (StandsAtEither holder w.primary.calls w.primary.committer.position (next_primary w)) (λ image. either image) (moments engine.sound)
   where
     next : NextGroup holder w.primary.calls w.primary.committer.position contents group rest w.primary.committer.waiting
-    next = next-group holder w.primary.calls w.primary.committer.position contents group rest w.primary.committer.waiting engine.contents_at lawful (subst (λ groups. AreGroupsOf w.primary.calls groups w.primary.committer.waiting) waits stands.groups)
+    next = next-group holder w.primary.calls w.primary.committer.position contents group rest w.primary.committer.waiting engine.contents_at lawful own (subst (λ groups. AreGroupsOf w.primary.calls groups w.primary.committer.waiting) waits stands.groups)
 
     ends : next_primary w ≡ next.firsts.first.after
     ends = ap (λ spans. (committed_first spans w.primary.committer).position) next.firsts.all
@@ -224,11 +228,11 @@ parts-rise before versions (part ∷ parts) are = omega (arith, are.0, parts-ris
 
 -- a commit that would take a counter to the limit: a group takes one stamp per part, and its positions rise by at least one per part
 pub commit-limit : (holder : Holder) (w : World) (code : Committing) (group : Group) (rest : List Group) (device : State) (contents : Contents) (is_faulted : Bool) → code.waiting.items ≡ group ∷ rest → IsGroup contents group
-    → Exhausts contents group → CommittingRefines w.primary.calls code w.primary.committer → EngineStands holder w.primary.calls w.primary.committer.position device contents is_faulted
+    → group.epoch ≡ contents.current.epoch → Exhausts contents group → CommittingRefines w.primary.calls code w.primary.committer → EngineStands holder w.primary.calls w.primary.committer.position device contents is_faulted
     → (image : Image) → IsImage device.words image → IsAtLimit (next_primary w - w.primary.committer.position) image
-commit-limit holder w code group rest device contents is_faulted waits lawful exhausts stands engine image is =
+commit-limit holder w code group rest device contents is_faulted waits lawful same exhausts stands engine image is =
     let position = w.primary.committer.position in
-    let next = next-group holder w.primary.calls position contents group rest w.primary.committer.waiting engine.contents_at lawful (subst (λ groups. AreGroupsOf w.primary.calls groups w.primary.committer.waiting) waits stands.groups) in
+    let next = next-group holder w.primary.calls position contents group rest w.primary.committer.waiting engine.contents_at lawful same (subst (λ groups. AreGroupsOf w.primary.calls groups w.primary.committer.waiting) waits stands.groups) in
     let ends : next_primary w ≡ next.firsts.first.after = ap (λ spans. (committed_first spans w.primary.committer).position) next.firsts.all in
     let last : last_position group.before group.parts.items ≡ next_primary w = next.firsts.is.after ∙ sym ends in
     let own : last_position contents.current.position group.parts.items ≡ next_primary w = ap (λ p. last_position p group.parts.items) (sym lawful.before) ∙ last in
@@ -244,17 +248,18 @@ commit-limit holder w code group rest device contents is_faulted waits lawful ex
         → (COUNTER_LIMIT ≤ contents.current.cp + more + 1 + STAMP_WINDOW) ⊎ (COUNTER_LIMIT ≤ contents.current.position + more) ⊎ (COUNTER_LIMIT ≤ contents.current.number + 1)
     reached more (inl stamps) few own = inl (omega (arith, stamps, few))
     reached more (inr (inl position)) few own = inr (inl (omega (arith, position, own)))
-    reached more (inr (inr number)) few own = inr (inr number)
+    reached more (inr (inr (inl number))) few own = inr (inr number)
+    reached more (inr (inr (inr rises))) few own = absurd (omega (arith, rises.0, same))
 
 -- the engine refused to commit: a fence failed, or a counter is at its limit
 pub commit-ends : (holder : Holder) (w : World) (code : Committing) (group : Group) (rest : List Group) (device device' : State) (contents : Contents) (is_faulted : Bool)
     (result : Result Done Refusal) (refusal : Refusal) → result ≡ Err refusal
-    → code.waiting.items ≡ group ∷ rest → IsGroup contents group → IfErr result (λ r. (r ≡ Fault) ⊎ (r ≡ Exhausted))
+    → code.waiting.items ≡ group ∷ rest → IsGroup contents group → group.epoch ≡ contents.current.epoch → IfErr result (λ r. (r ≡ Fault) ⊎ (r ≡ Exhausted))
     → (IsErrOf result Fault → (is_faulted ≡ true) ⊎ (device.failures < device'.failures)) → (IsErrOf result Exhausted → Exhausts contents group × (device' ≡ device))
     → (is_faulted ≡ false → LeavesOnly device device' (λ image. Keeps contents image ⊎ Keeps (after_group contents group) image))
     → Sound w → CommittingRefines w.primary.calls code w.primary.committer → EngineStands holder w.primary.calls w.primary.committer.position device contents is_faulted
     → EndsBy refusal Commit (λ last _. last holder w.primary.calls w.primary.committer.position (next_primary w) device device')
-commit-ends holder w code group rest device device' contents is_faulted result refusal is waits lawful causes fault exhausted moments sound stands engine =
+commit-ends holder w code group rest device device' contents is_faulted result refusal is waits lawful own causes fault exhausted moments sound stands engine =
     by (subst (λ (r : Result Done Refusal). IfErr r (λ e. (e ≡ Fault) ⊎ (e ≡ Exhausted))) is causes)
   where
     rose : (is_faulted ≡ true) ⊎ (device.failures < device'.failures) → device.failures < device'.failures
@@ -264,14 +269,14 @@ commit-ends holder w code group rest device device' contents is_faulted result r
     by : (refusal ≡ Fault) ⊎ (refusal ≡ Exhausted) → EndsBy refusal Commit (λ last _. last holder w.primary.calls w.primary.committer.position (next_primary w) device device')
     by (inl cause) =
         subst (λ (r : Refusal). EndsBy r Commit (λ last _. last holder w.primary.calls w.primary.committer.position (next_primary w) device device')) (sym cause)
-        (record { leaves = commit-moments holder w code group rest device device' contents is_faulted waits lawful moments sound stands engine; failures = rose (fault (is ∙ ap Err cause)) })
+        (record { leaves = commit-moments holder w code group rest device device' contents is_faulted waits lawful own moments sound stands engine; failures = rose (fault (is ∙ ap Err cause)) })
     by (inr cause) =
         let told = exhausted (is ∙ ap Err cause) in
         subst (λ (r : Refusal). EndsBy r Commit (λ last _. last holder w.primary.calls w.primary.committer.position (next_primary w) device device')) (sym cause)
         (record {
           rests = rests-same holder w.primary.calls w.primary.committer.position device device' told.1 (Stands-engine holder w.primary.calls w.primary.committer.position device contents is_faulted engine);
           limit = subst (λ (d : State). (image : Image) → IsImage d.words image → IsAtLimit (next_primary w - w.primary.committer.position) image) (sym told.1)
-              (commit-limit holder w code group rest device contents is_faulted waits lawful told.0 stands engine);
+              (commit-limit holder w code group rest device contents is_faulted waits lawful own told.0 stands engine);
         })
 
 -- ---- a group shown

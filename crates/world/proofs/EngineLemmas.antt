@@ -74,8 +74,8 @@ EngineStands-grows holder calls more p device contents is_faulted le stands = re
 
 -- contents at the start of a group's span are, after the group, at its end
 pub AreContentsAt-after_group : (holder : Holder) (calls : List Call) (contents : Contents) (group : Group) (span : Span) → AreContentsAt holder calls span.before contents → IsGroup contents group
-    → IsGroupOf calls group span → AreContentsAt holder calls span.after (after_group contents group)
-AreContentsAt-after_group holder calls contents group span are lawful is =
+    → group.epoch ≡ contents.current.epoch → IsGroupOf calls group span → AreContentsAt holder calls span.after (after_group contents group)
+AreContentsAt-after_group holder calls contents group span are lawful own is =
     let count = span.after - span.before in
     let end : span.before + count ≡ span.after = omega (arith, is.span_within.rising) in
     let moves : play_all (keyspace_after (cut_at calls span.before)) (changes_of_group group) ≡ keyspace_after (cut_at calls span.after) =
@@ -84,7 +84,7 @@ AreContentsAt-after_group holder calls contents group span are lawful is =
     record {
       at = ap (λ n. last_position n group.parts.items) (sym lawful.before) ∙ is.after;
       role_is = are.role_is;
-      epoch_is = are.epoch_is;
+      epoch_is = own ∙ are.epoch_is;
       lines_are = are.lines_are;
       consistent = IsConsistent-after_group contents group are.consistent lawful;
       map = subst (IsMapOf (after_group contents group).versions (entries_of_lines contents.lines)) moves

@@ -1,5 +1,5 @@
 -- New images, and the tables and heaps with which they begin.
-use Rattle.std.proofs.Common.{◌≡◌, ℕ, zero, suc, ◌<◌, ◌⊎◌, Bool, false, List, [], replicate, slice_index_or, refl, sym, ap, subst, ◌∙◌, arith, true≢false, inl, inr}
+use Rattle.std.proofs.Common.{◌≡◌, ℕ, ◌<◌, ◌⊎◌, Bool, false, List, [], ◌∷◌, replicate, refl, sym, ap, subst, arith, inl, inr}
 use Rattle.model.specs.Image.{entries_of_lines}
 use Rattle.model.specs.Group.{Contents}
 use Rattle.model.specs.declared.group.Group.{Group}
@@ -27,18 +27,14 @@ use Rattle.group_commit.specs.declared.stage.Stage.TheVariants.{Ready}
 use Rattle.world.specs.Committing.{FormattingOnly, EngineStands, Leads, StageRefines}
 use Rattle.world.specs.GroupSpan.{AreGroupsOf}
 use Rattle.world.specs.Link.{AreFramesSent, LinkRefines}
-use Rattle.world.specs.Session.{SessionsRefine, SequencerRefines}
+use Rattle.world.specs.Session.{ConnectionsRefine, SessionsRefine, SequencerRefines, ClosedByCalls, seats_of}
+use Rattle.world.specs.declared.connection.Connection.{Connection}
 use Rattle.world.specs.Standby.{Node, StandbyStands, ArrivalsRefine}
 use Rattle.world.specs.Pair.{Pair, PairRefines}
 
 -- ---- the sequencer
 
-none_closed : (n c : ℕ) → slice_index_or (replicate n false) c false ≡ false
-none_closed zero c = refl
-none_closed (suc n) zero = refl
-none_closed (suc n) (suc c) = none_closed n c
-
-pub sequencer-starts : (n : ℕ) (s : Sequencing) (table : Table) (room : Room) → table ≡ [] → s ≡ starts table room 0 (replicate n false) → SequencerRefines [] 0 s
+pub sequencer-starts : (n : ℕ) (s : Sequencing) (table : Table) (room : Room) → table ≡ [] → s ≡ starts table room 0 FIRST_EPOCH (replicate n false) → SequencerRefines [] 0 s
 sequencer-starts n s table room empty same =
     subst (SequencerRefines [] 0) (sym same)
     (record {
@@ -47,14 +43,13 @@ sequencer-starts n s table room empty same =
       before = refl;
       waiting = tt;
       count = refl;
-      seats = λ c closed. absurd (true≢false (sym closed ∙ none_closed n c));
     })
 
 -- ---- new contents
 
-pub underlies-new : (lines : ℕ) (role : Role) (contents : Contents) (table : Table) (room : Room) → IsNew lines role contents → HasAll lines room → table ≡ [] → Underlies contents table room 0
+pub underlies-new : (lines : ℕ) (role : Role) (contents : Contents) (table : Table) (room : Room) → IsNew lines role contents → HasAll lines room → table ≡ [] → Underlies contents table room 0 FIRST_EPOCH
 underlies-new lines role contents table room new all empty =
-    record { position_is = sym new.position; left = left-new lines role contents room new all; table_is = new-table lines role contents table new empty }
+    record { position_is = sym new.position; epoch_is = sym new.epoch; left = left-new lines role contents room new all; table_is = new-table lines role contents table new empty }
 
 pub engine-new : (lines : ℕ) (role : Role) (device : State) (contents : Contents) (is_faulted : Bool) → IsNew lines role contents → IsDurable device contents → is_faulted ≡ false
     → EngineStands (new_holder lines role) [] 0 device contents is_faulted
@@ -100,6 +95,11 @@ new-own lines lines' role contents same new =
       is_free = new.is_free;
     })
 
+-- where there is no connection, no seat was closed by a call
+none-seated : (codes : List Connection) → ConnectionsRefine [] codes [] → (s : Sequencing) → ClosedByCalls [] (seats_of codes) s
+none-seated [] stand s = record { by_call = λ c seat has shut. cc }
+none-seated (code ∷ codes) stand s = absurd stand
+
 pub pair-starts : (first second : Holder) (pair : Pair) → SessionsRefine pair.sessions [] [] → SequencerRefines [] 0 pair.sequencer
     → pair.committing.waiting.items ≡ [] → pair.committing.stage ≡ Ready → pair.committing.local ≡ 0 → EngineStands first [] 0 pair.device pair.contents pair.is_faulted
     → IsAheadOf pair.sequencer pair.contents → pair.link ≡ new_stream FIRST_EPOCH → pair.handed.items ≡ [] → pair.remote ≡ 0 → pair.frames ≡ []
@@ -110,13 +110,14 @@ pair-starts first second pair sessions sequencer none ready mark engine ahead li
       parts = record {
         sessions = sessions;
         sequencer = sequencer;
+        by_calls = none-seated pair.sessions.connections.items sessions.connections_stand pair.sequencer;
         committing = record {
           groups = subst (λ (groups : List Group). AreGroupsOf [] groups []) (sym none) tt;
           stage_is = subst (λ (stage : Stage). StageRefines [] stage start.primary.committer.stage) (sym ready) tt;
           local_is = mark;
         };
         engine = engine;
-        leads = subst (λ (groups : List Group). Leads pair.contents groups pair.sequencer) (sym none) (record { groups_are = tt; stands = ahead });
+        leads = subst (λ (groups : List Group). Leads pair.contents groups pair.sequencer) (sym none) (record { groups_are = tt; epochs = tt; stands = ahead });
         epoch = ap (λ (s : Stream). s.epoch) link;
         link = subst (λ (s : Stream). LinkRefines [] s pair.handed pair.remote start.primary.link) (sym link)
             (record {

@@ -4,6 +4,7 @@ pub mod OutboundLemmas
 pub mod GroupSpanLemmas
 pub mod EngineLemmas
 pub mod SessionLemmas
+pub mod SeatLemmas
 pub mod SequencerLemmas
 pub mod TurnLemmas
 pub mod CommittingLemmas

@@ -10,18 +10,18 @@ use Rattle.model.specs.Standing.{Holder}
 use Rattle.redis_core.specs.Sequencing.{Sequencing, IsAheadOf}
 use Rattle.machine.specs.declared.event.Event.{Event}
 use Rattle.machine.specs.declared.event.Event.TheVariants as events
-use Rattle.machine.specs.Event.{Connection, World, Happens, Step, Turns, may_happen, called, with_connections}
+use Rattle.machine.specs.Event.{Connection, World, Happens, Step, Turns, new_connection, may_happen, called, with_connections}
 use Rattle.machine.specs.Sound.{Sound}
 use Rattle.machine.proofs.GroupLemmas.{chain-le}
 use Rattle.machine.proofs.SoundEvents.{sound-step, enabled-is}
 use Rattle.world.specs.Going.{Goes}
 use Rattle.world.specs.Cause.{Stretch, EndsBy, asks_memory}
 use Rattle.world.specs.Committing.{Rests, next_primary, next_standby}
-use Rattle.world.specs.Session.{SessionsRefine, SequencerRefines, AddsOne, TakesTurn, TellsTheSame}
+use Rattle.world.specs.Session.{SessionsRefine, SequencerRefines, ClosedByCalls, KeepsSeats, AddsOne, TakesTurn, TellsTheSame, bytes_of, seats_of}
 use Rattle.world.specs.Pair.{Pair, PartsRefine, PairRefines, IsCut, MovesBoth, Steps, Does}
-use Rattle.world.specs.declared.connection.Connection.{Connection as Connection'}
 use Rattle.world.specs.declared.sessions.Sessions.{Sessions}
 use Rattle.world.proofs.SessionLemmas.{length-connections, released-told}
+use Rattle.world.proofs.SeatLemmas.{by_calls-kept}
 use Rattle.world.proofs.EngineLemmas.{Stands-engine, moves-same, rests-same, EngineStands-grows}
 use Rattle.world.proofs.CommittingLemmas.{CommittingRefines-grows}
 use Rattle.world.proofs.FrameLemmas.{AreFramesSent-grows}
@@ -84,14 +84,13 @@ cut-for first second event refusal old new w stands same enabled cause =
       enabled = enabled-is w event stands.sound ∙ enabled;
       calls = same.calls ∙ sessions.calls_are;
       released = λ c. ap (λ (all : List (List ℕ)). slice_index_or all c []) same.released
-          ∙ released-told w.primary.calls 0 old.sessions.connections.items w.primary.connections sessions.connections_stand c;
-      few = omega (
+          ∙ released-told w.primary.calls old.sessions.connections.items w.primary.connections sessions.connections_stand c;
+      count = omega (
         arith,
-        stands.sound.connections.seats,
-        length-connections w.primary.calls 0 old.sessions.connections.items w.primary.connections sessions.connections_stand,
+        length-connections w.primary.calls old.sessions.connections.items w.primary.connections sessions.connections_stand,
         ap length same.released,
-        length-map old.sessions.connections.items (λ (k : Connection'). k.outbound.released.items),
-        length-map new.sessions.connections.items (λ (k : Connection'). k.outbound.released.items),
+        length-map old.sessions.connections.items bytes_of,
+        length-map new.sessions.connections.items bytes_of,
       );
       cause = cause;
     }
@@ -123,11 +122,12 @@ abbrev pub with_sessions : Sessions → Pair → Pair
 with_sessions sessions pair = record pair { sessions = sessions }
 
 sessions-parts : (first second : Holder) (old : Pair) (sessions : Sessions) (connections : List Connection) (w : World) → PartsRefine first second old w
-    → SessionsRefine sessions connections w.primary.calls → PartsRefine first second (with_sessions sessions old) (with_connections connections w)
-sessions-parts first second old sessions connections w parts stand =
+    → KeepsSeats old.sessions.connections.items sessions.connections.items → SessionsRefine sessions connections w.primary.calls → PartsRefine first second (with_sessions sessions old) (with_connections connections w)
+sessions-parts first second old sessions connections w parts keeps stand =
     record {
       sessions = stand;
       sequencer = parts.sequencer;
+      by_calls = by_calls-kept w.primary.calls old.sessions.connections.items sessions.connections.items old.sequencer keeps parts.by_calls;
       committing = parts.committing;
       engine = parts.engine;
       leads = parts.leads;
@@ -145,22 +145,22 @@ SessionsGo event change did old new =
     → Goes (may_happen w event) did (SessionsRefine new (change w) w.primary.calls) (SessionsRefine new w.primary.connections w.primary.calls)
 
 sessions-steps : (event : Event) (change : World → List Connection) → ((w : World) → Happens w event (with_connections (change w) w))
-    → (old : Pair) (sessions : Sessions) (did : Bool) → SessionsGo event change did old.sessions sessions
+    → (old : Pair) (sessions : Sessions) (did : Bool) → SessionsGo event change did old.sessions sessions → KeepsSeats old.sessions.connections.items sessions.connections.items
     → (first second : Holder) (w : World) → PairRefines first second old w → Steps first second w event did old (with_sessions sessions old)
-sessions-steps event change happens old sessions did go first second w stands =
+sessions-steps event change happens old sessions did go keeps first second w stands =
     goes-steps first second w (with_connections (change w) w) event did old (with_sessions sessions old) refl refl stands.sound (happens w)
     (goes-map (go w stands.parts.sessions)
-    (sessions-parts first second old sessions (change w) w stands.parts)
-    (sessions-parts first second old sessions w.primary.connections w stands.parts))
+    (sessions-parts first second old sessions (change w) w stands.parts keeps)
+    (sessions-parts first second old sessions w.primary.connections w stands.parts keeps))
 
 pub sessions-do : (event : Event) (change : World → List Connection) → ((w : World) → Happens w event (with_connections (change w) w)) → asks_memory event ≡ true
     → (old : Pair) (sessions : Sessions) (result : Result Bool Refusal) → IfOk result (λ did. SessionsGo event change did old.sessions sessions)
     → OnErr result (TellsTheSame old.sessions sessions) → IfErr result (λ refusal. refusal ≡ Memory)
     → OnErr result ((w : World) → SessionsRefine old.sessions w.primary.connections w.primary.calls → may_happen w event ≡ true)
-    → sessions.calls ≡ old.sessions.calls → Does old event result (with_sessions sessions old)
-sessions-do event change happens asks old sessions (Ok did) go same memory enabled calls =
-    record { steps = sessions-steps event change happens old sessions did go; cut = tt; calls = none-added _ _ calls }
-sessions-do event change happens asks old sessions (Err refusal) go same memory enabled calls =
+    → KeepsSeats old.sessions.connections.items sessions.connections.items → sessions.calls ≡ old.sessions.calls → Does old event result (with_sessions sessions old)
+sessions-do event change happens asks old sessions (Ok did) go same memory enabled keeps calls =
+    record { steps = sessions-steps event change happens old sessions did go keeps; cut = tt; calls = none-added _ _ calls }
+sessions-do event change happens asks old sessions (Err refusal) go same memory enabled keeps calls =
     record {
       steps = tt;
       cut = λ first second w stands.
@@ -170,24 +170,24 @@ sessions-do event change happens asks old sessions (Err refusal) go same memory 
 
 -- an event that cannot be refused
 pub sessions-did : (event : Event) (change : World → List Connection) → ((w : World) → Happens w event (with_connections (change w) w))
-    → (old : Pair) (sessions : Sessions) (did : Bool) → SessionsGo event change did old.sessions sessions → sessions.calls ≡ old.sessions.calls
+    → (old : Pair) (sessions : Sessions) (did : Bool) → SessionsGo event change did old.sessions sessions → KeepsSeats old.sessions.connections.items sessions.connections.items → sessions.calls ≡ old.sessions.calls
     → Does old event (Ok did) (with_sessions sessions old)
-sessions-did event change happens old sessions did go calls =
-    record { steps = sessions-steps event change happens old sessions did go; cut = tt; calls = none-added _ _ calls }
+sessions-did event change happens old sessions did go keeps calls =
+    record { steps = sessions-steps event change happens old sessions did go keeps; cut = tt; calls = none-added _ _ calls }
 
 -- a read needs the marks, which are the machine's
 pub read-does : (event : Event) (change : World → List Connection) → ((w : World) → Happens w event (with_connections (change w) w))
     → (old : Pair) (sessions : Sessions) (did : Bool)
     → ((w : World) → SessionsRefine old.sessions w.primary.connections w.primary.calls → old.committing.local ≡ w.primary.committer.local → old.remote ≡ w.primary.link.remote
     → Goes (may_happen w event) did (SessionsRefine sessions (change w) w.primary.calls) (SessionsRefine sessions w.primary.connections w.primary.calls))
-    → sessions.calls ≡ old.sessions.calls → Does old event (Ok did) (with_sessions sessions old)
-read-does event change happens old sessions did go calls =
+    → KeepsSeats old.sessions.connections.items sessions.connections.items → sessions.calls ≡ old.sessions.calls → Does old event (Ok did) (with_sessions sessions old)
+read-does event change happens old sessions did go keeps calls =
     record {
       steps = λ first second w stands.
           goes-steps first second w (with_connections (change w) w) event did old (with_sessions sessions old) refl refl stands.sound (happens w)
           (goes-map (go w stands.parts.sessions stands.parts.committing.local_is stands.parts.link.remote_is)
-          (sessions-parts first second old sessions (change w) w stands.parts)
-          (sessions-parts first second old sessions w.primary.connections w stands.parts));
+          (sessions-parts first second old sessions (change w) w stands.parts keeps)
+          (sessions-parts first second old sessions w.primary.connections w stands.parts keeps));
       cut = tt;
       calls = none-added _ _ calls;
     }
@@ -205,16 +205,17 @@ with_turn sessions sequencer pair = record pair { sessions = sessions; sequencer
 
 called-parts : (first second : Holder) (old : Pair) (sessions : Sessions) (sequencer : Sequencing) (w : World) (c : ℕ) (call : Call) → PairRefines first second old w
     → SessionsRefine sessions (called c call w).primary.connections (w.primary.calls ++ call ∷ []) → SequencerRefines (w.primary.calls ++ call ∷ []) w.primary.committer.closed sequencer
-    → ((contents : Contents) → IsAheadOf old.sequencer contents → IsAheadOf sequencer contents)
+    → ClosedByCalls (w.primary.calls ++ call ∷ []) (seats_of sessions.connections.items) sequencer → ((contents : Contents) → IsAheadOf old.sequencer contents → IsAheadOf sequencer contents)
     → PartsRefine first second (with_turn sessions sequencer old) (called c call w)
-called-parts first second old sessions sequencer w c call stands sessions_stand sequencer_stands goes_on =
+called-parts first second old sessions sequencer w c call stands sessions_stand sequencer_stands by_calls goes_on =
     let parts = stands.parts in
     record {
       sessions = sessions_stand;
       sequencer = sequencer_stands;
+      by_calls = by_calls;
       committing = CommittingRefines-grows w.primary.calls (call ∷ []) old.committing w.primary.committer parts.committing;
       engine = EngineStands-grows first w.primary.calls (call ∷ []) w.primary.committer.position old.device old.contents old.is_faulted (primary-within w stands.sound) parts.engine;
-      leads = record { groups_are = parts.leads.groups_are; stands = goes_on _ parts.leads.stands };
+      leads = record { groups_are = parts.leads.groups_are; epochs = parts.leads.epochs; stands = goes_on _ parts.leads.stands };
       epoch = parts.epoch;
       link = LinkRefines-grows w.primary.calls (call ∷ []) old.link old.handed old.remote w.primary.link parts.link;
       frames = AreFramesSent-grows old.link.epoch w.primary.calls (call ∷ []) old.frames w.wire.frames parts.frames;
@@ -223,16 +224,18 @@ called-parts first second old sessions sequencer w c call stands sessions_stand 
     }
 
 turn-steps : (first second : Holder) (old : Pair) (sessions : Sessions) (sequencer : Sequencing) (w : World) (c : ℕ) (did : Bool) → PairRefines first second old w
-    → TakesTurn w c did sessions old.sequencer sequencer → ((contents : Contents) → IsAheadOf old.sequencer contents → IsAheadOf sequencer contents)
+    → TakesTurn w c did sessions old.sequencer sequencer → KeepsSeats old.sessions.connections.items sessions.connections.items
+    → ((contents : Contents) → IsAheadOf old.sequencer contents → IsAheadOf sequencer contents)
     → Steps first second w (events.Turn c) did old (with_turn sessions sequencer old)
-turn-steps first second old sessions sequencer w c true stands takes goes_on =
+turn-steps first second old sessions sequencer w c true stands takes keeps goes_on =
     let moved = takes.goes refl in
     let turns : Turns w c moved.0 = moved.1 in
     let w' = called c turns.call w in
     let parts : PartsRefine first second (with_turn sessions sequencer old) w' =
     called-parts first second old sessions sequencer w c turns.call stands
     (subst (λ (x : World). SessionsRefine sessions x.primary.connections x.primary.calls) turns.now moved.2)
-    (subst (λ (x : World). SequencerRefines x.primary.calls x.primary.committer.closed sequencer) turns.now moved.3) goes_on in
+    (subst (λ (x : World). SequencerRefines x.primary.calls x.primary.committer.closed sequencer) turns.now moved.3)
+    (subst (λ (x : World). ClosedByCalls x.primary.calls (seats_of sessions.connections.items) sequencer) turns.now moved.4) goes_on in
     let step : Step w (events.Turn c) true w' = record { done = takes.done ∙ sym (enabled-is w (events.Turn c) stands.sound); happens = λ did. subst (Turns w c) turns.now turns; stands = λ did. absurd (true≢false did) } in
     record {
       world = w';
@@ -243,16 +246,18 @@ turn-steps first second old sessions sequencer w c true stands takes goes_on =
       };
       moves = untouched first second old (with_turn sessions sequencer old) w w' refl refl parts;
     }
-turn-steps first second old sessions sequencer w c false stands takes goes_on =
+turn-steps first second old sessions sequencer w c false stands takes keeps goes_on =
     let stayed = takes.stays refl in
     let before = stands.parts in
     let parts : PartsRefine first second (with_turn sessions sequencer old) w =
     record {
       sessions = stayed.0;
       sequencer = subst (SequencerRefines w.primary.calls w.primary.committer.closed) (sym stayed.1) before.sequencer;
+      by_calls = subst (ClosedByCalls w.primary.calls (seats_of sessions.connections.items)) (sym stayed.1)
+          (by_calls-kept w.primary.calls old.sessions.connections.items sessions.connections.items old.sequencer keeps before.by_calls);
       committing = before.committing;
       engine = before.engine;
-      leads = record { groups_are = before.leads.groups_are; stands = goes_on _ before.leads.stands };
+      leads = record { groups_are = before.leads.groups_are; epochs = before.leads.epochs; stands = goes_on _ before.leads.stands };
       epoch = before.epoch;
       link = before.link;
       frames = before.frames;
@@ -268,12 +273,64 @@ turn-steps first second old sessions sequencer w c false stands takes goes_on =
 
 pub turn-does : (old : Pair) (sessions : Sessions) (sequencer : Sequencing) (c : ℕ) (did : Bool)
     → ((w : World) → Sound w → SessionsRefine old.sessions w.primary.connections w.primary.calls → SequencerRefines w.primary.calls w.primary.committer.closed old.sequencer
-    → TakesTurn w c did sessions old.sequencer sequencer)
+    → ClosedByCalls w.primary.calls (seats_of old.sessions.connections.items) old.sequencer → TakesTurn w c did sessions old.sequencer sequencer)
+    → KeepsSeats old.sessions.connections.items sessions.connections.items
     → ((contents : Contents) → IsAheadOf old.sequencer contents → IsAheadOf sequencer contents)
     → AddsOne old.sessions.calls sessions.calls → Does old (events.Turn c) (Ok did) (with_turn sessions sequencer old)
-turn-does old sessions sequencer c did takes goes_on calls =
+turn-does old sessions sequencer c did takes keeps goes_on calls =
     record {
-      steps = λ first second w stands. turn-steps first second old sessions sequencer w c did stands (takes w stands.sound stands.parts.sessions stands.parts.sequencer) goes_on;
+      steps = λ first second w stands. turn-steps first second old sessions sequencer w c did stands (takes w stands.sound stands.parts.sessions stands.parts.sequencer stands.parts.by_calls) keeps goes_on;
       cut = tt;
       calls = calls;
+    }
+
+-- ---- a connection enters
+
+enter-parts : (first second : Holder) (old : Pair) (sessions : Sessions) (sequencer : Sequencing) (connections : List Connection) (w : World) → PartsRefine first second old w
+    → SessionsRefine sessions connections w.primary.calls → SequencerRefines w.primary.calls w.primary.committer.closed sequencer → ClosedByCalls w.primary.calls (seats_of sessions.connections.items) sequencer
+    → ((contents : Contents) → IsAheadOf old.sequencer contents → IsAheadOf sequencer contents) → PartsRefine first second (with_turn sessions sequencer old) (with_connections connections w)
+enter-parts first second old sessions sequencer connections w parts stand sequencer_stands by_calls goes_on =
+    record {
+      sessions = stand;
+      sequencer = sequencer_stands;
+      by_calls = by_calls;
+      committing = parts.committing;
+      engine = parts.engine;
+      leads = record { groups_are = parts.leads.groups_are; epochs = parts.leads.epochs; stands = goes_on _ parts.leads.stands };
+      epoch = parts.epoch;
+      link = parts.link;
+      frames = parts.frames;
+      arrivals = parts.arrivals;
+      standby = parts.standby;
+    }
+
+pub enter-does : (old : Pair) (sessions : Sessions) (sequencer : Sequencing) (result : Result Bool Refusal)
+    → IfOk result (λ did. SessionsGo events.Enter (λ w. w.primary.connections ++ new_connection ∷ []) did old.sessions sessions)
+    → IfOk result (λ did. (w : World) → SessionsRefine old.sessions w.primary.connections w.primary.calls → ClosedByCalls w.primary.calls (seats_of old.sessions.connections.items) old.sequencer
+    → ClosedByCalls w.primary.calls (seats_of sessions.connections.items) sequencer)
+    → ((calls : List Call) (closed : ℕ) → SequencerRefines calls closed old.sequencer → SequencerRefines calls closed sequencer)
+    → ((contents : Contents) → IsAheadOf old.sequencer contents → IsAheadOf sequencer contents)
+    → OnErr result (TellsTheSame old.sessions sessions) → IfErr result (λ refusal. refusal ≡ Memory)
+    → OnErr result ((w : World) → SessionsRefine old.sessions w.primary.connections w.primary.calls → may_happen w events.Enter ≡ true)
+    → sessions.calls ≡ old.sessions.calls → Does old events.Enter result (with_turn sessions sequencer old)
+enter-does old sessions sequencer (Ok did) go by_calls sequencer_stands goes_on same memory enabled calls =
+    record {
+      steps = λ first second w stands.
+          let parts = stands.parts in
+          let seated = by_calls w parts.sessions parts.by_calls in
+          let table = sequencer_stands w.primary.calls w.primary.committer.closed parts.sequencer in
+          let connections = w.primary.connections ++ new_connection ∷ [] in
+          goes-steps first second w (with_connections connections w) events.Enter did old (with_turn sessions sequencer old) refl refl stands.sound refl
+          (goes-map (go w parts.sessions)
+          (λ stand. enter-parts first second old sessions sequencer connections w parts stand table seated goes_on)
+          (λ stand. enter-parts first second old sessions sequencer w.primary.connections w parts stand table seated goes_on));
+      cut = tt;
+      calls = none-added _ _ calls;
+    }
+enter-does old sessions sequencer (Err refusal) go by_calls sequencer_stands goes_on same memory enabled calls =
+    record {
+      steps = tt;
+      cut = λ first second w stands.
+          cut-same first second events.Enter refusal old (with_turn sessions sequencer old) w refl memory refl refl same (enabled w stands.parts.sessions) stands;
+      calls = none-added _ _ calls;
     }

@@ -55,6 +55,7 @@ hand-does old committing waiting did go same =
           record {
             sessions = shown.sessions;
             sequencer = shown.sequencer;
+            by_calls = shown.by_calls;
             committing = shown.committing;
             engine = shown.engine;
             leads = shown.leads;
@@ -69,6 +70,7 @@ hand-does old committing waiting did go same =
           record {
             sessions = shown.sessions;
             sequencer = shown.sequencer;
+            by_calls = shown.by_calls;
             committing = shown.committing;
             engine = shown.engine;
             leads = shown.leads;
@@ -108,6 +110,7 @@ link-parts first second old waiting link remote frames w machine passed parts sa
     record {
       sessions = parts.sessions;
       sequencer = parts.sequencer;
+      by_calls = parts.by_calls;
       committing = parts.committing;
       engine = parts.engine;
       leads = parts.leads;

@@ -7,6 +7,7 @@ use Rattle.kv_types.specs.declared.refusal.Refusal.{Refusal}
 use Rattle.pipes.specs.Waiting.{Waiting, LocalTakes}
 use Rattle.pipes.specs.declared.limits.TheConstants as limits
 use Rattle.model.specs.declared.group.Group.{Group}
+use Rattle.model.specs.declared.record.Record.{Record}
 use Rattle.model.specs.Group.{Contents, IsGroup}
 use Rattle.model.specs.Standing.{Holder}
 use Rattle.redis_core.specs.Sequencing.{Sequencing, IsAheadOf}
@@ -24,13 +25,13 @@ use Rattle.machine.specs.declared.event.TheConstants.{PIPE_ITEMS}
 use Rattle.machine.specs.declared.event.Event.{Event}
 use Rattle.machine.specs.declared.event.Event.TheVariants as events
 use Rattle.machine.specs.Event.{World, Committer as MachineCommitter, committed_first, with_committer}
-use Rattle.world.specs.Committing.{EngineStands, CommittingRefines, next_primary}
+use Rattle.world.specs.Committing.{AreOfEpoch, EngineStands, CommittingRefines, next_primary}
 use Rattle.world.specs.Session.{SequencerRefines}
 use Rattle.world.specs.Standby.{Node}
 use Rattle.world.specs.Pair.{Pair, PartsRefine, PairRefines, Steps, Does}
 use Rattle.world.specs.declared.arrivals.Arrivals.{Arrivals}
 use Rattle.world.specs.declared.sessions.Sessions.{Sessions}
-use Rattle.world.proofs.CommittingLemmas.{commit-busy, commit-ends, commit-full, commit-goes, commit-moments, commit-none, first-lawful, hand-goes, hand-none, hand-room, may-commit, raise-goes, raise-none}
+use Rattle.world.proofs.CommittingLemmas.{commit-busy, commit-ends, commit-full, commit-goes, commit-moments, commit-none, first-lawful, first-own, hand-goes, hand-none, hand-room, may-commit, raise-goes, raise-none}
 use Rattle.world.proofs.PairLemmas.{Led, cut-for, none-added, rests-standby, tells}
 use Rattle.world.proofs.PairCommitting.{commit-steps, ends-commit, raise-does, same_closed, stays-does}
 use Rattle.world.proofs.PairLink.{hand-does}
@@ -84,6 +85,9 @@ module _ {E : Type 0} (device : E → State) (contents : E → Contents) (is_fau
       lawful : IsGroup old.contents group
       lawful = first-lawful old.contents groups.items group groups'.items are waits
 
+      own : AreOfEpoch old.contents.current.epoch groups.items → group.epoch ≡ old.contents.current.epoch
+      own epochs = first-own old.contents.current.epoch groups.items group groups'.items epochs waits
+
       parts-after : (first second : Holder) (w : World) (committer : MachineCommitter) → PartsRefine first second old w
           → CommittingRefines w.primary.calls new.committing committer × EngineStands first w.primary.calls committer.position new.device new.contents new.is_faulted
           → committer.closed ≡ w.primary.committer.closed → PartsRefine first second new (with_committer committer w)
@@ -91,10 +95,14 @@ module _ {E : Type 0} (device : E → State) (contents : E → Contents) (is_fau
           record {
             sessions = parts.sessions;
             sequencer = subst (λ n. SequencerRefines w.primary.calls n sequencer) (sym closed) parts.sequencer;
+            by_calls = parts.by_calls;
             committing = stand.0;
             engine = stand.1;
             leads = record {
               groups_are = AreGroups-committed old.contents new.contents group groups'.items (subst (AreGroups old.contents) waits are) commits.moved;
+              epochs = subst (λ epoch. AreOfEpoch epoch groups'.items)
+                  (sym (ap (λ (r : Record). r.epoch) commits.moved.current ∙ own parts.leads.epochs))
+                  (subst (AreOfEpoch old.contents.current.epoch) waits parts.leads.epochs).1;
               stands = subst (IsAheadOf sequencer) (ap (after_groups old.contents) waits ∙ sym (after_groups-committed old.contents new.contents group groups'.items commits.moved)) parts.leads.stands;
             };
             epoch = parts.epoch;
@@ -108,9 +116,9 @@ module _ {E : Type 0} (device : E → State) (contents : E → Contents) (is_fau
       steps first second w stands =
           let parts = stands.parts in
           let goes = commit-goes first w old.committing new.committing group waiting.items old.device new.device old.contents new.contents old.is_faulted new.is_faulted
-          ready room waits commits.in_hand commits.local lawful commits.moved commits.durable commits.sound.0 parts.committing parts.engine parts.link.waiting in
+          ready room waits commits.in_hand commits.local lawful (own parts.leads.epochs) commits.moved commits.durable commits.sound.0 parts.committing parts.engine parts.link.waiting in
           commit-steps first second w old new refl stands.sound commits.sound.1
-          (commit-moments first w old.committing group groups'.items old.device new.device old.contents old.is_faulted waits lawful commits.moments stands.sound parts.committing parts.engine)
+          (commit-moments first w old.committing group groups'.items old.device new.device old.contents old.is_faulted waits lawful (own parts.leads.epochs) commits.moments stands.sound parts.committing parts.engine)
           goes.done (parts-after first second w (committed_first w.primary.committer.waiting w.primary.committer) parts (goes.goes refl) (same_closed w.primary.committer.waiting w))
 
   refused : (before after : Committer E) (groups groups' waiting : Waiting Group) (group : Group) (refusal : Refusal) → before.stage ≡ Ready → AreGroups (contents before.engine) groups.items
@@ -124,11 +132,12 @@ module _ {E : Type 0} (device : E → State) (contents : E → Contents) (is_fau
             let new = pair_of after groups' waiting in
             let lawful = first-lawful old.contents groups.items group groups'.items are waits in
             let parts = stands.parts in
+            let own = first-own old.contents.current.epoch groups.items group groups'.items parts.leads.epochs waits in
             cut-for first second events.Commit refusal old new w stands (tells sessions)
             (may-commit w old.committing group groups'.items waiting.items ready room waits parts.committing parts.link.waiting)
             (ends-commit refusal (λ last _. last first w.primary.calls w.primary.committer.position (next_primary w) old.device new.device) (Led first second old new w)
             (λ last broken. (broken, rests-standby first second old w stands))
-            (commit-ends first w old.committing group groups'.items old.device new.device old.contents old.is_faulted (Err refusal) refusal refl waits lawful
+            (commit-ends first w old.committing group groups'.items old.device new.device old.contents old.is_faulted (Err refusal) refusal refl waits lawful own
             commits.causes commits.fault (λ cause. let told = commits.exhausted cause in (told.0, ap (λ (c : Committer E). device c.engine) told.1))
             commits.moments stands.sound parts.committing parts.engine));
         calls = none-added _ _ refl;

@@ -1,5 +1,5 @@
 -- A run from event to event, and what is reported of it at its end.
-use Rattle.std.proofs.Common.{◌≡◌, ◌⊎◌, ℕ, ◌+◌, ◌≤◌, Bool, List, [], ◌∷◌, ◌++◌, length, take, slice_index_or, Option, Some, None, refl, sym, ap, subst, ◌∙◌, arith, le_refl, append_assoc, inl, inr, true, cond, nat_eq, eqb-true, All, false, ◌<◌}
+use Rattle.std.proofs.Common.{◌≡◌, ◌⊎◌, ℕ, ◌≤◌, Bool, List, [], ◌∷◌, ◌++◌, length, take, slice_index_or, Option, Some, None, refl, sym, ap, subst, ◌∙◌, arith, le_refl, append_assoc, length-take, inl, inr, true, cond, nat_eq, eqb-true, All, false}
 use Rattle.pmem.specs.Device.{State}
 use Rattle.kv_types.specs.declared.refusal.Refusal.{Refusal}
 use Rattle.kv_types.specs.declared.refusal.Refusal.TheVariants.{Memory, Fault, Exhausted}
@@ -12,13 +12,13 @@ use Rattle.model.specs.Standing.{Holder, new_holder, StandsAt}
 use Rattle.model.proofs.StandingLemmas.{StandsAt-append}
 use Rattle.machine.specs.declared.event.Event.{Event}
 use Rattle.machine.specs.declared.event.Event.TheVariants.{Commit, Apply}
-use Rattle.machine.specs.declared.event.TheConstants.{SEATS}
 use Rattle.machine.specs.Event.{Run, World, Span, Frame as Sent, Committer, committed_first, start, last_world}
 use Rattle.machine.specs.Law.{Grows}
 use Rattle.machine.specs.Promise.{HasMarks, IsPromised, IsReleased, Tells, released_in}
 use Rattle.machine.specs.Sound.{IsChain, IsFrameWithin, Sound}
 use Rattle.std.proofs.lemmas.List.Elements.{All-head}
 use Rattle.machine.proofs.GrowLemmas.{grows-step, grows-from}
+use Rattle.machine.proofs.CountLemmas.{few-connections}
 use Rattle.machine.proofs.PromiseLemmas.{promised-told, released-covered}
 use Rattle.machine.proofs.RunLemmas.{run-push, last_world-push, some-last, sound-start, sound-run}
 use Rattle.machine.proofs.SoundEvents.{sound-step}
@@ -77,13 +77,20 @@ reaches-cut first second began events event refusal done pair pair' cuts after =
 
 -- ---- the connections are few
 
+-- no more than there are events
 pub few-played : (first second : Holder) (began : Pair) (events : List Event) (ended : Option EarlyEnd) (done : List Bool) (pair : Pair) → Plays first second began events ended done pair
-    → length pair.sessions.connections.items ≤ SEATS
+    → length pair.sessions.connections.items ≤ length events
 few-played first second began events None done pair plays =
     let w = last_world start plays.reaches.worlds in
-    omega (arith, plays.stands.sound.connections.seats, length-connections w.primary.calls 0 pair.sessions.connections.items w.primary.connections plays.stands.parts.sessions.connections_stand)
+    omega (
+      arith,
+      few-connections events done plays.reaches.worlds plays.reaches.run,
+      length-connections w.primary.calls pair.sessions.connections.items w.primary.connections plays.stands.parts.sessions.connections_stand,
+    )
 few-played first second began events (Some (AtFormatting refusal)) done pair plays = absurd plays
-few-played first second began events (Some (AtEvent index refusal)) done pair plays = plays.2.cut.few
+few-played first second began events (Some (AtEvent index refusal)) done pair plays =
+    let reaches = plays.2.reaches in
+    omega (arith, few-connections (take index events) done reaches.worlds reaches.run, plays.2.cut.count, length-take index events)
 
 -- ---- the position of a node
 
@@ -255,7 +262,7 @@ played-whole first second began events done pair released same after =
     (resting-from first pair.sessions.calls.items) (resting-from second pair.sessions.calls.items) after.reaches
     (record {
       list = told;
-      bytes = λ c. ap (λ (all : List (List ℕ)). slice_index_or all c []) same ∙ released-told w.primary.calls 0 pair.sessions.connections.items w.primary.connections parts.sessions.connections_stand c;
+      bytes = λ c. ap (λ (all : List (List ℕ)). slice_index_or all c []) same ∙ released-told w.primary.calls pair.sessions.connections.items w.primary.connections parts.sessions.connections_stand c;
       primary_position = refl;
       standby_position = refl;
     })

@@ -1,5 +1,5 @@
 -- The sequencer still refines the list of calls after each step.
-use Rattle.std.proofs.Common.{◌≡◌, ◌≢◌, ℕ, zero, suc, ◌+◌, ◌-◌, ◌<◌, ◌≤◌, ◌++◌, ◌||◌, Bool, true, false, cond, nat_lt, List, [], ◌∷◌, length, take, slice_index_or, slice_set, Result, Err, IfErr, IsErrOf, ◌⊎◌, refl, sym, ap, ap₂, subst, ◌∙◌, arith, add-zero, length-append, inl, inr, get_or-set_same, get_or-set_other, le_refl}
+use Rattle.std.proofs.Common.{◌≡◌, ◌≢◌, ℕ, zero, suc, ◌+◌, ◌-◌, ◌<◌, ◌≤◌, ◌++◌, ◌||◌, Bool, true, false, cond, nat_lt, List, [], ◌∷◌, length, take, slice_index_or, slice_set, Option, Result, Err, IfErr, IsErrOf, ◌⊎◌, refl, sym, ap, ap₂, subst, ◌∙◌, arith, add-zero, length-append, inl, inr, get_or-set_same, get_or-set_other, le_refl}
 use Rattle.std.proofs.lemmas.Bool.{and_from, cases_eq, cases_lt, false_from_ne_true, lt-ltb, ltb-true, or_left, or_right}
 use Rattle.std.proofs.lemmas.List.{set_past}
 use Rattle.std.proofs.lemmas.List.Folds.{list_any-append}
@@ -20,7 +20,7 @@ use Rattle.model.specs.Position.{changes_at, changes_since}
 use Rattle.model.proofs.CallsLemmas.{changes_of-alike, keyspace_after-push, position_of-push, sessions_idle}
 use Rattle.model.proofs.PositionsLemmas.{changes_at-append, changes_at-push}
 use Rattle.model.proofs.ServesLemmas.{items_of-push_own, items_of-push_other}
-use Rattle.redis_core.specs.Sequencing.{HandsOut, Sequencing, IsAheadOf, state_of}
+use Rattle.redis_core.specs.Sequencing.{HandsOut, Sequencing, IsAheadOf, is_closed, opened, state_of}
 use Rattle.redis_core.specs.Turn.{Answers, Moves, call_of}
 use Rattle.machine.specs.declared.event.Event.TheVariants.{CloseGroup}
 use Rattle.machine.specs.declared.event.TheConstants.{PIPE_ITEMS}
@@ -29,10 +29,10 @@ use Rattle.machine.proofs.SoundConnection.{both}
 use Rattle.group_commit.specs.declared.stage.Stage.{Stage}
 use Rattle.group_commit.proofs.GroupsLemmas.{AreGroups-push, after_groups-push}
 use Rattle.group_commit.specs.Group.{after_groups}
-use Rattle.world.specs.Committing.{Committing, CommittingRefines, Leads, StageRefines}
+use Rattle.world.specs.Committing.{AreOfEpoch, Committing, CommittingRefines, Leads, StageRefines}
 use Rattle.world.specs.Going.{Goes}
 use Rattle.world.specs.GroupSpan.{AreGroupsOf, IsGroupOf}
-use Rattle.world.specs.Session.{AreOpen, SequencerRefines}
+use Rattle.world.specs.Session.{AreOpen, ClosedByCalls, HasSeat, SequencerRefines}
 use Rattle.world.proofs.GroupSpanLemmas.{length-groups}
 
 -- ---- the parts that wait
@@ -105,39 +105,55 @@ open-before (suc n) (item ∷ items) (x ∷ xs) ys y e =
     no_more zero (x ∷ xs) ys y h = cc
     no_more (suc n) (x ∷ xs) ys y h = cc
 
--- where a seat is closed after a call, a call of its connection closed it
-pub seats-stand : (closed : List Bool) (calls : List Call) (call : Call) → ((d : ℕ) → slice_index_or closed d false ≡ true → list_any closes (items_of d calls) ≡ true)
-    → (d : ℕ) → slice_index_or (slice_set closed call.connection (closes call.item)) d false ≡ true → list_any closes (items_of d (calls ++ call ∷ [])) ≡ true
-seats-stand closed calls call stands d h =
-    let c = call.connection in
-    elim (cases_eq d c) [
-      | inl same ↦
-          let own : list_any closes (items_of d (calls ++ call ∷ [])) ≡ (list_any closes (items_of d calls) || list_any closes (call.item ∷ [])) =
-          ap (list_any closes) (items_of-push_own d calls call (sym same)) ∙ list_any-append closes (items_of d calls) (call.item ∷ []) in
-          own ∙ elim (cases_lt c (length closed)) [
-            | inl lt ↦
-                let closing : closes call.item ≡ true = sym (get_or-set_same closed c (closes call.item) false lt) ∙ ap (λ n. slice_index_or (slice_set closed c (closes call.item)) n false) (sym same) ∙ h in
-                or_right (list_any closes (items_of d calls)) (list_any closes (call.item ∷ [])) (ap (λ b. b || false) closing)
-            | inr past ↦
-                let before : slice_index_or closed d false ≡ true = ap (λ (xs : List Bool). slice_index_or xs d false) (sym (set_past closed c (closes call.item) past)) ∙ h in
-                or_left (list_any closes (items_of d calls)) (list_any closes (call.item ∷ [])) (stands d before)
-          ]
-      | inr differ ↦
-          let before : slice_index_or closed d false ≡ true = sym (get_or-set_other closed c d (closes call.item) false differ) ∙ h in
-          ap (list_any closes) (items_of-push_other d calls call (λ e. differ (sym e))) ∙ stands d before
+-- a call of this connection closed it: one of those before, or the last
+closed-own : (closed : List Bool) (calls : List Call) (call : Call) (seat : ℕ) → (slice_index_or closed seat false ≡ true → list_any closes (items_of call.connection calls) ≡ true)
+    → slice_index_or (slice_set closed seat (closes call.item)) seat false ≡ true → list_any closes (items_of call.connection (calls ++ call ∷ [])) ≡ true
+closed-own closed calls call seat stands shut =
+    let before = items_of call.connection calls in
+    let own : list_any closes (items_of call.connection (calls ++ call ∷ [])) ≡ (list_any closes before || list_any closes (call.item ∷ [])) =
+    ap (list_any closes) (items_of-push_own call.connection calls call refl) ∙ list_any-append closes before (call.item ∷ []) in
+    own ∙ elim (cases_lt seat (length closed)) [
+      | inl lt ↦ or_right (list_any closes before) (list_any closes (call.item ∷ [])) (ap (λ b. b || false) (sym (get_or-set_same closed seat (closes call.item) false lt) ∙ shut))
+      | inr past ↦ or_left (list_any closes before) (list_any closes (call.item ∷ [])) (stands (ap (λ (xs : List Bool). slice_index_or xs seat false) (sym (set_past closed seat (closes call.item) past)) ∙ shut))
     ]
+
+-- no two connections have one seat, so a call closes at most its own
+pub by_calls-answered : (calls : List Call) (seats : List (Option ℕ)) (old new : Sequencing) (c seat : ℕ) (item : Item) (reply : Reply) → HasSeat seats c seat
+    → ((c d seat : ℕ) → HasSeat seats c seat → HasSeat seats d seat → c ≡ d) → ClosedByCalls calls seats old → Answers old seat item reply new → ClosedByCalls (calls ++ call_of c item reply ∷ []) seats new
+by_calls-answered calls seats old new c seat item reply own apart by_calls answers = record { by_call = by_call }
+  where
+    call : Call
+    call = call_of c item reply
+
+    one_seat : (other : ℕ) → HasSeat seats c other → other ≡ seat
+    one_seat other has = cc
+
+    by_call : (d other : ℕ) → HasSeat seats d other → is_closed new other ≡ true → list_any closes (items_of d (calls ++ call ∷ [])) ≡ true
+    by_call d other has shut =
+        let now : slice_index_or (slice_set old.closed seat (closes item)) other false ≡ true = ap (λ (xs : List Bool). slice_index_or xs other false) (sym answers.closed) ∙ shut in
+        elim (cases_eq d c) [
+          | inl same ↦
+              let at : other ≡ seat = one_seat other (subst (λ e. HasSeat seats e other) same has) in
+              ap (λ e. list_any closes (items_of e (calls ++ call ∷ []))) same
+              ∙ closed-own old.closed calls call seat (by_calls.by_call c seat own) (ap (λ n. slice_index_or (slice_set old.closed seat (closes item)) n false) (sym at) ∙ now)
+          | inr differ ↦
+              let apart_seats : other ≢ seat = λ same. differ (apart d c seat (subst (HasSeat seats d) same has) own) in
+              ap (list_any closes) (items_of-push_other d calls call (λ e. differ (sym e)))
+              ∙ by_calls.by_call d other has (sym (get_or-set_other old.closed seat other (closes item) false apart_seats) ∙ now)
+        ]
 
 -- ---- a turn
 
--- what the sequencer answers is a call that was made at the state after the list
-pub alike-state : (calls : List Call) (closed : ℕ) (s : Sequencing) (call : Call) → SequencerRefines calls closed s → AreAlike (state_of s) call (state_after calls) call
-alike-state calls closed s call stands = record { keyspace = stands.table; session = sym (sessions_idle calls call.connection); item = refl; reply = refl }
+-- what the sequencer answers at a seat is a call of its connection, made at the state after the list
+pub alike-state : (calls : List Call) (closed : ℕ) (s : Sequencing) (c seat : ℕ) (item : Item) (reply : Reply) → SequencerRefines calls closed s → AreAlike (state_of s) (call_of seat item reply) (state_after calls) (call_of c item reply)
+alike-state calls closed s c seat item reply stands = record { keyspace = stands.table; session = sym (sessions_idle calls c); item = refl; reply = refl }
 
-pub sequencer-answered : (calls : List Call) (closed : ℕ) (old new : Sequencing) (c : ℕ) (item : Item) (reply : Reply) → SequencerRefines calls closed old → Answers old c item reply new
+pub sequencer-answered : (calls : List Call) (closed : ℕ) (old new : Sequencing) (c seat : ℕ) (item : Item) (reply : Reply) → SequencerRefines calls closed old → Answers old seat item reply new
     → SequencerRefines (calls ++ call_of c item reply ∷ []) closed new
-sequencer-answered calls closed old new c item reply stands answers =
+sequencer-answered calls closed old new c seat item reply stands answers =
     let call = call_of c item reply in
-    let changes : changes_of (state_of old) call ≡ changes_of (state_after calls) call = changes_of-alike (state_of old) (state_after calls) call call (alike-state calls closed old call stands) in
+    let changes : changes_of (state_of old) (call_of seat item reply) ≡ changes_of (state_after calls) call =
+    changes_of-alike (state_of old) (state_after calls) (call_of seat item reply) call (alike-state calls closed old c seat item reply stands) in
     let waits = waits-by calls call closed old new (changes_of (state_after calls) call) refl stands.position
     (subst (λ (made : List Change). Moves made old new) changes answers.moves) (record { are = stands.waiting; count = stands.count }) in
     record {
@@ -146,8 +162,12 @@ sequencer-answered calls closed old new c item reply stands answers =
       before = answers.before ∙ stands.before;
       waiting = waits.are;
       count = waits.count;
-      seats = λ d h. seats-stand old.closed calls call stands.seats d (ap (λ (xs : List Bool). slice_index_or xs d false) (sym answers.closed) ∙ h);
     }
+
+-- ---- a seat is opened
+
+pub sequencer-opened : (calls : List Call) (closed seat : ℕ) (s : Sequencing) → SequencerRefines calls closed s → SequencerRefines calls closed (opened seat s)
+sequencer-opened calls closed seat s stands = record { table = stands.table; position = stands.position; before = stands.before; waiting = stands.waiting; count = stands.count }
 
 -- ---- a group is closed
 
@@ -172,8 +192,10 @@ sequencer-handed calls closed old new group stands hands =
       before = stands.position;
       waiting = tt;
       count = add-zero (position_of calls);
-      seats = stands.seats;
     })
+
+pub by_calls-handed : (calls : List Call) (seats : List (Option ℕ)) (old new : Sequencing) (group : Group) → HandsOut old group new → ClosedByCalls calls seats old → ClosedByCalls calls seats new
+by_calls-handed calls seats old new group hands by_calls = subst (ClosedByCalls calls seats) (sym hands.after) (record { by_call = by_calls.by_call })
 
 -- and they are the group of all positions after those that were closed
 pub IsGroupOf-handed : (calls : List Call) (closed : ℕ) (old new : Sequencing) (group : Group) → SequencerRefines calls closed old → HandsOut old group new
@@ -193,13 +215,24 @@ AreGroupsOf-push calls [] (first ∷ spans) group span are is = absurd are
 AreGroupsOf-push calls (first ∷ groups) [] group span are is = absurd are
 AreGroupsOf-push calls (first ∷ groups) (s ∷ spans) group span are is = (are.0, AreGroupsOf-push calls groups spans group span are.1 is)
 
+-- groups of the record's epoch leave it as it is
+epoch-after_groups : (epoch : ℕ) (contents : Contents) (groups : List Group) → contents.current.epoch ≡ epoch → AreOfEpoch epoch groups → (after_groups contents groups).current.epoch ≡ epoch
+epoch-after_groups epoch contents [] same are = same
+epoch-after_groups epoch contents (group ∷ groups) same are = epoch-after_groups epoch (after_group contents group) groups are.0 are.1
+
+AreOfEpoch-push : (epoch : ℕ) (groups : List Group) (group : Group) → AreOfEpoch epoch groups → group.epoch ≡ epoch → AreOfEpoch epoch (groups ++ group ∷ [])
+AreOfEpoch-push epoch [] group are is = (is, tt)
+AreOfEpoch-push epoch (first ∷ groups) group are is = (are.0, AreOfEpoch-push epoch groups group are.1 is)
+
 -- what is to be committed still leads to the sequencer
-pub Leads-push : (contents : Contents) (groups groups' : List Group) (group : Group) (old new : Sequencing) → Leads contents groups old → groups' ≡ groups ++ group ∷ []
+pub Leads-push : (contents : Contents) (groups groups' : List Group) (group : Group) (old new : Sequencing) → Leads contents groups old → groups' ≡ groups ++ group ∷ [] → group.epoch ≡ old.epoch
     → ((before : Contents) → IsAheadOf old before → IsGroup before group × IsAheadOf new (after_group before group)) → Leads contents groups' new
-Leads-push contents groups groups' group old new leads pushed closes_group =
+Leads-push contents groups groups' group old new leads pushed own closes_group =
     let closed = closes_group (after_groups contents groups) leads.stands in
     subst (λ (xs : List Group). Leads contents xs new) (sym pushed) (record {
       groups_are = AreGroups-push contents groups group leads.groups_are closed.0;
+      epochs = AreOfEpoch-push contents.current.epoch groups group leads.epochs
+          (own ∙ leads.stands.epoch ∙ epoch-after_groups contents.current.epoch contents groups refl leads.epochs);
       stands = subst (IsAheadOf new) (sym (after_groups-push contents groups group)) closed.1;
     })
 

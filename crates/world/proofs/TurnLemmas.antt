@@ -1,11 +1,12 @@
 -- A turn of the sequencer takes the connections, the list of calls and the sequencer to those of the machine after it.
-use Rattle.std.proofs.Common.{◌≡◌, ◌≢◌, ℕ, zero, suc, ◌+◌, ◌<◌, ◌≤◌, ◌++◌, ◌&&◌, ◌==◌, true, false, nat_lt, List, [], ◌∷◌, length, take, drop, slice_get, slice_index_or, slice_set, Some, refl, sym, ap, ap₂, subst, ◌∙◌, arith, add-zero}
+use Rattle.std.proofs.Common.{◌≡◌, ◌≢◌, ℕ, zero, suc, ◌<◌, ◌≤◌, ◌++◌, ◌&&◌, ◌==◌, true, false, nat_lt, List, [], ◌∷◌, length, take, drop, slice_get, slice_index_or, slice_set, Option, Some, None, refl, sym, ap, ap₂, subst, ◌∙◌, arith}
 use Rattle.std.proofs.lemmas.Bool.{eqb-true, ltb-true, lt-ltb, and_from, both_ways, false_from_ne_true}
 use Rattle.std.specs.List.{list_any}
 use Rattle.kv_types.specs.declared.item.Item.{Item}
 use Rattle.kv_types.specs.declared.reply.Held.{Held}
-use Rattle.kv_types.specs.declared.limits.TheConstants.{SERVED_LIMITS}
+use Rattle.kv_types.specs.declared.limits.TheConstants.{REQUEST_LIMITS}
 use Rattle.kv_types.specs.Reading.{items_at}
+use Rattle.lobby.specs.Book.{Book}
 use Rattle.model.specs.declared.call.Call.{Call}
 use Rattle.model.specs.declared.group.TheConstants.{MAX_PARTS}
 use Rattle.model.specs.Call.{is_nonempty, items_of, position_of, state_after}
@@ -15,11 +16,12 @@ use Rattle.machine.specs.declared.event.Event.TheVariants.{Turn}
 use Rattle.machine.specs.declared.event.TheConstants.{PIPE_ITEMS, OPEN_CHANGES}
 use Rattle.machine.specs.Event.{Inbound as MachineInbound, Outbound as MachineOutbound, Connection as MachineConnection, World, asked, called, changed_at, connection_of, get_connection, has_room, may_happen, is_open, open_changes, taken_first, with_inbound, with_made, with_outbound}
 use Rattle.machine.specs.Sound.{Sound}
-use Rattle.machine.proofs.ConnectionLemmas.{open-lt, length-changed_at}
 use Rattle.machine.proofs.SoundConnection.{four}
 use Rattle.redis_core.specs.Sequencing.{Sequencing, is_closed, state_of}
 use Rattle.redis_core.specs.Turn.{Answers, call_of}
+use Rattle.world.specs.declared.connection.Client.{Client}
 use Rattle.world.specs.declared.connection.Connection.{Connection}
+use Rattle.world.specs.declared.connection.Connection.TheVariants.{Open}
 use Rattle.world.specs.declared.inbound.Inbound.{Inbound}
 use Rattle.world.specs.declared.outbound.Made.{Made}
 use Rattle.world.specs.declared.outbound.Outbound.{Outbound}
@@ -27,9 +29,10 @@ use Rattle.world.specs.declared.sessions.Sessions.{Sessions}
 use Rattle.world.specs.Inbound.{HasParsed, InboundRefines}
 use Rattle.world.specs.Outbound.{IsMade, AreMade, GateRefines, OutboundRefines}
 use Rattle.world.specs.Running.{Runs}
-use Rattle.world.specs.Session.{ConnectionRefines, ConnectionsRefine, SeatsRefine, SessionsRefine, SequencerRefines, TakesTurn}
-use Rattle.world.proofs.SessionLemmas.{AreMade-grows, ConnectionsRefine-grows, length-connections}
-use Rattle.world.proofs.SequencerLemmas.{alike-state, open-before, sequencer-answered}
+use Rattle.world.specs.Session.{ClientRefines, ConnectionRefines, ConnectionsRefine, HasSeat, SeatsRefine, SessionsRefine, ClosedByCalls, SequencerRefines, TakesTurn, seat_of, seats_of}
+use Rattle.world.proofs.SessionLemmas.{AreMade-grows, ConnectionsRefine-grows, ConnectionsRefine-replaced, connection-stands, none-open, over-goes, over-shut, same-seats, with_connection}
+use Rattle.world.proofs.SeatLemmas.{has-at}
+use Rattle.world.proofs.SequencerLemmas.{alike-state, by_calls-answered, open-before, sequencer-answered}
 
 -- ---- the list of calls grows
 
@@ -39,35 +42,14 @@ slice_get-last (first ∷ calls) call = slice_get-last calls call
 
 -- ---- one of the connections
 
-stands-at : (calls : List Call) (n : ℕ) (codes : List Connection) (machines : List MachineConnection) (c : ℕ) (code : Connection) → ConnectionsRefine calls n codes machines
-    → c < length codes → code ≡ slice_index_or codes c code → (k : ℕ) → k ≡ n + c → ConnectionRefines calls k code (get_connection machines c)
-stands-at calls n [] machines c code stand lt is k e = absurd (omega arith)
-stands-at calls n (first ∷ codes) [] c code stand lt is k e = absurd stand
-stands-at calls n (first ∷ codes) (machine ∷ machines) zero code stand lt is k e =
-    let same : n ≡ k = omega arith in
-    subst (λ m. ConnectionRefines calls m code machine) same (subst (λ (x : Connection). ConnectionRefines calls n x machine) (sym is) stand.0)
-stands-at calls n (first ∷ codes) (machine ∷ machines) (suc c) code stand lt is k e = stands-at calls (suc n) codes machines c code stand.1 (omega arith) is k (omega arith)
-
--- another connection in its place, which refines the same
-stand-replaced : (calls : List Call) (n : ℕ) (codes : List Connection) (machines : List MachineConnection) (c : ℕ) (code : Connection) → ConnectionsRefine calls n codes machines
-    → ConnectionRefines calls (n + c) code (get_connection machines c) → ConnectionsRefine calls n (slice_set codes c code) machines
-stand-replaced calls n [] machines c code stand at = stand
-stand-replaced calls n (first ∷ codes) [] c code stand at = absurd stand
-stand-replaced calls n (first ∷ codes) (machine ∷ machines) zero code stand at = (subst (λ m. ConnectionRefines calls m code machine) (add-zero n) at, stand.1)
-stand-replaced calls n (first ∷ codes) (machine ∷ machines) (suc c) code stand at =
-    let same : n + suc c ≡ suc n + c = omega arith in
-    (stand.0, stand-replaced calls (suc n) codes machines c code stand.1 (subst (λ m. ConnectionRefines calls m code (get_connection machines c)) same at))
-
 -- it is changed twice
-stand-changed : (calls : List Call) (n : ℕ) (codes : List Connection) (machines : List MachineConnection) (c : ℕ) (code : Connection) (first second : MachineConnection → MachineConnection) → ConnectionsRefine calls n codes machines
-    → ConnectionRefines calls (n + c) code (second (first (get_connection machines c))) → ConnectionsRefine calls n (slice_set codes c code) (changed_at c second (changed_at c first machines))
-stand-changed calls n [] [] c code first second stand at = tt
-stand-changed calls n [] (machine ∷ machines) c code first second stand at = absurd stand
-stand-changed calls n (old ∷ codes) [] c code first second stand at = absurd stand
-stand-changed calls n (old ∷ codes) (machine ∷ machines) zero code first second stand at = (subst (λ m. ConnectionRefines calls m code (second (first machine))) (add-zero n) at, stand.1)
-stand-changed calls n (old ∷ codes) (machine ∷ machines) (suc c) code first second stand at =
-    let same : n + suc c ≡ suc n + c = omega arith in
-    (stand.0, stand-changed calls (suc n) codes machines c code first second stand.1 (subst (λ m. ConnectionRefines calls m code (second (first (get_connection machines c)))) same at))
+stand-changed : (calls : List Call) (codes : List Connection) (machines : List MachineConnection) (c : ℕ) (code : Connection) (first second : MachineConnection → MachineConnection) → ConnectionsRefine calls codes machines
+    → ConnectionRefines calls code (second (first (get_connection machines c))) → ConnectionsRefine calls (slice_set codes c code) (changed_at c second (changed_at c first machines))
+stand-changed calls [] [] c code first second stand at = tt
+stand-changed calls [] (machine ∷ machines) c code first second stand at = absurd stand
+stand-changed calls (old ∷ codes) [] c code first second stand at = absurd stand
+stand-changed calls (old ∷ codes) (machine ∷ machines) zero code first second stand at = (at, stand.1)
+stand-changed calls (old ∷ codes) (machine ∷ machines) (suc c) code first second stand at = (stand.0, stand-changed calls codes machines c code first second stand.1 at)
 
 -- ---- what a turn takes
 
@@ -107,7 +89,7 @@ inbound-taken old new machine item rest others stands is asks parser is_closed a
     let kept : drop stands.run (asked machine.fed) ≡ item ∷ others = stands.kept ∙ asks in
     let first : take (length (item ∷ rest)) (item ∷ others) ≡ item ∷ rest = ap₂ (λ (xs ys : List Item). take (length xs) ys) (sym waits) (sym asks) ∙ stands.first ∙ waits in
     record {
-      parsed = subst (HasParsed machine.fed) (sym parser) stands.parsed;
+      parsed = λ stays. subst (HasParsed machine.fed) (sym parser) (stands.parsed (sym is_closed ∙ stays));
       closed = is_closed ∙ stands.closed;
       run = suc stands.run;
       within = drop-within stands.run (asked machine.fed) others item kept;
@@ -143,7 +125,7 @@ outbound-made calls call position old new machine stands at made gate released s
 -- ---- where a turn is enabled
 
 -- what it requires of the code
-pub record MayRun (code : Connection) (sequencer : Sequencing) : Type 0 where
+pub record MayRun (code : Client) (sequencer : Sequencing) : Type 0 where
   pub waits : code.inbound.waiting.items ≢ []
   pub room : length code.outbound.made.items < PIPE_ITEMS
   pub few : length sequencer.waiting < MAX_PARTS
@@ -155,39 +137,40 @@ length-made calls [] (held ∷ helds) are = absurd are
 length-made calls (made ∷ mades) [] are = absurd are
 length-made calls (made ∷ mades) (held ∷ helds) are = ap suc (length-made calls mades helds are.1)
 
-open-while-waiting : (w : World) (c : ℕ) (s : Sequencing) → Sound w → SequencerRefines w.primary.calls w.primary.committer.closed s → is_nonempty (connection_of w c).inbound.waiting ≡ true → is_closed s c ≡ false
-open-while-waiting w c s sound stands waits =
+open-while-waiting : (w : World) (c seat : ℕ) (seats : List (Option ℕ)) (s : Sequencing) → Sound w → ClosedByCalls w.primary.calls seats s → HasSeat seats c seat → is_nonempty (connection_of w c).inbound.waiting ≡ true → is_closed s seat ≡ false
+open-while-waiting w c seat seats s sound by_calls own waits =
     let inbound = (connection_of w c).inbound in
-    false_from_ne_true (is_closed s c) (λ closed. both_ways (list_any closes (items_of c w.primary.calls)) (none inbound.waiting waits (sound.inbound c).order) (stands.seats c closed))
+    false_from_ne_true (is_closed s seat) (λ closed. both_ways (list_any closes (items_of c w.primary.calls)) (none inbound.waiting waits (sound.inbound c).order) (by_calls.by_call c seat own closed))
   where
     none : (waiting : List Item) → is_nonempty waiting ≡ true → items_of c w.primary.calls ++ waiting ≡ take (connection_of w c).inbound.offered (asked (connection_of w c).inbound.fed) → list_any closes (items_of c w.primary.calls) ≡ false
     none [] some order = cc
-    none (item ∷ items) some order = open-before (connection_of w c).inbound.offered (items_at SERVED_LIMITS (connection_of w c).inbound.fed) (items_of c w.primary.calls) items item order
+    none (item ∷ items) some order = open-before (connection_of w c).inbound.offered (items_at REQUEST_LIMITS (connection_of w c).inbound.fed) (items_of c w.primary.calls) items item order
 
 is_nonempty-some : {X : Type 0} (xs : List X) → is_nonempty xs ≡ true → xs ≢ []
 is_nonempty-some [] e = λ h. cc
 is_nonempty-some (x ∷ xs) e = λ h. cc
 
-enabled-runs : (w : World) (c : ℕ) (code : Connection) (s : Sequencing) → Sound w → SequencerRefines w.primary.calls w.primary.committer.closed s → ConnectionRefines w.primary.calls c code (connection_of w c)
+enabled-runs : (w : World) (c : ℕ) (code : Client) (seats : List (Option ℕ)) (s : Sequencing) → Sound w → SequencerRefines w.primary.calls w.primary.committer.closed s → ClosedByCalls w.primary.calls seats s → HasSeat seats c code.seat
+    → ClientRefines w.primary.calls code (connection_of w c)
     → may_happen w (Turn c) ≡ true → MayRun code s
-enabled-runs w c code s sound stands connection e =
+enabled-runs w c code seats s sound stands by_calls own connection e =
     let machine = connection_of w c in
     let parts = four (is_open w c) (is_nonempty machine.inbound.waiting) (has_room machine.outbound.made) (nat_lt (open_changes w) OPEN_CHANGES) e in
     record {
       waits = λ h. is_nonempty-some machine.inbound.waiting parts.1 (sym connection.inbound.waits ∙ h);
       room = omega (arith, ltb-true (length machine.outbound.made) PIPE_ITEMS parts.2, length-made w.primary.calls code.outbound.made.items machine.outbound.made connection.outbound.made);
       few = omega (arith, ltb-true (open_changes w) OPEN_CHANGES parts.3, stands.count);
-      is_open = ap (is_closed s) connection.seat ∙ open-while-waiting w c s sound stands parts.1;
+      is_open = open-while-waiting w c code.seat seats s sound by_calls own parts.1;
     }
 
-enabled-open : (w : World) (c : ℕ) → may_happen w (Turn c) ≡ true → c < length w.primary.connections
+enabled-open : (w : World) (c : ℕ) → may_happen w (Turn c) ≡ true → is_open w c ≡ true
 enabled-open w c e =
     let machine = connection_of w c in
-    open-lt w.primary.connections c (four (is_open w c) (is_nonempty machine.inbound.waiting) (has_room machine.outbound.made) (nat_lt (open_changes w) OPEN_CHANGES) e).0
+    (four (is_open w c) (is_nonempty machine.inbound.waiting) (has_room machine.outbound.made) (nat_lt (open_changes w) OPEN_CHANGES) e).0
 
-runs-enabled : (w : World) (c : ℕ) (code : Connection) (s : Sequencing) → SequencerRefines w.primary.calls w.primary.committer.closed s → ConnectionRefines w.primary.calls c code (connection_of w c)
-    → c < length w.primary.connections → code.inbound.waiting.items ≢ [] → length code.outbound.made.items < PIPE_ITEMS → length s.waiting < MAX_PARTS → may_happen w (Turn c) ≡ true
-runs-enabled w c code s stands connection lt waits room few =
+runs-enabled : (w : World) (c : ℕ) (code : Client) (s : Sequencing) → SequencerRefines w.primary.calls w.primary.committer.closed s → ClientRefines w.primary.calls code (connection_of w c)
+    → code.inbound.waiting.items ≢ [] → length code.outbound.made.items < PIPE_ITEMS → length s.waiting < MAX_PARTS → may_happen w (Turn c) ≡ true
+runs-enabled w c code s stands connection waits room few =
     let machine = connection_of w c in
     let some : is_nonempty machine.inbound.waiting ≡ true = nonempty machine.inbound.waiting (λ h. waits (connection.inbound.waits ∙ h)) in
     let fits : has_room machine.outbound.made ≡ true =
@@ -217,16 +200,24 @@ no-turn w c sessions s s' never stands same = record {
 -- there is no such connection
 pub no-turn-past : (w : World) (c : ℕ) (sessions : Sessions) (s : Sequencing) → length sessions.connections.items ≤ c → SessionsRefine sessions w.primary.connections w.primary.calls → TakesTurn w c false sessions s s
 no-turn-past w c sessions s past stands =
-    no-turn w c sessions s s (λ e. absurd (omega (arith, enabled-open w c e, length-connections w.primary.calls 0 sessions.connections.items w.primary.connections stands.connections_stand))) stands refl
+    no-turn w c sessions s s (λ e. both_ways (is_open w c) (none-open w sessions c past stands) (enabled-open w c e)) stands refl
+
+-- the connection is over
+pub no-turn-over : (w : World) (c : ℕ) (sessions : Sessions) (code : Connection) (s : Sequencing) → seat_of code ≡ None → c < length sessions.connections.items → code ≡ slice_index_or sessions.connections.items c code
+    → SessionsRefine sessions w.primary.connections w.primary.calls → TakesTurn w c false (with_connection sessions c code) s s
+no-turn-over w c sessions code s none lt is stands =
+    let shut = over-shut w sessions c code none lt is stands in
+    let stays = over-goes (λ b. b) w sessions c code code {Moved = Unit {0}} lt is none none refl refl stands in
+    no-turn w c (with_connection sessions c code) s s (λ e. both_ways (is_open w c) shut (enabled-open w c e)) (stays.stays refl) refl
 
 -- the connection of a number that there is
-pub connection-stands : (w : World) (c : ℕ) (sessions : Sessions) (code : Connection) → SessionsRefine sessions w.primary.connections w.primary.calls → c < length sessions.connections.items
-    → code ≡ slice_index_or sessions.connections.items c code → ConnectionRefines w.primary.calls c code (connection_of w c)
-connection-stands w c sessions code stands lt is = stands-at w.primary.calls 0 sessions.connections.items w.primary.connections c code stands.connections_stand lt is c (omega arith)
+pub client-stands : (w : World) (c : ℕ) (sessions : Sessions) (code : Client) → SessionsRefine sessions w.primary.connections w.primary.calls → c < length sessions.connections.items
+    → Open code ≡ slice_index_or sessions.connections.items c (Open code) → ClientRefines w.primary.calls code (connection_of w c)
+client-stands w c sessions code stands lt is = connection-stands w.primary.calls c sessions.connections.items w.primary.connections (Open code) lt is stands.connections_stand
 
 inbound-same : (old new : Inbound) (machine : MachineInbound) → InboundRefines old machine → new.parser ≡ old.parser → new.is_closed ≡ old.is_closed → new.asked.items ≡ old.asked.items → new.waiting.items ≡ old.waiting.items → InboundRefines new machine
 inbound-same old new machine stands parser is_closed asked_same waiting_same = record {
-  parsed = subst (HasParsed machine.fed) (sym parser) stands.parsed;
+  parsed = λ stays. subst (HasParsed machine.fed) (sym parser) (stands.parsed (sym is_closed ∙ stays));
   closed = is_closed ∙ stands.closed;
   run = stands.run;
   within = stands.within;
@@ -237,9 +228,9 @@ inbound-same old new machine stands parser is_closed asked_same waiting_same = r
 }
 
 -- what a turn leaves alone
-pub record LeavesRest (old new : Sessions) (c : ℕ) (code code' : Connection) : Type 0 where
+pub record LeavesRest (old new : Sessions) (c : ℕ) (code code' : Client) : Type 0 where
   pub lobby : new.lobby ≡ old.lobby
-  pub connections : new.connections.items ≡ slice_set old.connections.items c code'
+  pub connections : new.connections.items ≡ slice_set old.connections.items c (Open code')
   pub seat : code'.seat ≡ code.seat
   pub parser : code'.inbound.parser ≡ code.inbound.parser
   pub is_closed_same : code'.inbound.is_closed ≡ code.inbound.is_closed
@@ -247,16 +238,26 @@ pub record LeavesRest (old new : Sessions) (c : ℕ) (code code' : Connection) :
   pub seen : code'.outbound.seen ≡ code.outbound.seen
   pub released : code'.outbound.released ≡ code.outbound.released
 
+-- no connection has another seat
+pub turn-seats : (old new : Sessions) (c : ℕ) (code code' : Client) → Open code ≡ slice_index_or old.connections.items c (Open code) → LeavesRest old new c code code' → seats_of new.connections.items ≡ seats_of old.connections.items
+turn-seats old new c code code' is rest = ap seats_of rest.connections ∙ same-seats old c (Open code) (Open code') is (ap Some rest.seat)
+
+turn-seated : (old new : Sessions) (c : ℕ) (code code' : Client) → Open code ≡ slice_index_or old.connections.items c (Open code) → LeavesRest old new c code code' → SeatsRefine old.lobby.statuses (seats_of old.connections.items)
+    → SeatsRefine new.lobby.statuses (seats_of new.connections.items)
+turn-seated old new c code code' is rest stand =
+    subst (λ (lobby : Book). SeatsRefine lobby.statuses (seats_of new.connections.items)) (sym rest.lobby) (subst (SeatsRefine old.lobby.statuses) (sym (turn-seats old new c code code' is rest)) stand)
+
 -- the sequencer ran nothing
-pub no-turn-unserved : (w : World) (c : ℕ) (old new : Sessions) (code code' : Connection) (s s' : Sequencing) → c < length old.connections.items → code ≡ slice_index_or old.connections.items c code
-    → (MayRun code s → ⊥) → Sound w → SessionsRefine old w.primary.connections w.primary.calls → SequencerRefines w.primary.calls w.primary.committer.closed s → LeavesRest old new c code code'
+pub no-turn-unserved : (w : World) (c : ℕ) (old new : Sessions) (code code' : Client) (s s' : Sequencing) → c < length old.connections.items → Open code ≡ slice_index_or old.connections.items c (Open code)
+    → (MayRun code s → ⊥) → Sound w → SessionsRefine old w.primary.connections w.primary.calls → SequencerRefines w.primary.calls w.primary.committer.closed s
+    → ClosedByCalls w.primary.calls (seats_of old.connections.items) s → LeavesRest old new c code code'
     → code'.inbound.asked.items ≡ code.inbound.asked.items → code'.inbound.waiting.items ≡ code.inbound.waiting.items → code'.outbound.made.items ≡ code.outbound.made.items
     → new.calls.items ≡ old.calls.items → new.replies.items ≡ [] → s' ≡ s → TakesTurn w c false new s s'
-no-turn-unserved w c old new code code' s s' lt is never sound stands sequencer rest asked_same waiting_same made_same calls_same replies same =
-    let here : ConnectionRefines w.primary.calls c code (connection_of w c) = connection-stands w c old code stands lt is in
+no-turn-unserved w c old new code code' s s' lt is never sound stands sequencer by_calls rest asked_same waiting_same made_same calls_same replies same =
+    let here : ClientRefines w.primary.calls code (connection_of w c) = client-stands w c old code stands lt is in
+    let own = has-at old.connections.items c code.seat (Open code) lt is refl in
     let machine = connection_of w c in
-    let at : ConnectionRefines w.primary.calls (0 + c) code' machine = record {
-      seat = omega (arith, rest.seat, here.seat);
+    let at : ClientRefines w.primary.calls code' machine = record {
       is_open = here.is_open;
       inbound = inbound-same code.inbound code'.inbound machine.inbound here.inbound rest.parser rest.is_closed_same asked_same waiting_same;
       outbound = record {
@@ -267,10 +268,10 @@ no-turn-unserved w c old new code code' s s' lt is never sound stands sequencer 
         remote = ap (λ seen. seen.remote) rest.seen ∙ here.outbound.remote;
       };
     } in
-    no-turn w c new s s' (λ e. never (enabled-runs w c code s sound sequencer here e)) (record {
-      seats = subst (λ lobby. SeatsRefine lobby.statuses (length w.primary.connections)) (sym rest.lobby) stands.seats;
-      connections_stand = subst (λ (codes : List Connection). ConnectionsRefine w.primary.calls 0 codes w.primary.connections) (sym rest.connections)
-          (stand-replaced w.primary.calls 0 old.connections.items w.primary.connections c code' stands.connections_stand at);
+    no-turn w c new s s' (λ e. never (enabled-runs w c code (seats_of old.connections.items) s sound sequencer by_calls own here e)) (record {
+      seats = turn-seated old new c code code' is rest stands.seats;
+      connections_stand = subst (λ (codes : List Connection). ConnectionsRefine w.primary.calls codes w.primary.connections) (sym rest.connections)
+          (ConnectionsRefine-replaced w.primary.calls c old.connections.items w.primary.connections (Open code') stands.connections_stand at);
       calls_are = calls_same ∙ stands.calls_are;
       no_reply = replies;
     }) same
@@ -278,23 +279,23 @@ no-turn-unserved w c old new code code' s s' lt is never sound stands sequencer 
 -- ---- a turn
 
 -- the sequencer ran the first item that waits
-pub turn-taken : (w : World) (c : ℕ) (old new : Sessions) (code code' : Connection) (s s' : Sequencing) (held : Held) → c < length old.connections.items → code ≡ slice_index_or old.connections.items c code
-    → length code.outbound.made.items < PIPE_ITEMS → Sound w → SessionsRefine old w.primary.connections w.primary.calls → SequencerRefines w.primary.calls w.primary.committer.closed s → LeavesRest old new c code code'
+pub turn-taken : (w : World) (c : ℕ) (old new : Sessions) (code code' : Client) (s s' : Sequencing) (held : Held) → c < length old.connections.items → Open code ≡ slice_index_or old.connections.items c (Open code)
+    → length code.outbound.made.items < PIPE_ITEMS → Sound w → SessionsRefine old w.primary.connections w.primary.calls → SequencerRefines w.primary.calls w.primary.committer.closed s
+    → ClosedByCalls w.primary.calls (seats_of old.connections.items) s → LeavesRest old new c code code'
     → (runs : Runs s code.seat code.inbound.waiting.items held code'.inbound.waiting.items s')
     → code'.inbound.asked.items ≡ drop 1 code.inbound.asked.items → code'.outbound.made.items ≡ code.outbound.made.items ++ record { call = length old.calls.items; position = held.position } ∷ []
     → new.calls.items ≡ old.calls.items ++ call_of c runs.item held.reply ∷ [] → new.replies.items ≡ [] → TakesTurn w c true new s s'
-turn-taken w c old new code code' s s' held lt is room sound stands sequencer rest runs asked_now made_now calls_now replies =
+turn-taken w c old new code code' s s' held lt is room sound stands sequencer by_calls rest runs asked_now made_now calls_now replies =
     let machine = connection_of w c in
-    let here : ConnectionRefines w.primary.calls c code machine = connection-stands w c old code stands lt is in
+    let here : ClientRefines w.primary.calls code machine = client-stands w c old code stands lt is in
+    let own = has-at old.connections.items c code.seat (Open code) lt is refl in
     let call = call_of c runs.item held.reply in
     let calls' = w.primary.calls ++ call ∷ [] in
-    let answers : Answers s c runs.item held.reply s' = subst (λ n. Answers s n runs.item held.reply s') here.seat runs.answers in
-    let after : SequencerRefines calls' w.primary.committer.closed s' = sequencer-answered w.primary.calls w.primary.committer.closed s s' c runs.item held.reply sequencer answers in
-    let lt' : c < length w.primary.connections = omega (arith, length-connections w.primary.calls 0 old.connections.items w.primary.connections stands.connections_stand) in
+    let answers : Answers s code.seat runs.item held.reply s' = runs.answers in
+    let after : SequencerRefines calls' w.primary.committer.closed s' = sequencer-answered w.primary.calls w.primary.committer.closed s s' c code.seat runs.item held.reply sequencer answers in
     let asks = first-asked code.inbound machine.inbound runs.item code'.inbound.waiting.items here.inbound runs.first in
     let reply : Held = record { reply = held.reply; position = position_of calls' } in
-    let at : ConnectionRefines calls' (0 + c) code' (with_outbound (with_made reply) (with_inbound taken_first machine)) = record {
-      seat = omega (arith, rest.seat, here.seat);
+    let at : ClientRefines calls' code' (with_outbound (with_made reply) (with_inbound taken_first machine)) = record {
       is_open = here.is_open;
       inbound = inbound-taken code.inbound code'.inbound machine.inbound runs.item code'.inbound.waiting.items (drop 1 code.inbound.asked.items) here.inbound runs.first asks
           rest.parser rest.is_closed_same asked_now refl;
@@ -302,30 +303,30 @@ turn-taken w c old new code code' s s' held lt is room sound stands sequencer re
           (made_now ∙ ap (λ (calls : List Call). code.outbound.made.items ++ record { call = length calls; position = held.position } ∷ []) stands.calls_are) rest.gate rest.released rest.seen;
     } in
     let taken = changed_at c (with_inbound taken_first) w.primary.connections in
-    let count : length (changed_at c (with_outbound (with_made reply)) taken) ≡ length w.primary.connections =
-    length-changed_at c (with_outbound (with_made reply)) taken ∙ length-changed_at c (with_inbound taken_first) w.primary.connections in
     let waits : (connection_of w c).inbound.waiting ≡ runs.item ∷ code'.inbound.waiting.items = sym here.inbound.waits ∙ runs.first in
     record {
-      done = sym (runs-enabled w c code s sequencer here lt' (λ none. absurd (not_both runs.item code'.inbound.waiting.items (sym runs.first ∙ none))) room runs.few);
+      done = sym (runs-enabled w c code s sequencer here (λ none. absurd (not_both runs.item code'.inbound.waiting.items (sym runs.first ∙ none))) room runs.few);
       goes = λ did. (
         called c call w,
         record {
           call = call;
           connection = refl;
           first = ap (take 1) waits;
-          reply = MayReply-alike (state_of s) (state_after w.primary.calls) call call (alike-state w.primary.calls w.primary.committer.closed s call sequencer) answers.legal;
+          reply = MayReply-alike (state_of s) (state_after w.primary.calls) (call_of code.seat runs.item held.reply) call
+              (alike-state w.primary.calls w.primary.committer.closed s c code.seat runs.item held.reply sequencer) answers.legal;
           now = refl;
         },
         record {
-          seats = subst (λ lobby. SeatsRefine lobby.statuses (length (changed_at c (with_outbound (with_made reply)) taken))) (sym rest.lobby)
-              (subst (SeatsRefine old.lobby.statuses) (sym count) stands.seats);
-          connections_stand = subst (λ (codes : List Connection). ConnectionsRefine calls' 0 codes (changed_at c (with_outbound (with_made reply)) taken)) (sym rest.connections)
-              (stand-changed calls' 0 old.connections.items w.primary.connections c code' (with_inbound taken_first) (with_outbound (with_made reply))
-              (ConnectionsRefine-grows w.primary.calls (call ∷ []) 0 old.connections.items w.primary.connections stands.connections_stand) at);
+          seats = turn-seated old new c code code' is rest stands.seats;
+          connections_stand = subst (λ (codes : List Connection). ConnectionsRefine calls' codes (changed_at c (with_outbound (with_made reply)) taken)) (sym rest.connections)
+              (stand-changed calls' old.connections.items w.primary.connections c (Open code') (with_inbound taken_first) (with_outbound (with_made reply))
+              (ConnectionsRefine-grows w.primary.calls (call ∷ []) old.connections.items w.primary.connections stands.connections_stand) at);
           calls_are = calls_now ∙ ap (λ (calls : List Call). calls ++ call ∷ []) stands.calls_are;
           no_reply = replies;
         },
         after,
+        subst (λ (seats : List (Option ℕ)). ClosedByCalls calls' seats s') (sym (turn-seats old new c code code' is rest))
+            (by_calls-answered w.primary.calls (seats_of old.connections.items) s s' c code.seat runs.item held.reply own stands.seats.are_apart by_calls answers),
       );
       stays = λ did. cc;
     }

@@ -1,5 +1,6 @@
 -- How the committer and its engine refine the machine's.
 use Rattle.std.specs.Prelude.{◌≡◌, ◌⊎◌, ℕ, ◌≤◌, Bool, false, nat_eq, if◌then◌else◌, List, [], ◌∷◌}
+use Rattle.std.specs.List.{AllByRecursion}
 use Rattle.pmem.specs.Device.{State}
 use Rattle.pmem.specs.Crash.{IsImage}
 use Rattle.pmem.specs.Runs.{LeavesOnly}
@@ -23,9 +24,14 @@ use Rattle.world.specs.GroupSpan.{AreGroupsOf, IsGroupOf}
 
 -- ---- groups that wait
 
--- committing these groups, an engine with these contents reaches contents that the sequencer is ahead of
+-- each of the groups is of this epoch
+abbrev pub AreOfEpoch : ℕ → List Group → Type 0
+AreOfEpoch epoch = AllByRecursion (λ group. group.epoch ≡ epoch)
+
+-- committing these groups, which are of the record's epoch, an engine with these contents reaches contents that the sequencer is ahead of
 pub record Leads (contents : Contents) (groups : List Group) (s : Sequencing) : Type 0 where
   pub groups_are : AreGroups contents groups
+  pub epochs : AreOfEpoch contents.current.epoch groups
   pub stands : IsAheadOf s (after_groups contents groups)
 
 -- ---- the engine

@@ -1,7 +1,7 @@
 -- How a connection's inbound half refines the machine's.
 use Rattle.std.specs.Prelude.{◌≡◌, ℕ, ◌+◌, ◌≤◌, Bool, true, false, not, ◌&&◌, nat_lt, List, [], ◌++◌, length, take, drop, Option}
 use Rattle.kv_types.specs.declared.item.Item.{Item}
-use Rattle.kv_types.specs.declared.limits.TheConstants.{SERVED_LIMITS}
+use Rattle.kv_types.specs.declared.limits.TheConstants.{REQUEST_LIMITS}
 use Rattle.kv_types.specs.Reading.{items_at}
 use Rattle.machine.specs.Event.{Inbound as Machine, asked, is_closed_by, fed_with, offered_next, has_room}
 use Rattle.resp_codec.specs.Parsing.{fed, ahead}
@@ -9,12 +9,12 @@ use Rattle.world.specs.declared.inbound.Inbound.{Inbound}
 
 -- The parser has given all items that the bytes fed so far ask for, and will give what later bytes add.
 pub record HasParsed (bytes : List ℕ) (parser : Option (List ℕ)) : Type 0 where
-  pub later : (more : List ℕ) → items_at SERVED_LIMITS (bytes ++ more) ≡ items_at SERVED_LIMITS bytes ++ ahead (fed parser more)
+  pub later : (more : List ℕ) → items_at REQUEST_LIMITS (bytes ++ more) ≡ items_at REQUEST_LIMITS bytes ++ ahead (fed parser more)
   pub drained : ahead parser ≡ []
 
--- The parser has the bytes; the items asked for and not run are kept, and the first of them wait.
+-- The parser has the bytes, until an item closes the connection; the items asked for and not run are kept, and the first of them wait.
 pub record InboundRefines (code : Inbound) (machine : Machine) : Type 0 where
-  pub parsed : HasParsed machine.fed code.parser
+  pub parsed : code.is_closed ≡ false → HasParsed machine.fed code.parser
   pub closed : code.is_closed ≡ is_closed_by machine.fed
   -- how many items were run
   pub run : ℕ

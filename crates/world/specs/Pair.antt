@@ -1,5 +1,5 @@
 -- How a pair of nodes with its connections refines the machine's.
-use Rattle.std.specs.Prelude.{◌≡◌, ℕ, ◌<◌, ◌≤◌, Bool, true, List, [], length, slice_index_or, vec_capacity, Result, IfOk, IfErr}
+use Rattle.std.specs.Prelude.{◌≡◌, ℕ, ◌<◌, Bool, true, List, [], length, slice_index_or, vec_capacity, Result, IfOk, IfErr}
 use Rattle.pmem.specs.Device.{State}
 use Rattle.kv_types.specs.declared.refusal.Refusal.{Refusal}
 use Rattle.model.specs.declared.group.Group.{Group}
@@ -10,14 +10,13 @@ use Rattle.redis_core.specs.Sequencing.{Sequencing}
 use Rattle.standby.specs.declared.frame.Frame.{Frame}
 use Rattle.standby_stream.specs.Stream.{Stream}
 use Rattle.machine.specs.declared.event.Event.{Event}
-use Rattle.machine.specs.declared.event.TheConstants.{SEATS}
 use Rattle.machine.specs.Event.{World, Step, is_enabled}
 use Rattle.machine.specs.Promise.{released_in}
 use Rattle.machine.specs.Sound.{Sound}
 use Rattle.world.specs.Cause.{EndsBy}
 use Rattle.world.specs.Committing.{Committing, EngineStands, Leads, Moves, CommittingRefines, next_primary, next_standby}
 use Rattle.world.specs.Link.{AreFramesSent, LinkRefines}
-use Rattle.world.specs.Session.{SessionsRefine, SequencerRefines, AddsOne, released_of}
+use Rattle.world.specs.Session.{SessionsRefine, SequencerRefines, ClosedByCalls, AddsOne, released_of, seats_of}
 use Rattle.world.specs.Standby.{Node, StandbyStands, ArrivalsRefine}
 use Rattle.world.specs.declared.arrivals.Arrivals.{Arrivals}
 use Rattle.world.specs.declared.sessions.Sessions.{Sessions}
@@ -46,6 +45,7 @@ pub record Pair : Type 0 where
 pub record PartsRefine (first second : Holder) (pair : Pair) (w : World) : Type 0 where
   pub sessions : SessionsRefine pair.sessions w.primary.connections w.primary.calls
   pub sequencer : SequencerRefines w.primary.calls w.primary.committer.closed pair.sequencer
+  pub by_calls : ClosedByCalls w.primary.calls (seats_of pair.sessions.connections.items) pair.sequencer
   pub committing : CommittingRefines w.primary.calls pair.committing w.primary.committer
   pub engine : EngineStands first w.primary.calls w.primary.committer.position pair.device pair.contents pair.is_faulted
   pub leads : Leads pair.contents pair.committing.waiting.items pair.sequencer
@@ -76,7 +76,7 @@ pub record IsCut (first second : Holder) (event : Event) (refusal : Refusal) (ol
   pub enabled : is_enabled w event ≡ true
   pub calls : new.sessions.calls.items ≡ w.primary.calls
   pub released : (c : ℕ) → slice_index_or (released_of new.sessions.connections.items) c [] ≡ released_in w c
-  pub few : length new.sessions.connections.items ≤ SEATS
+  pub count : length new.sessions.connections.items ≡ length w.primary.connections
   pub cause : EndsBy refusal event (λ first_last second_last.
       first_last first w.primary.calls w.primary.committer.position (next_primary w) old.device new.device
       × second_last second w.primary.calls w.standby.position (next_standby w) old.standby.device new.standby.device)

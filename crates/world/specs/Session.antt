@@ -1,5 +1,5 @@
 -- How the connections and the list of calls refine the machine's.
-use Rattle.std.specs.Prelude.{◌≡◌, ℕ, suc, ◌+◌, ◌<◌, ◌≤◌, Bool, true, false, List, [], ◌∷◌, length, map, slice_get, Some, Vec, vec_capacity}
+use Rattle.std.specs.Prelude.{◌≡◌, ℕ, suc, ◌+◌, ◌≤◌, Bool, true, false, List, [], ◌∷◌, length, map, slice_get, Option, Some, None, Vec, vec_capacity}
 use Rattle.std.specs.Global.{Global}
 use Rattle.std.specs.List.{list_any}
 use Rattle.pipes.specs.declared.limits.TheConstants.{MAX_SEATS}
@@ -16,40 +16,87 @@ use Rattle.machine.specs.declared.event.Event.TheVariants.{Turn}
 use Rattle.machine.specs.Event.{Connection as MachineConnection, World, Turns, may_happen}
 use Rattle.world.specs.Inbound.{InboundRefines}
 use Rattle.world.specs.Outbound.{OutboundRefines}
+use Rattle.world.specs.declared.connection.Client.{Client}
 use Rattle.world.specs.declared.connection.Connection.{Connection}
+use Rattle.world.specs.declared.connection.Connection.TheVariants.{Open, Over}
 use Rattle.world.specs.declared.sessions.Sessions.{Sessions}
 
 -- ---- connections
 
--- connection c, in the seat of its number
-pub record ConnectionRefines (calls : List Call) (c : ℕ) (code : Connection) (machine : MachineConnection) : Type 0 where
-  pub seat : code.seat ≡ c
+-- the seat of a connection, which has one while it is open
+abbrev pub seat_of : Connection → Option ℕ
+seat_of (Open client) = Some client.seat
+seat_of (Over released) = None
+
+abbrev pub seats_of : List Connection → List (Option ℕ)
+seats_of = map seat_of
+
+-- the bytes that were written to a connection
+abbrev pub bytes_of : Connection → List ℕ
+bytes_of (Open client) = client.outbound.released.items
+bytes_of (Over released) = released.items
+
+-- the bytes released to each connection
+abbrev pub released_of : List Connection → List (List ℕ)
+released_of = map bytes_of
+
+-- an open connection
+pub record ClientRefines (calls : List Call) (code : Client) (machine : MachineConnection) : Type 0 where
   pub is_open : machine.is_open ≡ true
   pub inbound : InboundRefines code.inbound machine.inbound
   pub outbound : OutboundRefines calls code.outbound machine.outbound
 
--- each of them, the first being connection c
-abbrev pub ConnectionsRefine : List Call → ℕ → List Connection → List MachineConnection → Type 0
-ConnectionsRefine calls c [] [] = Unit {0}
-ConnectionsRefine calls c (code ∷ codes) (machine ∷ machines) = ConnectionRefines calls c code machine × ConnectionsRefine calls (suc c) codes machines
-ConnectionsRefine calls c _ _ = ⊥
+-- one that is over: nothing is left of it but what was written to it
+pub record OverRefines (released : List ℕ) (machine : MachineConnection) : Type 0 where
+  pub is_over : machine.is_open ≡ false
+  pub bytes : released ≡ machine.outbound.released
 
--- the first `count` seats are taken, and all others are free
-pub record SeatsRefine (statuses : List Status) (count : ℕ) : Type 0 where
+abbrev pub ConnectionRefines : List Call → Connection → MachineConnection → Type 0
+ConnectionRefines calls (Open client) machine = ClientRefines calls client machine
+ConnectionRefines calls (Over released) machine = OverRefines released.items machine
+
+-- each of them, the first being connection 0
+abbrev pub ConnectionsRefine : List Call → List Connection → List MachineConnection → Type 0
+ConnectionsRefine calls [] [] = Unit {0}
+ConnectionsRefine calls (code ∷ codes) (machine ∷ machines) = ConnectionRefines calls code machine × ConnectionsRefine calls codes machines
+ConnectionsRefine calls _ _ = ⊥
+
+-- ---- seats
+
+-- connection c is open, in this seat
+abbrev pub HasSeat : List (Option ℕ) → ℕ → ℕ → Type 0
+HasSeat seats c seat = slice_get seats c ≡ Some (Some seat)
+
+-- how many connections have a seat
+abbrev pub count_seated : List (Option ℕ) → ℕ
+count_seated [] = 0
+count_seated (Some seat ∷ seats) = suc (count_seated seats)
+count_seated (None ∷ seats) = count_seated seats
+
+-- how many seats are taken
+abbrev pub count_taken : List Status → ℕ
+count_taken [] = 0
+count_taken (taken ∷ statuses) = suc (count_taken statuses)
+count_taken (free ∷ statuses) = count_taken statuses
+
+-- A seat is taken exactly where an open connection has it, and no two have one seat.
+pub record SeatsRefine (statuses : List Status) (seats : List (Option ℕ)) : Type 0 where
   pub complete : length statuses ≡ MAX_SEATS
-  pub are_taken : (seat : ℕ) → seat < count → slice_get statuses seat ≡ Some taken
-  pub are_free : (seat : ℕ) → count ≤ seat → seat < MAX_SEATS → slice_get statuses seat ≡ Some free
+  pub are_taken : (c seat : ℕ) → HasSeat seats c seat → slice_get statuses seat ≡ Some taken
+  pub are_apart : (c d seat : ℕ) → HasSeat seats c seat → HasSeat seats d seat → c ≡ d
+  -- so there is no taken seat beside theirs
+  pub count : count_taken statuses ≡ count_seated seats
+
+-- each seat that a connection has it had before
+abbrev pub KeepsSeats : List Connection → List Connection → Type 0
+KeepsSeats old new = (c seat : ℕ) → HasSeat (seats_of new) c seat → HasSeat (seats_of old) c seat
 
 -- the connections and the list of calls are these; no reply is left between two events
 pub record SessionsRefine (code : Sessions) (connections : List MachineConnection) (calls : List Call) : Type 0 where
-  pub seats : SeatsRefine code.lobby.statuses (length connections)
-  pub connections_stand : ConnectionsRefine calls 0 code.connections.items connections
+  pub seats : SeatsRefine code.lobby.statuses (seats_of code.connections.items)
+  pub connections_stand : ConnectionsRefine calls code.connections.items connections
   pub calls_are : code.calls.items ≡ calls
   pub no_reply : code.replies.items ≡ []
-
--- the bytes released to each connection
-abbrev pub released_of : List Connection → List (List ℕ)
-released_of = map (λ connection. connection.outbound.released.items)
 
 -- the list of calls and the released bytes are as they were
 pub record TellsTheSame (old new : Sessions) : Type 0 where
@@ -75,11 +122,14 @@ pub record SequencerRefines (calls : List Call) (closed : ℕ) (s : Sequencing) 
   pub before : s.before ≡ closed
   pub waiting : AreOpen calls closed s.waiting
   pub count : closed + length s.waiting ≡ position_of calls
-  -- where a seat is closed, a call of its connection closed it
-  pub seats : (c : ℕ) → is_closed s c ≡ true → list_any closes (items_of c calls) ≡ true
+
+-- Where the seat of an open connection is closed, a call of this connection closed it, and none of one that had the seat before.
+pub record ClosedByCalls (calls : List Call) (seats : List (Option ℕ)) (s : Sequencing) : Type 0 where
+  pub by_call : (c seat : ℕ) → HasSeat seats c seat → is_closed s seat ≡ true → list_any closes (items_of c calls) ≡ true
 
 -- the outcome of a turn: the sequencer ran the first waiting item, or nothing changed
 pub record TakesTurn (w : World) (c : ℕ) (did : Bool) (sessions : Sessions) (old new : Sequencing) : Type 0 where
   pub done : did ≡ may_happen w (Turn c)
   pub goes : did ≡ true → (w' : World) × Turns w c w' × SessionsRefine sessions w'.primary.connections w'.primary.calls × SequencerRefines w'.primary.calls w'.primary.committer.closed new
+      × ClosedByCalls w'.primary.calls (seats_of sessions.connections.items) new
   pub stays : did ≡ false → SessionsRefine sessions w.primary.connections w.primary.calls × (new ≡ old)

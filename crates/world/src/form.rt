@@ -41,42 +41,51 @@ struct Between<K: Keyspace> {
     handed: LocalPipe<Group>,
     link: Link,
     arrivals: Arrivals,
+    /// The standby's.
+    heap: ExtentHeap,
 }
 
-/// Makes all that takes memory, for a primary of `lines` lines with this empty keyspace, with room for `calls` calls.
+/// Makes all that takes memory, for a primary of `lines.0` lines with this empty keyspace and a standby of `lines.1`, with room for `calls` calls.
 fn make_between<K: Keyspace + Drop>(
     alloc: Global,
     keyspace: K,
-    lines: u64,
+    lines: (u64, u64),
     calls: usize,
 ) -> Result<Between<K>, Refusal>
     requires { K.table keyspace ≡ [] }
     ensures sessions { IfOk result (λ between. SessionsRefine between.sessions [] []) }
     ensures room { IfOk result (λ between. calls ≤ vec_capacity between.sessions.calls) }
     ensures sequencer { IfOk result (λ between. SequencerRefines [] 0 between.sequencer) }
-    ensures underlies { IfOk result (λ between. (contents : Contents) → IsNew lines contents.current.role contents → IsAheadOf between.sequencer contents) }
+    ensures underlies { IfOk result (λ between. (contents : Contents) → IsNew lines.0 contents.current.role contents → IsAheadOf between.sequencer contents) }
     ensures no_group { IfOk result (λ between. between.groups.items ≡ []) }
     ensures link { IfOk result (λ between. between.link ≡ new_stream FIRST_EPOCH) }
     ensures handed { IfOk result (λ between. between.handed.items ≡ []) }
     ensures arrivals { IfOk result (λ between. (epoch : ℕ) → ArrivalsRefine epoch [] [] between.arrivals [] []) }
+    ensures free_lines { IfOk result (λ between. (line : ℕ) → IsTrue (is_free_line between.heap line) ↔ ((first_extent_line lines.1 ≤ line) × (line < lines.1))) }
+    ensures free_entries { IfOk result (λ between. (i : ℕ) → IsTrue (is_free_entry between.heap i) ↔ (i < entries_of_lines lines.1)) }
     ensures cause { IfErr result (λ refusal. refusal ≡ Refusal.Memory) }
 {
+    let own = heap_of(alloc, lines.0)?;
+    let heap = heap_of(alloc, lines.1)?;
     Ok(Between {
         sessions: Sessions::new(alloc, calls)?,
-        sequencer: Sequencer::new(alloc, keyspace, heap_of(lines), 0)?,
+        sequencer: Sequencer::new(alloc, keyspace, own, 0, FIRST_EPOCH)?,
         groups: LocalPipe::new(alloc)?,
         handed: LocalPipe::new(alloc)?,
         link: Link::new(alloc, FIRST_EPOCH)?,
         arrivals: Arrivals::new(alloc),
+        heap,
     })
 }
 
 /// The heap of a new image of `lines` lines: all entries and extents are free.
-fn heap_of(lines: u64) -> ExtentHeap
-    ensures lines { (line : ℕ) → IsTrue (is_free_line result line) ↔ ((first_extent_line lines ≤ line) × (line < lines)) }
-    ensures entries { (i : ℕ) → IsTrue (is_free_entry result i) ↔ (i < entries_of_lines lines) }
+fn heap_of(alloc: Global, lines: u64) -> Result<ExtentHeap, Refusal>
+    ensures lines { IfOk result (λ heap. (line : ℕ) → IsTrue (is_free_line heap line) ↔ ((first_extent_line lines ≤ line) × (line < lines))) }
+    ensures entries { IfOk result (λ heap. (i : ℕ) → IsTrue (is_free_entry heap i) ↔ (i < entries_of_lines lines)) }
+    ensures cause { IfErr result (λ refusal. refusal ≡ Refusal.Memory) }
 {
     ExtentHeap::new(
+        alloc,
         LAYOUT.first_extent_line(lines),
         lines,
         LAYOUT.entries_of_lines(lines),
@@ -104,9 +113,9 @@ pub(crate) fn form<P: Pmem, K: Keyspace + Drop>(
         × FormattingOnly Role.Standby (P.state standby) (⟦<Pair<WblEngine<P>, K> as Stepper>⟧.parts pair).standby.device)
         (λ refused. FormattingOnly Role.Primary (P.state primary) (P.state refused.1) × FormattingOnly Role.Standby (P.state standby) (P.state refused.2)) }
 {
-    let heap = heap_of(standby.lines());
     let (serving, following) = keyspaces;
-    let between = match make_between(alloc, serving, primary.lines(), calls) {
+    let lines = (primary.lines(), standby.lines());
+    let between = match make_between(alloc, serving, lines, calls) {
         Ok(between) => between,
         Err(refusal) => return Err((refusal, primary, standby)),
     };
@@ -129,7 +138,7 @@ pub(crate) fn form<P: Pmem, K: Keyspace + Drop>(
             standby: Standby {
                 engine: follower,
                 keyspace: following,
-                heap,
+                heap: between.heap,
             },
         }),
         Err((refusal, standby)) => Err((refusal, engine.into_device(), standby)),

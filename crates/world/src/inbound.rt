@@ -2,11 +2,13 @@
 ghost use Rattle.std.specs.Prelude.{◌≡◌, ℕ, ◌<◌, [], ◌++◌, List, false, length, IfOk, IfErr, OnOk, OnErr};
 ghost use Rattle.std.specs.List.{list_any};
 ghost use Rattle.machine.specs.Event.{Inbound as Machine};
+ghost use Rattle.model.specs.Call.{up_to_closing};
 ghost use Rattle.model.specs.Command.{closes};
 ghost use Rattle.resp_codec.specs.Parsing.{fed, ahead};
 
 use bytes::Bytes;
 use kv_types::{Item, Refusal};
+use model::closes;
 use pipes::{LocalPipe, Outlet, PIPE_ITEMS};
 use resp_codec::Parser;
 use std::alloc::{AllocError, Global};
@@ -76,28 +78,20 @@ impl Inbound {
     }
 }
 
-/// Takes all items that the parser has ready, and returns whether one of them closes the connection.
+/// Takes the items that the parser has ready, up to and including one that closes the connection. Returns whether there was one.
 fn drain(parser: &mut Parser, asked: &mut VecDeque<Item>) -> Result<bool, Refusal>
-    ensures asked { OnOk result (asked.new.items ≡ asked.old.items ++ ahead parser.old) }
-    ensures drained { OnOk result (ahead parser.new ≡ []) }
-    ensures later { OnOk result ((more : List ℕ) → ahead (fed parser.old more) ≡ ahead parser.old ++ ahead (fed parser.new more)) }
+    ensures asked { OnOk result (asked.new.items ≡ asked.old.items ++ up_to_closing (ahead parser.old)) }
+    ensures drained { IfOk result (λ closed. closed ≡ false → ahead parser.new ≡ []) }
+    ensures later { IfOk result (λ closed. closed ≡ false → (more : List ℕ) → ahead (fed parser.old more) ≡ ahead parser.old ++ ahead (fed parser.new more)) }
     ensures closes { IfOk result (λ closed. closed ≡ list_any closes (ahead parser.old)) }
     ensures cause { IfErr result (λ refusal. refusal ≡ Refusal.Memory) }
 {
-    let mut is_closed = false;
     while let Some(item) = parser.next()? {
-        is_closed |= closes_connection(&item);
+        let is_last = closes(&item);
         asked.push_back(item)?;
+        if is_last {
+            return Ok(true);
+        }
     }
-    Ok(is_closed)
-}
-
-/// Whether nothing more is taken from the connection after this item.
-fn closes_connection(item: &Item) -> bool
-    ensures { result ≡ closes item.now }
-{
-    match item {
-        Item::Request(_) => false,
-        Item::Fault(_) => true,
-    }
+    Ok(false)
 }

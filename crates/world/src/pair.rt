@@ -93,6 +93,7 @@ impl<E: Durable, K: Keyspace> Stepper for Pair<E, K> {
             Event::Read(c, mark) => self.read(*c, *mark),
             Event::Release(c) => self.release(*c),
             Event::Write(c, n) => self.write(*c, *n),
+            Event::Leave(c) => self.leave(*c),
         }
     }
 }
@@ -101,7 +102,7 @@ impl<E: Durable, K: Keyspace> Pair<E, K> {
     fn enter(&mut self) -> Result<bool, Refusal>
         ensures { Does (⟦<Pair<E, K> as Stepper>⟧.parts self.old) events.Enter result (⟦<Pair<E, K> as Stepper>⟧.parts self.new) }
     {
-        self.sessions.enter(self.alloc)
+        self.sessions.enter(self.alloc, &mut self.sequencer)
     }
 
     fn feed(&mut self, c: u64, piece: &Bytes) -> Result<bool, Refusal>
@@ -240,5 +241,11 @@ impl<E: Durable, K: Keyspace> Pair<E, K> {
         ensures { Does (⟦<Pair<E, K> as Stepper>⟧.parts self.old) (events.Write c n) result (⟦<Pair<E, K> as Stepper>⟧.parts self.new) }
     {
         self.sessions.write(c, n)
+    }
+
+    fn leave(&mut self, c: u64) -> Result<bool, Refusal>
+        ensures { Does (⟦<Pair<E, K> as Stepper>⟧.parts self.old) (events.Leave c) result (⟦<Pair<E, K> as Stepper>⟧.parts self.new) }
+    {
+        Ok(self.sessions.leave(self.alloc, c))
     }
 }

@@ -13,7 +13,7 @@ use crate::pair::{Pair, Stepper};
 use crate::sessions::Sessions;
 use crate::trace::{EarlyEnd, Trace};
 use kv_types::Refusal;
-use machine::{Event, SEATS};
+use machine::Event;
 use model::Call;
 use mv_keyspace::{Keyspace, ListKeyspace};
 use pmem::{Crashing, Pmem};
@@ -114,10 +114,11 @@ fn nothing<P>(alloc: Global, refusal: Refusal, primary: P, standby: P) -> Played
 /// Room for what a run over `events` events reports, so that none is asked for at its end.
 fn room_for(alloc: Global, events: usize) -> Result<(Vec<bool>, Vec<Vec<u8>>), AllocError>
     ensures done { IfOk result (λ room. (room.0.items ≡ []) × (events ≤ vec_capacity room.0)) }
-    ensures released { IfOk result (λ room. (room.1.items ≡ []) × (SEATS ≤ vec_capacity room.1)) }
+    ensures released { IfOk result (λ room. (room.1.items ≡ []) × (events ≤ vec_capacity room.1)) }
 {
     let done = Vec::with_capacity(alloc, events)?;
-    let released = Vec::with_capacity(alloc, SEATS as usize)?;
+    // No more connections enter than events happen.
+    let released = Vec::with_capacity(alloc, events)?;
     Ok((done, released))
 }
 
@@ -131,7 +132,7 @@ fn play_on<P: Pmem, K: Keyspace + Drop>(
     requires none_done { done.items ≡ [] }
     requires room { length events.now ≤ vec_capacity done }
     requires none_released { released.items ≡ [] }
-    requires room_released { SEATS ≤ vec_capacity released }
+    requires room_released { length events.now ≤ vec_capacity released }
     requires room_calls { length events.now ≤ vec_capacity pair.sessions.calls }
     requires stands { (first : Holder) × (second : Holder) × PairRefines first second (⟦<Pair<WblEngine<P>, K> as Stepper>⟧.parts pair) start }
     ensures { (first second : Holder) → PairRefines first second (⟦<Pair<WblEngine<P>, K> as Stepper>⟧.parts pair) start
@@ -201,7 +202,7 @@ fn take_released(connections: Vec<Connection>, released: &mut Vec<Vec<u8>>)
     ensures { map (λ bytes. bytes.items) released.new.items ≡ released_of connections.items }
 {
     for connection in connections {
-        released.push_reserved(connection.outbound.into_released());
+        released.push_reserved(connection.into_released());
     }
 }
 

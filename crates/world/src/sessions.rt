@@ -1,18 +1,19 @@
 //! The connections, and the one list of calls that the sequencer makes of their items.
-ghost use Rattle.std.specs.Prelude.{◌≡◌, ◌≢◌, ◌+◌, ◌<◌, ◌≤◌, ◌∷◌, ◌++◌, [], true, false, List, length, IfOk, IfErr, IfNone, IfSome, IsSome, OnErr, vec_len, vec_capacity};
+ghost use Rattle.std.specs.Prelude.{◌≡◌, ◌≢◌, ℕ, ◌+◌, ◌<◌, ◌≤◌, ◌∷◌, ◌++◌, [], true, false, List, length, IfOk, IfErr, IfNone, IfSome, IsSome, OnErr, vec_len, vec_capacity};
 ghost use Rattle.kv_types.specs.declared.item.Item.{Item};
+ghost use Rattle.model.specs.declared.call.Call.{Call};
 ghost use Rattle.model.specs.Group.{Contents};
 ghost use Rattle.model.specs.declared.group.TheConstants.{MAX_PARTS};
-ghost use Rattle.machine.specs.declared.event.Event.TheVariants.{Enter, Feed, Offer, Hold, Read, Release, Write};
-ghost use Rattle.machine.specs.Event.{World, may_happen, new_connection, changed_at, with_inbound, with_outbound, fed_with, offered_next, held_first, having_read, having_released, written};
+ghost use Rattle.machine.specs.declared.event.Event.TheVariants.{Enter, Feed, Offer, Hold, Read, Release, Write, Leave};
+ghost use Rattle.machine.specs.Event.{World, may_happen, new_connection, changed_at, with_inbound, with_outbound, fed_with, offered_next, held_first, having_read, having_released, written, left};
 ghost use Rattle.machine.specs.Sound.{Sound};
 ghost use Rattle.redis_core.specs.Sequencing.{IsAheadOf, is_closed};
 ghost use Rattle.redis_core.specs.Turn.{call_of};
 ghost use Rattle.world.specs.Going.{Goes};
 ghost use Rattle.world.specs.Running.{Runs};
-ghost use Rattle.world.specs.Session.{SessionsRefine, SequencerRefines, AddsOne, TakesTurn, TellsTheSame};
+ghost use Rattle.world.specs.Session.{SessionsRefine, SequencerRefines, ClosedByCalls, KeepsSeats, AddsOne, TakesTurn, TellsTheSame, seats_of};
 
-use crate::connection::Connection;
+use crate::connection::{Client, Connection};
 use crate::inbound::Inbound;
 use crate::outbound::{Made, Outbound};
 use bytes::Bytes;
@@ -53,9 +54,18 @@ impl Sessions {
     }
 
     /// Gives a new connection a seat, if one is free. Returns whether it did.
-    pub(crate) fn enter(&mut self, alloc: Global) -> Result<bool, Refusal>
+    pub(crate) fn enter<K: Keyspace>(
+        &mut self,
+        alloc: Global,
+        sequencer: &mut Sequencer<K>,
+    ) -> Result<bool, Refusal>
         ensures goes { IfOk result (λ did. (w : World) → SessionsRefine self.old w.primary.connections w.primary.calls
             → Goes (may_happen w Enter) did (SessionsRefine self.new (w.primary.connections ++ new_connection ∷ []) w.primary.calls) (SessionsRefine self.new w.primary.connections w.primary.calls)) }
+        // The sequencer finds the seat open, whatever closed it for the connection before.
+        ensures by_calls { IfOk result (λ did. (w : World) → SessionsRefine self.old w.primary.connections w.primary.calls
+            → ClosedByCalls w.primary.calls (seats_of self.old.connections.items) sequencer.old → ClosedByCalls w.primary.calls (seats_of self.new.connections.items) sequencer.new) }
+        ensures sequencer { (calls : List Call) (closed : ℕ) → SequencerRefines calls closed sequencer.old → SequencerRefines calls closed sequencer.new }
+        ensures stands { (contents : Contents) → IsAheadOf sequencer.old contents → IsAheadOf sequencer.new contents }
         ensures told { OnErr result (TellsTheSame self.old self.new) }
         ensures cause { IfErr result (λ refusal. refusal ≡ Refusal.Memory) }
         ensures enabled { OnErr result ((w : World) → SessionsRefine self.old w.primary.connections w.primary.calls → may_happen w Enter ≡ true) }
@@ -65,12 +75,13 @@ impl Sessions {
         let Ok(seat) = self.lobby.enter() else {
             return Ok(false);
         };
+        sequencer.open_seat(&seat);
         self.connections.reserve(1)?;
-        self.connections.push_reserved(Connection {
+        self.connections.push_reserved(Connection::Open(Client {
             seat,
             inbound: Inbound::new(alloc)?,
             outbound: Outbound::new(alloc)?,
-        });
+        }));
         Ok(true)
     }
 
@@ -83,11 +94,15 @@ impl Sessions {
         ensures told { OnErr result (TellsTheSame self.old self.new) }
         ensures cause { IfErr result (λ refusal. refusal ≡ Refusal.Memory) }
         ensures enabled { OnErr result ((w : World) → SessionsRefine self.old w.primary.connections w.primary.calls → may_happen w (Feed c piece.now) ≡ true) }
+        ensures seats { KeepsSeats self.old.connections.items self.new.connections.items }
         ensures calls { self.new.calls ≡ self.old.calls }
     {
         let index = c as usize;
         match self.connections.get_mut(index) {
-            Some(connection) => connection.inbound.feed(piece),
+            Some(connection) => match connection {
+                Connection::Open(client) => client.inbound.feed(piece),
+                Connection::Over(_) => Ok(false),
+            },
             None => Ok(false),
         }
     }
@@ -101,10 +116,14 @@ impl Sessions {
         ensures told { OnErr result (TellsTheSame self.old self.new) }
         ensures cause { IfErr result (λ refusal. refusal ≡ Refusal.Memory) }
         ensures enabled { OnErr result ((w : World) → SessionsRefine self.old w.primary.connections w.primary.calls → may_happen w (Offer c) ≡ true) }
+        ensures seats { KeepsSeats self.old.connections.items self.new.connections.items }
         ensures calls { self.new.calls ≡ self.old.calls }
     {
         match self.connections.get_mut(c as usize) {
-            Some(connection) => connection.inbound.offer(),
+            Some(connection) => match connection {
+                Connection::Open(client) => client.inbound.offer(),
+                Connection::Over(_) => Ok(false),
+            },
             None => Ok(false),
         }
     }
@@ -118,10 +137,14 @@ impl Sessions {
         ensures told { OnErr result (TellsTheSame self.old self.new) }
         ensures cause { IfErr result (λ refusal. refusal ≡ Refusal.Memory) }
         ensures enabled { OnErr result ((w : World) → SessionsRefine self.old w.primary.connections w.primary.calls → may_happen w (Hold c) ≡ true) }
+        ensures seats { KeepsSeats self.old.connections.items self.new.connections.items }
         ensures calls { self.new.calls ≡ self.old.calls }
     {
         match self.connections.get_mut(c as usize) {
-            Some(connection) => connection.outbound.hold(self.calls.as_slice()),
+            Some(connection) => match connection {
+                Connection::Open(client) => client.outbound.hold(self.calls.as_slice()),
+                Connection::Over(_) => Ok(false),
+            },
             None => Ok(false),
         }
     }
@@ -132,13 +155,17 @@ impl Sessions {
             → Goes (may_happen w (Read c mark)) result
             (SessionsRefine self.new (changed_at c (with_outbound (having_read mark w)) w.primary.connections) w.primary.calls)
             (SessionsRefine self.new w.primary.connections w.primary.calls) }
+        ensures seats { KeepsSeats self.old.connections.items self.new.connections.items }
         ensures calls { self.new.calls ≡ self.old.calls }
     {
         match self.connections.get_mut(c as usize) {
-            Some(connection) => {
-                connection.outbound.read(mark, marks);
-                true
-            }
+            Some(connection) => match connection {
+                Connection::Open(client) => {
+                    client.outbound.read(mark, marks);
+                    true
+                }
+                Connection::Over(_) => false,
+            },
             None => false,
         }
     }
@@ -149,10 +176,14 @@ impl Sessions {
             → Goes (may_happen w (Release c)) result
             (SessionsRefine self.new (changed_at c (with_outbound having_released) w.primary.connections) w.primary.calls)
             (SessionsRefine self.new w.primary.connections w.primary.calls) }
+        ensures seats { KeepsSeats self.old.connections.items self.new.connections.items }
         ensures calls { self.new.calls ≡ self.old.calls }
     {
         match self.connections.get_mut(c as usize) {
-            Some(connection) => connection.outbound.release(),
+            Some(connection) => match connection {
+                Connection::Open(client) => client.outbound.release(),
+                Connection::Over(_) => false,
+            },
             None => false,
         }
     }
@@ -166,12 +197,36 @@ impl Sessions {
         ensures told { OnErr result (TellsTheSame self.old self.new) }
         ensures cause { IfErr result (λ refusal. refusal ≡ Refusal.Memory) }
         ensures enabled { OnErr result ((w : World) → SessionsRefine self.old w.primary.connections w.primary.calls → may_happen w (Write c n) ≡ true) }
+        ensures seats { KeepsSeats self.old.connections.items self.new.connections.items }
         ensures calls { self.new.calls ≡ self.old.calls }
     {
         match self.connections.get_mut(c as usize) {
-            Some(connection) => connection.outbound.write(n),
+            Some(connection) => match connection {
+                Connection::Open(client) => client.outbound.write(n),
+                Connection::Over(_) => Ok(false),
+            },
             None => Ok(false),
         }
+    }
+
+    /// Ends a connection: what waits at it is dropped, and its seat is free again. Its calls stay, and so does what was written to it. Returns whether it
+    /// was open.
+    pub(crate) fn leave(&mut self, alloc: Global, c: u64) -> bool
+        ensures goes { (w : World) → SessionsRefine self.old w.primary.connections w.primary.calls
+            → Goes (may_happen w (Leave c)) result
+            (SessionsRefine self.new (changed_at c left w.primary.connections) w.primary.calls)
+            (SessionsRefine self.new w.primary.connections w.primary.calls) }
+        ensures seats { KeepsSeats self.old.connections.items self.new.connections.items }
+        ensures calls { self.new.calls ≡ self.old.calls }
+    {
+        let Some(connection) = self.connections.get_mut(c as usize) else {
+            return false;
+        };
+        let Some(seat) = connection.leave(alloc) else {
+            return false;
+        };
+        self.lobby.leave(seat);
+        true
     }
 
     /// The sequencer runs a connection's first waiting item, if there is one and there is room for its reply and for its changes. Returns whether
@@ -185,34 +240,28 @@ impl Sessions {
         requires { vec_len self.old.calls < vec_capacity self.old.calls }
         ensures turns { (w : World) → Sound w → SessionsRefine self.old w.primary.connections w.primary.calls
             → SequencerRefines w.primary.calls w.primary.committer.closed sequencer.old
+            → ClosedByCalls w.primary.calls (seats_of self.old.connections.items) sequencer.old
             → TakesTurn w c result self.new sequencer.old sequencer.new }
         ensures stands { (contents : Contents) → IsAheadOf sequencer.old contents → IsAheadOf sequencer.new contents }
+        ensures seats { KeepsSeats self.old.connections.items self.new.connections.items }
         ensures calls { AddsOne self.old.calls self.new.calls }
     {
         let Some(connection) = self.connections.get_mut(c as usize) else {
             return false;
         };
-        if connection.outbound.made.len() == PIPE_ITEMS || connection.inbound.waiting.is_empty() {
-            return false;
-        }
-        let waiting = &mut connection.inbound.waiting;
-        let Some(held) = first_reply(
-            alloc,
-            &connection.seat,
-            waiting,
-            &mut self.replies,
-            sequencer,
-        ) else {
+        let Connection::Open(client) = connection else {
             return false;
         };
-        let asked = &mut connection.inbound.asked;
-        write_call(
-            &mut self.calls,
-            c,
-            asked,
-            held,
-            &mut connection.outbound.made,
-        );
+        if client.outbound.made.len() == PIPE_ITEMS || client.inbound.waiting.is_empty() {
+            return false;
+        }
+        let waiting = &mut client.inbound.waiting;
+        let Some(held) = first_reply(alloc, &client.seat, waiting, &mut self.replies, sequencer)
+        else {
+            return false;
+        };
+        let asked = &mut client.inbound.asked;
+        write_call(&mut self.calls, c, asked, held, &mut client.outbound.made);
         true
     }
 }

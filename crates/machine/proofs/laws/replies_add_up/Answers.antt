@@ -8,7 +8,7 @@ pub returns-clause-texts : goal.returns-clause-texts
 returns-clause-texts c = λ events done worlds run. replies-add_up (last_world start worlds) (sound-run events done worlds run)
 
 pub returns-clause-waiting : goal.returns-clause-waiting
-returns-clause-waiting c = λ events done worlds run d. let o = (sound-run events done worlds run).outbound d in (o.out, o.replies)
+returns-clause-waiting c = λ events done worlds run d is_one. let o = (sound-run events done worlds run).outbound d is_one in (o.out, o.replies)
 
 pub returns-clause-positions : goal.returns-clause-positions
 returns-clause-positions c = answers_bear_positions

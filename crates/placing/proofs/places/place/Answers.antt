@@ -1,9 +1,11 @@
-use Rattle.std.proofs.Common.{◌∙◌}
-use Rattle.std.proofs.lemmas.Result.{err_from_is_err_and}
+use Rattle.std.proofs.Common.{◌≡◌, Err, IsErrOf, refl, subst, ◌∙◌}
+use Rattle.kv_types.specs.declared.refusal.Refusal.{Refusal}
+use Rattle.kv_types.specs.declared.refusal.Refusal.TheVariants.{Full}
+use Rattle.model.specs.declared.group.Put.{Put}
 use Rattle.placing.proofs.PlacesLemmas.{no_places}
 use Rattle.placing.proofs.places.place.Goals as goal
 
-pub returns-in_err-place_put-in-Put-clause-full_only : goal.returns-in_err-place_put-in-Put-clause-full_only
-returns-in_err-place_put-in-Put-clause-full_only c =
-    let p = err_from_is_err_and c.from_residual.result c.from_residual.ensures.1 in
-    rw p.1 (λ placed left same. no_places c.args.heap.now c.in-Put.id c.in-Put.value c.in_err-place_put-in-Put.ensures.full_only placed left (same ∙ c.in-Put.is))
+pub returns-in-Err-clause-full_only : goal.returns-in-Err-clause-full_only
+returns-in-Err-clause-full_only c = λ full placed left same.
+    let same_cause : c.in-Err.refusal ≡ Full = cc full in
+    no_places c.args.heap.now c.in-Put.id c.in-Put.value (c.in-Err.ensures.full_only (subst (λ (x : Refusal). IsErrOf {T = Put} {E = Refusal} (Err c.in-Err.refusal) x) same_cause refl)) placed left (same ∙ c.in-Put.is)

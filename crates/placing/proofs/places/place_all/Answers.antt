@@ -1,7 +1,10 @@
-use Rattle.std.proofs.Common.{◌≡◌, [], ◌∷◌, ◌++◌, List, map, length, sym, ap, ap₂, subst, ◌∙◌, append_assoc, arith}
+use Rattle.std.proofs.Common.{◌≡◌, [], ◌∷◌, ◌++◌, List, map, length, Err, IsErrOf, refl, sym, ap, ap₂, subst, ◌∙◌, append_assoc, arith}
 use Rattle.std.proofs.lemmas.List.{map-append}
 use Rattle.std.specs.Vec.Iter.{into_iter_items}
 use Rattle.kv_types.specs.declared.change.Change.{Change}
+use Rattle.kv_types.specs.declared.refusal.Refusal.{Refusal}
+use Rattle.kv_types.specs.declared.refusal.Refusal.TheVariants.{Full}
+use Rattle.model.specs.declared.group.PlacedChange.{PlacedChange}
 use Rattle.model.specs.Group.{change_of}
 use Rattle.mv_keyspace.specs.Table.{puts_of}
 use Rattle.placing.specs.Place.{TakesPlaces, HasRoomFor}
@@ -23,9 +26,10 @@ loop-change-preserved c =
     }
 
 pub returns-in-Err-clause-full_only : goal.returns-in-Err-clause-full_only
-returns-in-Err-clause-full_only c = λ _ has.
+returns-in-Err-clause-full_only c = λ full has.
+    let same_cause : c.in-Err.refusal ≡ Full = cc full in
     let before = c.loop-change.invariant in
     let rest = into_iter_items c.next.new.self in
     let whole : c.args.changes.items ≡ map change_of c.loop-change.placed.items ++ c.in-Some.change ∷ rest =
     before.left ∙ ap₂ (λ (xs ys : List Change). xs ++ ys) (sym before.same) c.in-Some.ensures.steps.0 in
-    no_room c.in-Some.change rest c.args.heap.now c.loop-change.placed.items c.loop-change.heap before.places c.in-Err.ensures.full_only (subst (HasRoomFor c.args.heap.now) whole has)
+    no_room c.in-Some.change rest c.args.heap.now c.loop-change.placed.items c.loop-change.heap before.places (c.in-Err.ensures.full_only (subst (λ (x : Refusal). IsErrOf {T = PlacedChange} {E = Refusal} (Err c.in-Err.refusal) x) same_cause refl)) (subst (HasRoomFor c.args.heap.now) whole has)

@@ -4,4 +4,4 @@ use Rattle.probe.proofs.frames.take.Goals as goal
 
 pub on_frame-answer-requires-clause-follows : goal.on_frame-answer-requires-clause-follows
 on_frame-answer-requires-clause-follows g c =
-    follows-new 4096 Standby _ _ c.heap_of.result c.requires.new (record { lines_free = c.heap_of.ensures.lines; entries_free = c.heap_of.ensures.entries }) c.requires.empty
+    follows-new 4096 Standby _ _ c.args.heap c.requires.new (record { lines_free = c.requires.lines; entries_free = c.requires.entries }) c.requires.empty

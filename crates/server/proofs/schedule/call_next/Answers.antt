@@ -7,9 +7,4 @@ returns c =
     let start = feeds-nothing c.args.events.now.items in
     let a1 = feeds-nothing-more _ _ _ _ start c.in_ok-push.ensures.items (λ d. refl) in
     let a2 = feeds-nothing-more _ _ _ _ a1 c.in_ok-push-2.ensures.items (λ d. refl) in
-    let a3 = feeds-nothing-more _ _ _ _ a2 c.in_ok-push-3.ensures.items (λ d. refl) in
-    let a4 = feeds-nothing-more _ _ _ _ a3 c.in_ok-push-4.ensures.items (λ d. refl) in
-    let a5 = feeds-nothing-more _ _ _ _ a4 c.in_ok-push-5.ensures.items (λ d. refl) in
-    let a6 = feeds-nothing-more _ _ _ _ a5 c.in_ok-push-6.ensures.items (λ d. refl) in
-    let a7 = feeds-nothing-more _ _ _ _ a6 c.in_ok-push-7.ensures.items (λ d. refl) in
-    feeds-nothing-more _ _ _ _ a7 c.in_ok-push-8.ensures.items (λ d. refl)
+    feeds-nothing-more _ _ _ _ a2 c.in_ok-push-3.ensures.items (λ d. refl)

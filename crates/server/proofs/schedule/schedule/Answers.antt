@@ -3,7 +3,6 @@ use Rattle.server.proofs.schedule.schedule.Goals as goal
 
 pub returns : goal.returns
 returns c =
-    let replicated = feeds-nothing-again _ _ _ c.in_ok-call_all.ensures c.in_ok-replicate_all.ensures in
-    let released = feeds-nothing-again _ _ _ replicated c.in_ok-release_all.ensures in
+    let released = feeds-nothing-again _ _ _ c.in_ok-serve_all.ensures c.in_ok-release_all.ensures in
     let written = feeds-nothing-again _ _ _ released c.in_ok-write_all.ensures in
     schedule-whole c.args.pieces.items _ _ _ c.in_ok-events.ensures.items c.in_ok-feed_all.ensures written

@@ -9,7 +9,7 @@ use Rattle.standby.proofs.tests.group_of.Goals as goal
 
 pub loop-before-init : goal.loop-before-init
 loop-before-init g c =
-    let heap = c.heap_of-heap.result in
+    let heap = c.in_ok-heap.heap in
     let table = g.K.Keyspace.table c.args.keyspace in
     let none : c.new-parts.result.items ≡ [] = c.new-parts.ensures.items in
     record {
@@ -20,12 +20,12 @@ loop-before-init g c =
 
 pub make_part-requires : goal.make_part-requires
 make_part-requires g c =
-    grown-beside (λ i. None) 0 c.heap_of-heap.result c.loop-before.parts.items (g.K.Keyspace.table c.loop-before.keyspace) c.loop-before.heap (λ i. refl) (c.loop-before.invariant.grown (λ i. None) (λ i. refl))
+    grown-beside (λ i. None) 0 c.in_ok-heap.heap c.loop-before.parts.items (g.K.Keyspace.table c.loop-before.keyspace) c.loop-before.heap (λ i. refl) (c.loop-before.invariant.grown (λ i. None) (λ i. refl))
 
 pub loop-before-preserved : goal.loop-before-preserved
 loop-before-preserved g c =
     let before = c.loop-before.invariant in
-    let start = c.heap_of-heap.result in
+    let start = c.in_ok-heap.heap in
     let parts = c.loop-before.parts.items in
     let part = c.in_ok-part.part in
     let old = g.K.Keyspace.table c.loop-before.keyspace in
@@ -46,6 +46,6 @@ loop-before-preserved g c =
 pub returns : goal.returns
 returns g c =
     let before = c.loop-before.invariant in
-    group-new 4096 Primary c.heap_of-heap.result (record { before = 0; parts = c.loop-before.parts }) (g.K.Keyspace.table c.loop-before.keyspace) c.loop-before.heap
-    (record { lines_free = c.heap_of-heap.ensures.lines; entries_free = c.heap_of-heap.ensures.entries })
-    before.grown refl (omega (arith, before.count, c.loop-before-test.false, c.requires.some)) (omega (arith, before.count, c.loop-before.auto.before-end, c.requires.few))
+    group-new 4096 Primary c.in_ok-heap.heap (record { epoch = 1; before = 0; parts = c.loop-before.parts }) (g.K.Keyspace.table c.loop-before.keyspace) c.loop-before.heap
+    (record { lines_free = c.in_ok-heap.ensures.lines; entries_free = c.in_ok-heap.ensures.entries })
+    before.grown refl refl (omega (arith, before.count, c.loop-before-test.false, c.requires.some)) (omega (arith, before.count, c.loop-before.auto.before-end, c.requires.few))

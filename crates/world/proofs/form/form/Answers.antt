@@ -18,12 +18,12 @@ returns-in-Ok-format-2-clause-stands g c =
     let made = c.in-Ok.ensures in
     let serving = c.in-Ok-format.ensures in
     let following = c.in-Ok-format-2.ensures in
-    let all : HasAll (g.P.Pmem.state c.args.standby).lines c.heap_of-heap.result =
-    subst (λ n. HasAll n c.heap_of-heap.result) c.lines.ensures.count (record { lines_free = c.heap_of-heap.ensures.lines; entries_free = c.heap_of-heap.ensures.entries }) in
+    let all : HasAll (g.P.Pmem.state c.args.standby).lines c.in-Ok.between.heap =
+    subst (λ n. HasAll n c.in-Ok.between.heap) c.lines-2.ensures.count (record { lines_free = made.free_lines; entries_free = made.free_entries }) in
     let epoch = ap (λ (s : Stream). s.epoch) made.link in
     rw c.new.ensures (pair-starts _ _ _ made.sessions made.sequencer made.no_group refl serving.new.position
     (engine-new _ _ _ _ _ serving.new serving.durable serving.sound.0)
-    (made.underlies _ (new-own _ _ _ _ (sym c.lines-2.ensures.count) serving.new))
+    (made.underlies _ (new-own _ _ _ _ (sym c.lines.ensures.count) serving.new))
     made.link made.handed refl c.new-in-Ok-format-2.ensures.items made.arrivals
     (standby-new _ _ _ _ following.new following.durable following.sound.0 all c.requires.following (following.new.epoch ∙ sym epoch) epoch))
 

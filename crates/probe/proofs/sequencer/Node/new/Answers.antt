@@ -4,5 +4,5 @@ use Rattle.placing.specs.Left.{IsBeside}
 use Rattle.placing.proofs.BesideLemmas.{beside_none}
 use Rattle.probe.proofs.sequencer.Node.new.Goals as goal
 
-pub new-requires-2 : goal.new-requires-2
-new-requires-2 c = subst (λ (table : Table). IsBeside table c.new-heap.result) (sym c.new.ensures) (beside_none c.new-heap.result)
+pub new-requires-3 : goal.new-requires-3
+new-requires-3 c = subst (λ (table : Table). IsBeside table c.in_ok-heap.heap) (sym c.new-2.ensures) (beside_none c.in_ok-heap.heap)

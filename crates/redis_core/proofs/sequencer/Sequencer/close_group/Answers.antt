@@ -13,13 +13,14 @@ some (part ∷ parts) none = omega arith
 pub returns-clause-ok : goal.returns-clause-ok
 returns-clause-ok g c =
     let old = c.args.self.now in
-    let group : Group = record { before = c.replace-before.result; parts = c.replace-parts.result } in
+    let group : Group = record { epoch = c.self.inside.epoch; before = c.replace-before.result; parts = c.replace-parts.result } in
     let waits : c.self.inside.waiting.items ≡ old.waiting = ap (λ (s : Sequencing). s.waiting) c.self.view_is in
     let emptied : c.replace-parts.new.dest.items ≡ [] = ap (λ (parts : Vec Part Global). parts.items) c.replace-parts.ensures.after ∙ c.in_ok-empty.ensures.items in
     let hands : HandsOut old group _ = record {
       some = some old.waiting c.requires;
       few = subst (λ (parts : List Part). length parts ≤ MAX_PARTS) waits c.self.invariant.few;
       all = ap (λ (parts : Vec Part Global). parts.items) c.replace-parts.ensures.value ∙ waits;
+      epoch = ap (λ (s : Sequencing). s.epoch) c.self.view_is;
       before = c.replace-before.ensures.value ∙ ap (λ (s : Sequencing). s.before) c.self.view_is;
       after = rw (c.replace-before.ensures.after, emptied) (ap (λ (s : Sequencing). record s { before = s.position; waiting = [] }) c.self.view_is);
     } in

@@ -12,7 +12,7 @@ use Rattle.standby.proofs.standby.Standby.take.Goals.{After-push_reserved}
 
 -- the group that is committed
 abbrev the_group : (g : Over) (c : After-push_reserved g) → Group
-the_group g c = record { before = c.args.frame.now.before; parts = c.push_reserved.new.self }
+the_group g c = record { epoch = c.args.frame.now.epoch; before = c.args.frame.now.before; parts = c.push_reserved.new.self }
 
 one : (g : Over) (c : After-push_reserved g) → c.push_reserved.new.self.items ≡ c.in_ok-part.part ∷ []
 one g c = c.push_reserved.ensures.items ∙ ap (λ (parts : List Part). parts ++ c.in_ok-part.part ∷ []) c.in_ok-parts.ensures.items
@@ -22,7 +22,7 @@ is_group g c =
     let contents = g.E.Durable.contents c.args.self.now.engine in
     let later : contents.current.position < c.in_ok-part.part.position = subst (λ n. contents.current.position < n) (sym c.in_ok-part.ensures.ok.position_is) c.requires.next.later in
     IsGroup-one contents (g.K.Keyspace.table c.args.self.now.keyspace) c.args.self.now.heap c.requires.follows c.in_ok-part.part c.make_part.new.heap
-    c.in_ok-part.ensures.ok.places c.in_ok-part.ensures.ok.ended (the_group g c) (one g c) c.requires.next.joined later
+    c.in_ok-part.ensures.ok.places c.in_ok-part.ensures.ok.ended (the_group g c) (one g c) c.requires.next.joined c.requires.epoch later
 
 -- the tables after the part are those of the contents after the group
 follows_after : (g : Over) (c : After-push_reserved g)
@@ -44,19 +44,19 @@ pub returns-in_err-commit-clause-moments : goal.returns-in_err-commit-clause-mom
 returns-in_err-commit-clause-moments g c =
     let prefix = (goal.at.returns-in_err-commit-clause-moments g c).After-push_reserved in
     LeavesOnly-group (g.E.Durable.contents c.args.self.now.engine) (g.K.Keyspace.table c.args.self.now.keyspace) c.args.frame.now c.in_ok-part.part c.in_ok-part.ensures.ok.changes_are c.in_ok-part.ensures.ok.position_is
-    (the_group g prefix) (one g prefix) (g.E.Durable.device c.args.self.now.engine) (g.E.Durable.device c.commit.new.self) c.make_part.new.heap (follows_after g prefix) (c.commit.ensures.moments c.requires.sound)
+    (the_group g prefix) (one g prefix) c.requires.epoch (g.E.Durable.device c.args.self.now.engine) (g.E.Durable.device c.commit.new.self) c.make_part.new.heap (follows_after g prefix) (c.commit.ensures.moments c.requires.sound)
 
 pub returns-clause-moments : goal.returns-clause-moments
 returns-clause-moments g c =
     let prefix = (goal.at.returns-clause-moments g c).After-push_reserved in
     LeavesOnly-group (g.E.Durable.contents c.args.self.now.engine) (g.K.Keyspace.table c.args.self.now.keyspace) c.args.frame.now c.in_ok-part.part c.in_ok-part.ensures.ok.changes_are c.in_ok-part.ensures.ok.position_is
-    (the_group g prefix) (one g prefix) (g.E.Durable.device c.args.self.now.engine) (g.E.Durable.device c.commit.new.self) c.make_part.new.heap (follows_after g prefix) (c.commit.ensures.moments c.requires.sound)
+    (the_group g prefix) (one g prefix) c.requires.epoch (g.E.Durable.device c.args.self.now.engine) (g.E.Durable.device c.commit.new.self) c.make_part.new.heap (follows_after g prefix) (c.commit.ensures.moments c.requires.sound)
 
 pub returns-clause-taken : goal.returns-clause-taken
 returns-clause-taken g c =
     let prefix = (goal.at.returns-clause-taken g c).After-push_reserved in
     HasTaken-group (g.E.Durable.contents c.args.self.now.engine) (g.K.Keyspace.table c.args.self.now.keyspace) c.args.frame.now c.in_ok-part.part c.in_ok-part.ensures.ok.changes_are c.in_ok-part.ensures.ok.position_is
-    (the_group g prefix) (one g prefix) (g.E.Durable.contents c.commit.new.self) (g.K.Keyspace.table c.make_part.new.keyspace) c.in_ok-commit.ensures.moved c.in_ok-part.ensures.ok.table_is
+    (the_group g prefix) (one g prefix) c.requires.epoch (g.E.Durable.contents c.commit.new.self) (g.K.Keyspace.table c.make_part.new.keyspace) c.in_ok-commit.ensures.moved c.in_ok-part.ensures.ok.table_is
 
 pub returns-clause-still : goal.returns-clause-still
 returns-clause-still g c = λ _.

@@ -1,6 +1,6 @@
 use Rattle.std.proofs.Common.{refl}
 use Rattle.server.proofs.ScheduleLemmas.{feeds-nothing, feeds-nothing-more}
-use Rattle.server.proofs.schedule.replicate.Goals as goal
+use Rattle.server.proofs.schedule.send_group.Goals as goal
 
 pub returns : goal.returns
 returns c =
@@ -8,4 +8,5 @@ returns c =
     let a1 = feeds-nothing-more _ _ _ _ start c.in_ok-push.ensures.items (λ d. refl) in
     let a2 = feeds-nothing-more _ _ _ _ a1 c.in_ok-push-2.ensures.items (λ d. refl) in
     let a3 = feeds-nothing-more _ _ _ _ a2 c.in_ok-push-3.ensures.items (λ d. refl) in
-    feeds-nothing-more _ _ _ _ a3 c.in_ok-push-4.ensures.items (λ d. refl)
+    let a4 = feeds-nothing-more _ _ _ _ a3 c.in_ok-push-4.ensures.items (λ d. refl) in
+    feeds-nothing-more _ _ _ _ a4 c.in_ok-push-5.ensures.items (λ d. refl)

@@ -1,0 +1,16 @@
+use Rattle.machine.proofs.RunLemmas.{sound-run}
+use Rattle.machine.proofs.StayLemmas.{stays-run}
+use Rattle.machine.proofs.CountLemmas.{few-connections}
+use Rattle.machine.proofs.laws.connections_stay_over.Goals as goal
+
+pub returns-clause-stays : goal.returns-clause-stays
+returns-clause-stays c = stays-run
+
+pub returns-clause-nothing : goal.returns-clause-nothing
+returns-clause-nothing c = λ events done worlds run d shut. ((sound-run events done worlds run).over d shut).nothing
+
+pub returns-clause-seats : goal.returns-clause-seats
+returns-clause-seats c = λ events done worlds run. (sound-run events done worlds run).connections.seats
+
+pub returns-clause-few : goal.returns-clause-few
+returns-clause-few c = few-connections
