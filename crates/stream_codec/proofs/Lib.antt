@@ -1,0 +1,11 @@
+pub mod Bodies
+pub mod Changes
+pub mod Heads
+pub mod Messages
+pub mod Names
+pub mod Numbers
+pub mod Putting
+pub mod Readers
+pub mod Skipping
+pub mod Streams
+pub mod WorkedCases

@@ -1,0 +1,182 @@
+-- Readers of bytes of which more may come, and the texts that each of them reads.
+use Rattle.std.proofs.Common.{◌≡◌, ℕ, List, [], ◌∷◌, ◌++◌, Result, Ok, Err, ◌⊎◌, inl, inr, refl, sym, ap, ◌∙◌}
+use Rattle.std.proofs.lemmas.List.{append_assoc, append-nil}
+use Rattle.stream_codec.specs.declared.reading.Stop.{Stop}
+use Rattle.stream_codec.specs.declared.reading.Stop.TheVariants.{Short, Broken}
+use Rattle.stream_codec.specs.Bytes.{Read, ◌>>=◌}
+
+-- ---- results
+
+pub bind_ok : {A B : Type 0} (r : Result A Stop) (f : A → Result B Stop) (y : B) → (r >>= f) ≡ Ok y → (x : A) × (r ≡ Ok x) × (f x ≡ Ok y)
+bind_ok (Ok x) f y e = (x, refl, e)
+bind_ok (Err stop) f y e = absurd cc
+
+pub bind_err : {A B : Type 0} (r : Result A Stop) (f : A → Result B Stop) (stop : Stop) → (r >>= f) ≡ Err stop → (r ≡ Err stop) ⊎ ((x : A) × (r ≡ Ok x) × (f x ≡ Err stop))
+bind_err (Ok x) f stop e = inr (x, refl, e)
+bind_err (Err other) f stop e = inl cc
+
+bind_as : {A B : Type 0} (r : Result A Stop) (x : Result A Stop) (f : A → Result B Stop) → r ≡ x → (r >>= f) ≡ (x >>= f)
+bind_as r x f e = ap (λ z. z >>= f) e
+
+abbrev done : {A : Type 0} → A → Result A Stop
+done x = Ok x
+
+ok_is : {A : Type 0} (x y : A) → done x ≡ done y → x ≡ y
+ok_is x y e = cc
+
+-- what was read, and what is left
+pub read_is : {A : Type 0} (x y : A) (bytes rest : List ℕ) → done {A = A × List ℕ} (x, bytes) ≡ done {A = A × List ℕ} (y, rest) → (x ≡ y) × (bytes ≡ rest)
+read_is {A} x y bytes rest e =
+    let same = ok_is (x, bytes) (y, rest) e in
+    (ap (λ (p : A × List ℕ). p.0) same, ap (λ (p : A × List ℕ). p.1) same)
+
+rest_of_nothing : (text rest : List ℕ) → [] ≡ text ++ rest → rest ≡ []
+rest_of_nothing [] rest e = sym e
+rest_of_nothing (byte ∷ text) rest e = absurd cc
+
+-- ---- readers
+
+-- `read` reads the texts that `Spells` names, and no others; it waits only for what can come, and is broken only for good
+pub record Reads {A : Type 0} (read : List ℕ → Read A) (Spells : A → List ℕ → Type 0) : Type 0 where
+  pub begins : (read [] ≡ Err Broken) → ⊥
+  pub again : (x : A) (text more : List ℕ) → Spells x text → read (text ++ more) ≡ Ok (x, more)
+  pub takes : (bytes : List ℕ) (x : A) (rest : List ℕ) → read bytes ≡ Ok (x, rest) → (text : List ℕ) × Spells x text × (bytes ≡ text ++ rest)
+  pub short : (bytes : List ℕ) → read bytes ≡ Err Short → (x : A) × (more : List ℕ) × Spells x (bytes ++ more)
+  pub stays : (bytes more : List ℕ) → read bytes ≡ Err Broken → read (bytes ++ more) ≡ Err Broken
+
+-- what was read stays read when more bytes come
+pub grows : {A : Type 0} (read : List ℕ → Read A) (Spells : A → List ℕ → Type 0) → Reads read Spells → (bytes more : List ℕ) (x : A) (rest : List ℕ) → read bytes ≡ Ok (x, rest) → read (bytes ++ more) ≡ Ok (x, rest ++ more)
+grows read Spells p bytes more x rest e =
+    let t = p.takes bytes x rest e in
+    ap (λ b. read (b ++ more)) t.2 ∙ ap read (append_assoc t.0 rest more) ∙ p.again x t.0 (rest ++ more) t.1
+
+some_text_by : {A : Type 0} (read : List ℕ → Read A) (Spells : A → List ℕ → Type 0) → Reads read Spells → (r : Read A) → read [] ≡ r → (x : A) × (text : List ℕ) × Spells x text
+some_text_by read Spells p (Ok x) e = let t = p.takes [] x.0 x.1 e in (x.0, t.0, t.1)
+some_text_by read Spells p (Err Short) e = let t = p.short [] e in (t.0, [] ++ t.1, t.2)
+some_text_by read Spells p (Err Broken) e = absurd (p.begins e)
+
+-- something is read
+pub some_text : {A : Type 0} (read : List ℕ → Read A) (Spells : A → List ℕ → Type 0) → Reads read Spells → (x : A) × (text : List ℕ) × Spells x text
+some_text read Spells p = some_text_by read Spells p (read []) refl
+
+-- the same texts, told otherwise
+pub Reads-as : {A : Type 0} (read : List ℕ → Read A) (S T : A → List ℕ → Type 0) → Reads read S → ((x : A) (text : List ℕ) → S x text → T x text) → ((x : A) (text : List ℕ) → T x text → S x text) → Reads read T
+Reads-as read S T p to from =
+    record {
+      begins = p.begins;
+      again = λ x text more t. p.again x text more (from x text t);
+      takes = λ bytes x rest e. let t = p.takes bytes x rest e in (t.0, to x t.0 t.1, t.2);
+      short = λ bytes e. let t = p.short bytes e in (t.0, t.1, to t.0 (bytes ++ t.1) t.2);
+      stays = p.stays;
+    }
+
+-- a reader that gives the same
+pub Reads-same : {A : Type 0} (r s : List ℕ → Read A) (S : A → List ℕ → Type 0) → Reads r S → ((bytes : List ℕ) → s bytes ≡ r bytes) → Reads s S
+Reads-same r s S p same =
+    record {
+      begins = λ e. p.begins (sym (same []) ∙ e);
+      again = λ x text more t. same (text ++ more) ∙ p.again x text more t;
+      takes = λ bytes x rest e. p.takes bytes x rest (sym (same bytes) ∙ e);
+      short = λ bytes e. p.short bytes (sym (same bytes) ∙ e);
+      stays = λ bytes more e. same (bytes ++ more) ∙ p.stays bytes more (sym (same bytes) ∙ e);
+    }
+
+-- nothing more is read
+pub Reads-done : {A : Type 0} (x : A) → Reads (λ bytes. Ok (x, bytes)) (λ y text. (text ≡ []) × (y ≡ x))
+Reads-done {A} x =
+    let read : A → List ℕ → Read A = λ y bytes. Ok (y, bytes) in
+    record {
+      begins = λ e. absurd cc;
+      again = λ y text more t. ap (λ b. read x (b ++ more)) t.0 ∙ ap (λ z. read z more) (sym t.1);
+      takes = λ bytes y rest e. let same = read_is x y bytes rest e in ([], (refl, sym same.0), same.1);
+      short = λ bytes e. absurd cc;
+      stays = λ bytes more e. absurd cc;
+    }
+
+-- one text, and then another that depends on what was read
+pub record Then {A B : Type 0} (S : A → List ℕ → Type 0) (T : A → B → List ℕ → Type 0) (y : B) (text : List ℕ) : Type 0 where
+  pub x : A
+  pub first : List ℕ
+  pub second : List ℕ
+  pub before : S x first
+  pub after : T x y second
+  pub joined : text ≡ first ++ second
+
+begins-then : {A B : Type 0} (r : List ℕ → Read A) (f : A → List ℕ → Read B) (S : A → List ℕ → Type 0) (T : A → B → List ℕ → Type 0) → Reads r S → ((x : A) (text : List ℕ) → S x text → Reads (f x) (T x)) → (r [] >>= λ x. f x.0 x.1) ≡ Err Broken → ⊥
+begins-then r f S T p q e =
+    elim (bind_err (r []) (λ x. f x.0 x.1) Broken e) [
+      | inl h ↦ p.begins h
+      | inr k ↦ let t = p.takes [] k.0.0 k.0.1 k.1 in
+          (q k.0.0 t.0 t.1).begins (ap (f k.0.0) (sym (rest_of_nothing t.0 k.0.1 t.2)) ∙ k.2)
+    ]
+
+again-then : {A B : Type 0} (r : List ℕ → Read A) (f : A → List ℕ → Read B) (S : A → List ℕ → Type 0) (T : A → B → List ℕ → Type 0) → Reads r S → ((x : A) (text : List ℕ) → S x text → Reads (f x) (T x)) → (y : B) (text more : List ℕ) → Then S T y text → (r (text ++ more) >>= λ x. f x.0 x.1) ≡ Ok (y, more)
+again-then r f S T p q y text more t =
+    ap (λ b. r (b ++ more) >>= λ x. f x.0 x.1) t.joined
+    ∙ ap (λ b. r b >>= λ x. f x.0 x.1) (append_assoc t.first t.second more)
+    ∙ bind_as (r (t.first ++ (t.second ++ more))) (Ok (t.x, t.second ++ more)) (λ x. f x.0 x.1) (p.again t.x t.first (t.second ++ more) t.before)
+    ∙ (q t.x t.first t.before).again y t.second more t.after
+
+takes-then : {A B : Type 0} (r : List ℕ → Read A) (f : A → List ℕ → Read B) (S : A → List ℕ → Type 0) (T : A → B → List ℕ → Type 0) → Reads r S → ((x : A) (text : List ℕ) → S x text → Reads (f x) (T x)) → (bytes : List ℕ) (y : B) (rest : List ℕ) → (r bytes >>= λ x. f x.0 x.1) ≡ Ok (y, rest) → (text : List ℕ) × Then S T y text × (bytes ≡ text ++ rest)
+takes-then r f S T p q bytes y rest e =
+    let k = bind_ok (r bytes) (λ x. f x.0 x.1) (y, rest) e in
+    let t = p.takes bytes k.0.0 k.0.1 k.1 in
+    let u = (q k.0.0 t.0 t.1).takes k.0.1 y rest k.2 in (
+      t.0 ++ u.0,
+      record { x = k.0.0; first = t.0; second = u.0; before = t.1; after = u.1; joined = refl },
+      t.2 ∙ ap (λ b. t.0 ++ b) u.2 ∙ sym (append_assoc t.0 u.0 rest),
+    )
+
+short-then : {A B : Type 0} (r : List ℕ → Read A) (f : A → List ℕ → Read B) (S : A → List ℕ → Type 0) (T : A → B → List ℕ → Type 0) → Reads r S → ((x : A) (text : List ℕ) → S x text → Reads (f x) (T x)) → (bytes : List ℕ) → (r bytes >>= λ x. f x.0 x.1) ≡ Err Short → (y : B) × (more : List ℕ) × Then S T y (bytes ++ more)
+short-then r f S T p q bytes e =
+    elim (bind_err (r bytes) (λ x. f x.0 x.1) Short e) [
+      | inl h ↦ let t = p.short bytes h in
+          let u = some_text (f t.0) (T t.0) (q t.0 (bytes ++ t.1) t.2) in
+          (u.0, t.1 ++ u.1, record { x = t.0; first = bytes ++ t.1; second = u.1; before = t.2; after = u.2; joined = sym (append_assoc bytes t.1 u.1) })
+      | inr k ↦ let t = p.takes bytes k.0.0 k.0.1 k.1 in
+          let u = (q k.0.0 t.0 t.1).short k.0.1 k.2 in
+          (u.0, u.1, record { x = k.0.0; first = t.0; second = k.0.1 ++ u.1; before = t.1; after = u.2; joined = ap (λ b. b ++ u.1) t.2 ∙ append_assoc t.0 k.0.1 u.1 })
+    ]
+
+stays-then : {A B : Type 0} (r : List ℕ → Read A) (f : A → List ℕ → Read B) (S : A → List ℕ → Type 0) (T : A → B → List ℕ → Type 0) → Reads r S → ((x : A) (text : List ℕ) → S x text → Reads (f x) (T x)) → (bytes more : List ℕ) → (r bytes >>= λ x. f x.0 x.1) ≡ Err Broken → (r (bytes ++ more) >>= λ x. f x.0 x.1) ≡ Err Broken
+stays-then r f S T p q bytes more e =
+    elim (bind_err (r bytes) (λ x. f x.0 x.1) Broken e) [
+      | inl h ↦ bind_as (r (bytes ++ more)) (Err Broken) (λ x. f x.0 x.1) (p.stays bytes more h)
+      | inr k ↦ let t = p.takes bytes k.0.0 k.0.1 k.1 in
+          bind_as (r (bytes ++ more)) (Ok (k.0.0, k.0.1 ++ more)) (λ x. f x.0 x.1) (grows r S p bytes more k.0.0 k.0.1 k.1)
+          ∙ (q k.0.0 t.0 t.1).stays k.0.1 more k.2
+    ]
+
+-- two readers, one after the other
+pub Reads-then : {A B : Type 0} (r : List ℕ → Read A) (f : A → List ℕ → Read B) (S : A → List ℕ → Type 0) (T : A → B → List ℕ → Type 0) → Reads r S → ((x : A) (text : List ℕ) → S x text → Reads (f x) (T x)) → Reads (λ bytes. r bytes >>= λ x. f x.0 x.1) (Then S T)
+Reads-then r f S T p q =
+    record {
+      begins = λ e. begins-then r f S T p q e;
+      again = λ y text more t. again-then r f S T p q y text more t;
+      takes = λ bytes y rest e. takes-then r f S T p q bytes y rest e;
+      short = λ bytes e. short-then r f S T p q bytes e;
+      stays = λ bytes more e. stays-then r f S T p q bytes more e;
+    }
+
+-- ---- two readers of the same texts are one
+
+same_at : {A : Type 0} (r s : List ℕ → Read A) (S : A → List ℕ → Type 0) → Reads r S → Reads s S → (bytes : List ℕ) (x y : Read A) → r bytes ≡ x → s bytes ≡ y → r bytes ≡ s bytes
+same_at r s S p q bytes (Ok x) y e f =
+    let t = p.takes bytes x.0 x.1 e in e ∙ sym (ap s t.2 ∙ q.again x.0 t.0 x.1 t.1)
+same_at r s S p q bytes (Err stop) (Ok y) e f =
+    let t = q.takes bytes y.0 y.1 f in ap r t.2 ∙ p.again y.0 t.0 y.1 t.1 ∙ sym f
+same_at r s S p q bytes (Err Short) (Err Short) e f = e ∙ sym f
+same_at r s S p q bytes (Err Broken) (Err Broken) e f = e ∙ sym f
+same_at r s S p q bytes (Err Short) (Err Broken) e f =
+    let t = p.short bytes e in
+    let good : s (bytes ++ t.1) ≡ Ok (t.0, []) = ap s (sym (append-nil (bytes ++ t.1))) ∙ q.again t.0 (bytes ++ t.1) [] t.2 in
+    let bad = q.stays bytes t.1 f in
+    absurd cc
+same_at r s S p q bytes (Err Broken) (Err Short) e f =
+    let t = q.short bytes f in
+    let good : r (bytes ++ t.1) ≡ Ok (t.0, []) = ap r (sym (append-nil (bytes ++ t.1))) ∙ p.again t.0 (bytes ++ t.1) [] t.2 in
+    let bad = p.stays bytes t.1 e in
+    absurd cc
+
+pub same_readers : {A : Type 0} (r s : List ℕ → Read A) (S : A → List ℕ → Type 0) → Reads r S → Reads s S → (bytes : List ℕ) → r bytes ≡ s bytes
+same_readers r s S p q bytes = same_at r s S p q bytes (r bytes) (s bytes) refl refl

@@ -1,0 +1,9 @@
+use Rattle.std.proofs.Common.{◌≡◌, ◌+◌, ◌≤◌, ◌++◌, length, drop}
+use Rattle.kv_types.specs.Change.{changes_text}
+use Rattle.stream_codec.proofs.writing.put_changes.Given as goal
+
+-- what was put and the changes that are left make up the whole, in bytes and in room
+abbrev pub invariant-loop-change : goal.invariant-loop-change
+invariant-loop-change g l =
+    let left = changes_text (drop l.change-index l.changes) in
+    (g.W.BufMut.written l.out ++ left ≡ g.W.BufMut.written l.fn.out ++ changes_text l.changes) × (g.W.BufMut.spare l.fn.out + length left ≤ g.W.BufMut.spare l.out + length (changes_text l.changes))

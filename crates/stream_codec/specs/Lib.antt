@@ -1,0 +1,7 @@
+pub mod Bytes
+pub mod Message
+pub mod Puts
+pub mod Reading
+pub mod Scanning
+pub mod Shown
+pub mod Stream

@@ -1,0 +1,120 @@
+-- The message at the front of bytes, computed. The contract of `stream_codec::frames_are_read` says that it is the one whose bytes these are.
+use Rattle.std.specs.Prelude.{ℕ, zero, suc, ◌+◌, ◌-◌, ◌^◌, List, [], ◌∷◌, length, min, ◌==◌, if◌then◌else◌, nat_le, Option, None, Some, Ok, Err}
+use Rattle.kv_types.specs.declared.limits.TheConstants.{MAX_KEY_BYTES, MAX_VALUE_BYTES}
+use Rattle.kv_types.specs.declared.record_id.RecordId.TheVariants.{Str, Field}
+use Rattle.kv_types.specs.declared.change.Change.{Change}
+use Rattle.kv_types.specs.declared.change.Change.TheVariants.{Put, Drop, DropKey, Clear}
+use Rattle.kv_types.specs.Change.{change_text}
+use Rattle.stream_codec.specs.declared.reading.Stop.TheVariants.{Short, Broken}
+use Rattle.stream_codec.specs.declared.message.TheConstants.{MAX_BODY_BYTES}
+use Rattle.stream_codec.specs.Message.{Sent, Changes, Acknowledged}
+use Rattle.stream_codec.specs.Bytes.{Read, ◌>>=◌, two_places, four_places, eight_places, number_at, counted_at}
+use Rattle.stream_codec.specs.declared.change.Kind.{Kind}
+use Rattle.stream_codec.specs.declared.change.Kind.TheVariants as kind
+use Rattle.stream_codec.specs.declared.head.HeadKind.{HeadKind}
+use Rattle.stream_codec.specs.declared.head.HeadKind.TheVariants as head_kind
+use Rattle.stream_codec.specs.declared.head.Head.{Head}
+use Rattle.stream_codec.specs.declared.head.Head.TheVariants as head
+
+-- ---- changes
+
+-- the kind of a change, by its first byte
+abbrev pub kind_of : ℕ → Option Kind
+kind_of byte =
+    if byte == 1 then Some kind.PutString
+    else (if byte == 2 then Some kind.PutField
+    else (if byte == 3 then Some kind.DropString
+    else (if byte == 4 then Some kind.DropField
+    else (if byte == 5 then Some kind.DropKey
+    else (if byte == 6 then Some kind.Clear
+    else None)))))
+
+-- how many bytes a change of a kind has at least: its first byte and its lengths
+abbrev pub least_size : Kind → ℕ
+least_size kind.PutString = 7
+least_size kind.PutField = 9
+least_size kind.DropString = 3
+least_size kind.DropField = 5
+least_size kind.DropKey = 3
+least_size kind.Clear = 1
+
+-- the kind of a change of at most `left` bytes
+abbrev pub kind_within : ℕ → List ℕ → Option Kind → Read Kind
+kind_within left bytes None = Err Broken
+kind_within left bytes (Some kind) = if nat_le (least_size kind) left then Ok (kind, bytes) else Err Broken
+
+abbrev pub kind_at : ℕ → List ℕ → Read Kind
+kind_at left [] = Err Short
+kind_at left (byte ∷ bytes) = kind_within left bytes (kind_of byte)
+
+-- a key or a field with its length, where `spare` bytes are left for the bytes of keys, fields and values
+abbrev pub name_at : ℕ → List ℕ → Read (List ℕ)
+name_at spare bytes = counted_at two_places (min MAX_KEY_BYTES spare) bytes
+
+abbrev pub value_at : ℕ → List ℕ → Read (List ℕ)
+value_at spare bytes = counted_at four_places (min MAX_VALUE_BYTES spare) bytes
+
+-- the names and the value of a change, behind its first byte
+abbrev pub change_of : Kind → ℕ → List ℕ → Read Change
+change_of kind.PutString spare bytes =
+    name_at spare bytes >>= λ key. value_at (spare - length key.0) key.1 >>= λ value. Ok (Put (Str key.0) value.0, value.1)
+change_of kind.PutField spare bytes =
+    name_at spare bytes >>= λ key. name_at (spare - length key.0) key.1 >>= λ field. value_at (spare - length key.0 - length field.0) field.1 >>= λ value.
+    Ok (Put (Field key.0 field.0) value.0, value.1)
+change_of kind.DropString spare bytes = name_at spare bytes >>= λ key. Ok (Drop (Str key.0), key.1)
+change_of kind.DropField spare bytes =
+    name_at spare bytes >>= λ key. name_at (spare - length key.0) key.1 >>= λ field. Ok (Drop (Field key.0 field.0), field.1)
+change_of kind.DropKey spare bytes = name_at spare bytes >>= λ key. Ok (DropKey key.0, key.1)
+change_of kind.Clear spare bytes = Ok (Clear, bytes)
+
+-- a change of at most `left` bytes
+unfoldable pub change_at : ℕ → List ℕ → Read Change
+change_at left bytes = kind_at left bytes >>= λ kind. change_of kind.0 (left - least_size kind.0) kind.1
+
+-- The changes that make up exactly `left` bytes, at most so many of them as are told first: each has at least one byte.
+abbrev pub changes_within : ℕ → ℕ → List ℕ → Read (List Change)
+changes_within zero left bytes = Ok ([], bytes)
+changes_within (suc most) left bytes =
+    if left == 0 then Ok ([], bytes)
+    else (change_at left bytes >>= λ change. changes_within most (left - length (change_text change.0)) change.1 >>= λ others.
+    Ok (change.0 ∷ others.0, others.1))
+
+unfoldable pub changes_at : ℕ → List ℕ → Read (List Change)
+changes_at left bytes = changes_within left left bytes
+
+-- ---- messages
+
+abbrev pub head_kind_of : ℕ → Option HeadKind
+head_kind_of byte = if byte == 1 then Some head_kind.Group else (if byte == 2 then Some head_kind.Ack else None)
+
+abbrev pub known : List ℕ → Option HeadKind → Read HeadKind
+known bytes None = Err Broken
+known bytes (Some kind) = Ok (kind, bytes)
+
+abbrev pub head_kind_at : List ℕ → Read HeadKind
+head_kind_at [] = Err Short
+head_kind_at (byte ∷ bytes) = known bytes (head_kind_of byte)
+
+abbrev pub long_at : ℕ → ℕ → List ℕ → Read ℕ
+long_at least most bytes = number_at eight_places least most bytes
+
+-- the numbers of a message, behind its first byte
+abbrev pub head_of : HeadKind → List ℕ → Read Head
+head_of head_kind.Group bytes =
+    long_at 0 (2 ^ 64 - 1) bytes >>= λ epoch. long_at 0 (2 ^ 64 - 2) epoch.1 >>= λ before. long_at (before.0 + 1) (2 ^ 64 - 1) before.1 >>= λ after.
+    long_at 0 MAX_BODY_BYTES after.1 >>= λ size. Ok (head.Group epoch.0 before.0 after.0 size.0, size.1)
+head_of head_kind.Ack bytes =
+    long_at 0 (2 ^ 64 - 1) bytes >>= λ epoch. long_at 0 (2 ^ 64 - 1) epoch.1 >>= λ position. Ok (head.Ack (record { epoch = epoch.0; position = position.0 }), position.1)
+
+-- all of a message but the changes of a group
+unfoldable pub head_at : List ℕ → Read Head
+head_at bytes = head_kind_at bytes >>= λ kind. head_of kind.0 kind.1
+
+-- a message, behind its numbers
+abbrev pub body_at : Head → List ℕ → Read Sent
+body_at (head.Group epoch before after size) bytes = changes_at size bytes >>= λ changes. Ok (Changes epoch before after changes.0, changes.1)
+body_at (head.Ack ack) bytes = Ok (Acknowledged ack.epoch ack.position, bytes)
+
+-- the message at the front
+unfoldable pub message_at : List ℕ → Read Sent
+message_at bytes = head_at bytes >>= λ head. body_at head.0 head.1

@@ -1,0 +1,75 @@
+//! The numbers of the message at the front of bytes.
+ghost use Rattle.std.specs.Prelude.{◌≡◌, ◌+◌, ◌-◌, ◌≤◌, length, IfOk};
+ghost use Rattle.stream_codec.specs.Bytes.{Gives};
+ghost use Rattle.stream_codec.specs.Reading.{head_kind_of, head_kind_at, head_of, head_at};
+
+use crate::message::MAX_BODY_BYTES;
+use crate::reading::{Stop, u64_at};
+use standby::Ack;
+
+/// The kinds of messages.
+#[derive(Clone, Copy, Debug, PartialEq, Eq)]
+pub(crate) enum HeadKind {
+    Group,
+    Ack,
+}
+
+/// All of a message but the changes of a group.
+#[derive(Clone, Copy, Debug, PartialEq, Eq)]
+pub(crate) enum Head {
+    /// The epoch, the positions before and after, and the length of the body.
+    Group(u64, u64, u64, u64),
+    Ack(Ack),
+}
+
+/// The kind of a message, by its first byte.
+fn head_kind_of(byte: u8) -> Option<HeadKind>
+    ensures { result ≡ head_kind_of byte }
+{
+    match byte {
+        1 => Some(HeadKind::Group),
+        2 => Some(HeadKind::Ack),
+        _ => None,
+    }
+}
+
+fn head_kind_at(bytes: &[u8]) -> Result<(HeadKind, &[u8]), Stop>
+    ensures { Gives (λ x. (x.0, x.1.now)) result (head_kind_at bytes.now) }
+{
+    match bytes.split_first() {
+        None => Err(Stop::Short),
+        Some((byte, rest)) => match head_kind_of(*byte) {
+            Some(kind) => Ok((kind, rest)),
+            None => Err(Stop::Broken),
+        },
+    }
+}
+
+/// The numbers of a message, behind its first byte.
+fn head_of(kind: HeadKind, bytes: &[u8]) -> Result<(Head, &[u8]), Stop>
+    ensures { Gives (λ x. (x.0, x.1.now)) result (head_of kind bytes.now) }
+{
+    match kind {
+        HeadKind::Group => {
+            let (epoch, rest) = u64_at(bytes, 0, u64::MAX)?;
+            let (before, rest) = u64_at(rest, 0, u64::MAX - 1)?;
+            let (after, rest) = u64_at(rest, before + 1, u64::MAX)?;
+            let (size, rest) = u64_at(rest, 0, MAX_BODY_BYTES)?;
+            Ok((Head::Group(epoch, before, after, size), rest))
+        }
+        HeadKind::Ack => {
+            let (epoch, rest) = u64_at(bytes, 0, u64::MAX)?;
+            let (position, rest) = u64_at(rest, 0, u64::MAX)?;
+            Ok((Head::Ack(Ack { epoch, position }), rest))
+        }
+    }
+}
+
+/// All of the message at the front but the changes of a group.
+#[tactic(auto, unfolding(crate::specs::Reading::head_at))]
+pub(crate) fn head_at(bytes: &[u8]) -> Result<(Head, &[u8]), Stop>
+    ensures { Gives (λ x. (x.0, x.1.now)) result (head_at bytes.now) }
+{
+    let (kind, rest) = head_kind_at(bytes)?;
+    head_of(kind, rest)
+}

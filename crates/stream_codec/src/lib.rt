@@ -1,0 +1,17 @@
+//! Frames between the two nodes: as bytes, and read from bytes in any pieces.
+#![tactic(auto)]
+
+mod change;
+mod decoder;
+mod frames;
+mod head;
+mod laws;
+mod message;
+mod reading;
+mod scan;
+mod writing;
+
+pub use decoder::Decoder;
+pub use laws::{frames_are_read, in_any_pieces, one_spelling, written_is_read};
+pub use message::{MAX_BODY_BYTES, Message};
+pub use writing::write_frame;

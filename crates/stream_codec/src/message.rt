@@ -1,0 +1,14 @@
+//! What the two nodes tell each other.
+use standby::{Ack, Frame};
+
+/// The most bytes that the changes of one group have together.
+pub const MAX_BODY_BYTES: u64 = 1 << 40;
+
+/// What one node tells the other.
+#[derive(Debug, Drop)]
+pub enum Message {
+    /// From the primary: the changes between two positions.
+    Group(Frame),
+    /// From the standby: what is durable on it.
+    Ack(Ack),
+}

@@ -1,0 +1,138 @@
+//! Frames as bytes.
+ghost use Rattle.std.specs.Prelude.{◌≡◌, ◌+◌, ◌^◌, ◌<◌, ◌≤◌, [], ◌∷◌, ◌++◌, length, OnOk, OnErr, IsOk};
+ghost use Rattle.std.specs.List.{flat_map};
+ghost use Rattle.std.specs.Option.{SomeIff};
+ghost use Rattle.kv_types.specs.Change.{short_bytes, long_bytes, change_text, changes_text, changes_size};
+ghost use Rattle.stream_codec.specs.Message.{long, sent_of, sent_of_frame, sent_of_ack, sent_text};
+ghost use Rattle.stream_codec.specs.Puts.{Puts};
+
+use crate::message::Message;
+use bytes::BufMut;
+use kv_types::{Change, Key, RecordId, Value};
+use standby::{Ack, Frame};
+use std::alloc::AllocError;
+
+/// How many bytes the numbers of a group's frame have, its first byte among them.
+const GROUP_HEAD_BYTES: u64 = 1 + 8 + 8 + 8 + 8;
+
+/// Appends the bytes of a frame to `out`. It fails only if `out` had no room for them and could not make it, and then nothing is written.
+pub fn write_frame<W: BufMut>(message: &Message, out: &mut W) -> Result<(), AllocError>
+    ensures ok { OnOk result (W.written out.new ≡ W.written out.old ++ sent_text (sent_of message.now)) }
+    ensures err { OnErr result (W.written out.new ≡ W.written out.old) }
+    ensures succeeds { let text = sent_text (sent_of message.now) in length text < 2 ^ 64 → length text ≤ W.spare out.old → IsOk result }
+    ensures spare { OnOk result (W.spare out.old ≤ W.spare out.new + length (sent_text (sent_of message.now))) }
+{
+    let len = frame_len(message).ok_or(AllocError)?;
+    out.reserve(len)?;
+    match message {
+        Message::Group(frame) => put_group(frame, out),
+        Message::Ack(ack) => put_ack(*ack, out),
+    }
+}
+
+/// How many bytes the frame has, or `None` if no memory could hold them.
+fn frame_len(message: &Message) -> Option<usize>
+    ensures { let len = length (sent_text (sent_of message.now)) in SomeIff result (len < 2 ^ 64) len }
+{
+    match message {
+        Message::Group(frame) => {
+            let len = body_len(frame.changes.as_slice())?.checked_add(GROUP_HEAD_BYTES)?;
+            Some(len as usize)
+        }
+        Message::Ack(_) => Some(1 + 8 + 8),
+    }
+}
+
+/// How many bytes the changes have, or `None` if no memory could hold them.
+fn body_len(changes: &[Change]) -> Option<u64>
+    ensures { SomeIff result (changes_size changes.now < 2 ^ 64) (changes_size changes.now) }
+{
+    let mut len: u64 = 0;
+    for change in changes {
+        len = len.checked_add(change.text_size() as u64)?;
+    }
+    Some(len)
+}
+
+fn put_ack<W: BufMut>(ack: Ack, out: &mut W) -> Result<(), AllocError>
+    ensures { Puts result (W.written out.old) (W.written out.new) (W.spare out.old) (W.spare out.new) (sent_text (sent_of_ack ack)) }
+{
+    out.put_u8(2)?;
+    put_numbers(&[ack.epoch, ack.position], out)
+}
+
+fn put_group<W: BufMut>(frame: &Frame, out: &mut W) -> Result<(), AllocError>
+    requires { changes_size frame.now.changes.items < 2 ^ 64 }
+    ensures { Puts result (W.written out.old) (W.written out.new) (W.spare out.old) (W.spare out.new) (sent_text (sent_of_frame frame.now)) }
+{
+    let size = body_len(frame.changes.as_slice()).unwrap();
+    out.put_u8(1)?;
+    put_numbers(&[frame.epoch, frame.before, frame.after, size], out)?;
+    put_changes(frame.changes.as_slice(), out)
+}
+
+/// Puts numbers, each in eight bytes.
+fn put_numbers<W: BufMut>(numbers: &[u64], out: &mut W) -> Result<(), AllocError>
+    ensures { Puts result (W.written out.old) (W.written out.new) (W.spare out.old) (W.spare out.new) (flat_map long numbers.now) }
+{
+    for number in numbers {
+        out.put_u64(*number)?;
+    }
+    Ok(())
+}
+
+fn put_changes<W: BufMut>(changes: &[Change], out: &mut W) -> Result<(), AllocError>
+    ensures { Puts result (W.written out.old) (W.written out.new) (W.spare out.old) (W.spare out.new) (changes_text changes.now) }
+{
+    for change in changes {
+        put_change(change, out)?;
+    }
+    Ok(())
+}
+
+fn put_change<W: BufMut>(change: &Change, out: &mut W) -> Result<(), AllocError>
+    ensures { Puts result (W.written out.old) (W.written out.new) (W.spare out.old) (W.spare out.new) (change_text change.now) }
+{
+    match change {
+        Change::Put(RecordId::Str(key), value) => {
+            put_first(1, key, out)?;
+            put_value(value, out)
+        }
+        Change::Put(RecordId::Field(key, field), value) => {
+            put_first(2, key, out)?;
+            put_name(field, out)?;
+            put_value(value, out)
+        }
+        Change::Drop(RecordId::Str(key)) => put_first(3, key, out),
+        Change::Drop(RecordId::Field(key, field)) => {
+            put_first(4, key, out)?;
+            put_name(field, out)
+        }
+        Change::DropKey(key) => put_first(5, key, out),
+        Change::Clear => out.put_u8(6),
+    }
+}
+
+/// Puts the first byte of a change, and its key.
+fn put_first<W: BufMut>(first: u8, key: &Key, out: &mut W) -> Result<(), AllocError>
+    ensures { Puts result (W.written out.old) (W.written out.new) (W.spare out.old) (W.spare out.new) (first ∷ short_bytes key.now) }
+{
+    out.put_u8(first)?;
+    put_name(key, out)
+}
+
+/// Puts the length of a key or a field, and its bytes.
+fn put_name<W: BufMut>(name: &Key, out: &mut W) -> Result<(), AllocError>
+    ensures { Puts result (W.written out.old) (W.written out.new) (W.spare out.old) (W.spare out.new) (short_bytes name.now) }
+{
+    out.put_u16(name.len() as u16)?;
+    out.put_slice(name.as_slice())
+}
+
+/// Puts the length of a value, and its bytes.
+fn put_value<W: BufMut>(value: &Value, out: &mut W) -> Result<(), AllocError>
+    ensures { Puts result (W.written out.old) (W.written out.new) (W.spare out.old) (W.spare out.new) (long_bytes value.now) }
+{
+    out.put_u32(value.len() as u32)?;
+    out.put_slice(value.as_slice())
+}
