@@ -1,11 +1,7 @@
 """Lines that ask the probe for requests over its plain keyspace (docs/probe.md), and what it answers to them."""
 
 import plain_redis
-from probe_client import Probing, drop_key, hexed, put
-
-# The integers at both ends, the longest key, and one that is too long.
-LEAST, GREATEST = b"-9223372036854775808", b"9223372036854775807"
-LONGEST_KEY, LONG_KEY = 512 * b"k", 513 * b"k"
+from probe_client import Probing, drop, drop_key, hexed, put
 
 
 def words_of(asked):
@@ -23,6 +19,11 @@ def write(key, value):
     return put((key.encode(),), value.encode())
 
 
+def write_field(key, field, value):
+    """The change that writes a field of a hash."""
+    return put((key.encode(), field.encode()), value.encode())
+
+
 def shown(reply, *changes):
     """What the probe prints: the bytes of a reply, and changes as it spells them."""
     return " ".join([hexed(reply), *changes])
@@ -33,6 +34,8 @@ def spelled(change):
     match change:
         case plain_redis.Put(name, value):
             return put(name, value)
+        case plain_redis.Drop(name):
+            return drop(name)
         case plain_redis.DropKey(key):
             return drop_key(key)
         case plain_redis.Clear():
@@ -48,7 +51,10 @@ class Commands(Probing):
     """Tests that are tables of a request, its reply and its changes, each over the same keyspace."""
 
     # The strings s, n and e, and the hash h.
-    KEPT = (put((b"s",), b"value"), put((b"n",), b"10"), put((b"e",), b""), put((b"h", b"f"), b"1"), put((b"h", b"g"), b"2"))
+    KEPT = (
+        put((b"s",), b"value"), put((b"n",), b"10"), put((b"e",), b""),
+        put((b"h", b"f"), b"1"), put((b"h", b"g"), b"2"), put((b"h", b"t"), b"text"), put((b"h", b""), b""),
+    )
 
     def show_requests(self, table, kept=KEPT):
         """Each request is one case. What one would change, the next does not see."""

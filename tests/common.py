@@ -86,32 +86,21 @@ def bytes_unread(pipe):
     return struct.unpack("i", fcntl.ioctl(pipe, termios.FIONREAD, b"\0\0\0\0"))[0]
 
 
-SHORT_ESCAPES = {0x22: '\\"', 0x5C: "\\\\", 0x0D: "\\r", 0x0A: "\\n", 0x09: "\\t"}
-LONG_ESCAPES = {text: bytes([byte]) for byte, text in SHORT_ESCAPES.items()}
-ESCAPE = re.compile(r'\\x[0-9a-f]{2}|\\["\\rnt]|[ !#-\[\]-~]')
+SHORT_ESCAPES = {'"': '\\"', "\\": "\\\\", "\r": "\\r", "\n": "\\n", "\t": "\\t"}
+LONG_ESCAPES = {chr(byte): f"\\x{byte:02x}" for byte in range(256) if not 0x20 <= byte <= 0x7E}
+ESCAPES = str.maketrans(LONG_ESCAPES | SHORT_ESCAPES)
+ESCAPED = {text: char for char, text in (LONG_ESCAPES | SHORT_ESCAPES).items()}
+ESCAPE = re.compile(r"\\x..|\\.")
 
 
 def quoted(data):
     """The bytes as the simulator prints them."""
-    return '"' + "".join(SHORT_ESCAPES.get(byte) or quoted_plainly(byte) for byte in data) + '"'
-
-
-def quoted_plainly(byte):
-    return chr(byte) if 0x20 <= byte <= 0x7E else f"\\x{byte:02x}"
+    return '"' + data.decode("latin-1").translate(ESCAPES) + '"'
 
 
 def unquoted(text):
     """The bytes that a quoted string of the simulator stands for. It has to be in the one form that stands for them."""
-    inside, data, at = text[1:-1], b"", 0
-    while at < len(inside):
-        found = ESCAPE.match(inside, at)
-        if not found:
-            break
-        at, escape = found.end(), found.group()
-        if escape.startswith("\\x"):
-            data += bytes([int(escape[2:], 16)])
-        else:
-            data += LONG_ESCAPES.get(escape) or escape.encode("ascii")
+    data = ESCAPE.sub(lambda found: ESCAPED.get(found[0], ""), text[1:-1]).encode("latin-1")
     if quoted(data) != text:
         raise AssertionError(f"not a quoted string: {text!r}")
     return data

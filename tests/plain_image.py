@@ -1,8 +1,10 @@
-"""Images as words, from docs/image.md: a reader that checks each rule of a whole image, and a writer of formatting and
-of commits of groups."""
+"""Images as words, from docs/image.md: a reader that checks each rule of a whole image, the room of an image, and a writer
+of formatting and of commits of groups."""
 
 import dataclasses
 import typing
+
+from plain_redis import Clear, Drop, DropKey, Put
 
 # "Layout, version 1": what each part is, in words of 64 bits and lines of 8 words.
 WORDS_OF_LINE = 8
@@ -166,46 +168,86 @@ def extents_begin(lines):
     return DIRECTORY_LINE + lines // 8
 
 
+class Room:
+    """What is left of an image of so many lines. Each put takes an entry and the lines of its extent, which are never used
+    again."""
+
+    def __init__(self, lines):
+        self.entries = lines // 8
+        self.lines = lines - extents_begin(lines)
+
+    def take(self, changes):
+        """Whether there is room for all puts among these changes, which then is theirs."""
+        puts = [change for change in changes if isinstance(change, Put)]
+        lines = sum(lines_of(len(b"".join(put.name)) + len(put.value)) for put in puts)
+        if len(puts) > self.entries or lines > self.lines:
+            return False
+        self.entries -= len(puts)
+        self.lines -= lines
+        return True
+
+
+def is_ended_by(change, name):
+    """Whether a change replaces or removes the record of this name."""
+    match change:
+        case Put(put_name, _):
+            return name == put_name or name[0] == put_name[0] and len(name) != len(put_name)
+        case Drop(dropped):
+            return name == dropped
+        case DropKey(key):
+            return name[0] == key
+        case Clear():
+            return True
+
+
 class Writer:
-    """A new image, to which groups of SETs are committed one after another."""
+    """A new image, to which groups are committed one after another."""
 
     def __init__(self, lines, role):
         self.lines = lines
         self.role = role
         self.words = {}
         self.record = Record(1, 0, 0, STAMPS_BETWEEN_RECORDS, 1, (), role)
+        # by the name of a record the entry of its version
         self._live = {}
         self._next_entry = 0
         self._next_line = extents_begin(lines)
         self._put(0, [MAGIC, VERSION, lines, lines // 8])
         self._put_record()
 
-    def commit(self, changes):
-        """One group: its SETs, each a key and a value, then the next record and the root. On a primary each SET has its
-        own stamp and position; on a standby all have one stamp and the position after the group."""
+    def commit(self, parts):
+        """One group, of each changing command its changes; then the next record and the root. On a primary each command has
+        its own stamp and position; on a standby all have one stamp and the position after the group."""
         position, cp = self.record.position, self.record.cp
-        stamps = len(changes) if self.role == PRIMARY else 1
-        for number, (key, value) in enumerate(changes, 1):
+        stamps = len(parts) if self.role == PRIMARY else 1
+        for number, changes in enumerate(parts, 1):
             if self.role == PRIMARY:
-                self._set(key, value, cp + number, position + number)
+                self._make(changes, cp + number, position + number)
             else:
-                self._set(key, value, cp + 1, position + len(changes))
-        number, position, cp = self.record.number + 1, position + len(changes), cp + stamps
+                self._make(changes, cp + 1, position + len(parts))
+        number, position, cp = self.record.number + 1, position + len(parts), cp + stamps
         self.record = Record(number, position, cp, cp + STAMPS_BETWEEN_RECORDS, 1, (), self.role)
         self._put_record()
 
-    def _set(self, key, value, stamp, position):
-        """The version of one SET in the next entry and extent, and the end of the version before it."""
-        data = key + value
+    def _make(self, changes, stamp, position):
+        """The ends of what each change replaces or removes, and the versions that it writes."""
+        for change in changes:
+            for name in [name for name in self._live if is_ended_by(change, name)]:
+                self._put((DIRECTORY_LINE + self._live.pop(name)) * WORDS_OF_LINE + 1, [stamp])
+            if isinstance(change, Put):
+                self._write(change.name, change.value, stamp, position)
+
+    def _write(self, name, value, stamp, position):
+        """A version in the next entry and extent."""
+        data = b"".join(name) + value
         lines = lines_of(len(data))
-        entry = Entry(stamp, 0, position, self._next_line, lines, STRING, len(key), len(value))
+        kind, lengths = (STRING, len(name[0])) if len(name) == 1 else (FIELD, len(name[0]) + LENGTH_SHIFT * len(name[1]))
+        entry = Entry(stamp, 0, position, self._next_line, lines, kind, lengths, len(value))
         self._put((DIRECTORY_LINE + self._next_entry) * WORDS_OF_LINE, entry)
         padded = data.ljust(lines * 64, b"\0")
         extent = [int.from_bytes(padded[at:at + 8], "little") for at in range(0, len(padded), 8)]
         self._put(self._next_line * WORDS_OF_LINE, extent)
-        if key in self._live:
-            self._put((DIRECTORY_LINE + self._live[key]) * WORDS_OF_LINE + 1, [stamp])
-        self._live[key] = self._next_entry
+        self._live[name] = self._next_entry
         self._next_entry += 1
         self._next_line += lines
 

@@ -2,6 +2,7 @@
 docs/replication.md: which events do their step, the list of calls, what is released, where both nodes stand, and at
 which event a fence that fails ends the run."""
 
+import plain_image
 import plain_redis
 import spelling
 
@@ -26,7 +27,8 @@ class Connection:
     position."""
 
     def __init__(self):
-        self.reader = spelling.Reader()
+        self.is_open = True
+        self.reader = spelling.Reader(plain_redis.closes)
         self.offered = 0
         self.waiting = []
         self.made = []
@@ -42,11 +44,11 @@ class Connection:
 
 
 class Node:
-    """An image that takes one commit for each group, a pair of the positions before and after it. Each change is one
-    version, whose entry is never freed. `fail` is the number of the fence that fails, 0 for none."""
+    """An image that takes one commit for each group, a pair of the positions before and after it. `fail` is the number of the
+    fence that fails, 0 for none."""
 
     def __init__(self, lines, fail):
-        self.room = lines // 8
+        self.room = plain_image.Room(lines)
         self.position = 0
         self.groups = []
         self.fences = 0
@@ -73,7 +75,7 @@ class Machine:
         self.calls = []
         self.done = []
         self.ended = None
-        self.redis = plain_redis.Redis(lines[0] // 8)
+        self.redis = plain_redis.Redis(plain_image.Room(lines[0]))
         self.closed = 0
         self.closed_groups = []
         self.stage = ("ready", None)
@@ -109,12 +111,14 @@ class Machine:
         return self.ended + 1 + lines_before if isinstance(self.ended, int) else None
 
     def _connection(self, c):
-        return self.connections[int(c)] if int(c) < len(self.connections) else None
+        """Connection c, where it is open."""
+        connection = self.connections[int(c)] if int(c) < len(self.connections) else None
+        return connection if connection and connection.is_open else None
 
     # ---- the connections and the list of calls
 
     def enter(self):
-        if len(self.connections) < SEATS:
+        if sum(connection.is_open for connection in self.connections) < SEATS:
             self.connections.append(Connection())
             return True
 
@@ -177,6 +181,10 @@ class Machine:
 
     # ---- the link and the standby: a frame is its group
 
+    def changes_of(self, before, after):
+        """All changes of the calls between two positions."""
+        return [change for part in self.redis.parts[before:after] for change in part]
+
     def open_link(self):
         self.again = list(self.kept)
         self.acknowledgements.append(self.standby.position)
@@ -201,8 +209,7 @@ class Machine:
         if not self.arrived:
             return False
         before, after = self.arrived.pop(0)
-        is_next, has_room = before == self.standby.position, after <= self.standby.room
-        if is_next and has_room:
+        if before == self.standby.position and self.standby.room.take(self.changes_of(before, after)):
             self.standby.commit((before, after))
         if after <= self.standby.position:
             self.acknowledgements.append(self.standby.position)
@@ -248,4 +255,10 @@ class Machine:
         if connection and int(count) <= len(connection.pending):
             connection.released += connection.pending[:int(count)]
             connection.pending = connection.pending[int(count):]
+            return True
+
+    def leave(self, c):
+        connection = self._connection(c)
+        if connection:
+            connection.is_open = False
             return True

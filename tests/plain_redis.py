@@ -1,8 +1,7 @@
-"""A plain Redis, from docs/commands.md alone: what the commands on strings, counters, keys and the connection reply and
-change, with the rules for all commands and the texts. Memory never runs out, and no change text is too large.
+"""A plain Redis, from docs/commands.md alone: what the commands on strings, counters, keys, the connection and hashes reply
+and change, with the rules for all commands and the texts. Memory never runs out.
 
-`effect` says what one request does to a keyspace as it is. `Redis` takes requests one after another, by default those
-that the programs serve today: SET of three words, and GET."""
+`effect` says what one request does to a keyspace as it is. `Redis` takes requests one after another."""
 
 import dataclasses
 import re
@@ -12,17 +11,20 @@ import spelling
 
 MOST_KEY_BYTES = 512
 MOST_VALUE_BYTES = 65_536
+MOST_CHANGE_TEXT_BYTES = 16_777_216
 
 UNKNOWN = "ERR unknown command"
 WRONG_NUMBER = "ERR wrong number of arguments for '%s' command"
 LONG_KEY = "ERR key or field is longer than 512 bytes"
 SYNTAX = "ERR syntax error"
 NO_INTEGER = "ERR value is not an integer or out of range"
+NO_INTEGER_OF_A_FIELD = "ERR hash value is not an integer"
 OVERFLOW = "ERR increment or decrement would overflow"
 NO_OPPOSITE = "ERR decrement would overflow"
 WRONG_TYPE = "WRONGTYPE Operation against a key holding the wrong kind of value"
 LONG_STRING = "ERR string is longer than 65536 bytes"
 NO_ROOM = "ERR store is full"
+TOO_LARGE = "ERR change is too large"
 NO_MEMORY = "ERR out of memory"
 
 LEAST, GREATEST = -2**63, 2**63 - 1
@@ -65,6 +67,21 @@ class Put:
     name: tuple
     value: bytes
 
+    def text_bytes(self):
+        """The bytes of its change text: what it is, each part of the name behind its length, the value behind its own
+        (docs/replication.md)."""
+        return 1 + sum(2 + len(part) for part in self.name) + 4 + len(self.value)
+
+
+@dataclasses.dataclass(frozen=True)
+class Drop:
+    """A record is removed, and its key with its last field."""
+
+    name: tuple
+
+    def text_bytes(self):
+        return 1 + sum(2 + len(part) for part in self.name)
+
 
 @dataclasses.dataclass(frozen=True)
 class DropKey:
@@ -72,10 +89,16 @@ class DropKey:
 
     key: bytes
 
+    def text_bytes(self):
+        return 1 + 2 + len(self.key)
+
 
 @dataclasses.dataclass(frozen=True)
 class Clear:
     """Everything is removed."""
+
+    def text_bytes(self):
+        return 1
 
 
 class CommandError(Exception):
@@ -95,6 +118,13 @@ class Keyspace:
             raise CommandError(WRONG_TYPE)
         return held
 
+    def hash(self, key):
+        """The fields of a hash command: none where the key is absent."""
+        held = self.keys.get(key, {})
+        if not isinstance(held, dict):
+            raise CommandError(WRONG_TYPE)
+        return held
+
     def records(self):
         """Each record with its value, in the order of records."""
         names = {}
@@ -110,6 +140,15 @@ class Keyspace:
                 if not isinstance(self.keys.get(key), dict):
                     self.keys[key] = {}
                 self.keys[key][field] = value
+            case Drop((key,)):
+                if isinstance(self.keys.get(key), bytes):
+                    del self.keys[key]
+            case Drop((key, field)):
+                fields = self.keys.get(key)
+                if isinstance(fields, dict):
+                    fields.pop(field, None)
+                    if not fields:
+                        del self.keys[key]
             case DropKey(key):
                 self.keys.pop(key, None)
             case Clear():
@@ -137,12 +176,6 @@ def set_(keyspace, key, value, *options):
     if options and (options == {b"nx"}) == (key in keyspace.keys):
         return Effect(NULL_BULK)
     return Effect(OK, (put(key, value),))
-
-
-def set_without_options(keyspace, key, value, *options):
-    if options:
-        raise CommandError(SYNTAX)
-    return set_(keyspace, key, value)
 
 
 def get(keyspace, key):
@@ -205,19 +238,23 @@ def mget(keyspace, *keys):
     return Effect(array([bulk(value if isinstance(value, bytes) else None) for value in held]))
 
 
-def integer_of(text):
-    """The integer of an argument or of a string."""
+def integer_of(text, refused=NO_INTEGER):
+    """The integer of an argument, or of a value."""
     if not INTEGER.fullmatch(text) or not LEAST <= int(text) <= GREATEST:
-        raise CommandError(NO_INTEGER)
+        raise CommandError(refused)
     return int(text)
 
 
-def add(keyspace, key, amount):
-    value = keyspace.string(key)
-    number = (0 if value is None else integer_of(value)) + amount
+def add_to(name, value, amount, refused):
+    """What adding to the value of a record does; None counts as 0."""
+    number = (0 if value is None else integer_of(value, refused)) + amount
     if not LEAST <= number <= GREATEST:
         raise CommandError(OVERFLOW)
-    return Effect(integer(number), (put(key, b"%d" % number),))
+    return Effect(integer(number), (Put(name, b"%d" % number),))
+
+
+def add(keyspace, key, amount):
+    return add_to((key,), keyspace.string(key), amount, NO_INTEGER)
 
 
 def incr(keyspace, key):
@@ -253,14 +290,70 @@ def flushdb(keyspace, *options):
     return Effect(OK, (Clear(),) if keyspace.keys else ())
 
 
+# The commands on hashes
+
+def hset(keyspace, key, *words):
+    fields = keyspace.hash(key)
+    puts = [Put((key, field), value) for field, value in zip(words[::2], words[1::2])]
+    return Effect(integer(len(set(words[::2]) - fields.keys())), tuple(puts))
+
+
+def hsetnx(keyspace, key, field, value):
+    return Effect(integer(0)) if field in keyspace.hash(key) else hset(keyspace, key, field, value)
+
+
+def hget(keyspace, key, field):
+    return Effect(bulk(keyspace.hash(key).get(field)))
+
+
+def hmget(keyspace, key, *fields):
+    held = keyspace.hash(key)
+    return Effect(array([bulk(held.get(field)) for field in fields]))
+
+
+def hdel(keyspace, key, *fields):
+    held = keyspace.hash(key)
+    removed = [field for field in dict.fromkeys(fields) if field in held]
+    return Effect(integer(len(removed)), tuple(Drop((key, field)) for field in removed))
+
+
+def hlen(keyspace, key):
+    return Effect(integer(len(keyspace.hash(key))))
+
+
+def hexists(keyspace, key, field):
+    return Effect(integer(field in keyspace.hash(key)))
+
+
+def hstrlen(keyspace, key, field):
+    return Effect(integer(len(keyspace.hash(key).get(field, b""))))
+
+
+def hincrby(keyspace, key, field, amount):
+    amount = integer_of(amount)
+    return add_to((key, field), keyspace.hash(key).get(field), amount, NO_INTEGER_OF_A_FIELD)
+
+
+def hgetall(keyspace, key):
+    return Effect(array([bulk(part) for entry in sorted(keyspace.hash(key).items()) for part in entry]))
+
+
+def hkeys(keyspace, key):
+    return Effect(array([bulk(field) for field in sorted(keyspace.hash(key))]))
+
+
+def hvals(keyspace, key):
+    return Effect(array([bulk(value) for _, value in sorted(keyspace.hash(key).items())]))
+
+
 # The table
 
 class Row(typing.NamedTuple):
-    """A command: whether it takes so many words, the name among them; which of the words after the name are keys; and
-    what it does."""
+    """A command: whether it takes so many words, the name among them; which of the words after the name are keys or
+    fields; and what it does."""
 
     takes: typing.Callable
-    keys: slice
+    keys: typing.Callable
     run: typing.Callable
 
 
@@ -276,7 +369,20 @@ def odd_from(least):
     return lambda count: count >= least and count % 2 == 1
 
 
-NO_KEY, FIRST, ALL, EVERY_SECOND = slice(0), slice(1), slice(None), slice(None, None, 2)
+def even_from(least):
+    return lambda count: count >= least and count % 2 == 0
+
+
+def part(*bounds):
+    return lambda arguments: arguments[slice(*bounds)]
+
+
+def first_and_pairs(arguments):
+    """The key, and the fields that stand with values by turns."""
+    return arguments[:1] + arguments[1::2]
+
+
+NO_KEY, FIRST, FIRST_TWO, ALL, EVERY_SECOND = part(0), part(1), part(2), part(None), part(None, None, 2)
 
 COMMANDS = {
     b"set": Row(at_least(3), FIRST, set_),
@@ -300,44 +406,58 @@ COMMANDS = {
     b"type": Row(exactly(2), FIRST, type_),
     b"dbsize": Row(exactly(1), NO_KEY, dbsize),
     b"flushdb": Row(at_least(1), NO_KEY, flushdb),
+    b"hset": Row(even_from(4), first_and_pairs, hset),
+    b"hsetnx": Row(exactly(4), FIRST_TWO, hsetnx),
+    b"hget": Row(exactly(3), ALL, hget),
+    b"hmget": Row(at_least(3), ALL, hmget),
+    b"hdel": Row(at_least(3), ALL, hdel),
+    b"hlen": Row(exactly(2), FIRST, hlen),
+    b"hexists": Row(exactly(3), ALL, hexists),
+    b"hstrlen": Row(exactly(3), ALL, hstrlen),
+    b"hincrby": Row(exactly(4), FIRST_TWO, hincrby),
+    b"hgetall": Row(exactly(2), FIRST, hgetall),
+    b"hkeys": Row(exactly(2), FIRST, hkeys),
+    b"hvals": Row(exactly(2), FIRST, hvals),
 }
 
-TODAY = {b"set": COMMANDS[b"set"]._replace(run=set_without_options), b"get": COMMANDS[b"get"]}
 
-
-def effect(keyspace, words, commands=None):
+def effect(keyspace, words):
     """What the request of these words is answered and changes. Nothing is played."""
     try:
-        return run(keyspace, words[0].lower(), words[1:], COMMANDS if commands is None else commands)
+        return run(keyspace, words[0].lower(), words[1:])
     except CommandError as refused:
         return Effect(error(str(refused)))
 
 
-def run(keyspace, name, arguments, commands):
-    if name not in commands:
+def run(keyspace, name, arguments):
+    if name not in COMMANDS:
         raise CommandError(UNKNOWN)
-    row = commands[name]
+    row = COMMANDS[name]
     if not row.takes(1 + len(arguments)):
         raise CommandError(WRONG_NUMBER % name.decode())
-    if any(len(key) > MOST_KEY_BYTES for key in arguments[row.keys]):
+    if any(len(key) > MOST_KEY_BYTES for key in row.keys(arguments)):
         raise CommandError(LONG_KEY)
     return row.run(keyspace, *arguments)
 
 
-class Redis:
-    """One Redis that takes requests and faults one after another. `room` is the number of versions that its store
-    takes, None for any."""
+def closes(item):
+    """Whether nothing more is taken from a connection after this item: a fault, or a request to quit."""
+    return isinstance(item, spelling.Fault) or item[0].lower() == b"quit"
 
-    def __init__(self, room=None, commands=None):
+
+class Redis:
+    """One Redis that takes requests and faults one after another. `room` is what its store has room for: its `take`
+    says whether these changes find room, and keeps it for them. None is room for any."""
+
+    def __init__(self, room=None):
         self.keyspace = Keyspace()
-        self.position = 0
-        self.room = room
-        self.commands = TODAY if commands is None else commands
-        self._versions = 0
+        # of each changing call, in order, its changes
+        self.parts = []
+        self._room = room
 
     @property
-    def strings(self):
-        return {key: held for key, held in self.keyspace.keys.items() if isinstance(held, bytes)}
+    def position(self):
+        return len(self.parts)
 
     def call(self, item):
         """The bytes of the reply to an item: the words of a request, or a fault."""
@@ -345,19 +465,27 @@ class Redis:
 
     def serve(self, words):
         """What a request is answered and changes; its changes are played."""
-        found = effect(self.keyspace, words, self.commands)
-        puts = sum(isinstance(change, Put) for change in found.changes)
-        if puts and self.room is not None and self._versions + puts > self.room:
+        found = effect(self.keyspace, words)
+        if sum(change.text_bytes() for change in found.changes) > MOST_CHANGE_TEXT_BYTES:
+            return Effect(error(TOO_LARGE))
+        if self._room is not None and not self._room.take(found.changes):
             return Effect(error(NO_ROOM))
         for change in found.changes:
             self.keyspace.play(change)
-        self._versions += puts
-        self.position += bool(found.changes)
+        if found.changes:
+            self.parts.append(found.changes)
         return found
 
 
-def served(data, room=512):
-    """All that a Redis answers to one connection that sends these bytes. An image of 4,096 lines has room for 512
-    versions."""
+def keyspace_after(parts):
+    """The keyspace that the changes of these calls make of an empty one."""
+    keyspace = Keyspace()
+    for change in (change for part in parts for change in part):
+        keyspace.play(change)
+    return keyspace
+
+
+def served(data, room=None):
+    """All that a Redis answers to one connection that sends these bytes."""
     redis = Redis(room)
-    return b"".join(redis.call(item) for item in spelling.read(data).items)
+    return b"".join(redis.call(item) for item in spelling.up_to(closes, spelling.read(data).items))

@@ -7,12 +7,13 @@ import typing
 import common
 import plain_image
 import plain_machine
+import plain_redis
 import spelling
 
 NODES = ("primary", "standby")
 ROLES = {"primary": plain_image.PRIMARY, "standby": plain_image.STANDBY}
 
-STRING = r'"(?:[^"\\]|\\.)*"'
+STRING = r'"[^"\\]*(?:\\.[^"\\]*)*"'
 EVENT = re.compile(r"event (\d+), line (\d+): (done|not enabled)")
 CALL = re.compile(rf"call (\d+): connection (\d+), (fault|{STRING}(?: {STRING})*) -> ({STRING})")
 PLAIN = re.compile(rf"plain (\d+): position (\d+) -> ({STRING})")
@@ -75,7 +76,7 @@ class Schedule:
     def read_marks(self, c):
         self.add(f"read {c} local", f"read {c} remote")
 
-    def write_out(self, c, most=2**17):
+    def write_out(self, c, most=2**20):
         """What the marks cover is released and written, if it is less than twice `most` bytes: in powers of two, each where
         that many bytes are left."""
         self.add(f"release {c}")
@@ -211,9 +212,9 @@ def in_order(rows):
 
 
 def told_between(machine):
-    """The frames and acknowledgements of a run of the plain machine: a frame for each group that was sent, with the one
-    change of each of its commands, all of epoch 1 (docs/replication.md)."""
-    frames = [Frame(1, before, after, after - before) for before, after in sorted(set(machine.frames))]
+    """The frames and acknowledgements of a run of the plain machine: a frame for each group that was sent, with all changes
+    of its commands, all of epoch 1 (docs/replication.md)."""
+    frames = [Frame(1, *group, len(machine.changes_of(*group))) for group in sorted(set(machine.frames))]
     return frames, [(1, position) for position in machine.acknowledgements]
 
 
@@ -266,20 +267,16 @@ class Runs(common.Cases):
 
     def assert_image(self, trace, machine, node, lines):
         """The image is, word for word, that of the groups that the node committed, and it reads so."""
-        changes = [item[1:] for _, item, reply, _ in machine.calls if is_change(item, reply)]
+        parts = machine.redis.parts
         writer = plain_image.Writer(lines, ROLES[node])
         for before, after in getattr(machine, node).groups:
-            writer.commit(changes[before:after])
+            writer.commit(parts[before:after])
         image = plain_image.read_image(plain_image.Words(lines, trace.words[node]))
         wrong = sorted(set(trace.words[node].items()) ^ set(writer.words.items()))
         self.assertEqual(wrong[:5], [], f"words of the {node} that are not as they should be, or should be and are not")
         self.assertEqual(image.record, writer.record)
-        self.assertEqual(image.map, {(key,): value for key, value in changes[:image.record.position]})
+        self.assertEqual(image.map, dict(plain_redis.keyspace_after(parts[:image.record.position]).records()))
         self.assertEqual(trace.records[node], sorted(image.map.items()))
         record = image.record
         told = NodeLine(record.position, record.number, record.cp, record.cd, record.epoch, node, len(record.gaps))
         self.assertEqual(trace.nodes[node], told)
-
-
-def is_change(item, reply):
-    return not isinstance(item, spelling.Fault) and item[0].lower() == b"set" and reply == b"+OK\r\n"

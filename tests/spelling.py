@@ -4,9 +4,9 @@
 import re
 import typing
 
-# The limits at present: words in a request, the name among them, and bytes in a word.
-MOST_WORDS = 3
-MOST_BYTES = 9
+# The limits: words in a request, the name among them, and bytes in a word.
+MOST_WORDS = 1_024
+MOST_BYTES = 65_536
 
 # The texts of the faults, and the bytes that stand for themselves in the third.
 EXPECTED_STAR = b"ERR Protocol error: expected '*'"
@@ -21,11 +21,8 @@ LINE_END = b"\r\n"
 
 def spell(*words):
     """The bytes of a request of these words, which may be text or bytes."""
-    data = b"*%d\r\n" % len(words)
-    for word in words:
-        word = word.encode() if isinstance(word, str) else word
-        data += b"$%d\r\n%s\r\n" % (len(word), word)
-    return data
+    words = [word.encode() if isinstance(word, str) else word for word in words]
+    return b"*%d\r\n" % len(words) + b"".join(b"$%d\r\n%s\r\n" % (len(word), word) for word in words)
 
 
 class Fault(typing.NamedTuple):
@@ -44,9 +41,6 @@ class Reading(typing.NamedTuple):
 
     items: list
     length: int
-
-    def is_over(self):
-        return bool(self.items) and isinstance(self.items[-1], Fault)
 
 
 class _Decided(Exception):
@@ -117,11 +111,12 @@ def _expect(data, at, byte, text):
 
 
 class Reader:
-    """Reads bytes that come in pieces. What comes after a fault is not read."""
+    """Reads bytes that come in pieces. What comes after an item that closes the connection is not read."""
 
-    def __init__(self):
+    def __init__(self, closes):
         self.items = []
         self.is_over = False
+        self._closes = closes
         self._rest = b""
 
     def feed(self, piece):
@@ -130,5 +125,12 @@ class Reader:
         self._rest += piece
         reading = read(self._rest)
         self._rest = self._rest[reading.length:]
-        self.items += reading.items
-        self.is_over = reading.is_over()
+        items = up_to(self._closes, reading.items)
+        self.items += items
+        self.is_over = bool(items) and self._closes(items[-1])
+
+
+def up_to(is_last, items):
+    """The items up to and including the first for which this holds, or all."""
+    place = next((place for place, item in enumerate(items) if is_last(item)), len(items))
+    return items[:place + 1]

@@ -1,10 +1,12 @@
 """Large runs to their end with ample memory: no clause of a proof can say that memory was really refused where it is
 told, so that a server that tells it too early is seen only here."""
 
+import common
 import worked_cases as worked
-from simulation import Runs, Schedule
+from plain_redis import bulk
+from simulation import Runs, Schedule, simulate
 from spelling import spell
-from worked_cases import GET_A, OK, ONE, SET_A, SHORTEST, STORE_IS_FULL, UNKNOWN
+from worked_cases import GET_A, OK, ONE, SET_A, SHORTEST, STORE_IS_FULL, TOO_LARGE, UNKNOWN
 
 PROGRAMS = ["simulator"]
 IS_SLOW = True
@@ -89,3 +91,45 @@ class Capacity(Runs):
             with self.case(name):
                 self.assertGreater(len(data), 65_536)
                 self.assert_bytes(self.serve_piece(data, items), output)
+
+
+class TooLarge(common.Cases):
+    """A command whose change text reaches 16,777,216 bytes (docs/replication.md, "Frames"): a put of a string takes 7 bytes
+    besides its key and its value. Images of 300,032 lines have room for 256 of the longest values, those of 4,096 lines for
+    three."""
+
+    AMPLE, SCARCE = 300_032, 4_096
+
+    # 255 puts of 65,536 bytes at a key of one byte take 16,713,720 bytes, and a last one of so many bytes the rest
+    REST = 63_488
+
+    def mset(self, last):
+        """The request that writes 255 of the longest values, and one of `last` bytes."""
+        values = 255 * [65_536 * b"v"] + [last * b"w"]
+        return spell("MSET", *(word for number, value in enumerate(values) for word in (bytes([number]), value)))
+
+    def check(self, last, lines, reply):
+        position = int(reply == OK)
+        schedule = Schedule(1)
+        schedule.feed(0, spell("DBSIZE"))
+        schedule.feed(0, self.mset(last))
+        schedule.feed(0, spell("DBSIZE") + spell("GET", b"\xff"))
+        schedule.drain(1, 4, 1)
+        trace = simulate(schedule.events, "--lines", f"{lines},{lines}", "--plain")
+        held = [b":256\r\n", bulk(last * b"w")] if position else [b":0\r\n", b"$-1\r\n"]
+        self.assert_bytes(trace.released[0], b"".join([b":0\r\n", reply, *held]))
+        self.assertEqual([call.reply for call in trace.calls[:2]], [b":0\r\n", reply])
+        self.assertEqual([node.position for node in trace.nodes.values()], 2 * [position])
+        self.assertEqual([frame.changes for frame in trace.frames], position * [256])
+        # the plain Redis beside it has room for all, and the same limit
+        self.assertEqual(trace.plain[1], (0, TOO_LARGE) if reply == TOO_LARGE else (1, OK))
+
+    def test_at_the_limit(self):
+        self.check(self.REST, self.AMPLE, OK)
+
+    def test_one_byte_above_the_limit(self):
+        self.check(self.REST + 1, self.AMPLE, TOO_LARGE)
+
+    def test_room_is_looked_at_only_up_to_the_limit(self):
+        self.check(self.REST, self.SCARCE, STORE_IS_FULL)
+        self.check(self.REST + 1, self.SCARCE, TOO_LARGE)

@@ -83,6 +83,9 @@ WORKED_GROUP_OF = {
     "standby": {10: 1, 11: 4098, 64: 1, 65: 1, 66: 3, 72: 1, 74: 3, 80: 1, 82: 3},
 }
 
+# The same after the one group `HSET h f 1`: entry 0 is of a field, and line 520 has the bytes 68 66 31.
+WORKED_FIELD = {**WORKED_IMAGE, 69: 2, 70: 65537, 4160: 3237480}
+
 NEW_IMAGE = {0: 3544411304008368727, 1: 1, 2: 4096, 3: 512, 4: 1, 32: 1, 35: 4097, 36: 1}
 
 # Where record 2 and record 1 have their role.
@@ -91,6 +94,9 @@ ROLE_OF_RECORD_2, ROLE_OF_RECORD_1 = 30, 54
 # At a crash all words get their oldest candidate, all their newest, or the two in turn.
 PICKS = {"oldest": "0", "newest": "1", "oldest first": "0 1", "newest first": "1 0"}
 
+
+# Images with room for 2,048 versions.
+LARGE_LINES = 16_384
 
 # What one group changes: a twice, and b.
 GROUP = [SET_A, spell("SET", "b", "2"), spell("SET", "a", "3")]
@@ -143,6 +149,20 @@ class Images(Runs):
                 self.assertEqual(trace.records[node], [((b"a",), b"3"), ((b"b",), b"2")])
                 self.assertEqual(tuple(trace.nodes[node]), (3, 2, cp, cp + 4097, 1, node, 0))
         self.assertEqual(trace.released, [3 * OK])
+
+    def test_worked_image_of_a_field(self):
+        schedule = Schedule(1)
+        schedule.group(0, spell("HSET", "h", "f", "1"))
+        schedule.replicate(0)
+        schedule.read_marks(0)
+        schedule.add("release 0", "write 0 4")
+        trace = self.play(schedule)
+        for node in NODES:
+            with self.case(node):
+                roles = {ROLE_OF_RECORD_1: ROLES[node], ROLE_OF_RECORD_2: ROLES[node]}
+                self.assertEqual(trace.words[node], {**WORKED_FIELD, **roles})
+                self.assertEqual(trace.records[node], [((b"h", b"f"), b"1")])
+        self.assertEqual(trace.released, [b":1\r\n"])
 
     def test_magic_is_its_bytes_in_a_file(self):
         for node in NODES:
@@ -291,6 +311,39 @@ class Crashes(Runs):
                     position = trace.nodes[node].position
                     self.assertIn(position, (1, 4) if fence == 3 else (1,))
                     self.assert_holds_group(trace, node, position == 4)
+
+    def check_large_commit(self, before, request, held, left):
+        """Requests are committed one by one; then a fence fails in the commit of one more, and its node crashes. The image holds
+        what it held, or what the last request leaves: this only at the last fence, by the picks of the root."""
+        schedule = Schedule(1)
+        for number, each in enumerate([*before, request]):
+            schedule.group(0, each)
+            schedule.replicate(number)
+        for node in NODES:
+            for fence in (1, 2, 3):
+                for name, picks in PICKS.items():
+                    with self.case(name, node=node, fence=fence):
+                        failing = FORMAT_FENCES * (1 + len(before)) + fence
+                        fail = (failing, 0) if node == "primary" else (0, failing)
+                        lines = (LARGE_LINES, LARGE_LINES)
+                        trace = self.play(schedule, lines=lines, fail=fail, crash=f"{node} {picks}")
+                        self.assertRegex(trace.ended, "refusal 1: device fault")
+                        image = plain_image.read_image(plain_image.Words(LARGE_LINES, trace.words[node]))
+                        is_new = fence == 3 and picks.startswith("1")
+                        self.assertEqual(image.map, left if is_new else held)
+                        self.assertEqual(image.record.position, len(before) + is_new)
+
+    def test_set_over_a_hash_of_1000_fields(self):
+        names = [b"%d" % number for number in range(1_000)]
+        before = [spell("HSET", "h", *(word for name in half for word in (name, b"1"))) for half in (names[:500], names[500:])]
+        held = {(b"h", name): b"1" for name in names}
+        self.check_large_commit(before, spell("SET", "h", "x"), held, {(b"h",): b"x"})
+
+    def test_flushdb_of_2000_records(self):
+        names = [b"%d" % number for number in range(2_000)]
+        parts = [names[at:at + 500] for at in range(0, 2_000, 500)]
+        before = [spell("MSET", *(word for name in part for word in (name, b"1"))) for part in parts]
+        self.check_large_commit(before, spell("FLUSHDB"), {(name,): b"1" for name in names}, {})
 
     def test_fences_of_formatting(self):
         for node in NODES:

@@ -4,7 +4,7 @@ Each run is compared with the plain machine too, event by event and both images 
 
 from simulation import Frame, Runs, Schedule
 from spelling import spell
-from worked_cases import GET_A, OK, ONE, PING, SET_A
+from worked_cases import GET_A, OK, ONE, PING, SET_A, STORE_IS_FULL
 
 PROGRAMS = ["simulator"]
 
@@ -90,6 +90,47 @@ class Groups(Runs):
         self.assertEqual(tuple(trace.nodes["standby"])[:3], (5, 3, 2))
         self.assertEqual(trace.records["standby"], A_AND_B)
         self.assertEqual(trace.released, [5 * OK])
+
+    def test_a_command_with_several_changes_is_one_part(self):
+        # positions 1 to 5: MSET writes a twice, DEL removes two keys, FLUSHDB removes what is there; EXISTS changes nothing
+        requests = ["MSET a 1 b 2 a 3", "DEL a x b", "EXISTS a", "MSETNX c 4 d 5", "FLUSHDB", "FLUSHDB", "SET e 6"]
+        schedule = Schedule(1)
+        schedule.group(0, *(spell(*request.split()) for request in requests))
+        schedule.replicate(0)
+        schedule.read_marks(0)
+        schedule.write_out(0, 64)
+        trace = self.play(schedule)
+        self.assertEqual(trace.frames, [Frame(1, 0, 5, 3 + 2 + 2 + 1 + 1)])
+        self.assertEqual(tuple(trace.nodes["primary"])[:4], (5, 2, 5, 4_102))
+        self.assertEqual(tuple(trace.nodes["standby"])[:4], (5, 2, 1, 4_098))
+        self.assertEqual(trace.records["standby"], [((b"e",), b"6")])
+        self.assertEqual(trace.released, [OK + b":2\r\n:0\r\n:1\r\n" + 3 * OK])
+
+    def test_64_commands_of_several_changes_are_one_group(self):
+        schedule = Schedule(1)
+        schedule.group(0, *(64 * [spell("MSET", *(4 * ["a", "1"]))]))
+        schedule.group(0, SET_B)
+        schedule.replicate(0)
+        schedule.replicate(1)
+        trace = self.play(schedule)
+        self.assertEqual(trace.frames, [Frame(1, 0, 64, 256), Frame(1, 64, 65, 1)])
+        self.assertEqual([node.position for node in trace.nodes.values()], [65, 65])
+
+    def test_a_command_has_room_for_all_its_versions_or_for_none(self):
+        # 511 of 512 entries are taken: of a command with two puts nothing is written, and its replies say so
+        for request in (spell("MSET", "b", "2", "b", "3"), spell("MSETNX", "c", "2", "d", "3")):
+            with self.case("request", request=request):
+                schedule = Schedule(1)
+                for number, size in enumerate(7 * [64] + [63]):
+                    schedule.group(0, *(size * [SET_A]))
+                    schedule.replicate(number)
+                schedule.group(0, request, SET_B, spell("DEL", "a"))
+                schedule.replicate(8)
+                schedule.read_marks(0)
+                schedule.write_out(0, 4_096)
+                trace = self.play(schedule)
+                self.assert_bytes(trace.released[0], 511 * OK + STORE_IS_FULL + OK + b":1\r\n")
+                self.assertEqual(trace.records["standby"], [((b"b",), b"2")])
 
     def test_a_standby_has_room_for_a_whole_frame_or_for_none(self):
         # an image of 4,096 lines takes 512 versions: `left` of them are free when three come, and one after them

@@ -12,18 +12,28 @@ PROGRAMS = ["simulator"]
 IS_SLOW = True
 
 CONNECTIONS = 5
+# Connections that enter between the other events, and leave at any time.
+GUESTS = 8
+REQUESTS_OF_A_GUEST = 30
 EVENTS = 10_000
 REQUESTS_OF_EACH = (160, 130, 100, 70, 40)
-LINES = 4_096
+
+# Images that take all that is drawn, and images that the longest values fill.
+AMPLE_LINES, SCARCE_LINES = 65_536, 4_096
+
+# Pieces of a connection's bytes, and of what is written to it, are shorter than one of these.
+PIECES = [24, 24, 24, 24, 200, 2_000, 20_000]
 
 
 class Order:
     """Events drawn by a seed, and what the connections still have to send. One connection more than have entered
-    is drawn too."""
+    is drawn too, and so are those that left."""
 
     def __init__(self, seed):
         self.draws = draws.numbers(f"order {seed}")
-        self.scripts = [draws.Script(self.draws, count) for count in REQUESTS_OF_EACH]
+        counts = (*REQUESTS_OF_EACH, *(GUESTS * [REQUESTS_OF_A_GUEST]))
+        self.scripts = [draws.Script(self.draws, count) for count in counts]
+        self.entered = CONNECTIONS
         self.schedule = Schedule(CONNECTIONS)
         # how many times a frame was to be sent, and an acknowledgement to be made
         self.frames = 0
@@ -35,10 +45,20 @@ class Order:
         for _ in range(events):
             if self.draws.randrange(events) < 20:
                 self.deliver_all()
+            if self.draws.randrange(events) < 3 * GUESTS:
+                self.come_or_go()
             self.draws.choice([self.draw_of_connection, self.draw_of_nodes])()
 
+    def come_or_go(self):
+        """A guest enters or leaves; one may leave that is not there yet, or no more."""
+        if self.draws.randrange(2) and self.entered < CONNECTIONS + GUESTS:
+            self.schedule.add("enter")
+            self.entered += 1
+        else:
+            self.schedule.add(f"leave {CONNECTIONS + self.draws.randrange(GUESTS)}")
+
     def draw_of_connection(self):
-        c, count = self.draws.randrange(CONNECTIONS + 1), self.draws.randrange(24)
+        c, count = self.draws.randrange(self.entered + 1), self.draws.randrange(self.draws.choice(PIECES))
         names = ["feed", "offer", "turn", "hold", "read local", "read remote", "release", "write"]
         (name,) = self.draws.choices(names, [5, 3, 3, 2, 1, 1, 1, 2])
         if name == "feed":
@@ -60,14 +80,14 @@ class Order:
         self.schedule.add(f"{name} {self.draws.randint(0, bounds[name])}" if name in bounds else name)
 
     def feed(self, c, count=None):
-        self.schedule.feed(c, self.scripts[c].take(count) if c < CONNECTIONS else b"no such connection")
+        self.schedule.feed(c, self.scripts[c].take(count) if c < self.entered else b"no such connection")
 
     def deliver_all(self):
         self.schedule.take(*range(self.frames))
         self.acknowledgements += self.frames
 
     def finish(self):
-        """What is left of the scripts is fed and served to its end."""
+        """What is left of the scripts is fed and served to its end, but not that of the guests."""
         for c in range(CONNECTIONS):
             self.feed(c)
         self.schedule.drain(CONNECTIONS, max(REQUESTS_OF_EACH) + 1, 1_000)
@@ -83,61 +103,69 @@ class Orders(Runs):
     """One test a seed. What is looked at is the promise; that each event did its step where it should is the plain
     machine's part."""
 
-    def check(self, seed, is_finished):
+    def check(self, seed, lines, is_finished):
         order = Order(seed)
         order.draw(EVENTS)
         if is_finished:
             order.finish()
-        trace = simulate(order.schedule.events, "--map", "--images", "--plain")
+        trace = simulate(order.schedule.events, "--map", "--images", "--plain", "--lines", f"{lines},{lines}")
         self.assertEqual(trace.ended, f"after all {len(order.schedule.events)} events")
-        positions = self.check_calls(trace)
-        stands = [self.check_image(trace, node) for node in NODES]
+        positions = self.check_calls(trace, lines)
+        stands = [self.check_image(trace, node, lines) for node in NODES]
         with self.case("positions", stands=stands):
             self.assertTrue(stands[1] == stands[0] if is_finished else stands[1] <= stands[0])
-            # the draws lead somewhere, and to groups of several changes
+            # the draws lead somewhere, to groups of several changes and to every command, but not always to QUIT
             self.assertGreater(stands[1], 50)
             self.assertGreater(max(frame.changes for frame in trace.frames), 1)
-        for c, script in enumerate(order.scripts):
-            self.check_requests(trace, c, script, is_finished)
-            self.check_released(trace, c, positions, stands[1], is_finished)
-        self.check_machine(trace, order.schedule.events)
+            names = {call.words[0].lower() for call in trace.calls if call.words}
+            self.assertEqual(plain_redis.COMMANDS.keys() - names - {b"quit"}, set())
+        for c, script in enumerate(order.scripts[:order.entered]):
+            is_whole = is_finished and c < CONNECTIONS
+            self.check_requests(trace, c, script, is_whole)
+            self.check_released(trace, c, positions, stands[1], is_whole)
+        self.check_machine(trace, order.schedule.events, lines)
 
-    def check_calls(self, trace):
-        """Each call is answered as one Redis answers it at that point of the list. Returns the position after each."""
-        redis, positions = plain_redis.Redis(LINES // 8), []
+    def check_calls(self, trace, lines):
+        """Each call is answered as one Redis answers it at that point of the list, whose store has the room of the image; and
+        the simulator's plain Redis, which has room for all, answers as one that has it. Returns the position after each."""
+        redis, boundless, positions = plain_redis.Redis(plain_image.Room(lines)), plain_redis.Redis(), []
         for call, (position, reply) in zip(trace.calls, trace.plain):
             with self.case("call", place=len(positions)):
-                wanted = redis.call(call.words) if call.words else call.reply
-                self.assertEqual((call.reply, reply, position), (wanted, wanted, redis.position))
+                if call.words:
+                    self.assert_bytes(call.reply, redis.call(call.words))
+                    self.assert_bytes(reply, boundless.call(call.words))
+                self.assertEqual(position, boundless.position)
             positions.append(redis.position)
         self.assertEqual(len(trace.plain), len(trace.calls))
+        if lines == AMPLE_LINES:
+            self.assertNotIn(plain_redis.error(plain_redis.NO_ROOM), [call.reply for call in trace.calls])
         return positions
 
-    def check_image(self, trace, node):
+    def check_image(self, trace, node, lines):
         """The image is whole, and holds what one Redis holds after as many changes as its position says. Returns the
         position."""
         with self.case("image", node=node):
-            image = plain_image.read_image(plain_image.Words(LINES, trace.words[node]))
-            redis = plain_redis.Redis()
+            image = plain_image.read_image(plain_image.Words(lines, trace.words[node]))
+            redis = plain_redis.Redis(plain_image.Room(lines))
             for call in trace.calls:
                 if call.words and redis.position < image.record.position:
                     redis.call(call.words)
             self.assertEqual(redis.position, image.record.position)
-            self.assertEqual(image.map, {(key,): value for key, value in redis.strings.items()})
+            self.assertEqual(image.map, dict(redis.keyspace.records()))
             self.assertEqual(trace.records[node], sorted(image.map.items()))
             self.assertEqual(trace.nodes[node].position, image.record.position)
             self.assertEqual((image.record.epoch, trace.nodes[node].epoch), (1, 1))
         return trace.nodes[node].position
 
     def check_requests(self, trace, c, script, is_finished):
-        """The calls of a connection are its requests in order, then its fault, and nothing more."""
+        """The calls of a connection are its requests in order, up to one to quit or to its fault, and nothing more."""
         with self.case("requests", connection=c):
-            found = [call.words for call in trace.calls if call.connection == c]
-            wanted = script.requests + [None]
-            self.assertEqual(found, wanted if is_finished else wanted[:len(found)])
-            faults = [call.reply for call in trace.calls if call.connection == c and call.words is None]
-            fault = spelling.read(script.text).items[-1]
-            self.assertIn(faults, ([], [fault.reply()]))
+            calls = [call for call in trace.calls if call.connection == c]
+            items = script.items if is_finished else script.items[:len(calls)]
+            self.assertEqual(len(calls), len(items))
+            for call, item in zip(calls, items):
+                found, wanted = (call.reply, item.reply()) if isinstance(item, spelling.Fault) else (call.words, item)
+                self.assertEqual(found, wanted)
 
     def check_released(self, trace, c, positions, covered, is_finished):
         """What was released begins the replies, and each reply of which a byte was released is covered by both
@@ -153,10 +181,10 @@ class Orders(Runs):
                     self.assertLessEqual(position, covered)
                 start += len(reply)
 
-    def check_machine(self, trace, events):
+    def check_machine(self, trace, events, lines):
         """The events that did their step are those that the plain machine has, and so are the calls, the released bytes
         and the words of both images."""
-        machine = plain_machine.Machine().play(events)
+        machine = plain_machine.Machine((lines, lines)).play(events)
         with self.case("events"):
             wrong = [place for place, (did, should) in enumerate(zip(trace.done, machine.done)) if did != should]
             self.assertEqual((wrong[:5], len(trace.done)), ([], len(machine.done)))
@@ -164,13 +192,14 @@ class Orders(Runs):
             self.assertEqual(trace.released, [connection.released for connection in machine.connections])
             self.assertEqual((trace.frames, trace.acknowledgements), told_between(machine))
             for node in NODES:
-                self.assert_image(trace, machine, node, LINES)
+                self.assert_image(trace, machine, node, lines)
 
 
 def add_seeds(count):
-    """One test for each seed. Each fourth run is finished."""
+    """One test for each seed. Each fourth run is finished, and each third is over images that fill."""
     for seed in range(count):
-        setattr(Orders, f"test_seed_{seed}", lambda self, seed=seed: self.check(seed, is_finished=seed % 4 == 0))
+        lines = SCARCE_LINES if seed % 3 == 2 else AMPLE_LINES
+        setattr(Orders, f"test_seed_{seed}", lambda self, at=(seed, lines, seed % 4 == 0): self.check(*at))
 
 
 add_seeds(12)

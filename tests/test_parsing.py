@@ -1,7 +1,6 @@
 """What bytes ask for, in any pieces: each text is fed to connections of its own, cut at every position and in single
 bytes. The requests and the faults are written here by hand, from docs/protocol.md."""
 
-import plain_redis
 import spelling
 import worked_cases as worked
 from simulation import Runs, Schedule
@@ -12,6 +11,7 @@ PROGRAMS = ["simulator"]
 SET = (b"SET", b"a", b"1")
 GET = (b"GET", b"a")
 NINE = b"\r\n$1\r\n\0\xff*"
+LONGEST = bytes(range(256)) * 256
 
 # Texts, and the words of the requests that they ask for.
 REQUESTS = {
@@ -19,7 +19,7 @@ REQUESTS = {
     "first_set": (SET_A, [SET]),
     "set_and_get": (SET_A + GET_A, [SET, GET]),
     "empty_word": (b"*3\r\n$3\r\nSET\r\n$1\r\ne\r\n$0\r\n\r\n" + GET_A, [(b"SET", b"e", b""), GET]),
-    "longest_word_of_any_bytes": (b"*1\r\n$9\r\n" + NINE + b"\r\n", [(NINE,)]),
+    "word_of_any_bytes": (b"*1\r\n$9\r\n" + NINE + b"\r\n", [(NINE,)]),
     "no_words_before": (b"*0\r\n" + PING, [(b"PING",)]),
     "no_words_between": (b"*0\r\n" + PING + b"*0\r\n*0\r\n" + PING + b"*0\r\n", [(b"PING",), (b"PING",)]),
     "no_words_at_all": (b"*0\r\n", []),
@@ -27,15 +27,15 @@ REQUESTS = {
 }
 
 # Texts that are at fault at their last byte, by where that byte is.
-IN_COUNT = [b"*01", b"*-", b"*\r", b"*\n", b"*1\n", b"*1\r\r", b"*4", b"*9", b"*10", b"*1x"]
+IN_COUNT = [b"*01", b"*-", b"*\r", b"*\n", b"*1\n", b"*1\r\r", b"*1025", b"*9999", b"*1030", b"*1x", b"*1024x", b"*10240"]
 IN_COUNT += [b"*+", b"*x", b"* ", b"*0\n", b"*00"]
 FIRST_BYTES = [b"P", b"*0\r\nP", b"\r", b"\n", b"\0", b"$", b"+", b"*0\r\n$"]
 DOLLARS = [(b"*1\r\n" + byte, byte) for byte in (b":", b"*", b"~", b" ", b"'", b"+", b"0")]
 DOLLARS += [(b"*1\r\n" + byte, b"?") for byte in (b"\x01", b"\x1f", b"\x7f", b"\xff", b"\r", b"\n")]
 DOLLARS += [(b"*2\r\n$1\r\na\r\n*", b"*"), (b"*3\r\n$1\r\na\r\n$0\r\n\r\n\r", b"?")]
-IN_LENGTH = [b"*1\r\n$-", b"*1\r\n$10", b"*1\r\n$65", b"*1\r\n$00", b"*1\r\n$01", b"*1\r\n$\r", b"*1\r\n$1\n"]
-IN_LENGTH += [b"*1\r\n$1\r1", b"*2\r\n$1\r\na\r\n$+", b"*3\r\n$3\r\nSET\r\n$1\r\na\r\n$10", b"*1\r\n$x"]
-IN_LENGTH += [b"*1\r\n$ ", b"*1\r\n$99"]
+IN_LENGTH = [b"*1\r\n$-", b"*1\r\n$65537", b"*1\r\n$65540", b"*1\r\n$00", b"*1\r\n$01", b"*1\r\n$\r", b"*1\r\n$1\n"]
+IN_LENGTH += [b"*1\r\n$1\r1", b"*2\r\n$1\r\na\r\n$+", b"*3\r\n$3\r\nSET\r\n$1\r\na\r\n$65537", b"*1\r\n$x"]
+IN_LENGTH += [b"*1\r\n$ ", b"*1\r\n$99999", b"*1\r\n$65536x", b"*1\r\n$655360"]
 AFTER_WORD = [b"*1\r\n$4\r\nPINGX", b"*1\r\n$4\r\nPING\n", b"*1\r\n$4\r\nPING\rX", b"*1\r\n$0\r\nX"]
 AFTER_WORD += [b"*2\r\n$1\r\na\r\n$1\r\nbb"]
 
@@ -82,6 +82,21 @@ class Requests(Parsed):
         schedule.add("feed 0 SET a 1", "feed 0  GET   a", "feed 0 PING")
         schedule.add(*(3 * ["offer 0", "turn 0"]))
         self.assertEqual([call.words for call in self.play(schedule).calls], [SET, GET, (b"PING",)])
+
+    def test_the_greatest_count_and_length(self):
+        # cut where a count, a length, a word or a line end begins, and in single pieces of 1, 63 and 65,536 bytes
+        many, long = spelling.spell(*(1_024 * [b"w"])), spelling.spell(b"ECHO", LONGEST)
+        for name, text, words in [("words", many, 1_024 * (b"w",)), ("bytes", long, (b"ECHO", LONGEST))]:
+            cuts = [*range(24), *range(len(text) - 4, len(text) + 1)]
+            ways = [[text[:cut], text[cut:]] for cut in cuts]
+            ways += [[text[at:at + size] for at in range(0, len(text), size)] for size in (63, 65_536)]
+            schedule = Schedule(len(ways))
+            for c, pieces in enumerate(ways):
+                for piece in pieces:
+                    schedule.feed(c, piece)
+                schedule.add(f"offer {c}", f"turn {c}")
+            with self.case(name):
+                self.assertEqual([call.words for call in self.play(schedule).calls], len(ways) * [words])
 
     def test_items_come_of_pieces(self):
         schedule = Schedule(1)
@@ -168,4 +183,4 @@ class FaultsAtTheirLastByte(Runs):
                 self.assertEqual(released[first], worked.NO_STAR)
                 self.assertEqual(released[second], worked.OK + b"-ERR Protocol error: expected '$', got ':'\r\n")
                 self.assertEqual(released[last], worked.OK + worked.ONE)
-                self.assertEqual(released[3], plain_redis.error(plain_redis.UNKNOWN))
+                self.assertEqual(released[3], worked.PONG)

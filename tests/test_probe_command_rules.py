@@ -7,9 +7,10 @@ import common
 import draws
 import pages
 import plain_redis
-from command_lines import GREATEST, LEAST, LONG_KEY, LONGEST_KEY, Commands, line, shown, shown_effect, write
-from plain_redis import OK, bulk, error, integer, simple
-from probe_client import Probing, drop_key, hexed, put, record
+from command_lines import Commands, line, shown, shown_effect, write, write_field
+from draws import GREATEST, LEAST, LONG_KEY, LONGEST_KEY
+from plain_redis import OK, array, bulk, error, integer, simple
+from probe_client import Probing, drop, drop_key, hexed, put, record
 
 PROGRAMS = ["probe"]
 
@@ -30,7 +31,7 @@ class Refused(Commands):
         for signatures, words, *_ in pages.rows(PAGE, "Table"):
             cls.words |= {signature.split()[0]: words for signature in signatures.split(", ")}
         names = list(cls.words)
-        cls.names, cls.others = names[:names.index("HSET")], names[names.index("HSET"):]
+        cls.names, cls.others = names[:names.index("MULTI")], names[names.index("MULTI"):]
 
     def takes(self, name, count):
         """Whether the page says that the command has so many words."""
@@ -42,7 +43,7 @@ class Refused(Commands):
 
     def test_the_plain_redis_has_the_rows_of_the_page(self):
         self.assertEqual(sorted(plain_redis.COMMANDS), sorted(name.lower().encode() for name in self.names))
-        self.assertEqual((len(self.names), len(self.others)), (21, 17))
+        self.assertEqual((len(self.names), len(self.others)), (33, 5))
 
     def test_numbers_of_words(self):
         table, empty = [], plain_redis.Keyspace()
@@ -58,7 +59,7 @@ class Refused(Commands):
     def test_names(self):
         table, empty = [], plain_redis.Keyspace()
         for name in map(str.encode, self.names):
-            count = next(count for count in range(1, 4) if self.takes(name.decode(), count))
+            count = next(count for count in range(1, 5) if self.takes(name.decode(), count))
             arguments = (count - 1) * (b"1",)
             served = shown_effect(plain_redis.effect(empty, (name, *arguments)))
             self.assertNotIn(hexed(b"-ERR"), served)
@@ -71,11 +72,12 @@ class Refused(Commands):
         names = [*self.others, "NOSUCH", "SELECT", "KEYS", "COMMAND", ""]
         self.show_requests(((name.encode(), *count * [b"h"]), UNKNOWN) for name in names for count in range(6))
 
-    # The words after each name: k is a key, v is none.
+    # The words after each name: k is a key or a field, v is none.
     SHAPES = {
         "SET": "kv", "GET": "k", "PING": "v", "ECHO": "v", "QUIT": "vv", "SETNX": "kv", "GETDEL": "k", "STRLEN": "k", "APPEND": "kv",
         "DEL": "kkk", "EXISTS": "kkk", "MSET": "kvkvkv", "MSETNX": "kvkvkv", "MGET": "kkk", "INCR": "k", "DECR": "k", "INCRBY": "kv",
-        "DECRBY": "kv", "TYPE": "k", "DBSIZE": "", "FLUSHDB": "vv",
+        "DECRBY": "kv", "TYPE": "k", "DBSIZE": "", "FLUSHDB": "vv", "HSET": "kkvkvkv", "HSETNX": "kkv", "HGET": "kk", "HMGET": "kkk",
+        "HDEL": "kkk", "HLEN": "k", "HEXISTS": "kk", "HSTRLEN": "kk", "HINCRBY": "kkv", "HGETALL": "k", "HKEYS": "k", "HVALS": "k",
     }
 
     def test_keys_of_512_and_of_513_bytes(self):
@@ -96,7 +98,7 @@ class Refused(Commands):
         wrong = error("ERR wrong number of arguments for 'get' command")
         self.show_requests([
             ((b"NOSUCH", LONG_KEY), UNKNOWN),
-            ((b"HGET", LONG_KEY, b"f"), UNKNOWN),
+            ((b"WATCH", LONG_KEY), UNKNOWN),
             ((b"GET", LONG_KEY, b"1"), wrong),
             ((b"MSET", LONG_KEY), error("ERR wrong number of arguments for 'mset' command")),
             ((b"GET", LONG_KEY), TOO_LONG),
@@ -107,6 +109,11 @@ class Refused(Commands):
             ((b"INCRBY", b"h", b"x"), NO_INTEGER),
             ((b"INCRBY", b"s", b"x"), NO_INTEGER),
             ((b"INCR", b"h"), WRONG_TYPE),
+            ((b"HSET", b"s", b"f", b"1", LONG_KEY), error("ERR wrong number of arguments for 'hset' command")),
+            ((b"HSET", b"s", b"f", b"1", LONG_KEY, b"2"), TOO_LONG),
+            ((b"HINCRBY", b"s", LONG_KEY, b"x"), TOO_LONG),
+            ((b"HINCRBY", b"s", b"f", b"x"), NO_INTEGER),
+            ((b"HINCRBY", b"s", b"f", b"1"), WRONG_TYPE),
         ])
 
     # By its cause on the page, a request that is answered this text.
@@ -116,6 +123,7 @@ class Refused(Commands):
         "key or field above 512 bytes": (b"GET", LONG_KEY),
         "options": "SET s 1 EX",
         "integer text of a string or an argument": "INCR s",
+        "integer text of a field": "HINCRBY h t 1",
         "result out of range": (b"INCRBY", b"n", GREATEST),
         "DECRBY with -9223372036854775808": (b"DECRBY", b"n", LEAST),
         "type": "GET h",
@@ -151,6 +159,28 @@ class Served(Probing):
             ("keyspace records", "0 true"),
         ])
 
+    def test_a_hash_from_its_first_field_to_its_last(self):
+        self.show_session([
+            ("keyspace new", "done"),
+            (line("serve", "HSET h f 1"), shown(integer(1), write_field("h", "f", "1"))),
+            (line("serve", "HDEL h f"), shown(integer(1), drop((b"h", b"f")))),
+            (line("serve", "TYPE h"), shown(simple(b"none"))),
+            (line("serve", "DBSIZE"), shown(integer(0))),
+            (line("serve", "HSET h b 1 a 2 b 3"), shown(integer(2), *(write_field("h", *pair) for pair in ("b1", "a2", "b3")))),
+            (line("serve", "HGETALL h"), shown(array([bulk(word) for word in (b"a", b"2", b"b", b"3")]))),
+            (line("serve", "HINCRBY h a 5"), shown(integer(7), write_field("h", "a", "7"))),
+            (line("serve", "SET s 1"), shown(OK, write("s", "1"))),
+            (line("serve", "HSET s f 1"), shown(WRONG_TYPE)),
+            (line("serve", "APPEND h 1"), shown(WRONG_TYPE)),
+            ("keyspace records", f"3 false {record(b'h', b'a')}=37 {record(b'h', b'b')}=33 {record(b's')}=31"),
+            (line("serve", "SET h x"), shown(OK, write("h", "x"))),
+            (line("serve", "TYPE h"), shown(simple(b"string"))),
+            (line("serve", "HGET h a"), shown(WRONG_TYPE)),
+            (line("serve", "DEL h"), shown(integer(1), drop_key(b"h"))),
+            (line("serve", "HSETNX h b 4"), shown(integer(1), write_field("h", "b", "4"))),
+            ("keyspace records", f"2 false {record(b'h', b'b')}=34 {record(b's')}=31"),
+        ])
+
     def test_what_holds_hashes(self):
         made = [f"keyspace play {put((b'h', field), b'1')}" for field in (b"f", b"g")]
         for asked, reply in (("SET h 1", OK), ("SET h 1 XX", OK), ("MSET h 1", OK)):
@@ -165,37 +195,21 @@ class Served(Probing):
 class Drawn(Probing):
     """Requests drawn by a seed, against the plain Redis."""
 
-    SEEDS, REQUESTS = 3, 3_000
-    KEYS = [b"", b"a", b"ab", b"b", b"\r\n", b"\xff", b"key", LONGEST_KEY]
-    NUMBERS = [b"0", b"1", b"-1", b"7", b"-40", GREATEST, LEAST]
-    VALUES = [*NUMBERS, b"", b"01", b"+1", b"text", b"\0\xff", b"a longer text", b"NX"]
-    OPTIONS = [b"NX", b"nx", b"nX", b"XX", b"xx", b"EX"]
-
-    # The words after each name: a key, a value, a number or an option; and those that may follow, again and again.
-    SHAPES = {
-        b"set": ("kv", "o"), b"get": ("k", ""), b"ping": ("", "v"), b"echo": ("v", ""), b"quit": ("", "v"), b"setnx": ("kv", ""),
-        b"getdel": ("k", ""), b"strlen": ("k", ""), b"append": ("kv", ""), b"del": ("k", "k"), b"exists": ("k", "k"),
-        b"mset": ("kv", "kv"), b"msetnx": ("kv", "kv"), b"mget": ("k", "k"), b"incr": ("k", ""), b"decr": ("k", ""),
-        b"incrby": ("kn", ""), b"decrby": ("kn", ""), b"type": ("k", ""), b"dbsize": ("", ""), b"flushdb": ("", "o"),
-        b"hset": ("kvv", "vv"), b"nosuch": ("", "v"),
-    }
-    # Those that are drawn less often than others.
-    RARE = {b"ping", b"echo", b"quit", b"dbsize", b"flushdb", b"hset", b"nosuch"}
-    NAMES = 4 * sorted(SHAPES.keys() - RARE) + sorted(RARE)
+    SEEDS, REQUESTS = 2, 6_000
 
     # What the draws have to lead to.
-    ERRORS = {error(text) for text in (plain_redis.OVERFLOW, plain_redis.NO_OPPOSITE, plain_redis.LONG_STRING)}
+    ERRORS = {error(text) for text in (plain_redis.OVERFLOW, plain_redis.NO_OPPOSITE, plain_redis.LONG_STRING, plain_redis.NO_INTEGER_OF_A_FIELD)}
     ERRORS |= {UNKNOWN, TOO_LONG, SYNTAX, NO_INTEGER, WRONG_TYPE}
-    CHANGES = {plain_redis.Put, plain_redis.DropKey, plain_redis.Clear}
+    CHANGES = {plain_redis.Put, plain_redis.Drop, plain_redis.DropKey, plain_redis.Clear}
 
     def test_against_the_plain_redis(self):
         for seed in range(self.SEEDS):
-            drawn, redis = draws.numbers(f"commands {seed}"), plain_redis.Redis(commands=plain_redis.COMMANDS)
+            drawn, redis = draws.numbers(f"commands {seed}"), plain_redis.Redis()
             table, effects = [("keyspace new", "done")], []
             while len(effects) < self.REQUESTS:
                 if drawn.randrange(8) == 0:
                     table.append(self.draw_field(drawn, redis))
-                asked = self.draw_request(drawn)
+                asked = draws.request(drawn)
                 effects.append(redis.serve(asked))
                 table.append((line("serve", asked), shown_effect(effects[-1])))
             records = redis.keyspace.records()
@@ -212,24 +226,7 @@ class Drawn(Probing):
         self.assertGreater(sum(bool(it.changes) for it in effects), self.REQUESTS // 5)
 
     def draw_field(self, drawn, redis):
-        """A line that makes a hash, or one more field of it."""
-        name, value = (drawn.choice(self.KEYS), drawn.choice([b"", b"f", b"g"])), drawn.choice(self.VALUES)
+        """A line that makes a hash, or one more field of it, also where the key holds a string."""
+        name, value = (drawn.choice(draws.KEYS), drawn.choice(draws.FIELDS)), drawn.choice(draws.VALUES)
         redis.keyspace.play(plain_redis.Put(name, value))
         return f"keyspace play {put(name, value)}", "done"
-
-    def draw_request(self, drawn):
-        name = drawn.choice(self.NAMES)
-        first, more = self.SHAPES[name]
-        words = [self.draw_word(drawn, kind) for kind in first + drawn.choice([0, 0, 1, 1, 2, 3]) * more]
-        words = drawn.choice([words[:-1], [*words, b"1"]]) if drawn.randrange(20) == 0 else words
-        return drawn.choice([bytes.lower, bytes.upper, bytes.title])(name), *words
-
-    def draw_word(self, drawn, kind):
-        is_rare = drawn.randrange(20) == 0
-        if kind == "k":
-            return LONG_KEY if is_rare else drawn.choice(self.KEYS)
-        if kind == "v":
-            return 65_534 * b"v" if is_rare else drawn.choice(self.VALUES)
-        if kind == "n":
-            return drawn.choice(self.VALUES if is_rare else self.NUMBERS)
-        return drawn.choice(self.OPTIONS)

@@ -1,7 +1,8 @@
 """What the commands on strings, counters, keys and the connection reply and change (docs/commands.md), over the probe's
 plain keyspace."""
 
-from command_lines import GREATEST, LEAST, Commands, write
+from command_lines import Commands, write
+from draws import GREATEST, LEAST
 from plain_redis import NULL_BULK, OK, array, bulk, error, integer, simple
 from probe_client import drop_key, put
 

@@ -1,4 +1,4 @@
-"""The places of an image (docs/image.md, "Commit"): the lowest free entry, the lowest run of lines that is long enough, rising and never again."""
+"""The places of an image (docs/image.md, "Commit"): the lowest free entry, the lowest run of lines that is long enough."""
 
 from probe_client import Probing
 

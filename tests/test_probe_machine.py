@@ -15,5 +15,6 @@ class Machine(Probing):
             ("event read 3 remote", "Read(3, Remote)"),
             ("event read 3 local", "Read(3, Local)"),
             ("event write 0 5", "Write(0, 5)"),
+            ("event leave 2", "Leave(2)"),
             (f"event feed 1 {hexed(b'GET')}", 'Feed(1, b"GET")'),
         ])

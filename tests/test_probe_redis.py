@@ -1,4 +1,4 @@
-"""The plain Redis, with words longer than are served yet (docs/commands.md)."""
+"""The plain Redis by single calls (docs/commands.md)."""
 
 from probe_client import Probing, hexed, request
 
@@ -38,7 +38,7 @@ class Calls(Probing):
             call(0, (b"NOSUCH",), error(b"unknown command"), 0),
             call(0, (b"gEt",), error(b"wrong number of arguments for 'get' command"), 0),
             call(0, (b"set", b"a"), error(b"wrong number of arguments for 'set' command"), 0),
-            call(0, (b"SET", b"a", b"1", b"NX"), error(b"syntax error"), 0),
+            call(0, (b"SET", b"a", b"1", b"EX"), error(b"syntax error"), 0),
             ("redis call 0 fault array", f"{hexed(error(b'Protocol error: expected ' + bytes([39]) + b'*' + bytes([39])))} 0"),
             ("redis counts", "5 0 0"),
         ])

@@ -45,3 +45,54 @@ class Replies(Probing):
 
     def test_a_reply_that_fits_is_written_behind_one_that_does_not(self):
         self.show([(f"reply within 7 +{hexed(b'OK')} null-bulk", f"false {hexed(b'+OK' + bytes([13, 10]))}")])
+
+
+class ReadReplies(Probing):
+    """Replies read back, as a client reads them."""
+
+    TEXTS = [bytes.fromhex(text) for _, text in Replies.FORMS]
+
+    # The last byte of each makes the fault: nothing that follows could make a reply of the bytes before it and this one.
+    FAULTS = [
+        b"P", b"\r", b"\n", b"0",
+        b"+OK\n", b"+OK\rX", b"-ERR\r\r",
+        b":+", b":01", b":-0", b":--", b":1x", b":\r", b":9223372036854775808", b":-9223372036854775809",
+        b"$-2", b"$-1x", b"$-1\rx", b"$01", b"$536870913", b"$1\r\nab", b"$0\r\na", b"$0\r\n\ra",
+        b"*-2", b"*01", b"*4294967296", b"*1\r\nP", b"*2\r\n:1\r\n*1\r\n+\n", 8 * b"*1\r\n" + b"*1",
+    ]
+
+    # Of each the last byte would be the last of a reply, or at least begin more of one.
+    WITHIN = [
+        (b":9223372036854775807\r\n", True),
+        (b":-9223372036854775808\r\n", True),
+        (b"$536870912\r\n", False),
+        (b"*4294967295\r\n", False),
+        (8 * b"*1\r\n" + b"*0\r\n", True),
+        (8 * b"*1\r\n" + b":1\r\n", True),
+        (b"*2\r\n*-1\r\n$-1\r\n", True),
+    ]
+
+    def test_each_form_cut_in_two_anywhere(self):
+        for text in self.TEXTS:
+            self.show(
+                (f"reply read {hexed(text[:cut])} {hexed(text[cut:])}", f"/ {hexed(text)} /" if cut < len(text) else f"{hexed(text)} / /")
+                for cut in range(len(text) + 1)
+            )
+
+    def test_each_form_byte_by_byte(self):
+        self.show(
+            (f"reply read {' '.join(hexed(text[i:i + 1]) for i in range(len(text)))}", "/ " * (len(text) - 1) + f"{hexed(text)} /")
+            for text in self.TEXTS
+        )
+
+    def test_all_forms_in_one_piece(self):
+        self.show([(f"reply read {hexed(b''.join(self.TEXTS))}", " ".join(map(hexed, self.TEXTS)) + " /")])
+
+    def test_each_fault_comes_with_its_byte_and_not_before(self):
+        self.show((f"reply read {hexed(text[:-1])} {hexed(text[-1:])} {hexed(b'+OK')}", "/ fault / /") for text in self.FAULTS)
+
+    def test_a_fault_comes_after_the_replies_before_it(self):
+        self.show([(f"reply read {hexed(b'+OK' + bytes([13, 10]) + b':1' + bytes([13, 10]) + b'?')}", f"{hexed(b'+OK' + bytes([13, 10]))} {hexed(b':1' + bytes([13, 10]))} fault /")])
+
+    def test_within_the_limits(self):
+        self.show((f"reply read {hexed(text)}", f"{hexed(text)} /" if whole else "/") for text, whole in self.WITHIN)

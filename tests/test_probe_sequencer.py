@@ -45,13 +45,20 @@ class Turns(Probing):
             ((b"get", b"a"), bulk(b"1"), 1),
             ((b"sEt", b"a", b"22"), OK, 2),
             ((b"GeT", b"a"), bulk(b"22"), 2),
-            ((b"PING",), b"-ERR unknown command\r\n", 2),
+            ((b"PING",), b"+PONG\r\n", 2),
+            ((b"NOSUCH",), b"-ERR unknown command\r\n", 2),
             ((b"sET", b"a"), wrong_number(b"set"), 2),
-            ((b"SET", b"a", b"1", b"NX"), b"-ERR syntax error\r\n", 2),
+            ((b"SET", b"a", b"1", b"NX"), NULL, 2),
+            ((b"SET", b"a", b"1", b"EX"), b"-ERR syntax error\r\n", 2),
             ((b"GET", b"a", b"b"), wrong_number(b"get"), 2),
             ((b"set", b"e", b""), OK, 3),
             ((b"GET", b"e"), bulk(b""), 3),
-            ((b"GET", b"a"), bulk(b"22"), 3),
+            ((b"MSET", b"b", b"1", b"c", b"2"), OK, 4),
+            ((b"DEL", b"b", b"x", b"c"), b":2\r\n", 5),
+            ((b"INCR", b"a"), b":23\r\n", 6),
+            ((b"GET", b"a"), bulk(b"23"), 6),
+            ((b"FLUSHDB",), OK, 7),
+            ((b"FLUSHDB",), OK, 7),
         ]
         turns = [line for case in cases for line in asked(*case)]
         self.show_session([NEW, *turns, ("sequencer turn 0", "Idle"), ("sequencer reply", "none")])
@@ -65,6 +72,16 @@ class Turns(Probing):
             *asked((b"GET", longest), bulk(b"v"), 1),
             *asked((b"SET", longer, b"v"), refusal, 1),
             *asked((b"GET", longer), refusal, 1),
+        ])
+
+    def test_a_quit_ends_its_seat_alone(self):
+        self.show_session([
+            NEW,
+            ("sequencer ask 7 " + request(b"quit", b"now"), "Served"),
+            ("sequencer reply", f"{hexed(OK)} 0"),
+            ("sequencer turn 7", "Ended"),
+            ask(b"SET", b"a", b"1"),
+            ("sequencer turn 7", "Ended"),
         ])
 
     def test_a_fault_ends_its_seat_alone(self):

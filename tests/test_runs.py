@@ -4,9 +4,10 @@ in any order.
 Each run is compared with the plain machine too, event by event and both images word by word (simulation.Runs)."""
 
 import worked_cases as worked
+from plain_machine import SEATS
 from simulation import NODES, Runs, Schedule
 from spelling import spell
-from worked_cases import GET_A, OK, ONE, PING, SET_A, STORE_IS_FULL
+from worked_cases import GET_A, OK, ONE, PING, PONG, SET_A, STORE_IS_FULL
 
 PROGRAMS = ["simulator"]
 
@@ -78,6 +79,47 @@ class FirstPath(Runs):
         self.assertEqual(trace.done[:1_025], 1_024 * [True] + [False])
         self.assertEqual(len(trace.released), 1_024)
         self.assertEqual([call.connection for call in trace.calls], [0, 1_023])
+
+
+@worked.one_test_for_each(worked.COMMANDS, "check_row")
+class Commands(Runs):
+    """Rows of "Commands" in docs/worked-cases.md."""
+
+    def check_row(self, *row):
+        session = worked.Session(*row)
+        for name, pieces in [("in one piece", [session.input()]), ("byte by byte", in_bytes(session.input()))]:
+            with self.case(name):
+                schedule = Schedule(1)
+                for piece in pieces:
+                    schedule.feed(0, piece)
+                schedule.drain(1, len(session.requests), session.position)
+                trace = self.play(schedule)
+                self.assertEqual(trace.released, [session.output()])
+                self.assertEqual([node.position for node in trace.nodes.values()], 2 * [session.position])
+
+    def test_a_closed_connection_closes_no_other(self):
+        # one quits while the other goes on; a new one takes the next number
+        schedule = Schedule(2)
+        for c, data in [(0, SET_A + spell("QUIT")), (1, GET_A), (0, SET_B), (1, SET_B)]:
+            schedule.feed(c, data)
+            schedule.serve(c)
+        schedule.add("enter")
+        schedule.feed(2, PING + GET_A)
+        schedule.drain(3, 3, 2)
+        trace = self.play(schedule)
+        self.assertEqual(trace.released, [OK + OK, ONE + OK, PONG + ONE])
+
+    def test_nothing_is_fed_after_a_quit(self):
+        schedule = Schedule(1)
+        schedule.feed(0, spell("qUIT", "now") + PING)
+        schedule.feed(0, PING)
+        schedule.feed(0, b"")
+        schedule.add(*(3 * ["offer 0", "turn 0", "hold 0"]), "feed 0 PING")
+        schedule.write_out(0, 8)
+        trace = self.play(schedule)
+        self.assertEqual(trace.done[1:14], [True, False, False, *3 * [True], *6 * [False], False])
+        self.assertEqual([call.words for call in trace.calls], [(b"qUIT", b"now")])
+        self.assertEqual(trace.released, [OK])
 
 
 class Events(Runs):
@@ -189,11 +231,69 @@ class Events(Runs):
         schedule = Schedule(1)
         for c in (1, 1_024, 2**64 - 1):
             schedule.add(f"feed {c} GET a", f"feed-bytes {c}", f"offer {c}", f"turn {c}", f"hold {c}", f"release {c}")
-            schedule.add(f"read {c} local", f"read {c} remote", f"write {c} 0")
+            schedule.add(f"read {c} local", f"read {c} remote", f"write {c} 0", f"leave {c}")
         most = 2**64 - 1
         schedule.add(f"deliver {most}", f"ack-delivered {most}", f"write 0 {most}", "deliver 0", "ack-delivered 0")
         schedule.add("write 0 0")
-        self.assertEqual(self.play(schedule).done[1:], 32 * [False] + [True])
+        self.assertEqual(self.play(schedule).done[1:], 35 * [False] + [True])
+
+    def test_a_seat_is_given_again(self):
+        # all seats are taken, the last one too; two connections leave, and two more enter
+        schedule = Schedule(SEATS)
+        schedule.add("enter", "leave 7", "leave 7", "enter", "enter", f"leave {SEATS - 1}", "enter", "enter")
+        # those that took the seats have numbers and replies of their own
+        newer = (SEATS, SEATS + 1)
+        schedule.feed(7, SET_A)
+        schedule.group(newer[0], SET_A)
+        schedule.group(newer[1], GET_A)
+        schedule.replicate(0)
+        for c in newer:
+            schedule.read_marks(c)
+            schedule.write_out(c, 64)
+        trace = self.play(schedule)
+        self.assertEqual(trace.done[SEATS:SEATS + 9], [False, True, False, True, False, True, True, False, False])
+        self.assertEqual(trace.released, SEATS * [b""] + [OK, ONE])
+
+    def test_the_next_in_a_seat_finds_it_open(self):
+        # a fault closes the first connection; the second takes its seat, and is served
+        schedule = Schedule(1)
+        schedule.feed(0, b"P")
+        schedule.serve(0)
+        schedule.add("leave 0", "enter")
+        schedule.group(1, SET_A)
+        schedule.replicate(0)
+        schedule.read_marks(1)
+        schedule.write_out(1, 64)
+        trace = self.play(schedule)
+        self.assertEqual([call.connection for call in trace.calls], [0, 1])
+        self.assertEqual(trace.released, [b"", OK])
+
+    def test_what_waits_when_a_connection_leaves_is_dropped(self):
+        # of four SETs one is released in part, one is held, one has its reply made, and one was offered and never runs
+        schedule = Schedule(2)
+        schedule.group(0, SET_A)
+        schedule.replicate(0)
+        schedule.read_marks(0)
+        schedule.add("release 0", "write 0 2")
+        schedule.group(0, SET_B)
+        schedule.feed(0, SET_A + SET_B)
+        schedule.add("offer 0", "turn 0", "offer 0", "leave 0")
+        schedule.add("offer 0", "turn 0", "hold 0", "read 0 local", "read 0 remote", "release 0", "write 0 0", "leave 0")
+        schedule.feed(0, SET_A)
+        # what it changed stays, and the other connection reads it
+        schedule.commit()
+        schedule.replicate(1)
+        schedule.replicate(2)
+        schedule.group(1, GET_A)
+        schedule.read_marks(1)
+        schedule.write_out(1, 64)
+        trace = self.play(schedule)
+        at = schedule.events.index("leave 0")
+        self.assertEqual(trace.done[at:at + 9], [True] + 8 * [False])
+        self.assertEqual([call.connection for call in trace.calls], [0, 0, 0, 1])
+        self.assertEqual(trace.released, [OK[:2], ONE])
+        for node in NODES:
+            self.assertEqual((trace.nodes[node].position, trace.records[node]), (3, A_AND_B))
 
     def test_bounds_of_what_waits(self):
         # 256 items and 256 replies of a connection, 64 changing commands, 256 groups

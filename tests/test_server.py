@@ -1,16 +1,18 @@
 """The server as its client meets it: bytes in, bytes out, statuses and messages."""
 
 import draws
+import plain_image
 import plain_redis
-import spelling
 import worked_cases as worked
 from common import Cases, run_in_pieces, run_program
-from worked_cases import GET_A, OK, ONE, SET_A, SHORTEST, STORE_IS_FULL, UNKNOWN
+from spelling import spell
+from worked_cases import GET_A, NULL, OK, ONE, SET_A, SHORTEST, STORE_IS_FULL, UNKNOWN
 
 PROGRAMS = ["server"]
 
-# Versions that an image of 4,096 lines takes.
-MOST_CHANGES = 512
+# The lines of an image, and the versions that it takes.
+LINES = 4_096
+MOST_VERSIONS = 512
 
 
 def serve(data):
@@ -25,7 +27,7 @@ class Served(Cases):
 
     def assert_plainly_served(self, data):
         """The server answers as the plain Redis does to what the plain reader reads."""
-        self.assert_served(data, plain_redis.served(data))
+        self.assert_served(data, plain_redis.served(data, plain_image.Room(LINES)))
 
 
 @worked.one_test_for_each(worked.FIRST_PATH, "check_row")
@@ -48,8 +50,8 @@ class FirstPath(Served):
         self.assert_served(b"", b"")
 
     def test_the_last_entry(self):
-        output = MOST_CHANGES * OK + STORE_IS_FULL + ONE
-        self.assert_served((MOST_CHANGES + 1) * SET_A + GET_A, output)
+        output = MOST_VERSIONS * OK + STORE_IS_FULL + ONE
+        self.assert_served((MOST_VERSIONS + 1) * SET_A + GET_A, output)
 
 
 @worked.one_test_for_each(worked.FAULTS, "check_row")
@@ -67,14 +69,6 @@ class Faults(Served):
             with self.case(name):
                 self.assert_served(text, wanted)
 
-    def test_rows_of_the_full_limits(self):
-        # at present they are decided earlier
-        rows = [(b"*1025", worked.BAD_COUNT), (b"*3\r\n$3\r\nSET\r\n$1\r\na\r\n$65537", worked.BAD_LENGTH)]
-        for data, output in rows:
-            with self.case("row", data=data):
-                self.assert_served(data, output)
-                self.assert_served(data + b"\r\n" + SET_A, output)
-
     def test_each_byte_in_place_of_each(self):
         for at in range(len(worked.PING)):
             for byte in b"*$\r\n 0139:-+\x00\x7f\xff":
@@ -83,42 +77,102 @@ class Faults(Served):
                     self.assert_plainly_served(data)
 
 
+@worked.one_test_for_each(worked.COMMANDS, "check_row")
+class Commands(Served):
+    """Rows of "Commands" in docs/worked-cases.md."""
+
+    def check_row(self, *row):
+        session = worked.Session(*row)
+        data, output = session.input(), session.output()
+        with self.case("in one piece"):
+            self.assert_served(data, output)
+        with self.case("in single bytes"):
+            self.assert_written(run_in_pieces("server", [data[at:at + 1] for at in range(len(data))]), output)
+        with self.case("breaking off"):
+            self.assert_plainly_served(data[:-1])
+
+
+class Limits(Served):
+    """Rows of "Limits" in docs/worked-cases.md."""
+
+    LONGEST = bytes(range(256)) * 256
+
+    def test_a_value_of_65536_bytes(self):
+        data = spell("SET", "a", self.LONGEST) + GET_A
+        output = OK + plain_redis.bulk(self.LONGEST)
+        self.assert_served(data, output)
+        for size in (7, 63, 4_096, 65_536):
+            with self.case("in pieces", size=size):
+                pieces = [data[at:at + size] for at in range(0, len(data), size)]
+                self.assert_written(run_in_pieces("server", pieces), output)
+
+    def test_a_request_of_1024_words(self):
+        self.assert_served(SET_A + spell("EXISTS", *(1_023 * ["a"])), OK + b":1023\r\n")
+        self.assert_served(SET_A + spell("MGET", *(1_023 * ["a"])), OK + b"*1023\r\n" + 1_023 * ONE)
+        self.assert_served(b"*1025\r\n" + SET_A, worked.BAD_COUNT)
+
+    def test_keys_of_512_and_513_bytes(self):
+        longest, longer = 512 * b"k", 513 * b"k"
+        refusal = b"-ERR key or field is longer than 512 bytes\r\n"
+        data = spell("SET", longest, "1") + spell("GET", longest) + spell("GET", longer) + spell("MGET", "a", longer) + GET_A
+        self.assert_served(data, OK + ONE + 2 * refusal + NULL)
+
+    def test_append_past_the_limit(self):
+        data = spell("SET", "a", 65_535 * "v") + spell("APPEND", "a", "xy") + spell("STRLEN", "a")
+        refusal = b"-ERR string is longer than 65536 bytes\r\n"
+        self.assert_served(data, OK + refusal + b":65535\r\n")
+        data += spell("APPEND", "a", "x") + spell("APPEND", "a", "") + spell("APPEND", "a", "y")
+        self.assert_served(data, OK + refusal + b":65535\r\n" + 2 * b":65536\r\n" + refusal)
+
+    def test_the_store_is_full_by_lines(self):
+        # 502, 1,025 and 1,025 of 3,576 lines; 1,024 are left, which a value of 65,535 bytes takes with its key
+        sets = spell("SET", "a", 32_127 * "1") + spell("SET", "b", 65_536 * "2") + spell("SET", "c", 65_536 * "3")
+        data = sets + spell("SET", "a", 65_536 * "4") + spell("STRLEN", "a") + spell("MSET", "d", "5", "e", 65_472 * "6")
+        output = 3 * OK + STORE_IS_FULL + b":32127\r\n" + STORE_IS_FULL
+        self.assert_served(data, output)
+        self.assert_served(data + spell("SET", "a", 65_535 * "7") + spell("EXISTS", "d", "e"), output + OK + b":0\r\n")
+
+    def test_what_makes_no_version_needs_no_room(self):
+        data = MOST_VERSIONS * SET_A + spell("SET", "a", "2") + spell("DEL", "a") + spell("SET", "a", "3") + spell("FLUSHDB")
+        self.assert_served(data + spell("DBSIZE"), MOST_VERSIONS * OK + STORE_IS_FULL + b":1\r\n" + STORE_IS_FULL + OK + b":0\r\n")
+
+
 class Names(Served):
     """Rules of docs/commands.md."""
 
     def test_names_without_regard_to_case(self):
         for name in ["SET", "set", "Set", "sEt", "SEt"]:
             with self.case("SET", name=name):
-                self.assert_served(spelling.spell(name, "a", "1") + GET_A, OK + ONE)
+                self.assert_served(spell(name, "a", "1") + GET_A, OK + ONE)
         for name in ["get", "gET", "GEt"]:
             with self.case("GET", name=name):
-                self.assert_served(SET_A + spelling.spell(name, "a"), OK + ONE)
+                self.assert_served(SET_A + spell(name, "a"), OK + ONE)
 
     def test_unknown_names(self):
-        names = [b"", b"SE", b"SET ", b"GET\0", b"\xc7ET"]
-        names += [b"PING", b"SETNX", b"GETDEL", b"QUIT", b"MULTI", b"EXEC", b"DEL", b"INCR"]
+        names = [b"", b"SE", b"SET ", b"GET\0", b"\xc7ET", b"SETN", b"QUI", b"PINGS"]
+        names += [b"MULTI", b"EXEC", b"SELECT", b"HELLO", b"KEYS", 65_536 * b"G"]
         for name in names:
             with self.case("unknown", name=name):
-                self.assert_served(spelling.spell(name) + spelling.spell(name, "a", "1"), 2 * UNKNOWN)
+                self.assert_served(spell(name) + spell(name, "a", "1"), 2 * UNKNOWN)
 
     def test_numbers_of_words(self):
-        for words in [("SET",), ("sEt", "a"), ("GET",), ("GET", "a", "b"), ("gEt", "a", "")]:
+        for words in [("SET",), ("sEt", "a"), ("GET",), ("GET", "a", "b"), ("gEt", "a", ""), ("Del",), ("MSET", "a", "1", "b")]:
             with self.case("refused", words=words):
                 name = words[0].lower().encode()
                 reply = b"-ERR wrong number of arguments for '%s' command\r\n" % name
-                self.assert_served(SET_A + spelling.spell(*words) + GET_A, OK + reply + ONE)
+                self.assert_served(SET_A + spell(*words) + GET_A, OK + reply + ONE)
 
     def test_words_of_any_bytes(self):
         words = [b"", b"\r\n", b"\0", b"*1\r\n$1\r\n", b"\xff\xfe", b"A", b"a", b" a", b"a ", b"$-1", b"123456789"]
         for key in words:
             with self.case("key", key=key):
-                sets = b"".join(spelling.spell("SET", word, word) for word in words)
-                others = b"".join(spelling.spell("SET", word, "other") for word in words if word != key)
+                sets = b"".join(spell("SET", word, word) for word in words)
+                others = b"".join(spell("SET", word, "other") for word in words if word != key)
                 output = (2 * len(words) - 1) * OK + plain_redis.bulk(key)
-                self.assert_served(sets + others + spelling.spell("GET", key), output)
+                self.assert_served(sets + others + spell("GET", key), output)
 
     def test_a_value_is_replaced(self):
-        data = b"".join(spelling.spell("SET", "a", value) + GET_A for value in ["1", "", "123456789", "1"])
+        data = b"".join(spell("SET", "a", value) + GET_A for value in ["1", "", "123456789", "1"])
         self.assert_served(data, OK + ONE + OK + b"$0\r\n\r\n" + OK + b"$9\r\n123456789\r\n" + OK + ONE)
 
 
@@ -128,9 +182,9 @@ class Damaged(Served):
     def check(self, seed):
         numbers = draws.numbers(f"damaged {seed}")
         for copy in range(100):
-            rows = [numbers.choice(draws.REQUESTS) for _ in range(numbers.randint(1, 4))]
-            data = draws.damaged(numbers, b"".join(spelling.spell(*row) for row in rows))
-            with self.case("damaged", copy=copy, data=data):
+            rows = [draws.request(numbers) for _ in range(numbers.randint(1, 4))]
+            data = draws.damaged(numbers, b"".join(spell(*row) for row in rows))
+            with self.case("damaged", copy=copy, data=data[:200]):
                 self.assert_plainly_served(data)
 
     def test_seed_0(self):
@@ -177,16 +231,24 @@ class Large(Served):
         for length in [4_096, 65_535, 65_536, 65_537, 131_072]:
             sevens = length % 5 * 3 % 5
             fives = (length - 7 * sevens) // 5
-            data = spelling.spell("GET", "z") * fives + SET_A + GET_A * sevens
-            output = fives * b"$-1\r\n" + OK + sevens * ONE
+            data = spell("GET", "z") * fives + SET_A + GET_A * sevens
+            output = fives * NULL + OK + sevens * ONE
             with self.case("length", length=len(output)):
                 self.assertEqual(len(output), length + 5)
                 self.assert_served(data, output)
 
+    def test_as_many_changes_as_versions_can_be_made_and_removed(self):
+        # each version is written and removed: 1,024 changing commands, one after another or 63 requests apart
+        pair = spell("SET", "a", "1") + spell("DEL", "a")
+        self.assert_served(MOST_VERSIONS * pair + SET_A, MOST_VERSIONS * (OK + b":1\r\n") + STORE_IS_FULL)
+        apart = 63 * SHORTEST
+        data = MOST_VERSIONS * (SET_A + apart + spell("FLUSHDB") + apart)
+        self.assert_served(data, MOST_VERSIONS * 2 * (OK + 63 * UNKNOWN))
+
     def test_store_is_full_and_stays_as_it_is(self):
-        keys = [b"k%d" % number for number in range(MOST_CHANGES)]
-        data = b"".join(spelling.spell("SET", key, key) for key in keys)
-        data += spelling.spell("SET", "k0", "new") + spelling.spell("SET", "new", "new")
-        data += b"".join(spelling.spell("GET", key) for key in keys) + spelling.spell("GET", "new")
-        output = MOST_CHANGES * OK + 2 * STORE_IS_FULL + b"".join(map(plain_redis.bulk, keys)) + b"$-1\r\n"
+        keys = [b"k%d" % number for number in range(MOST_VERSIONS)]
+        data = b"".join(spell("SET", key, key) for key in keys)
+        data += spell("SET", "k0", "new") + spell("SET", "new", "new")
+        data += b"".join(spell("GET", key) for key in keys) + spell("GET", "new")
+        output = MOST_VERSIONS * OK + 2 * STORE_IS_FULL + b"".join(map(plain_redis.bulk, keys)) + NULL
         self.assert_served(data, output)

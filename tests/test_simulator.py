@@ -46,7 +46,7 @@ BAD_LINES = [
     "offer", "offer 0 0", "offer x", "offer +0", "offer -1", "offer 00", "offer 01", "offer 0x1", "offer 1.0",
     "offer 1_0", f"offer {ABOVE_U64}", "turn", "turn 0 0", "deliver", "deliver 0 0", "ack-delivered",
     "ack-delivered 0 0", "hold", "hold 0 0", "read", "read 0", "read 0 both", "read local 0", "read 0 local 0",
-    "read 0 Local", "release", "release 0 0", "write", "write 0", "write 0 0 0", "write 0 -1",
+    "read 0 Local", "release", "release 0 0", "leave", "leave 0 0", "leave x", "write", "write 0", "write 0 0 0", "write 0 -1",
     f"write 0 {10 * ABOVE_U64}", "repeat", "repeat 2", "repeat x enter", "repeat 01 enter", "repeat enter",
     "repeat 2 repeat 2 enter", "repeat 2 nonsense", "repeat 2 # nothing", "repeat 2 fail primary 1",
     "repeat 2 crash primary 0", f"repeat {MOST_EVENTS + 1} enter", f"repeat {ABOVE_U64 - 1} enter",
