@@ -116,6 +116,22 @@ class Groups(Runs):
         self.assertEqual(trace.frames, [Frame(1, 0, 64, 256), Frame(1, 64, 65, 1)])
         self.assertEqual([node.position for node in trace.nodes.values()], [65, 65])
 
+    def test_64_commands_of_every_kind_of_change_are_one_group(self):
+        # a clear, strings, 18 fields of one hash, a dropped string, a dropped field, a string overwritten and one over the hash
+        requests = [["SET", f"{number}", f"{number}"] for number in range(1, 65)]
+        requests[20] = ["FLUSHDB"]
+        requests[40:58] = [["HSET", "7", f"{number}", f"{number}"] for number in range(41, 59)]
+        requests[58:63] = [["DEL", "22"], ["HDEL", "7", "41"], ["DEL", "23"], ["SET", "24", "62"], ["SET", "7", "63"]]
+        schedule = Schedule(1)
+        schedule.group(0, *(spell(*request) for request in requests))
+        schedule.replicate(0)
+        trace = self.play(schedule)
+        self.assertEqual(trace.frames, [Frame(1, 0, 64, 64)])
+        self.assertEqual([node.position for node in trace.nodes.values()], [64, 64])
+        left = {f"{number}": f"{number}" for number in [*range(24, 41), 64]} | {"24": "62", "7": "63"}
+        records = sorted(((key.encode("ascii"),), value.encode("ascii")) for key, value in left.items())
+        self.assertEqual([trace.records["primary"], trace.records["standby"]], [records, records])
+
     def test_a_command_has_room_for_all_its_versions_or_for_none(self):
         # 511 of 512 entries are taken: of a command with two puts nothing is written, and its replies say so
         for request in (spell("MSET", "b", "2", "b", "3"), spell("MSETNX", "c", "2", "d", "3")):

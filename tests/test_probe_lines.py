@@ -50,7 +50,6 @@ class Lines(common.Cases):
         ("image new 1\nimage set 8=1", "done\n", "out of range"),
         ("heap new 520 524 2\nheap take 0", "done\n", "out of range"),
         ("lobby new\nlobby leave 0", "done\n", "out of range"),
-        ("sequencer new 4096 512\nsequencer turn 1024", "done\n", "out of range"),
         ("integer read 31\nlaws\nseat\nlaws", "1\ndone\n", "no such call"),
     ]
 

@@ -17,7 +17,6 @@ mod redis;
 mod replies;
 mod run;
 mod seats;
-mod sequencer;
 mod table;
 mod texts;
 mod words;

@@ -8,7 +8,6 @@ use crate::keyspace::KeyspaceProbe;
 use crate::pipe::PipeProbe;
 use crate::redis::RedisProbe;
 use crate::seats::LobbyProbe;
-use crate::sequencer::SequencerProbe;
 use crate::table::TableProbe;
 use crate::{frames, integers, keyspace, replies, texts};
 use std::alloc::Global;
@@ -22,7 +21,6 @@ pub struct Probe {
     device: DeviceProbe,
     heap: HeapProbe,
     table: TableProbe,
-    sequencer: SequencerProbe,
     gate: GateProbe,
     pipe: PipeProbe,
     lobby: LobbyProbe,
@@ -41,7 +39,6 @@ impl Probe {
             "device" => self.device.answer(alloc, words),
             "heap" => self.heap.answer(alloc, words),
             "table" => self.table.answer(alloc, words),
-            "sequencer" => self.sequencer.answer(alloc, words),
             "gate" => self.gate.answer(alloc, words),
             "pipe" => self.pipe.answer(alloc, words),
             "lobby" => self.lobby.answer(alloc, words),

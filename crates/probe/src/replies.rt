@@ -1,5 +1,5 @@
 //! Replies as the protocol writes them.
-use crate::answers::{add_word, hexed, reply_text};
+use crate::answers::{add_word, hexed, reply_text, word};
 use crate::cause::Cause;
 use crate::words::{bytes, number};
 use bytes::{BufMut, Bytes, BytesMut};
@@ -64,19 +64,24 @@ fn read(alloc: Global, pieces: &[&str]) -> Result<String, Cause> {
     Ok(answer)
 }
 
-/// Adds a word for each item that is ahead: a reply's bytes, or `fault`.
+/// Adds a word for each item that is ahead.
 fn add_items(alloc: Global, parser: &mut ReplyParser, answer: &mut String) -> Result<(), Cause> {
     for _ in 0..u64::MAX {
-        match parser.next().map_err(|_| Cause::Memory)? {
-            None => break,
-            Some(ReplyItem::Fault) => add_word(answer, "fault")?,
-            Some(ReplyItem::Reply(reply)) => {
-                let text = reply_text(alloc, &reply)?;
-                add_word(answer, text.as_str())?;
-            }
-        }
+        let Some(text) = next_text(alloc, parser)? else {
+            break;
+        };
+        add_word(answer, &text)?;
     }
     Ok(())
+}
+
+/// The next item, if it is ahead: a reply's bytes, or `fault`.
+fn next_text(alloc: Global, parser: &mut ReplyParser) -> Result<Option<String>, Cause> {
+    match parser.next().map_err(|_| Cause::Memory)? {
+        None => Ok(None),
+        Some(ReplyItem::Fault) => Ok(Some(word(alloc, "fault")?)),
+        Some(ReplyItem::Reply(reply)) => Ok(Some(reply_text(alloc, &reply)?)),
+    }
 }
 
 /// The replies that the words spell, in order. An array is `*COUNT` before its replies, so the words are read from the last to the first.

@@ -1,3 +1,1 @@
 pub mod FollowingLemmas
-pub mod GrowingLemmas
-pub mod NewLemmas

@@ -4,8 +4,6 @@
 mod frame;
 mod part;
 mod standby;
-#[cfg(test)]
-mod tests;
 
 pub use frame::{Ack, Frame};
 pub use standby::Standby;
