@@ -1,5 +1,5 @@
 -- The text of an array, by the list of its replies.
-use Rattle.std.proofs.Common.{◌≡◌, ℕ, List, [], ◌∷◌, ◌++◌, length, flat_map, refl, suc, ap, ap₂, ◌∙◌, one-add}
+use Rattle.std.proofs.Common.{◌≡◌, List, ◌∷◌, ◌++◌, length, flat_map, refl, suc, ap, ap₂, ◌∙◌, one-add}
 use mathlib.Core.Former.{Count}
 use Rattle.kv_types.specs.declared.reply.Reply.{Reply, Array, Array', Row_of-Reply, end_of-Reply, more_of-Reply, items-the_row-Reply, items_hidden-the_row-Reply-0}
 use Rattle.kv_types.specs.Reply.{row_length, text_of, texts_of}

@@ -1,21 +1,20 @@
 -- The worked cases of requests, faults, replies, changes and keyspaces, from the definitions by evaluation alone.
-use Rattle.std.proofs.Common.{◌≡◌, List, [], ◌∷◌, ◌++◌, pos, negsuc, codes, length, flat_map, Vec, Global, refl, ap, ◌∙◌}
+use Rattle.std.proofs.Common.{◌≡◌, [], ◌∷◌, pos, negsuc, codes, refl}
 use Rattle.std.specs.Fmt.{digits}
 use Rattle.kv_types.specs.declared.change.Change.TheVariants.{Put, Drop, DropKey, Clear}
 use Rattle.kv_types.specs.declared.item.Item.TheVariants.{Request, Fault}
 use Rattle.kv_types.specs.declared.item.ProtocolFault.TheVariants.{ExpectedArray, InvalidMultibulkLength, ExpectedBulk, InvalidBulkLength, ExpectedLineEnd}
 use Rattle.kv_types.specs.declared.limits.TheConstants.{REQUEST_LIMITS}
 use Rattle.kv_types.specs.declared.record_id.RecordId.TheVariants.{Str, Field}
-use Rattle.kv_types.specs.declared.reply.Reply.{Reply, Simple, Error, Int, Bulk, NullBulk, Array, NullArray}
+use Rattle.kv_types.specs.declared.reply.Reply.{Simple, Error, Int, Bulk, NullBulk, Array, NullArray}
 use Rattle.kv_types.specs.declared.reply.Reply.TheBlock.{hidden-the_row-Reply-0}
 use denote.Hole.Carrier.{hidden}
 use Rattle.kv_types.specs.Change.{change_text, changes_text, changes_size}
 use Rattle.kv_types.specs.Fault.{fault_message}
 use Rattle.kv_types.specs.Keyspace.{play_all}
 use Rattle.kv_types.specs.Reading.{items_at}
-use Rattle.kv_types.specs.Request.{number_line, spelling}
+use Rattle.kv_types.specs.Request.{spelling}
 use Rattle.kv_types.specs.Reply.{text_of}
-use Rattle.kv_types.proofs.ReplyLemmas.{text_of-Array}
 
 -- ---- requests and faults; a fault comes with the byte that makes it, and not before
 

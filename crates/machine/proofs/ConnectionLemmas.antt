@@ -4,7 +4,6 @@ use Rattle.std.proofs.Common.{inl, inr}
 use Rattle.std.proofs.lemmas.Bool.{cases_eq}
 use Rattle.machine.specs.Event.{Connection, no_connection, new_connection, get_connection, count_open, changed_at}
 use Rattle.machine.specs.Sound.{SoundConnections}
-use Rattle.machine.specs.declared.event.TheConstants.{SEATS}
 
 pub get-changed_same : (c : ℕ) (change : Connection → Connection) (connections : List Connection) → c < length connections → get_connection (changed_at c change connections) c ≡ change (get_connection connections c)
 get-changed_same c change [] lt = absurd (omega arith)

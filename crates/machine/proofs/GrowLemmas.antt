@@ -8,7 +8,7 @@ use Rattle.machine.specs.declared.event.Event.{Event}
 use Rattle.machine.specs.declared.event.Event.TheVariants.{Enter, Feed, Offer, Turn, CloseGroup, Commit, RaiseLocal, Hand, OpenLink, Send, Deliver, Apply, AckDelivered, RaiseRemote, Hold, Read, Release, Write, Leave}
 use Rattle.machine.specs.declared.event.Mark.{Mark}
 use Rattle.machine.specs.declared.event.Mark.TheVariants.{Local, Remote}
-use Rattle.machine.specs.Event.{Inbound, Outbound, Connection, Span, Frame, Acknowledgement, Committer, Link, Standby, Wire, World, get_connection, changed_at, with_inbound, with_outbound, with_connections, on_inbound, on_outbound, with_call, with_committer, with_link, with_standby, with_sent, with_acknowledged, sent, fed_with, offered_next, taken_first, with_made, called, closed_group, committed_first, raised_local, ready_again, handed, handed_to, opened_link, acknowledgement_of, next_to_send, framed, sent_next, delivered, without_first, Takes, told, knowing, raised_remote, held_first, having_read, having_released, written, left, option_items, Happens, Step, Run, start, last_world}
+use Rattle.machine.specs.Event.{Inbound, Outbound, Connection, Span, Frame, Acknowledgement, Committer, Link, Standby, World, get_connection, changed_at, with_inbound, with_outbound, with_connections, on_inbound, on_outbound, with_call, with_committer, with_link, with_standby, with_acknowledged, fed_with, offered_next, taken_first, with_made, called, closed_group, committed_first, raised_local, ready_again, handed, handed_to, opened_link, acknowledgement_of, next_to_send, framed, delivered, without_first, Takes, told, knowing, raised_remote, held_first, having_read, having_released, written, left, option_items, Happens, Step, Run, start, last_world}
 use Rattle.machine.specs.Promise.{released_in}
 use Rattle.machine.specs.Sound.{IsChain, Sound}
 use Rattle.machine.specs.Law.{Grows}

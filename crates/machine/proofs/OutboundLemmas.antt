@@ -8,7 +8,7 @@ use Rattle.model.specs.Call.{position_of}
 use Rattle.machine.specs.declared.event.TheConstants.{PIPE_ITEMS}
 use Rattle.machine.specs.declared.event.Mark.{Mark}
 use Rattle.machine.specs.declared.event.Mark.TheVariants.{Local, Remote}
-use Rattle.machine.specs.Event.{Outbound, World, no_connection, is_covered, covered_prefix, uncovered_rest, texts_of, with_made, held_first, having_read, having_released, written}
+use Rattle.machine.specs.Event.{Outbound, World, is_covered, covered_prefix, uncovered_rest, texts_of, with_made, held_first, having_read, having_released, written}
 use Rattle.machine.specs.Sound.{IsCoveredBy, SoundOutbound}
 use Rattle.machine.proofs.AnswerLemmas.{answers_to-push_own, answers_to-push_other, texts_of-append}
 

@@ -1,12 +1,11 @@
 -- A connection that is over: what was released to it are its first replies, and nothing else of it is left.
-use Rattle.std.proofs.Common.{◌≡◌, ◌≢◌, ℕ, ◌≤◌, true, false, cond, nat_eq, List, [], ◌∷◌, ◌++◌, map, refl, sym, ap, subst, ◌∙◌, arith}
+use Rattle.std.proofs.Common.{◌≡◌, ◌≢◌, ℕ, ◌≤◌, true, false, cond, nat_eq, List, [], ◌∷◌, ◌++◌, map, refl, sym, subst, arith}
 use Rattle.std.proofs.lemmas.List.Elements.{All-nil}
-use Rattle.kv_types.specs.declared.reply.Held.{Held}
 use Rattle.model.specs.declared.call.Call.{Call}
 use Rattle.model.specs.State.{State, start_state}
 use Rattle.model.specs.Call.{IsPrefix, after_call, calls_of, items_of}
 use Rattle.model.proofs.PrefixLemmas.{IsPrefix-itself}
-use Rattle.machine.specs.Event.{Outbound, Connection, World, no_connection, connection_of, is_open, left, texts_of}
+use Rattle.machine.specs.Event.{Outbound, Connection, World, no_connection, connection_of, is_open, left}
 use Rattle.machine.specs.Sound.{IsCoveredBy, SoundOutbound, SoundReleased, SoundOver, Sound, answers_from, position_with}
 use Rattle.machine.proofs.AnswerLemmas.{answers_to-push_other}
 use Rattle.machine.proofs.OutboundLemmas.{covered-weaker}

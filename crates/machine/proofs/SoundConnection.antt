@@ -7,7 +7,7 @@ use Rattle.model.proofs.CallsLemmas.{IsLegal-push, position_of-push, position_of
 use Rattle.machine.specs.declared.event.TheConstants.{SEATS, PIPE_ITEMS, OPEN_CHANGES}
 use Rattle.machine.specs.declared.event.Event.TheVariants.{Enter, Feed, Offer, Turn, Hold, Read, Release, Write, Leave}
 use Rattle.machine.specs.declared.event.Mark.{Mark}
-use Rattle.machine.specs.Event.{Inbound, Outbound, Connection, World, no_connection, get_connection, connection_of, count_open, changed_at, with_inbound, with_outbound, with_connections, on_inbound, on_outbound, asked, is_closed_by, is_open, open_changes, has_room, may_happen, entered, fed_with, offered_next, taken_first, with_made, called, Turns, sent, held_first, having_read, having_released, written, left}
+use Rattle.machine.specs.Event.{Inbound, Outbound, Connection, World, no_connection, get_connection, connection_of, count_open, changed_at, with_inbound, with_outbound, with_connections, on_inbound, on_outbound, asked, is_closed_by, is_open, open_changes, has_room, may_happen, entered, fed_with, offered_next, taken_first, with_made, called, Turns, held_first, having_read, having_released, written, left}
 use Rattle.machine.specs.Sound.{SoundInbound, SoundOutbound, SoundOver, Sound}
 use Rattle.machine.proofs.ConnectionLemmas.{get-changed_same, get-changed_other, length-changed_at, get-entered, get-past, each-changed, each-entered, open-lt, count-entered, count-left, connections-changed}
 use Rattle.machine.proofs.InboundLemmas.{inbound-fed, inbound-offered, inbound-called_own, inbound-called_other, inbound-left}

@@ -1,12 +1,12 @@
 -- A connection that is over stays as it was.
-use Rattle.std.proofs.Common.{◌≡◌, ◌≢◌, ℕ, ◌+◌, ◌<◌, Bool, true, false, not, ◌&&◌, nat_lt, nat_le, List, [], ◌∷◌, ◌++◌, length, take, drop, refl, sym, ap, subst, ◌∙◌, arith, length-append}
+use Rattle.std.proofs.Common.{◌≡◌, ◌≢◌, ℕ, ◌<◌, Bool, true, false, not, nat_lt, nat_le, List, [], ◌∷◌, length, take, drop, refl, sym, ap, subst, ◌∙◌, arith, length-append}
 use Rattle.model.specs.declared.call.Call.{Call}
-use Rattle.model.specs.Call.{calls_of, is_nonempty}
+use Rattle.model.specs.Call.{is_nonempty}
 use Rattle.model.proofs.ServesLemmas.{calls_of-push_other}
 use Rattle.machine.specs.declared.event.TheConstants.{OPEN_CHANGES}
 use Rattle.machine.specs.declared.event.Event.{Event}
 use Rattle.machine.specs.declared.event.Event.TheVariants.{Enter, Feed, Offer, Turn, CloseGroup, Commit, RaiseLocal, Hand, OpenLink, Send, Deliver, Apply, AckDelivered, RaiseRemote, Hold, Read, Release, Write, Leave}
-use Rattle.machine.specs.Event.{Connection, World, new_connection, get_connection, connection_of, changed_at, with_inbound, with_outbound, with_connections, on_inbound, is_open, asked, is_closed_by, open_changes, has_room, may_happen, fed_with, offered_next, taken_first, with_call, called, held_first, having_read, having_released, written, left, Happens, Step, Run, start, last_world}
+use Rattle.machine.specs.Event.{Connection, World, new_connection, connection_of, changed_at, with_inbound, with_outbound, with_connections, on_inbound, is_open, asked, is_closed_by, open_changes, has_room, may_happen, fed_with, offered_next, taken_first, with_call, called, held_first, having_read, having_released, written, left, Happens, Step, Run, start, last_world}
 use Rattle.machine.specs.Law.{StaysOver}
 use Rattle.machine.proofs.ConnectionLemmas.{get-before, get-changed_other, length-changed_at}
 use Rattle.machine.proofs.SoundConnection.{both, both_ways, three, four}

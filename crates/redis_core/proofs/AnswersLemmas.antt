@@ -1,5 +1,5 @@
 -- An answer is a legal entry of the list, whether its item was served or refused.
-use Rattle.std.proofs.Common.{◌≡◌, ◌≢◌, ℕ, ◌+◌, ◌<◌, ◌≤◌, inl, inr, Bool, true, false, ◌||◌, IsTrue, List, [], ◌∷◌, length, get_or, slice_set, if◌then◌else◌, codes, Option, Some, None, Result, Ok, Err, OnErr, IfOk, IsErrOf, refl, sym, ap, subst, ◌∙◌, arith}
+use Rattle.std.proofs.Common.{◌≡◌, ◌≢◌, ℕ, ◌+◌, ◌<◌, ◌≤◌, inl, inr, Bool, true, false, ◌||◌, IsTrue, List, [], ◌∷◌, length, get_or, slice_set, if◌then◌else◌, codes, Some, None, Result, Ok, Err, OnErr, IfOk, IsErrOf, refl, sym, ap, subst, ◌∙◌, arith}
 use Rattle.kv_types.specs.declared.change.Change.{Change}
 use Rattle.kv_types.specs.declared.change.Change.TheVariants as change
 use Rattle.kv_types.specs.declared.item.Item.{Item}
@@ -11,8 +11,7 @@ use Rattle.kv_types.specs.declared.refusal.Refusal.TheVariants as refusal
 use Rattle.kv_types.specs.declared.reply.Reply.{Reply, Simple, Error, Int, Bulk, NullBulk, Array', NullArray}
 use Rattle.kv_types.specs.Change.{changes_size}
 use Rattle.kv_types.specs.Fault.{fault_message}
-use Rattle.kv_types.specs.Keyspace.{Keyspace, play_all, value_at}
-use Rattle.kv_types.specs.declared.record_id.RecordId.TheVariants.{Str}
+use Rattle.kv_types.specs.Keyspace.{Keyspace, play_all}
 use Rattle.model.specs.declared.group.PlacedChange.TheVariants as placed
 use Rattle.model.specs.declared.call.TheConstants.{MAX_CHANGE_TEXT_BYTES}
 use Rattle.model.specs.Call.{MayStand, is_put, writes, unless_error, changes_of, is_nonempty, memory_reply, full_reply, too_large_reply}

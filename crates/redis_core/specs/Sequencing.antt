@@ -1,5 +1,5 @@
 -- What a sequencer holds, and when its tables say what an engine will hold once the waiting parts have committed.
-use Rattle.std.specs.Prelude.{◌≡◌, ℕ, Bool, false, List, [], ◌∷◌, slice_index_or, slice_set, length, ◌≤◌, ◌<◌}
+use Rattle.std.specs.Prelude.{◌≡◌, ℕ, Bool, false, List, [], slice_index_or, slice_set, length, ◌≤◌, ◌<◌}
 use Rattle.std.specs.List.{flat_map, AllByRecursion}
 use Rattle.model.specs.declared.group.Group.{Group}
 use Rattle.model.specs.declared.group.TheConstants.{MAX_PARTS}

@@ -1,5 +1,5 @@
 -- Lemmas on the replies that a gate holds.
-use Rattle.std.proofs.Common.{◌≡◌, ℕ, ◌+◌, ◌-◌, ◌≤◌, Bool, true, false, List, [], ◌∷◌, ◌++◌, length, take, drop, cond, refl, sym, ap, ◌∙◌, arith, length-append, length-drop}
+use Rattle.std.proofs.Common.{◌≡◌, ℕ, ◌+◌, ◌≤◌, true, false, List, [], ◌∷◌, ◌++◌, length, drop, cond, refl, arith, length-append, length-drop}
 use Rattle.reply_gate.specs.declared.held_text.HeldText.{HeldText}
 use Rattle.reply_gate.specs.Gate.{held_bytes, covered_bytes, uncovered_rest, is_covered}
 

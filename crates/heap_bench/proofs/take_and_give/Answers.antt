@@ -1,5 +1,5 @@
-use Rattle.std.proofs.Common.{◌≡◌, ◌<◌, sym, subst, arith}
-use Rattle.extent_heap.specs.Room.{TakesExtent, IsOut}
+use Rattle.std.proofs.Common.{◌<◌, sym, subst, arith}
+use Rattle.extent_heap.specs.Room.{TakesExtent}
 use Rattle.extent_heap.proofs.Rooms.{out_again}
 use Rattle.heap_bench.proofs.take_and_give.Goals as goal
 

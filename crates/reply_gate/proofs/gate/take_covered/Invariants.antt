@@ -1,4 +1,4 @@
-use Rattle.std.proofs.Common.{◌≡◌, ◌+◌, ◌≤◌, length}
+use Rattle.std.proofs.Common.{◌≡◌, ◌+◌, length}
 use Rattle.reply_gate.specs.Gate.{covered_bytes, uncovered_rest, held_bytes}
 use Rattle.reply_gate.proofs.gate.take_covered.Given as goal
 

@@ -1,4 +1,4 @@
-use Rattle.std.proofs.Common.{◌≡◌, ℕ, ◌-◌, length, ap, arith, length-append}
+use Rattle.std.proofs.Common.{◌≡◌, ◌-◌, length, ap, arith, length-append}
 use Rattle.kv_types.specs.Reply.{text_of}
 use Rattle.reply_gate.proofs.HeldLemmas.{held_more}
 use Rattle.reply_gate.proofs.gate.Gate.hold.Goals as goal

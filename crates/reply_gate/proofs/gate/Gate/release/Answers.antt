@@ -1,6 +1,6 @@
-use Rattle.std.proofs.Common.{◌≡◌, ◌+◌, ◌≤◌, length, take, drop, ℕ, ◌-◌, arith, length-drop, ◌∙◌, ap}
+use Rattle.std.proofs.Common.{◌≡◌, ◌+◌, arith, length-drop, ap}
 use Rattle.std.proofs.Math.Seq.{take-add}
-use Rattle.reply_gate.specs.Gate.{covered_bytes, uncovered_rest, held_bytes}
+use Rattle.reply_gate.specs.Gate.{covered_bytes, held_bytes}
 use Rattle.reply_gate.proofs.HeldLemmas.{held_bytes-split}
 use Rattle.reply_gate.proofs.gate.Gate.release.Goals as goal
 
