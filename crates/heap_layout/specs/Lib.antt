@@ -1,0 +1,3 @@
+pub mod Superblock
+pub mod Entry
+pub mod Shape
