@@ -1,8 +1,10 @@
 -- An entry of the directory and its extent, as they are read (this project's profile of write-behind logging: Arulraj, Perron, Pavlo, PVLDB 10(4), 2016).
-use Rattle.std.specs.Prelude.{◌≡◌, ◌≢◌, ℕ, ◌≤◌, ◌⊎◌}
+use Rattle.std.specs.Prelude.{◌≡◌, ◌≢◌, ◌↔◌, ℕ, ◌<◌, ◌≤◌, ◌⊎◌}
+use Rattle.kv_types.specs.declared.place.Extent.{Extent}
 use Rattle.heap_layout.specs.declared.entry.Entry.{Entry}
 use Rattle.heap_layout.specs.declared.entry.TheConstants.{STRING_KIND, FIELD_KIND}
 use Rattle.model.specs.Image.{Image, entry_word, entry_bytes, field_bytes, first_extent_line, lines_of_bytes}
+use Rattle.model.specs.Group.{AreApart}
 use Rattle.model.specs.ReadImage.{IsInFormat, record_in}
 
 -- the kind of entry i is that of a string, which has no field, or that of a field, which may be empty
@@ -35,3 +37,9 @@ entry_in image i =
 pub record IsDamaged (lines : ℕ) (image : Image) (i : ℕ) : Type 0 where
   pub begun : image (entry_word i 0) ≢ 0
   pub broken : IsEntry lines image i → ⊥
+
+-- Entry i reads in both images alike: it has the same words, is whole in both or in none, and holds the same where its extent has none of these lines.
+pub record ReadsAlike (lines' : ℕ) (old new : Image) (extent : Extent) (i : ℕ) : Type 0 where
+  pub words : (k : ℕ) → k < 8 → new (entry_word i k) ≡ old (entry_word i k)
+  pub whole : IsEntry lines' new i ↔ IsEntry lines' old i
+  pub holds : IsEntry lines' old i → AreApart (old (entry_word i 3)) (old (entry_word i 4)) extent.first_line extent.lines → entry_in new i ≡ entry_in old i

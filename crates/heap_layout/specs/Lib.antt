@@ -1,3 +1,4 @@
 pub mod Superblock
 pub mod Entry
 pub mod Shape
+pub mod Put

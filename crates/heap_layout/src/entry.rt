@@ -7,9 +7,10 @@ ghost use Rattle.model.specs.Layout.{first_word};
 ghost use Rattle.heap_layout.specs.Entry.{IsEntry, IsDamaged, entry_in};
 ghost use Rattle.heap_layout.specs.Shape.{IsShape, IsShapeIn, IsOfKind, IsShort, IsPlaced, record_of};
 
+use crate::place::{entry_word, lines_of_bytes};
 use bytes::Bytes;
 use kv_types::{EntryNo, Extent, Key, MAX_KEY_BYTES, MAX_VALUE_BYTES, RecordId, Refusal, Value};
-use model::{FIELD_LENGTH_UNIT, LAYOUT, LINE_BYTES, LINE_WORDS, WORD_BYTES};
+use model::{FIELD_LENGTH_UNIT, LAYOUT, LINE_WORDS, WORD_BYTES};
 use pmem::Pmem;
 use std::alloc::{AllocError, Global};
 
@@ -98,25 +99,13 @@ pub fn read_entry<P: Pmem>(alloc: Global, device: &P, no: EntryNo) -> Result<Opt
 }
 
 /// Word `k` of an entry.
-fn load_of<P: Pmem>(device: &P, no: EntryNo, k: u64) -> u64
+pub(crate) fn load_of<P: Pmem>(device: &P, no: EntryNo, k: u64) -> u64
     requires image { MIN_LINES ≤ (P.state device.now).lines }
     requires entry { no.0 < images.entries_of_lines (P.state device.now).lines }
     requires word { k < 8 }
     ensures { result ≡ image_of (P.state device.now).words (images.entry_word no.0 k) }
 {
-    device.load(LINE_WORDS * LAYOUT.entry_line(no.0) + k)
-}
-
-/// How many lines the given number of bytes takes: at least one.
-fn lines_of_bytes(bytes: u64) -> u64
-    requires { bytes < 1_000_000 }
-    ensures { result ≡ images.lines_of_bytes bytes }
-{
-    if bytes == 0 {
-        1
-    } else {
-        (bytes + (LINE_BYTES - 1)) / LINE_BYTES
-    }
+    device.load(entry_word(no, k))
 }
 
 /// The shape of the record in an entry, or `None` where the entry breaks a rule.

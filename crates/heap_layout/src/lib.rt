@@ -1,8 +1,14 @@
-//! What stands in the lines of an image: its superblock, and the entries of its directory with their extents, read over a device.
+//! What stands in the lines of an image: its superblock, and the entries of its directory with their extents, written and read over a device.
 #![tactic(auto)]
 
 mod entry;
+mod laws;
+mod place;
 mod superblock;
+mod writing;
 
 pub use entry::{Entry, FIELD_KIND, STRING_KIND, Stamps, read_entry, read_stamps};
+pub use laws::written_is_read;
+pub use place::entry_word;
 pub use superblock::{Superblock, read_super};
+pub use writing::{flush_entry, lines_for, write_entry};

@@ -2,8 +2,8 @@ use Rattle.std.proofs.Common.{ℕ, [], ◌∷◌, subst}
 use Rattle.pmem.specs.Runs.{Runs, flushes, lines_from}
 use Rattle.pmem.proofs.Chaining.{Runs-step_flush}
 use Rattle.model.specs.Image.{entry_line}
-use Rattle.wbl_engine.proofs.LayoutRuns.{Runs-more_flushes}
-use Rattle.wbl_engine.proofs.layout.flush_entry.Goals as goal
+use Rattle.heap_layout.proofs.LayoutRuns.{Runs-more_flushes}
+use Rattle.heap_layout.proofs.writing.flush_entry.Goals as goal
 
 pub returns : goal.returns
 returns g c =

@@ -1,11 +1,11 @@
 -- The bytes of an extent are read back from its words.
-use Rattle.std.proofs.Common.{◌≡◌, ℕ, zero, suc, ◌+◌, ◌-◌, ◌*◌, ◌/◌, ◌<◌, ◌≤◌, List, [], ◌∷◌, ◌++◌, length, take, drop, get_or, refl, sym, ap, subst, ◌∙◌, arith}
+use Rattle.std.proofs.Common.{◌≡◌, ℕ, zero, suc, ◌+◌, ◌*◌, ◌/◌, ◌<◌, ◌≤◌, List, [], ◌∷◌, ◌++◌, length, take, drop, get_or, refl, sym, ap, ◌∙◌, arith}
 use Rattle.std.proofs.Math.Seq.{drop-cons}
 use Rattle.std.proofs.lemmas.Nat.{le_bytes_8}
 use Rattle.std.specs.List.{flat_map}
-use Rattle.std.specs.Int.{w64, to_le_bytes, from_le_bytes}
+use Rattle.std.specs.Int.{w64, to_le_bytes}
 use Rattle.model.specs.Image.{Image, words_from, bytes_at}
-use Rattle.wbl_engine.specs.Entry.{word_of_bytes, packed}
+use Rattle.heap_layout.specs.Put.{word_of_bytes, packed}
 
 -- `count` bytes, starting at offset `at`, with zeros past the end
 abbrev pub bytes_from : List ℕ → ℕ → ℕ → List ℕ

@@ -1,7 +1,7 @@
 use Rattle.std.proofs.Common.{◌*◌, ◌++◌, take}
 use Rattle.pmem.specs.Runs.{Runs, stores, pairs_from}
-use Rattle.wbl_engine.specs.Entry.{packed}
-use Rattle.wbl_engine.proofs.layout.write_extent.Given as goal
+use Rattle.heap_layout.specs.Put.{packed}
+use Rattle.heap_layout.proofs.writing.write_extent.Given as goal
 
 abbrev pub invariant-loop-i : goal.invariant-loop-i
 invariant-loop-i g l =

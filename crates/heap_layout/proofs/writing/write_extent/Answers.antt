@@ -1,10 +1,10 @@
-use Rattle.std.proofs.Common.{ℕ, ◌+◌, ◌*◌, ◌++◌, ◌≤◌, ◌<◌, List, length, sym, ap, subst, ◌∙◌, arith}
+use Rattle.std.proofs.Common.{ℕ, ◌*◌, ◌++◌, ◌<◌, List, length, subst, arith}
 use Rattle.pmem.specs.Device.{Steps, store_at}
 use Rattle.pmem.specs.Runs.{pairs_from}
 use Rattle.pmem.proofs.Chaining.{Runs-none, Runs-next_store, Runs-all_stored}
-use Rattle.wbl_engine.specs.Entry.{packed}
-use Rattle.wbl_engine.proofs.LayoutRuns.{bytes-append, length-extent_pairs, extent_pair}
-use Rattle.wbl_engine.proofs.layout.write_extent.Goals as goal
+use Rattle.heap_layout.specs.Put.{packed}
+use Rattle.heap_layout.proofs.LayoutRuns.{bytes-append, length-extent_pairs, extent_pair}
+use Rattle.heap_layout.proofs.writing.write_extent.Goals as goal
 
 pub loop-i-init : goal.loop-i-init
 loop-i-init g c = Runs-none (g.P.Pmem.state c.args.device.now)

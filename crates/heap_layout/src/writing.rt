@@ -1,26 +1,26 @@
-//! Versions in an image: an entry of the directory, and an extent with the bytes of key, field and value.
-ghost use Rattle.std.specs.Prelude.{◌≡◌, ℕ, ◌+◌, ◌*◌, ◌^◌, ◌<◌, ◌≤◌, ◌++◌, length, slice_index};
+//! Writing a version: its entry, and an extent with the bytes of key, field and value.
+ghost use Rattle.std.specs.Prelude.{◌≡◌, ◌≢◌, ℕ, ◌+◌, ◌*◌, ◌^◌, ◌<◌, ◌≤◌, ◌++◌, length, slice_index};
 ghost use Rattle.pmem.specs.Runs.{Runs, stores, flushes, pairs_from};
+ghost use Rattle.pmem.specs.Crash.{image_of};
 ghost use Rattle.kv_types.specs.Keyspace.{key_of};
+ghost use Rattle.model.specs.declared.layout.TheConstants.{LINE_BYTES};
 ghost use Rattle.model.specs.Layout.{first_word};
-ghost use Rattle.model.specs.Image.{entry_word, lines_of_bytes};
+ghost use Rattle.model.specs.Image as images;
 ghost use Rattle.model.specs.Group.{IsPlaced, HasItsLines, bytes_of_id};
-ghost use Rattle.wbl_engine.specs.Entry.{word_of_bytes, packed, name_bytes, kind_number, lengths_word, put_pairs, put_lines, IsStorable};
+ghost use Rattle.heap_layout.specs.Put.{word_of_bytes, packed, name_bytes, kind_number, lengths_word, put_pairs, put_lines, entry_of_put, IsStorable, IsShortName};
+ghost use Rattle.heap_layout.specs.Entry.{IsEntry, ReadsAlike, entry_in};
 
-use kv_types::{EntryNo, Extent, RecordId, Value};
-use model::{FIELD_LENGTH_UNIT, LAYOUT, LINE_BYTES, LINE_WORDS, Put, WORD_BYTES};
+use crate::entry::{FIELD_KIND, STRING_KIND};
+use crate::place::{entry_word, lines_of_bytes};
+use kv_types::{Extent, RecordId, Value};
+use model::{FIELD_LENGTH_UNIT, LAYOUT, LINE_WORDS, Put, WORD_BYTES};
 use pmem::{Pmem, flush_lines, store_words};
 
 /// How many lines a record with this name and this value takes: at least one.
 pub fn lines_for(id: &RecordId, value: &Value) -> u64
-    ensures { result ≡ lines_of_bytes (bytes_of_id id.now + length value.now) }
+    ensures { result ≡ images.lines_of_bytes (bytes_of_id id.now + length value.now) }
 {
-    let bytes = name_len(id) + value.len();
-    if bytes == 0 {
-        1
-    } else {
-        (bytes as u64 + (LINE_BYTES - 1)) / LINE_BYTES
-    }
+    lines_of_bytes((name_len(id) + value.len()) as u64)
 }
 
 /// Stores the entry and the extent of a put, begun with this stamp at this position of the list. Nothing is flushed.
@@ -29,6 +29,12 @@ pub fn write_entry<P: Pmem>(device: &mut P, put: &Put, begin: u64, position: u64
     requires fitting { HasItsLines put.now }
     ensures stored { Runs (P.state device.old) (P.state device.new) (stores (put_pairs begin position put.now) (P.state device.old).words) }
     ensures storable { IsStorable put.now }
+    // what was written is read back
+    ensures whole { IsEntry (P.state device.old).lines (image_of (P.state device.new).words) put.now.entry.0 }
+    ensures read { entry_in (image_of (P.state device.new).words) put.now.entry.0 ≡ entry_of_put begin position put.now }
+    // and every other entry as before, unless its extent has one of the lines
+    ensures others { (i : ℕ) → i < images.entries_of_lines (P.state device.old).lines → i ≢ put.now.entry.0
+        → ReadsAlike (P.state device.old).lines (image_of (P.state device.old).words) (image_of (P.state device.new).words) put.now.extent i }
 {
     let words = [
         begin,
@@ -52,14 +58,6 @@ pub fn flush_entry<P: Pmem>(device: &mut P, put: &Put)
 {
     flush_lines(device, put.extent.first_line, put.extent.lines);
     device.flush(LAYOUT.entry_line(put.entry.0));
-}
-
-/// Word `k` of an entry.
-pub fn entry_word(entry: EntryNo, k: u64) -> u64
-    requires { entry_word entry.0 k < 2 ^ 64 }
-    ensures { result ≡ entry_word entry.0 k }
-{
-    LINE_WORDS * LAYOUT.entry_line(entry.0) + k
 }
 
 /// The key of a record, and its field: empty for a string.
@@ -88,15 +86,15 @@ fn kind_of(id: &RecordId) -> u64
     ensures { result ≡ kind_number id.now }
 {
     match id {
-        RecordId::Str(_) => 1,
-        RecordId::Field(..) => 2,
+        RecordId::Str(_) => STRING_KIND,
+        RecordId::Field(..) => FIELD_KIND,
     }
 }
 
 /// The lengths of key and field, as an entry stores them.
 fn lengths_of(id: &RecordId) -> u64
     ensures value { result ≡ lengths_word id.now }
-    ensures key { length (key_of id.now) ≤ 512 }
+    ensures name { IsShortName id.now }
     ensures short { bytes_of_id id.now ≤ 1024 }
 {
     match id {

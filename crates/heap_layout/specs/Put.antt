@@ -1,6 +1,7 @@
 -- What writing a version stores: its extent and its entry.
-use Rattle.std.specs.Prelude.{ℕ, zero, suc, ◌+◌, ◌*◌, ◌<◌, List, [], ◌∷◌, ◌++◌, length, slice_index}
+use Rattle.std.specs.Prelude.{ℕ, zero, suc, ◌+◌, ◌*◌, ◌<◌, ◌≤◌, List, [], ◌∷◌, ◌++◌, length, slice_index}
 use Rattle.std.specs.Int.{w64, from_le_bytes}
+use Rattle.kv_types.specs.declared.limits.TheConstants.{MAX_KEY_BYTES}
 use Rattle.kv_types.specs.declared.record_id.RecordId.{RecordId}
 use Rattle.kv_types.specs.declared.record_id.RecordId.TheVariants.{Str, Field}
 use Rattle.kv_types.specs.Keyspace.{key_of}
@@ -9,6 +10,8 @@ use Rattle.model.specs.declared.group.Put.{Put}
 use Rattle.model.specs.declared.layout.TheConstants.{FIELD_LENGTH_UNIT, WORD_BYTES}
 use Rattle.model.specs.Layout.{first_word}
 use Rattle.model.specs.Image.{entry_line, entry_word}
+use Rattle.heap_layout.specs.declared.entry.Entry.{Entry}
+use Rattle.heap_layout.specs.declared.entry.TheConstants.{STRING_KIND, FIELD_KIND}
 
 -- the eight bytes from offset `at` as a word, lowest first, with zeros past the end
 abbrev pub word_of_bytes : List ℕ → ℕ → ℕ
@@ -31,8 +34,13 @@ abbrev pub version_bytes : Put → List ℕ
 version_bytes put = name_bytes put.id ++ put.value
 
 abbrev pub kind_number : RecordId → ℕ
-kind_number (Str key) = 1
-kind_number (Field key field) = 2
+kind_number (Str key) = STRING_KIND
+kind_number (Field key field) = FIELD_KIND
+
+-- how many bytes the field of a record has: a string has none
+abbrev pub field_length : RecordId → ℕ
+field_length (Str key) = 0
+field_length (Field key field) = length field
 
 -- the length of the key, plus FIELD_LENGTH_UNIT times the length of the field
 abbrev pub lengths_word : RecordId → ℕ
@@ -61,3 +69,12 @@ put_lines put = lines_from put.extent.first_line put.extent.lines ++ entry_line 
 pub record IsStorable (put : Put) : Type 0 where
   pub bytes : (i : ℕ) → slice_index (version_bytes put) i < 256
   pub key : length (key_of put.id) < FIELD_LENGTH_UNIT
+
+-- the key and the field of a record are within their limits
+pub record IsShortName (id : RecordId) : Type 0 where
+  pub key : length (key_of id) ≤ MAX_KEY_BYTES
+  pub field : field_length id ≤ MAX_KEY_BYTES
+
+-- what the entry of a put holds, begun with this stamp at this position
+abbrev pub entry_of_put : ℕ → ℕ → Put → Entry
+entry_of_put stamp position put = record { begin = stamp; end = 0; position = position; extent = put.extent; id = put.id; value = put.value }

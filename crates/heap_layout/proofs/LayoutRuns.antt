@@ -1,17 +1,16 @@
 -- The runs that store and flush an entry and its extent.
-use Rattle.std.proofs.Common.{◌≡◌, ℕ, zero, suc, ◌+◌, ◌-◌, ◌*◌, ◌<◌, ◌≤◌, List, [], ◌∷◌, ◌++◌, length, get_or, refl, sym, ap, subst, ◌∙◌, arith, length-append}
-use Rattle.std.proofs.lemmas.Bool.{cases_lt}
+use Rattle.std.proofs.Common.{◌≡◌, ℕ, zero, suc, ◌+◌, ◌*◌, ◌<◌, List, [], ◌∷◌, ◌++◌, length, get_or, sym, ap, subst, ◌∙◌, arith, length-append}
 use Rattle.kv_types.specs.declared.record_id.RecordId.{RecordId}
 use Rattle.pmem.specs.Device.{Word, State}
-use Rattle.pmem.specs.Runs.{Runs, stores, flushes, pairs_from, lines_from}
+use Rattle.pmem.specs.Runs.{Runs, stores, flushes, pairs_from}
 use Rattle.pmem.proofs.Chaining.{Runs-stores, Runs-flushes}
 use Rattle.pmem.proofs.Staging.{stores-append, flushes-append, get_or-pairs_from, length-pairs_from}
 use Rattle.model.specs.declared.group.Put.{Put}
 use Rattle.model.specs.Image.{entry_word}
 use Rattle.model.specs.Group.{bytes_of_id}
-use Rattle.wbl_engine.specs.Entry.{word_of_bytes, packed, name_bytes, version_bytes, entry_words, put_pairs}
-use Rattle.wbl_engine.proofs.Packing.{length-packed, get_or-packed}
-use Rattle.wbl_engine.proofs.ReadBack.{length-name_bytes}
+use Rattle.heap_layout.specs.Put.{word_of_bytes, packed, name_bytes, version_bytes, entry_words, put_pairs}
+use Rattle.heap_layout.proofs.Packing.{length-packed, get_or-packed}
+use Rattle.heap_layout.proofs.ReadBack.{length-name_bytes}
 
 -- a run of stores continues with more stores
 pub Runs-more_stores : {a b c : State} (first second : List (ℕ × ℕ)) → Runs a b (stores first a.words) → Runs b c (stores second b.words)
