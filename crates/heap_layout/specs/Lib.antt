@@ -2,3 +2,4 @@ pub mod Superblock
 pub mod Entry
 pub mod Shape
 pub mod Put
+pub mod Version

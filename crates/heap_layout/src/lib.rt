@@ -5,10 +5,12 @@ mod entry;
 mod laws;
 mod place;
 mod superblock;
+mod version;
 mod writing;
 
 pub use entry::{Entry, FIELD_KIND, STRING_KIND, Stamps, read_entry, read_stamps};
 pub use laws::written_is_read;
 pub use place::entry_word;
 pub use superblock::{Superblock, read_super};
+pub use version::read_version;
 pub use writing::{flush_entry, lines_for, write_entry};
