@@ -1,6 +1,6 @@
 -- The shape of a record that is read from an entry.
 use Rattle.std.specs.Prelude.{◌≡◌, ℕ, ◌+◌, ◌≤◌, ◌⊎◌, List, drop}
-use Rattle.heap_layout.specs.declared.entry.Shape.{Shape}
+use Rattle.heap_layout.specs.declared.shape.Shape.{Shape}
 use Rattle.heap_layout.specs.declared.entry.TheConstants.{STRING_KIND, FIELD_KIND}
 use Rattle.kv_types.specs.declared.limits.TheConstants.{MAX_KEY_BYTES, MAX_VALUE_BYTES}
 use Rattle.kv_types.specs.declared.record_id.RecordId.{RecordId}

@@ -12,7 +12,7 @@ use pmem::Pmem;
 use std::alloc::Global;
 
 /// Writes a put and reads its entry: what is read is what was written, and only an allocation can be refused.
-pub fn written_is_read<P: Pmem>(
+pub fn put_is_read_back<P: Pmem>(
     alloc: Global,
     device: &mut P,
     put: &Put,

@@ -4,12 +4,13 @@
 mod entry;
 mod laws;
 mod place;
+mod shape;
 mod superblock;
 mod version;
 mod writing;
 
 pub use entry::{Entry, FIELD_KIND, STRING_KIND, Stamps, read_entry, read_stamps};
-pub use laws::written_is_read;
+pub use laws::put_is_read_back;
 pub use place::entry_word;
 pub use superblock::{Superblock, read_super};
 pub use version::read_version;

@@ -4,7 +4,7 @@ use Rattle.std.specs.List.{flat_map}
 use Rattle.pmem.specs.Crash.{image_of}
 use Rattle.model.specs.Image.{words_from}
 use Rattle.model.proofs.ReadEntryLemmas.{word_bytes-more, length-bytes_at}
-use Rattle.heap_layout.proofs.entry.bytes_at.Goals as goal
+use Rattle.heap_layout.proofs.shape.bytes_at.Goals as goal
 
 pub loop-k-preserved : goal.loop-k-preserved
 loop-k-preserved g c =
