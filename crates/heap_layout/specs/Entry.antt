@@ -1,4 +1,4 @@
--- An entry of the directory and its extent, as they are read (this project's profile of write-behind logging: Arulraj, Perron, Pavlo, PVLDB 10(4), 2016).
+-- An entry of the directory and its extent, as they are read (this project's profile).
 use Rattle.std.specs.Prelude.{◌≡◌, ◌≢◌, ◌↔◌, ℕ, ◌<◌, ◌≤◌, ◌⊎◌}
 use Rattle.kv_types.specs.declared.place.Extent.{Extent}
 use Rattle.heap_layout.specs.declared.entry.Entry.{Entry}
@@ -38,7 +38,8 @@ pub record IsDamaged (lines : ℕ) (image : Image) (i : ℕ) : Type 0 where
   pub begun : image (entry_word i 0) ≢ 0
   pub broken : IsEntry lines image i → ⊥
 
--- Entry i reads in both images alike: it has the same words, is whole in both or in none, and holds the same where its extent has none of these lines.
+-- Entry i reads in both images alike: it has the same words, it is whole in both or in none, and it holds the same if its extent has none
+-- of these lines.
 pub record ReadsAlike (lines' : ℕ) (old new : Image) (extent : Extent) (i : ℕ) : Type 0 where
   pub words : (k : ℕ) → k < 8 → new (entry_word i k) ≡ old (entry_word i k)
   pub whole : IsEntry lines' new i ↔ IsEntry lines' old i

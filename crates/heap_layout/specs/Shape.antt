@@ -1,4 +1,4 @@
--- The shape of a record that is read from an entry.
+-- The shape of a record that is read from an entry: what its words say of its bytes.
 use Rattle.std.specs.Prelude.{◌≡◌, ℕ, ◌+◌, ◌≤◌, ◌⊎◌, List, drop}
 use Rattle.heap_layout.specs.declared.shape.Shape.{Shape}
 use Rattle.heap_layout.specs.declared.entry.TheConstants.{STRING_KIND, FIELD_KIND}

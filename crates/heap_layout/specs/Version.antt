@@ -1,4 +1,4 @@
--- What an entry holds under the record of its image.
+-- What an entry holds under the record of its image (this project's profile).
 use Rattle.std.specs.Prelude.{ℕ, ◌<◌, ◌≤◌, IsTrue, Option, Some, None}
 use Rattle.heap_layout.specs.declared.entry.Entry.{Entry}
 use Rattle.heap_layout.specs.Entry.{IsEntry}
@@ -21,7 +21,8 @@ abbrev pub version_if_read : Record → Option Entry → Option Version
 version_if_read r None = None
 version_if_read r (Some entry) = Some (version_of r entry)
 
--- Entry i breaks no rule under this record: its stamps were given out, and if its begin counts, it breaks no rule of entries and was made at a position that the record has.
+-- Entry i breaks no rule under this record: its stamps were given out, and if its begin counts, it breaks no rule of entries and was made
+-- at a position that the record has.
 pub record IsUnder (r : Record) (lines' : ℕ) (image : Image) (i : ℕ) : Type 0 where
   pub begin : image (entry_word i 0) < r.cd
   pub end : image (entry_word i 1) < r.cd

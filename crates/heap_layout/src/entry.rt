@@ -53,11 +53,12 @@ pub fn read_stamps<P: Pmem>(device: &P, no: EntryNo) -> Stamps
     }
 }
 
-/// Reads what an entry and its extent hold, or `None` where the entry is free. `Damaged` where a rule of the format is broken: a kind that there is not, a string with a
-/// field, lengths beyond the limits, an extent that does not lie after the directory and within the image, or one that has not just the lines of its bytes. `Memory`
-/// if an allocation was refused.
+/// Reads what an entry and its extent hold, or `None` where the entry is free. `Damaged` where a rule of the format is broken: a kind that
+/// there is not, a string with a field, lengths beyond the limits, an extent that does not lie after the directory and within the image, or
+/// one that has not just the lines of its bytes. `Memory` if an allocation was refused.
 ///
-/// Whether the stamps count, and whether the position is one of the record's, is the caller's to say: of an entry whose begin does not count, `Damaged` means nothing.
+/// Whether the stamps count, and whether the position is one of the record's, is the caller's to say: of an entry whose begin does not
+/// count, `Damaged` means nothing.
 pub fn read_entry<P: Pmem>(alloc: Global, device: &P, no: EntryNo) -> Result<Option<Entry>, Refusal>
     requires image { MIN_LINES ≤ (P.state device.now).lines }
     requires entry { no.0 < images.entries_of_lines (P.state device.now).lines }

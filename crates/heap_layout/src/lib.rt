@@ -1,4 +1,4 @@
-//! What stands in the lines of an image: its superblock, and the entries of its directory with their extents, written and read over a device.
+//! What stands in the lines of an image: its superblock, and its entries with their extents, written and read over a device.
 #![tactic(auto)]
 
 mod entry;

@@ -21,7 +21,7 @@ pub struct Superblock {
 }
 
 /// Reads the superblock. `WrongSize` if the device has fewer than 4,096 lines or more than 2^31; then `BadMagic`; then `BadVersion`; then
-/// `WrongSize` if word 2 is not the number of the device's lines; then `Damaged` if word 3 is not the number of entries that so many lines have.
+/// `WrongSize` if word 2 is not the number of the device's lines; then `Damaged` if word 3 is not the number of entries for so many.
 pub fn read_super<P: Pmem>(device: &P) -> Result<Superblock, Refusal>
     ensures ok { IfOk result (λ s. HasSuperblock s.lines (image_of (P.state device.now).words)) }
     ensures lines { IfOk result (λ s. s.lines ≡ (P.state device.now).lines) }

@@ -12,8 +12,9 @@ use model::Record;
 use pmem::Pmem;
 use std::alloc::Global;
 
-/// Reads the version in an entry, or `None` where its begin does not count under the record. `Damaged` where a stamp of the entry is not below the record's `cd`; and,
-/// where the begin counts, if the entry breaks a rule that `read_entry` names, or its position is above the record's. `Memory` if an allocation was refused.
+/// Reads the version in an entry, or `None` where its begin does not count under the record. `Damaged` where a stamp of the entry is not
+/// below the record's `cd`; and, where the begin counts, if the entry breaks a rule that `read_entry` names, or its position is above the
+/// record's. `Memory` if an allocation was refused.
 ///
 /// That no two versions share a line, and that no record lives twice, is the caller's to see.
 pub fn read_version<P: Pmem>(
