@@ -1,6 +1,7 @@
 //! The simulated device.
 use crate::answers::{add_number, done};
 use crate::cause::Cause;
+use crate::entries::{self, super_text};
 use crate::words::{number, numbers, pairs};
 use pmem::{
     Crashing, Fault, History, Pmem, SimPmem, flush_all, flush_lines, persist, store_all,
@@ -29,6 +30,8 @@ impl DeviceProbe {
             ["failures"] => Ok(device.failures().to_string(alloc)?),
             ["starved"] => Ok(device.starved().to_string(alloc)?),
             ["fence"] => fenced(alloc, device.fence()),
+            ["super"] => super_text(alloc, device),
+            ["entry", words @ ..] => entries::answer(alloc, device, words),
             ["persist", words, lines] => {
                 let pairs = pairs(alloc, &split(alloc, words)?)?;
                 let lines = numbers(alloc, &split(alloc, lines)?)?;

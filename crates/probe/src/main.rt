@@ -5,6 +5,7 @@ mod answers;
 mod cause;
 mod command;
 mod device;
+mod entries;
 mod frames;
 mod gate;
 mod heap;

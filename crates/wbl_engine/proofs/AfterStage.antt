@@ -1,18 +1,18 @@
 -- What is certain once a group is stored, before the record is written.
-use Rattle.std.proofs.Common.{◌≡◌, ◌≢◌, ℕ, zero, suc, ◌+◌, ◌-◌, ◌*◌, ◌/◌, ◌<◌, ◌≤◌, Bool, true, false, IsTrue, List, [], ◌∷◌, ◌++◌, ◌⊎◌, inl, inr, Option, None, Some, length, get_or, refl, sym, ap, subst, ◌∙◌, arith}
+use Rattle.std.proofs.Common.{◌≡◌, ◌≢◌, ℕ, ◌+◌, ◌-◌, ◌<◌, false, IsTrue, List, ◌⊎◌, inl, inr, length, get_or, refl, sym, ap, subst, ◌∙◌, arith}
 use Rattle.std.specs.List.{AllByRecursion}
 use Rattle.std.proofs.lemmas.Bool.{cases_Bool, both_ways}
-use Rattle.pmem.specs.Device.{Word, State, MayBe, Only}
+use Rattle.pmem.specs.Device.{State, Only}
 use Rattle.pmem.specs.Crash.{image_of}
 use Rattle.pmem.specs.Runs.{Staged, IsStored, IsOutside, written}
 use Rattle.pmem.proofs.Staging.{written-cases, written-outside, written-stored, stored_or_outside}
 use Rattle.model.specs.declared.record.Record.{Record}
 use Rattle.model.specs.declared.group.Group.{Group}
 use Rattle.model.specs.declared.group.Put.{Put}
-use Rattle.model.specs.Image.{Image, entry_word, entries_of_lines, first_extent_line, counts}
-use Rattle.model.specs.Group.{Versions, IsGroup, IsPlaced, AreAllApart, is_put_at, next_record, parts_versions}
-use Rattle.wbl_engine.specs.AtRest.{contents_of, IsAtRest, IsInExtent, Matters}
-use Rattle.wbl_engine.specs.Entry.{IsStorable, entry_words}
+use Rattle.model.specs.Image.{Image, entry_word, entries_of_lines, counts}
+use Rattle.model.specs.Group.{Versions, IsGroup, IsPlaced, is_put_at, next_record, parts_versions}
+use Rattle.wbl_engine.specs.AtRest.{contents_of, IsAtRest, Matters}
+use Rattle.heap_layout.specs.Put.{IsStorable, entry_words}
 use Rattle.wbl_engine.specs.Stage.{puts_of_parts, parts_pairs, parts_lines}
 use Rattle.wbl_engine.proofs.Beginning.{rest_fits, group_stored, group_staging}
 use Rattle.wbl_engine.proofs.CountLemmas.{with_cp, counts-later}
@@ -20,7 +20,8 @@ use Rattle.wbl_engine.proofs.Covering.{IsStoredPut, parts_covered, parts_stored_
 use Rattle.wbl_engine.proofs.GroupSteps.{parts_fit}
 use Rattle.wbl_engine.proofs.PartEffects.{IsAmong, is_put_at-among, among-is_put_at}
 use Rattle.wbl_engine.proofs.PartSteps.{Fits}
-use Rattle.wbl_engine.proofs.PutPairs.{IsOfExtent, among-all}
+use Rattle.heap_layout.proofs.PutWords.{IsOfExtent}
+use Rattle.wbl_engine.proofs.PutPairs.{among-all}
 use Rattle.wbl_engine.proofs.Staged.{IsStaging}
 
 -- the record after a group counts as the old one with more stamps

@@ -1,22 +1,19 @@
 -- What a commit may rest on when it begins.
-use Rattle.std.proofs.Common.{◌≡◌, ◌≢◌, ℕ, zero, suc, ◌+◌, ◌-◌, ◌*◌, ◌<◌, ◌≤◌, Bool, true, false, not, cond, ◌&&◌, ◌||◌, ◌==◌, IsTrue, List, [], ◌∷◌, ◌++◌, ◌⊎◌, inl, inr, Option, None, Some, length, refl, sym, ap, subst, ◌∙◌, arith}
+use Rattle.std.proofs.Common.{◌≡◌, ℕ, ◌+◌, ◌<◌, ◌≤◌, false, ◌||◌, ◌==◌, IsTrue, List, inl, inr, None, length, sym, ap, ◌∙◌, arith}
 use Rattle.std.specs.Prelude.{nat_lt}
 use Rattle.std.specs.List.{AllByRecursion}
-use Rattle.std.proofs.lemmas.Bool.{cond-true, cond-false, lt-ltb, le-ltb, ltb-true, eqb-true, cases_Bool, and_parts, and_left, or_cases}
+use Rattle.std.proofs.lemmas.Bool.{cond-true, cond-false, lt-ltb, le-ltb, ltb-true, eqb-true, and_parts, or_cases}
 use Rattle.pmem.specs.Device.{State}
 use Rattle.pmem.specs.Crash.{image_of}
-use Rattle.pmem.specs.Runs.{IsStored}
 use Rattle.model.specs.declared.record.Record.{Record}
 use Rattle.model.specs.declared.group.Group.{Group}
-use Rattle.model.specs.declared.group.Part.{Part}
 use Rattle.model.specs.declared.group.Put.{Put}
-use Rattle.model.specs.Image.{Image, entry_word, entries_of_lines, version_at, counts}
-use Rattle.model.specs.Group.{Contents, Versions, IsGroup, IsUnused, IsConsistent}
-use Rattle.wbl_engine.specs.AtRest.{contents_of, IsSound, IsWhole, IsAtRest}
-use Rattle.wbl_engine.specs.Entry.{IsStorable}
+use Rattle.model.specs.Image.{entry_word, entries_of_lines, version_at, counts}
+use Rattle.model.specs.Group.{Contents, IsGroup, IsUnused, IsConsistent}
+use Rattle.wbl_engine.specs.AtRest.{contents_of, IsAtRest}
+use Rattle.heap_layout.specs.Put.{IsStorable}
 use Rattle.wbl_engine.specs.Stage.{puts_of_parts, parts_pairs}
 use Rattle.wbl_engine.proofs.CountLemmas.{counts-zero, counts-above}
-use Rattle.wbl_engine.proofs.PartEffects.{IsAmong}
 use Rattle.wbl_engine.proofs.PartSteps.{Fits, IsReady, AreStored}
 use Rattle.wbl_engine.proofs.PutPairs.{among-all}
 use Rattle.wbl_engine.proofs.GroupSteps.{all-from}

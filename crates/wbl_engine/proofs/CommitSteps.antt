@@ -1,17 +1,16 @@
 -- The steps of a commit, from the contracts of what it calls.
-use Rattle.std.proofs.Common.{◌≡◌, ◌⊎◌, ℕ, suc, ◌+◌, ◌<◌, ◌≤◌, List, refl, sym, ap, subst, ◌∙◌, arith}
+use Rattle.std.proofs.Common.{◌≡◌, ℕ, ◌+◌, List, sym, subst, ◌∙◌}
 use Rattle.std.specs.List.{AllByRecursion}
-use Rattle.pmem.specs.Device.{Word, State}
+use Rattle.pmem.specs.Device.{State}
 use Rattle.pmem.specs.Crash.{image_of}
 use Rattle.pmem.specs.Runs.{LeavesOnly, Staged, StageFailed}
 use Rattle.model.specs.declared.record.Record.{Record}
 use Rattle.model.specs.declared.group.Group.{Group}
 use Rattle.model.specs.declared.group.Part.{Part}
-use Rattle.model.specs.Image.{Image}
-use Rattle.model.specs.Group.{Contents, IsGroup, next_record, after_group}
+use Rattle.model.specs.Group.{IsGroup, next_record, after_group}
 use Rattle.wbl_engine.specs.AtRest.{contents_of, IsSound, IsAtRest}
-use Rattle.wbl_engine.specs.Contents.{Keeps, Same}
-use Rattle.wbl_engine.specs.Entry.{IsStorable}
+use Rattle.wbl_engine.specs.Contents.{Same}
+use Rattle.heap_layout.specs.Put.{IsStorable}
 use Rattle.wbl_engine.specs.Record.{IsRecorded, IsRecordFault, IsSucceeded, IsEitherRecord}
 use Rattle.wbl_engine.specs.Stage.{puts_of_parts, parts_pairs, parts_lines}
 use Rattle.wbl_engine.proofs.Committing.{IsBeforeOrAfter, stage_moments, commit_moments, stage_succeeded}

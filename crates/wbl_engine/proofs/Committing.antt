@@ -1,28 +1,24 @@
 -- The two halves of a commit make one step, at every crash.
-use Rattle.std.proofs.Common.{◌≡◌, ◌≢◌, ℕ, zero, suc, ◌+◌, ◌-◌, ◌*◌, ◌%◌, ◌<◌, ◌≤◌, Bool, true, false, not, cond, ◌&&◌, ◌||◌, ◌==◌, IsTrue, List, [], ◌∷◌, ◌++◌, ◌⊎◌, inl, inr, Option, None, Some, length, refl, sym, ap, subst, ◌∙◌, arith}
-use Rattle.std.specs.Prelude.{nat_lt}
+use Rattle.std.proofs.Common.{◌≡◌, ℕ, ◌+◌, ◌<◌, List, [], ◌⊎◌, inl, inr, length, refl, sym, subst, ◌∙◌, arith}
 use Rattle.std.specs.List.{AllByRecursion}
-use Rattle.std.proofs.lemmas.Bool.{cases_lt, cases_Bool, and_left, and_right, le-ltb, lt-ltb, eq-eqb, ne_eqb, or_from, or_left, or_right}
-use Rattle.pmem.specs.Device.{Word, State, MayBe, Only}
+use Rattle.pmem.specs.Device.{State, MayBe}
 use Rattle.pmem.specs.Crash.{IsImage, image_of}
-use Rattle.pmem.specs.Runs.{LeavesOnly, Staged, StageFailed, Stays, IsPartlyStored, IsStored, written}
-use Rattle.pmem.proofs.Chaining.{Stays-then}
+use Rattle.pmem.specs.Runs.{LeavesOnly, Staged, IsPartlyStored, IsStored, written}
 use Rattle.pmem.proofs.Leaving.{LeavesOnly-then, LeavesOnly-weaken}
 use Rattle.pmem.proofs.Staging.{written-cases, written-outside, stored_or_outside}
 use Rattle.model.specs.declared.record.Record.{Record}
 use Rattle.model.specs.declared.group.Group.{Group}
-use Rattle.model.specs.declared.group.Put.{Put}
-use Rattle.model.specs.Image.{Image, HasSuperblock, HasRecord, root_word, entry_word, entries_of_lines, first_extent_line, version_at, counts}
-use Rattle.model.specs.Group.{Contents, Versions, IsGroup, IsPlaced, is_put_at, next_record, after_group, parts_versions}
-use Rattle.wbl_engine.specs.AtRest.{contents_of, IsSound, IsWhole, IsInPlace, IsAtRest, IsInExtent, Matters}
-use Rattle.wbl_engine.specs.Contents.{Keeps, Same}
-use Rattle.wbl_engine.specs.Entry.{IsStorable}
-use Rattle.wbl_engine.specs.Record.{IsRecordWord, IsRecorded, IsRecordFault, IsSucceeded, IsEitherRecord}
+use Rattle.model.specs.Image.{Image, HasRecord, root_word}
+use Rattle.model.specs.Group.{Versions, IsGroup, next_record, after_group, parts_versions}
+use Rattle.wbl_engine.specs.AtRest.{contents_of, IsAtRest, Matters}
+use Rattle.wbl_engine.specs.Contents.{Keeps}
+use Rattle.heap_layout.specs.Put.{IsStorable}
+use Rattle.wbl_engine.specs.Record.{IsRecordWord, IsSucceeded, IsEitherRecord}
 use Rattle.wbl_engine.specs.Stage.{puts_of_parts, parts_pairs, parts_lines}
 use Rattle.wbl_engine.proofs.AfterStage.{after_fits, stage_certain}
-use Rattle.wbl_engine.proofs.Beginning.{versions-within, versions-beyond, rest_fits, group_stored, group_staging}
+use Rattle.wbl_engine.proofs.Beginning.{rest_fits, group_staging}
 use Rattle.wbl_engine.proofs.Mixing.{IsMixed, mixed}
-use Rattle.wbl_engine.proofs.PartSteps.{Fits, AreStored}
+use Rattle.wbl_engine.proofs.PartSteps.{Fits}
 use Rattle.wbl_engine.proofs.RecordWords.{HasRecord-same}
 use Rattle.wbl_engine.proofs.StageImages.{HasSuperblock-same, keeps_old, stage_keeps}
 use Rattle.wbl_engine.proofs.Staged.{IsStaging, IsStagedOver, staging_before, staged_same, staged_begins, staged_ends}

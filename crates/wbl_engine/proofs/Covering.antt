@@ -1,6 +1,5 @@
 -- Every store of a group is to a line that is flushed, and every word of a put's place is stored.
-use Rattle.std.proofs.Common.{◌≡◌, ◌≢◌, ℕ, zero, suc, ◌+◌, ◌-◌, ◌*◌, ◌/◌, ◌<◌, ◌≤◌, List, [], ◌∷◌, ◌++◌, ◌⊎◌, inl, inr, length, get_or, map, refl, sym, ap, subst, ◌∙◌, arith}
-use Rattle.std.specs.List.{flat_map}
+use Rattle.std.proofs.Common.{◌≡◌, ℕ, ◌+◌, ◌-◌, ◌*◌, ◌/◌, ◌<◌, List, [], ◌∷◌, ◌++◌, ◌⊎◌, inl, inr, get_or, sym, ap, subst, ◌∙◌, arith}
 use Rattle.kv_types.specs.declared.place.EntryNo.{EntryNo}
 use Rattle.pmem.specs.Runs.{pairs_from, lines_from, IsStored, IsLine}
 use Rattle.pmem.proofs.Staging.{IsStored-append, IsStored-append_left, IsStored-append_right, IsLine-append_left, IsLine-append_right, IsLine-lines_from, pairs_from-IsStored}
@@ -8,11 +7,12 @@ use Rattle.model.specs.declared.group.Part.{Part}
 use Rattle.model.specs.declared.group.Put.{Put}
 use Rattle.model.specs.Image.{entry_word}
 use Rattle.model.specs.Group.{IsApartFrom, AreAllApart, puts_of_part}
-use Rattle.wbl_engine.specs.Entry.{version_bytes, entry_words, extent_words, put_pairs, put_lines}
+use Rattle.heap_layout.specs.Put.{version_bytes, entry_words, extent_words, put_pairs, put_lines}
 use Rattle.wbl_engine.specs.Stage.{puts_of_parts, puts_pairs, end_pairs, part_pairs, parts_pairs, puts_lines, end_lines, part_lines, parts_lines}
-use Rattle.wbl_engine.proofs.Packing.{length-packed}
+use Rattle.heap_layout.proofs.Packing.{length-packed}
 use Rattle.wbl_engine.proofs.PartEffects.{IsAmong}
-use Rattle.wbl_engine.proofs.PutPairs.{IsOfEntry, IsOfExtent, IsNamed, put_pairs-where, end_pairs-where, among-all}
+use Rattle.heap_layout.proofs.PutWords.{IsOfExtent, put_pairs-where}
+use Rattle.wbl_engine.proofs.PutPairs.{among-all}
 
 -- Covered
 

@@ -1,27 +1,27 @@
 -- What an engine holds when a commit ends.
-use Rattle.std.proofs.Common.{◌≡◌, ◌≢◌, ℕ, zero, suc, ◌+◌, ◌-◌, ◌*◌, ◌/◌, ◌<◌, ◌≤◌, Bool, true, false, not, cond, ◌&&◌, ◌||◌, ◌==◌, IsTrue, List, [], ◌∷◌, ◌++◌, ◌⊎◌, inl, inr, Option, None, Some, length, get_or, refl, sym, ap, subst, ◌∙◌, arith}
+use Rattle.std.proofs.Common.{◌≡◌, ℕ, ◌+◌, ◌-◌, ◌*◌, ◌<◌, ◌≤◌, Bool, true, false, not, cond, ◌&&◌, ◌||◌, ◌==◌, IsTrue, List, [], ◌⊎◌, inl, inr, None, length, get_or, refl, sym, ap, subst, ◌∙◌, arith}
 use Rattle.std.specs.Prelude.{nat_lt}
 use Rattle.std.specs.List.{AllByRecursion}
 use Rattle.std.proofs.lemmas.Bool.{cond-true, cond-false, cases_lt, cases_Bool, and_left, and_right, le-ltb, lt-ltb, eq-eqb, ne_eqb, or_from, or_left, or_right}
-use Rattle.pmem.specs.Device.{Word, State, MayBe, Only}
-use Rattle.pmem.specs.Crash.{IsImage, image_of}
-use Rattle.pmem.specs.Runs.{Staged, Stays, IsStored, IsOutside, written}
+use Rattle.pmem.specs.Device.{State}
+use Rattle.pmem.specs.Crash.{image_of}
+use Rattle.pmem.specs.Runs.{Staged, IsStored, written}
 use Rattle.pmem.proofs.Staging.{written-cases, written-outside}
 use Rattle.model.specs.declared.record.Record.{Record}
 use Rattle.model.specs.declared.group.Group.{Group}
 use Rattle.model.specs.declared.group.Put.{Put}
-use Rattle.model.specs.Image.{Image, HasSuperblock, HasRecord, root_word, entry_word, entry_bytes, entries_of_lines, first_extent_line, version_at, counts}
+use Rattle.model.specs.Image.{Image, HasSuperblock, root_word, entry_word, entries_of_lines, version_at, counts}
 use Rattle.model.specs.Group.{Contents, Versions, IsGroup, IsPlaced, is_put_at, next_record, after_group, parts_versions}
-use Rattle.wbl_engine.specs.AtRest.{contents_of, IsSound, IsWhole, IsInPlace, IsAtRest, IsInExtent, Matters}
+use Rattle.wbl_engine.specs.AtRest.{contents_of, IsSound, IsWhole, IsInPlace, IsAtRest, Matters}
 use Rattle.wbl_engine.specs.Contents.{Same}
-use Rattle.wbl_engine.specs.Entry.{IsStorable, entry_words}
+use Rattle.heap_layout.specs.Put.{IsStorable, entry_words}
 use Rattle.wbl_engine.specs.Record.{IsRecordWord, IsRecorded}
 use Rattle.wbl_engine.specs.Stage.{puts_of_parts, parts_pairs, parts_lines}
 use Rattle.wbl_engine.proofs.AfterStage.{after_fits, stage_certain, kept_word}
-use Rattle.wbl_engine.proofs.Beginning.{versions-within, versions-beyond, rest_fits, group_staging}
+use Rattle.wbl_engine.proofs.Beginning.{versions-within, versions-beyond, group_staging}
 use Rattle.wbl_engine.proofs.Committing.{at_rest_staging, no_record_word}
 use Rattle.wbl_engine.proofs.Covering.{IsStoredPut, parts_stored_put, entry_stored}
-use Rattle.wbl_engine.proofs.PartEffects.{IsAmong, is_put_at-among}
+use Rattle.wbl_engine.proofs.PartEffects.{is_put_at-among}
 use Rattle.wbl_engine.proofs.PartSteps.{Fits, in_place-same}
 use Rattle.wbl_engine.proofs.PutPairs.{among-all}
 use Rattle.wbl_engine.proofs.StageImages.{HasSuperblock-same}

@@ -1,15 +1,14 @@
 -- The runs of formatting.
-use Rattle.std.proofs.Common.{◌≡◌, ℕ, ◌+◌, ◌*◌, ◌/◌, ◌<◌, List, [], ◌∷◌, ◌++◌, length, get_or, refl, sym, ap, subst, ◌∙◌, arith}
+use Rattle.std.proofs.Common.{◌≡◌, ℕ, ◌+◌, ◌*◌, ◌<◌, List, [], ◌∷◌, ◌++◌, length, get_or, sym, ap, subst, ◌∙◌, arith}
 use Rattle.std.specs.Prelude.{replicate}
 use Rattle.pmem.specs.Device.{State}
 use Rattle.pmem.specs.Runs.{Runs, stores, flushes, pairs_from, lines_from}
 use Rattle.pmem.proofs.Staging.{length-pairs_from, get_or-pairs_from}
 use Rattle.model.specs.declared.layout.TheConstants.{LAYOUT}
 use Rattle.model.specs.declared.record.Record.{Record}
-use Rattle.model.specs.declared.record.Role.{Role}
 use Rattle.model.specs.Image.{entries_of_lines, first_extent_line, record_words}
 use Rattle.wbl_engine.specs.Formatting.{first_record, superblock_words, slot_words, slot_0, slot_1, behind_slots, rest_words, run_pairs, new_pairs}
-use Rattle.wbl_engine.proofs.LayoutRuns.{Runs-more_stores}
+use Rattle.heap_layout.proofs.LayoutRuns.{Runs-more_stores}
 use Rattle.wbl_engine.proofs.NewImage.{zeros, length-zeros, get_or-zeros}
 
 pub length-zero_pairs : (first count : ℕ) → length (pairs_from first (zeros count)) ≡ count

@@ -1,16 +1,15 @@
 -- A group moves the versions of an image exactly as its changes say.
-use Rattle.std.proofs.Common.{◌≡◌, ◌≢◌, ℕ, zero, suc, ◌+◌, ◌-◌, ◌*◌, ◌<◌, ◌≤◌, Bool, true, false, not, ◌||◌, IsTrue, List, [], ◌∷◌, ◌++◌, ◌⊎◌, inl, inr, Option, None, Some, length, refl, sym, ap, subst, ◌∙◌, arith}
-use Rattle.std.specs.List.{flat_map, AllByRecursion}
-use Rattle.std.proofs.lemmas.Bool.{cases_Bool, or_cases}
+use Rattle.std.proofs.Common.{◌≡◌, ℕ, suc, ◌+◌, Bool, false, List, [], ◌∷◌, ◌++◌, inl, inr, Option, None, Some, length, refl, sym, ap, subst, ◌∙◌, arith}
+use Rattle.std.specs.List.{AllByRecursion}
+use Rattle.std.proofs.lemmas.Bool.{cases_Bool}
 use Rattle.pmem.specs.Runs.{written}
 use Rattle.pmem.proofs.Staging.{written-append}
 use Rattle.model.specs.declared.record.Record.{Record}
-use Rattle.model.specs.declared.group.Group.{Group}
 use Rattle.model.specs.declared.group.Part.{Part}
 use Rattle.model.specs.declared.group.Put.{Put}
-use Rattle.model.specs.Image.{Image, Version, entry_word, entries_of_lines}
-use Rattle.model.specs.Group.{Versions, IsPlaced, HasItsLines, AreApart, IsApartFrom, AreAllApart, AreParts, NamesEnded, is_put_at, puts_of_part, part_versions, parts_versions, version_of_put}
-use Rattle.wbl_engine.specs.Entry.{IsStorable}
+use Rattle.model.specs.Image.{Image, Version}
+use Rattle.model.specs.Group.{Versions, IsPlaced, HasItsLines, AreApart, IsApartFrom, AreAllApart, AreParts, is_put_at, puts_of_part, part_versions, parts_versions, version_of_put}
+use Rattle.heap_layout.specs.Put.{IsStorable}
 use Rattle.wbl_engine.specs.Stage.{part_pairs, parts_pairs, puts_of_parts}
 use Rattle.wbl_engine.proofs.CountLemmas.{with_cp}
 use Rattle.wbl_engine.proofs.PartEffects.{IsAmong, end_if, end_if_begun, changes_kept, changes_made, is_put_at-among}

@@ -9,10 +9,8 @@ pub mod EndsWithin
 pub mod FormatLemmas
 pub mod FormatRuns
 pub mod GroupSteps
-pub mod LayoutRuns
 pub mod Mixing
 pub mod NewImage
-pub mod Packing
 pub mod PartEffects
 pub mod PartSteps
 pub mod PartWords

@@ -1,21 +1,22 @@
 -- One part moves the versions of an image exactly as its changes say.
-use Rattle.std.proofs.Common.{◌≡◌, ◌≢◌, ℕ, zero, suc, ◌+◌, ◌-◌, ◌*◌, ◌/◌, ◌<◌, ◌≤◌, Bool, true, false, not, cond, ◌&&◌, ◌||◌, IsTrue, List, [], ◌∷◌, ◌++◌, ◌⊎◌, inl, inr, ◌↔◌, Contains, Option, None, Some, length, map, refl, sym, ap, subst, ◌∙◌, arith}
+use Rattle.std.proofs.Common.{◌≡◌, ℕ, ◌+◌, ◌*◌, ◌<◌, ◌≤◌, Bool, true, false, not, ◌||◌, IsTrue, List, ◌⊎◌, inl, inr, ◌↔◌, Option, None, Some, refl, sym, ap, subst, ◌∙◌, arith}
 use Rattle.std.specs.List.{list_any, AllByRecursion}
-use Rattle.std.proofs.lemmas.Bool.{cond-true, cond-false, cases_Bool, cases_lt, and_from, and_parts, or_left, or_right, or_from, both_ways}
+use Rattle.std.proofs.lemmas.Bool.{cond-true, cond-false, cases_Bool, cases_lt, or_left, or_right}
 use Rattle.pmem.specs.Runs.{written}
 use Rattle.model.specs.declared.record.Record.{Record}
 use Rattle.model.specs.declared.group.Part.{Part}
 use Rattle.model.specs.declared.group.Put.{Put}
-use Rattle.model.specs.Image.{Image, Version, entry_word, entry_bytes, entries_of_lines, first_extent_line, version_at, version_in, counts, is_in_gap}
-use Rattle.model.specs.Group.{Versions, IsPlaced, HasItsLines, AreApart, IsApartFrom, AreAllApart, NamesEnded, is_put_at, is_live_version, is_ended_version, puts_of_part, part_versions, version_of_put}
+use Rattle.model.specs.Image.{Image, Version, entry_word, entry_bytes, entries_of_lines, version_at, version_in, counts, is_in_gap}
+use Rattle.model.specs.Group.{Versions, IsPlaced, HasItsLines, AreApart, AreAllApart, NamesEnded, is_put_at, is_live_version, is_ended_version, puts_of_part, part_versions, version_of_put}
 use Rattle.wbl_engine.specs.AtRest.{IsInPlace}
-use Rattle.wbl_engine.specs.Entry.{version_bytes, IsStorable}
+use Rattle.heap_layout.specs.Put.{IsStorable}
 use Rattle.wbl_engine.specs.Stage.{part_pairs}
-use Rattle.wbl_engine.proofs.CountLemmas.{with_cp, counts-zero, counts-above, counts-below, counts-later, counts-new}
-use Rattle.wbl_engine.proofs.PartEffects.{IsAmong, IsKeptOrEnded, IsMade, end_if, end_if_begun, changes_kept, changes_made, is_put_at-among, among-is_put_at}
+use Rattle.wbl_engine.proofs.CountLemmas.{with_cp, counts-zero, counts-later, counts-new}
+use Rattle.wbl_engine.proofs.PartEffects.{IsAmong, end_if, end_if_begun, changes_kept, changes_made, is_put_at-among, among-is_put_at}
 use Rattle.wbl_engine.proofs.PartWords.{named_or_not, contains-named, named-contains, part_word-end_of_put, part_word-named, part_words-put, part_word-kept, part_word-kept_end, part_word-behind}
-use Rattle.wbl_engine.proofs.PutPairs.{IsOfExtent, IsNamed, among-all}
-use Rattle.wbl_engine.proofs.ReadBack.{HasPut, version_in_entry-put, entry_bytes-put, put_enough}
+use Rattle.wbl_engine.proofs.PutPairs.{IsNamed, among-all}
+use Rattle.heap_layout.proofs.ReadBack.{HasPut, entry_bytes-put, put_enough}
+use Rattle.wbl_engine.proofs.ReadBack.{version_in_entry-put}
 use Rattle.wbl_engine.proofs.VersionLemmas.{SameEntry, version_in_entry, version_in_entry-same}
 
 -- the image has these versions, and no stamp that was not given out yet

@@ -1,5 +1,5 @@
 -- The image after the stores of one part, word by word.
-use Rattle.std.proofs.Common.{◌≡◌, ◌≢◌, ℕ, zero, suc, ◌+◌, ◌-◌, ◌*◌, ◌<◌, ◌≤◌, Bool, true, false, List, [], ◌∷◌, ◌++◌, ◌⊎◌, inl, inr, ◌↔◌, Contains, length, get_or, map, refl, sym, ap, subst, ◌∙◌, arith}
+use Rattle.std.proofs.Common.{◌≡◌, ◌≢◌, ℕ, zero, suc, ◌+◌, ◌*◌, ◌<◌, ◌≤◌, false, List, [], ◌∷◌, ◌⊎◌, inl, inr, Contains, get_or, map, ap, subst, ◌∙◌, arith}
 use Rattle.std.specs.List.{AllByRecursion}
 use Rattle.std.proofs.lemmas.Bool.{both_ways}
 use Rattle.kv_types.specs.declared.place.EntryNo.{EntryNo}
@@ -9,11 +9,12 @@ use Rattle.model.specs.declared.group.Part.{Part}
 use Rattle.model.specs.declared.group.Put.{Put}
 use Rattle.model.specs.Image.{Image, entry_word, entries_of_lines, first_extent_line}
 use Rattle.model.specs.Group.{IsPlaced, AreAllApart, is_put_at, puts_of_part}
-use Rattle.wbl_engine.specs.Entry.{word_of_bytes, version_bytes, entry_words}
+use Rattle.heap_layout.specs.Put.{word_of_bytes, version_bytes, entry_words}
 use Rattle.wbl_engine.specs.Stage.{puts_pairs, end_pairs, part_pairs}
 use Rattle.wbl_engine.proofs.PartEffects.{IsAmong, among-is_put_at}
-use Rattle.wbl_engine.proofs.PutPairs.{IsOfEntry, IsOfExtent, IsNamed, among-all, puts_pairs-outside, puts_pairs-entry, puts_pairs-extent, end_pairs-named, end_pairs-outside}
-use Rattle.wbl_engine.proofs.ReadBack.{HasPut}
+use Rattle.heap_layout.proofs.PutWords.{IsOfExtent}
+use Rattle.wbl_engine.proofs.PutPairs.{IsNamed, among-all, puts_pairs-outside, puts_pairs-entry, puts_pairs-extent, end_pairs-named, end_pairs-outside}
+use Rattle.heap_layout.proofs.ReadBack.{HasPut}
 
 -- named, or not
 pub named_or_not : (i : ℕ) (ended : List EntryNo) → IsNamed i ended ⊎ (IsNamed i ended → ⊥)

@@ -1,19 +1,18 @@
 -- What a group stores before the record changes no version under the old record, whatever part of it a crash leaves.
-use Rattle.std.proofs.Common.{◌≡◌, ◌≢◌, ℕ, zero, suc, ◌+◌, ◌-◌, ◌*◌, ◌/◌, ◌<◌, ◌≤◌, Bool, true, false, not, cond, ◌||◌, IsTrue, List, [], ◌∷◌, ◌++◌, ◌⊎◌, inl, inr, Option, None, Some, length, get_or, refl, sym, ap, subst, ◌∙◌, arith}
-use Rattle.std.specs.List.{AllByRecursion}
+use Rattle.std.proofs.Common.{◌≡◌, ◌≢◌, ℕ, ◌+◌, ◌-◌, ◌*◌, ◌<◌, ◌≤◌, Bool, true, false, not, ◌||◌, IsTrue, List, ◌⊎◌, inl, inr, Some, get_or, refl, sym, ap, subst, ◌∙◌, arith}
 use Rattle.std.proofs.lemmas.Bool.{cond-true, cond-false, cases_Bool, cases_lt, or_cases, both_ways, not-true}
 use Rattle.pmem.specs.Runs.{IsStored}
 use Rattle.model.specs.declared.record.Record.{Record}
 use Rattle.model.specs.declared.group.Put.{Put}
-use Rattle.model.specs.Image.{Image, Version, entry_word, entry_bytes, entries_of_lines, first_extent_line, version_at, version_in, counts}
-use Rattle.model.specs.Group.{Versions, IsPlaced, AreApart, is_put_at, is_live_version}
+use Rattle.model.specs.Image.{Image, entry_word, entries_of_lines, version_at, version_in, counts}
+use Rattle.model.specs.Group.{Versions, IsPlaced, is_put_at, is_live_version}
 use Rattle.wbl_engine.specs.AtRest.{Matters, IsInExtent, IsInPlace}
-use Rattle.wbl_engine.specs.Entry.{entry_words}
-use Rattle.wbl_engine.proofs.CountLemmas.{counts-zero, counts-above, counts-below}
-use Rattle.wbl_engine.proofs.PartEffects.{IsAmong, is_put_at-among}
+use Rattle.heap_layout.specs.Put.{entry_words}
+use Rattle.wbl_engine.proofs.CountLemmas.{counts-above, counts-below}
+use Rattle.wbl_engine.proofs.PartEffects.{is_put_at-among}
 use Rattle.wbl_engine.proofs.PartSteps.{Fits, IsReady, AreStored}
-use Rattle.wbl_engine.proofs.PutPairs.{IsOfEntry, IsOfExtent, among-all}
-use Rattle.wbl_engine.proofs.StoredBy.{IsStoredBy, ByExtent, ByEntry, ByEnd}
+use Rattle.wbl_engine.proofs.PutPairs.{among-all}
+use Rattle.wbl_engine.proofs.StoredBy.{IsStoredBy}
 use Rattle.wbl_engine.proofs.VersionLemmas.{SameEntry, version_in_entry, version_in_entry-same}
 
 -- all that is known where a group is being stored over a base

@@ -1,20 +1,20 @@
 -- The loops over parts, changes and entries, one step at a time.
-use Rattle.std.proofs.Common.{◌≡◌, ℕ, zero, suc, ◌+◌, ◌<◌, ◌≤◌, List, [], ◌∷◌, ◌++◌, map, length, take, get_or, refl, sym, ap, subst, ◌∙◌, arith, append_assoc}
+use Rattle.std.proofs.Common.{◌≡◌, ℕ, zero, suc, ◌+◌, ◌<◌, List, [], ◌∷◌, ◌++◌, length, take, get_or, refl, sym, ap, subst, ◌∙◌, arith, append_assoc}
 use Rattle.std.specs.List.{flat_map, AllByRecursion}
 use Rattle.std.proofs.lemmas.Grind.{flat_map-append}
-use Rattle.std.proofs.lemmas.List.{take_more, take_all, map-append, append-nil}
+use Rattle.std.proofs.lemmas.List.{take_more, map-append, append-nil}
 use Rattle.kv_types.specs.declared.place.EntryNo.{EntryNo}
-use Rattle.pmem.specs.Device.{Word, State}
+use Rattle.pmem.specs.Device.{State}
 use Rattle.pmem.specs.Runs.{Runs, stores, flushes}
 use Rattle.model.specs.declared.group.Part.{Part}
 use Rattle.model.specs.declared.group.PlacedChange.{PlacedChange}
 use Rattle.model.specs.declared.group.PlacedChange.TheVariants as placed
 use Rattle.model.specs.declared.group.Put.{Put}
 use Rattle.model.specs.Image.{entry_word}
-use Rattle.model.specs.Group.{put_of, puts_of_part}
-use Rattle.wbl_engine.specs.Entry.{put_pairs, put_lines}
-use Rattle.wbl_engine.specs.Stage.{puts_of_changes, puts_of_parts, puts_pairs, end_pairs, part_pairs, parts_pairs, puts_lines, end_lines, part_lines, parts_lines}
-use Rattle.wbl_engine.proofs.LayoutRuns.{Runs-more_stores, Runs-more_flushes}
+use Rattle.model.specs.Group.{put_of}
+use Rattle.heap_layout.specs.Put.{put_pairs, put_lines}
+use Rattle.wbl_engine.specs.Stage.{puts_of_changes, puts_pairs, end_pairs, part_pairs, parts_pairs, puts_lines, end_lines, part_lines, parts_lines}
+use Rattle.heap_layout.proofs.LayoutRuns.{Runs-more_stores, Runs-more_flushes}
 
 -- a change that puts nothing
 pub no_put : (change : PlacedChange) → ((put : Put) → change ≡ placed.Put put → ⊥) → put_of change ≡ []

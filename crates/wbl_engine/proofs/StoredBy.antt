@@ -1,18 +1,18 @@
 -- Each store of a group before the record is of a put's extent, of a put's entry, or ends a live version.
-use Rattle.std.proofs.Common.{◌≡◌, ◌≢◌, ℕ, zero, suc, ◌+◌, ◌-◌, ◌*◌, ◌<◌, ◌≤◌, Bool, true, false, not, ◌||◌, IsTrue, List, [], ◌∷◌, ◌++◌, ◌⊎◌, inl, inr, Option, None, Some, length, get_or, refl, sym, ap, subst, ◌∙◌, arith}
-use Rattle.std.specs.List.{flat_map, AllByRecursion}
+use Rattle.std.proofs.Common.{◌≡◌, ℕ, suc, ◌+◌, ◌-◌, ◌<◌, ◌≤◌, Bool, true, false, not, ◌||◌, IsTrue, List, [], ◌∷◌, ◌++◌, ◌⊎◌, inl, inr, Option, None, Some, length, get_or, refl, sym, ap, ◌∙◌, arith}
 use Rattle.std.proofs.lemmas.Bool.{cases_Bool, or_cases, or_left, or_right}
 use Rattle.pmem.specs.Runs.{IsStored}
 use Rattle.pmem.proofs.Staging.{IsStored-append}
 use Rattle.model.specs.declared.group.Part.{Part}
 use Rattle.model.specs.declared.group.Put.{Put}
 use Rattle.model.specs.Image.{Version, entry_word}
-use Rattle.model.specs.Group.{Versions, AreAllApart, AreParts, NamesEnded, is_put_at, is_live_version, puts_of_part, part_versions}
-use Rattle.wbl_engine.specs.Entry.{entry_words, put_pairs}
+use Rattle.model.specs.Group.{Versions, AreParts, NamesEnded, is_put_at, is_live_version, puts_of_part, part_versions}
+use Rattle.heap_layout.specs.Put.{entry_words, put_pairs}
 use Rattle.wbl_engine.specs.Stage.{puts_pairs, end_pairs, part_pairs, parts_pairs, puts_of_parts}
-use Rattle.wbl_engine.proofs.PartEffects.{IsAmong, end_if, end_if_begun, IsKeptOrEnded, changes_kept, is_put_at-among, among-is_put_at}
+use Rattle.wbl_engine.proofs.PartEffects.{IsAmong, end_if_begun, changes_kept, is_put_at-among, among-is_put_at}
 use Rattle.wbl_engine.proofs.PartWords.{named-contains}
-use Rattle.wbl_engine.proofs.PutPairs.{IsOfEntry, IsOfExtent, IsNamed, put_pairs-where, end_pairs-where}
+use Rattle.heap_layout.proofs.PutWords.{IsOfEntry, IsOfExtent, put_pairs-where}
+use Rattle.wbl_engine.proofs.PutPairs.{end_pairs-where}
 use Rattle.wbl_engine.proofs.GroupSteps.{among-prefix, among-back}
 
 pub record ByExtent (puts : List Put) (word : ℕ) : Type 0 where

@@ -1,27 +1,8 @@
 -- What a version reads of an image, and which stamps count.
-use Rattle.std.proofs.Common.{◌≡◌, ℕ, zero, suc, ◌+◌, ◌-◌, ◌*◌, ◌/◌, ◌%◌, ◌<◌, ◌≤◌, Bool, true, false, not, cond, ◌&&◌, List, [], ◌∷◌, ◌++◌, length, take, drop, Option, None, Some, refl, sym, ap, subst, ◌∙◌, arith}
-use Rattle.std.specs.List.{flat_map, list_any}
-use Rattle.std.specs.Int.{w64, to_le_bytes}
-use Rattle.std.specs.Prelude.{nat_lt, nat_le}
-use Rattle.kv_types.specs.declared.record_id.RecordId.{RecordId}
+use Rattle.std.proofs.Common.{◌≡◌, ℕ, ◌+◌, ◌*◌, ◌/◌, ◌%◌, ◌<◌, ◌≤◌, Bool, List, drop, refl, ap, ◌∙◌, arith}
 use Rattle.model.specs.declared.record.Record.{Record}
-use Rattle.model.specs.Image.{Image, Version, words_from, bytes_at, id_of, entry_word, entry_bytes, version_in, version_at, counts, is_in_gap}
-
-words_from-same : (base image : Image) (first count : ℕ) → ((j : ℕ) → j < count → image (first + j) ≡ base (first + j))
-    → words_from image first count ≡ words_from base first count
-words_from-same base image first zero same = refl
-words_from-same base image first (suc count) same =
-    let e : first + 0 ≡ first = omega arith in
-    let head : image first ≡ base first = sym (ap image e) ∙ same 0 (omega arith) ∙ ap base e in
-    let rest : words_from image (first + 1) count ≡ words_from base (first + 1) count =
-    words_from-same base image (first + 1) count
-    (λ j below. let f : (first + 1) + j ≡ first + suc j = omega arith in ap image f ∙ same (suc j) (omega arith) ∙ sym (ap base f)) in
-    cc
-
-pub bytes_at-same : (base image : Image) (line count : ℕ) → ((j : ℕ) → j < (count + 7) / 8 → image (8 * line + j) ≡ base (8 * line + j))
-    → bytes_at image line count ≡ bytes_at base line count
-bytes_at-same base image line count same =
-    ap (λ (words : List ℕ). take count (flat_map (to_le_bytes w64) words)) (words_from-same base image (8 * line) ((count + 7) / 8) same)
+use Rattle.model.specs.Image.{Image, Version, bytes_at, id_of, entry_word, entry_bytes, version_in, counts}
+use Rattle.heap_layout.proofs.SameWords.{bytes_at-same}
 
 -- a version, from what its entry and its extent say
 abbrev pub version_of : (position first_line lines kind lengths value_length : ℕ) → List ℕ → Bool → Version

@@ -2,14 +2,12 @@
 use Rattle.std.specs.Prelude.{ℕ, ◌+◌, ◌<◌, List, [], ◌∷◌, ◌++◌, map}
 use Rattle.std.specs.List.{flat_map, AllByRecursion}
 use Rattle.kv_types.specs.declared.place.EntryNo.{EntryNo}
-use Rattle.model.specs.declared.record.Record.{Record}
-use Rattle.model.specs.declared.group.Group.{Group}
 use Rattle.model.specs.declared.group.Part.{Part}
 use Rattle.model.specs.declared.group.PlacedChange.{PlacedChange}
 use Rattle.model.specs.declared.group.Put.{Put}
 use Rattle.model.specs.Image.{entry_line, entry_word}
 use Rattle.model.specs.Group.{put_of, puts_of_part}
-use Rattle.wbl_engine.specs.Entry.{put_pairs, put_lines}
+use Rattle.heap_layout.specs.Put.{put_pairs, put_lines}
 
 -- all puts of changes, in order
 abbrev pub puts_of_changes : List PlacedChange → List Put

@@ -3,10 +3,10 @@ ghost use Rattle.std.specs.Prelude.{◌+◌, ◌^◌, ◌<◌, length, OnOk, OnE
 ghost use Rattle.std.specs.List.{AllByRecursion};
 ghost use Rattle.pmem.specs.Runs.{Runs, Staged, StageFailed, stores, flushes};
 ghost use Rattle.model.specs.Group.{IsPlaced, HasItsLines, put_of, puts_of_part};
-ghost use Rattle.wbl_engine.specs.Entry.{IsStorable, put_lines};
+ghost use Rattle.heap_layout.specs.Put.{IsStorable, put_lines};
 ghost use Rattle.wbl_engine.specs.Stage.{puts_of_changes, puts_of_parts, puts_pairs, end_pairs, part_pairs, parts_pairs, puts_lines, end_lines, part_lines, parts_lines, AreWithin, AreEndsWithin};
 
-use crate::layout::{entry_word, flush_entry, write_entry};
+use heap_layout::{entry_word, flush_entry, write_entry};
 use kv_types::EntryNo;
 use model::{LAYOUT, Part, PlacedChange};
 use pmem::{Fault, Pmem};

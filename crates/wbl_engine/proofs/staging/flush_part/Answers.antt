@@ -4,7 +4,7 @@ use Rattle.pmem.specs.Runs.{Runs, flushes}
 use Rattle.model.specs.declared.group.PlacedChange.{PlacedChange}
 use Rattle.model.specs.Group.{puts_of_part}
 use Rattle.wbl_engine.specs.Stage.{puts_of_changes, puts_lines, end_lines}
-use Rattle.wbl_engine.proofs.LayoutRuns.{Runs-more_flushes}
+use Rattle.heap_layout.proofs.LayoutRuns.{Runs-more_flushes}
 use Rattle.wbl_engine.proofs.staging.flush_part.Goals as goal
 
 pub returns : goal.returns

@@ -1,10 +1,9 @@
-use Rattle.std.proofs.Common.{List, ◌∷◌, [], sym, subst}
+use Rattle.std.proofs.Common.{List, sym, subst}
 use Rattle.std.specs.List.{AllByRecursion}
-use Rattle.std.proofs.lemmas.List.{append-nil}
 use Rattle.pmem.specs.Runs.{Runs, stores}
 use Rattle.pmem.proofs.Chaining.{Runs-none}
 use Rattle.model.specs.declared.group.Put.{Put}
-use Rattle.wbl_engine.specs.Entry.{IsStorable, put_pairs}
+use Rattle.heap_layout.specs.Put.{IsStorable}
 use Rattle.wbl_engine.specs.Stage.{puts_pairs}
 use Rattle.wbl_engine.proofs.StagingLemmas.{no_put}
 use Rattle.wbl_engine.proofs.staging.store_change.Goals as goal

@@ -4,7 +4,7 @@ use Rattle.pmem.specs.Runs.{Runs, stores}
 use Rattle.model.specs.declared.group.PlacedChange.{PlacedChange}
 use Rattle.model.specs.Group.{puts_of_part}
 use Rattle.wbl_engine.specs.Stage.{puts_of_changes, puts_pairs, end_pairs}
-use Rattle.wbl_engine.proofs.LayoutRuns.{Runs-more_stores}
+use Rattle.heap_layout.proofs.LayoutRuns.{Runs-more_stores}
 use Rattle.wbl_engine.proofs.staging.store_part.Goals as goal
 
 pub returns-clause-stored : goal.returns-clause-stored

@@ -2,7 +2,7 @@ use Rattle.std.proofs.Common.{ℕ, sym, subst}
 use Rattle.std.specs.List.{AllByRecursion}
 use Rattle.pmem.proofs.Chaining.{Runs-none}
 use Rattle.model.specs.Group.{IsPlaced, HasItsLines, put_of}
-use Rattle.wbl_engine.specs.Entry.{IsStorable}
+use Rattle.heap_layout.specs.Put.{IsStorable}
 use Rattle.wbl_engine.proofs.StagingLemmas.{all_of_item, all_more, changes_stored}
 use Rattle.wbl_engine.proofs.staging.store_puts.Goals as goal
 

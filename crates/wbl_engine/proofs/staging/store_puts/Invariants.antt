@@ -1,7 +1,7 @@
 use Rattle.std.proofs.Common.{take}
 use Rattle.std.specs.List.{AllByRecursion}
 use Rattle.pmem.specs.Runs.{Runs, stores}
-use Rattle.wbl_engine.specs.Entry.{IsStorable}
+use Rattle.heap_layout.specs.Put.{IsStorable}
 use Rattle.wbl_engine.specs.Stage.{puts_of_changes, puts_pairs}
 use Rattle.wbl_engine.proofs.staging.store_puts.Given as goal
 

@@ -1,0 +1,6 @@
+pub mod LayoutRuns
+pub mod Packing
+pub mod PutWords
+pub mod ReadAlike
+pub mod ReadBack
+pub mod SameWords

@@ -1,0 +1,5 @@
+pub mod Superblock
+pub mod Entry
+pub mod Shape
+pub mod Put
+pub mod Version
