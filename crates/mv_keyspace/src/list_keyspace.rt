@@ -10,12 +10,15 @@ ghost use Rattle.mv_keyspace.specs.Row.{cell_of_row, records_of, table_of, rows_
 
 use crate::keyspace::Keyspace;
 use crate::row::{Row, row_of};
-use cmd_core::{Lookup, count_fields_in, count_keys_in, field_in, fields_in, has_in, string_in};
+use cmd_core::{
+    Lookup, count_fields_in_order, count_keys_in, end_of_field, end_of_key, field_in_order,
+    fields_in_order, has_in_order, start_of_field, start_of_fields, start_of_key, string_in_order,
+};
 use kv_types::{EntryNo, Field, RecordId, Refusal, Value};
 use model::PlacedChange;
 use std::alloc::{AllocError, Global};
 
-/// The live records of a node, as a list in their order. Each change goes through the whole list.
+/// The live records of a node, as a list in their order. Each look-up halves the list; each change goes through all of it.
 #[derive(Debug, Drop)]
 pub struct ListKeyspace {
     rows: Vec<Row>,
@@ -55,15 +58,15 @@ impl Lookup for ListKeyspace {
     ghost keyspace = { λ keyspace. records_of keyspace.rows.items };
 
     fn string(&self, key: &[u8]) -> Option<&Value> {
-        string_in(&self.rows, key)
+        string_in_order(&self.rows, key)
     }
 
     fn field(&self, key: &[u8], field: &[u8]) -> Option<&Value> {
-        field_in(&self.rows, key, field)
+        field_in_order(&self.rows, key, field)
     }
 
     fn has(&self, key: &[u8]) -> bool {
-        has_in(&self.rows, key)
+        has_in_order(&self.rows, key)
     }
 
     fn count_keys(&self) -> u64 {
@@ -71,11 +74,11 @@ impl Lookup for ListKeyspace {
     }
 
     fn count_fields(&self, key: &[u8]) -> u64 {
-        count_fields_in(&self.rows, key)
+        count_fields_in_order(&self.rows, key)
     }
 
     fn fields(&self, alloc: Global, key: &[u8]) -> Result<Vec<(Field, Value)>, AllocError> {
-        fields_in(alloc, &self.rows, key)
+        fields_in_order(alloc, &self.rows, key)
     }
 }
 
