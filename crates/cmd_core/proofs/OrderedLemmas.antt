@@ -201,6 +201,17 @@ module _ {A : Type 0} (p q : A → Bool) (both : (x : A) → p x ≡ true → q 
   left-between (x ∷ xs) zero (suc j) h g =
       left-between xs zero j (splits-later p x xs h) (splits-rest q x xs j g) ∙ sym (drops x xs (splits-none p x xs h) (splits-first q x xs j g))
 
+not_before : (o p : Ordering) → o ≡ ordering_reverse p → is_lt p ≡ false → is_eq o ≡ false → is_lt o ≡ true
+not_before Less p e f g = refl
+not_before Equal p e f g = cc
+not_before Greater Less e f g = cc
+not_before Greater Equal e f g = cc
+not_before Greater Greater e f g = cc
+
+-- a record that does not come before this one and is another comes after it
+pub comes_after : (id other : RecordId) → comes_before id other ≡ false → is_same id other ≡ false → is_lt (record_cmp id other) ≡ true
+comes_after id other not_first another = not_before (record_cmp id other) (record_cmp other id) (record_cmp_total.antisymm id other) not_first another
+
 -- the records that are fields of the key
 abbrev pub is_field_of : List ℕ → RecordId → Bool
 is_field_of key id = is_some (field_at id key)
@@ -230,17 +241,6 @@ module _ {A : Type 0} (kept : A → RecordId × List ℕ) where
 
   -- ---- what is read at a cut
 
-  not_before : (o p : Ordering) → o ≡ ordering_reverse p → is_lt p ≡ false → is_eq o ≡ false → is_lt o ≡ true
-  not_before Less p e f g = refl
-  not_before Equal p e f g = cc
-  not_before Greater Less e f g = cc
-  not_before Greater Equal e f g = cc
-  not_before Greater Greater e f g = cc
-
-  -- a record that does not come before this one and is another comes after it
-  after : (id other : RecordId) → comes_before id other ≡ false → is_same id other ≡ false → is_lt (record_cmp id other) ≡ true
-  after id other not_first another = not_before (record_cmp id other) (record_cmp other id) (record_cmp_total.antisymm id other) not_first another
-
   below_further : (id other : RecordId) (s : Keyspace) → is_lt (record_cmp id other) ≡ true → IsTrue (below_all record_cmp other s) → IsTrue (below_all record_cmp id s)
   below_further id other [] lt below = refl
   below_further id other (e ∷ s) lt below =
@@ -260,7 +260,7 @@ module _ {A : Type 0} (kept : A → RecordId × List ℕ) where
         | true ↦ λ e. refl
         | false ↦ λ e.
             value_at-below_all id (map kept xs)
-            (below_further id (kept x).0 (map kept xs) (after id (kept x).0 (splits-none (λ y. comes_before id (kept y).0) x xs cut) e) (below_first x xs order))
+            (below_further id (kept x).0 (map kept xs) (comes_after id (kept x).0 (splits-none (λ y. comes_before id (kept y).0) x xs cut) e) (below_first x xs order))
       ] refl
   value-at_cut id (x ∷ xs) (suc n) order cut =
       ap (λ b. cond b (Some (kept x).1) (value_at (map kept xs) id))
@@ -285,7 +285,7 @@ module _ {A : Type 0} (kept : A → RecordId × List ℕ) where
         | true ↦ λ e. refl
         | false ↦ λ e.
             no_later (Str key) (kept x).0 (map kept xs)
-            (after (Str key) (kept x).0 (splits-none (λ y. comes_before (Str key) (kept y).0) x xs cut) (string_of_other key (kept x).0 e))
+            (comes_after (Str key) (kept x).0 (splits-none (λ y. comes_before (Str key) (kept y).0) x xs cut) (string_of_other key (kept x).0 e))
             (below_first x xs order) e
       ] refl
   has-at_cut key (x ∷ xs) (suc n) order cut =
