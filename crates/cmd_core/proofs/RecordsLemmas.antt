@@ -35,31 +35,31 @@ field_of_other_key a f b g e = sym (same_fields a f b g ∙ ap (λ x. x && point
 
 -- ---- one record more
 
-has_none : (key : List ℕ) → has_key [] key ≡ false
+pub has_none : (key : List ℕ) → has_key [] key ≡ false
 unfolding has_key
 has_none key = refl
 
-has_more : (e : RecordId × List ℕ) (s : Keyspace) (key : List ℕ) → has_key (e ∷ s) key ≡ (same_bytes (key_of e.0) key || has_key s key)
+pub has_more : (e : RecordId × List ℕ) (s : Keyspace) (key : List ℕ) → has_key (e ∷ s) key ≡ (same_bytes (key_of e.0) key || has_key s key)
 unfolding has_key
 has_more e s key = refl
 
-keys_none : keys_of [] ≡ []
+pub keys_none : keys_of [] ≡ []
 unfolding keys_of
 keys_none = refl
 
-keys_more : (e : RecordId × List ℕ) (s : Keyspace) → keys_of (e ∷ s) ≡ cond (has_key s (key_of e.0)) (keys_of s) (key_of e.0 ∷ keys_of s)
+pub keys_more : (e : RecordId × List ℕ) (s : Keyspace) → keys_of (e ∷ s) ≡ cond (has_key s (key_of e.0)) (keys_of s) (key_of e.0 ∷ keys_of s)
 unfolding keys_of
 keys_more e s = refl
 
-fields_none : (key : List ℕ) → fields_of [] key ≡ []
+pub fields_none : (key : List ℕ) → fields_of [] key ≡ []
 unfolding fields_of
 fields_none key = refl
 
-abbrev with_field : Option (List ℕ) → List ℕ → List (List ℕ × List ℕ) → List (List ℕ × List ℕ)
+abbrev pub with_field : Option (List ℕ) → List ℕ → List (List ℕ × List ℕ) → List (List ℕ × List ℕ)
 with_field None value fields = fields
 with_field (Some field) value fields = (field, value) ∷ fields
 
-fields_more : (e : RecordId × List ℕ) (s : Keyspace) (key : List ℕ) → fields_of (e ∷ s) key ≡ with_field (field_at e.0 key) e.1 (fields_of s key)
+pub fields_more : (e : RecordId × List ℕ) (s : Keyspace) (key : List ℕ) → fields_of (e ∷ s) key ≡ with_field (field_at e.0 key) e.1 (fields_of s key)
 unfolding fields_of
 fields_more (Str own, value) s key = refl
 fields_more (Field own field, value) s key =
@@ -84,7 +84,7 @@ between e f g lt lt' same =
     let ties = between_by (bytes_cmp (key_of e) (key_of f)) (bytes_cmp (key_of f) (key_of g)) _ _ first lt lt' in
     texts_ties (key_of f) (key_of e) ∙ ap (λ key. is_eq (bytes_cmp (key_of f) key)) (sym same) ∙ ap is_eq ties
 
-no_later : (e f : RecordId) (s : Keyspace) → is_lt (record_cmp e f) ≡ true → IsTrue (below_all record_cmp f s) → same_bytes (key_of f) (key_of e) ≡ false → has_key s (key_of e) ≡ false
+pub no_later : (e f : RecordId) (s : Keyspace) → is_lt (record_cmp e f) ≡ true → IsTrue (below_all record_cmp f s) → same_bytes (key_of f) (key_of e) ≡ false → has_key s (key_of e) ≡ false
 no_later e f [] lt below other = has_none (key_of e)
 no_later e f (g ∷ s) lt below other =
     let parts = and_parts (is_lt (record_cmp f g.0)) (below_all record_cmp f s) below in

@@ -7,6 +7,7 @@ mod error;
 mod integer;
 mod lookup;
 mod naming;
+mod ordered;
 mod outcome;
 mod plain_lookup;
 mod reading;
@@ -19,6 +20,10 @@ pub use error::CommandError;
 pub use integer::{int_of, number_text};
 pub use lookup::Lookup;
 pub use naming::firsts;
+pub use ordered::{
+    count_fields_in_order, end_of_field, end_of_key, field_in_order, fields_in_order, has_in_order,
+    start_of_field, start_of_fields, start_of_key, string_in_order,
+};
 pub use outcome::{Answer, Outcome, Status};
 pub use reading::{check_hash, string_at};
 pub use record::{

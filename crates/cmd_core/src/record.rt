@@ -122,7 +122,7 @@ pub fn fields_in<R: KeptRecord>(
     Ok(fields)
 }
 
-fn is_string(id: &RecordId, key: &[u8]) -> bool
+pub(crate) fn is_string(id: &RecordId, key: &[u8]) -> bool
     ensures { result ≡ eq_by_cmp record_cmp (RecordId.Str key.now) id.now }
 {
     match id {
@@ -131,7 +131,7 @@ fn is_string(id: &RecordId, key: &[u8]) -> bool
     }
 }
 
-fn is_field(id: &RecordId, key: &[u8], field: &[u8]) -> bool
+pub(crate) fn is_field(id: &RecordId, key: &[u8], field: &[u8]) -> bool
     ensures { result ≡ eq_by_cmp record_cmp (RecordId.Field key.now field.now) id.now }
 {
     match id {
@@ -147,7 +147,7 @@ fn is_of_key(id: &RecordId, key: &[u8]) -> bool
 }
 
 /// Whether the first record is one of this key.
-fn begins_with_key<R: KeptRecord>(records: &[R], key: &[u8]) -> bool
+pub(crate) fn begins_with_key<R: KeptRecord>(records: &[R], key: &[u8]) -> bool
     ensures { result ≡ next_has_key (map R.kept records.now) key.now }
 {
     match records {

@@ -6,3 +6,5 @@ pub mod PartTables
 pub mod ListLemmas
 pub mod EndedLemmas
 pub mod PlayingLemmas
+pub mod EndingLemmas
+pub mod KeyCountLemmas

@@ -5,10 +5,11 @@ use Rattle.kv_types.specs.declared.record_id.RecordId.{RecordId}
 use Rattle.model.specs.declared.group.Put.{Put}
 use Rattle.model.specs.declared.group.PlacedChange.{PlacedChange}
 use Rattle.model.specs.declared.group.PlacedChange.TheVariants as placed
-use Rattle.model.specs.Group.{change_of}
+use Rattle.model.specs.Group.{change_of, put_of}
 use Rattle.mv_keyspace.specs.Table.{Cell, Table, cell_at, with_cell, entries_of, cell_of_put, place, place_all, puts_of, AreFresh, IsLawful, AreNumbersEnded}
 use Rattle.mv_keyspace.specs.Row.{ended_rows, spared_rows, rows_of_puts}
-use Rattle.mv_keyspace.proofs.EndedLemmas.{sorted-lawful, absent-spared, place-made, MakesNone, place-spared, lawful-place, fresh-place, none-ended, ended-first}
+use Rattle.mv_keyspace.proofs.TableMembers.{IsSortedTable}
+use Rattle.mv_keyspace.proofs.EndedLemmas.{absent-spared, place-made, MakesNone, lawful-place, fresh-place, none-ended, ended-first}
 
 -- From `start` on, all changes before `rest` have been made: the table is now `table`, the rows of `rest` are staged, and `ended` were ended so far.
 pub record Playing (position : ℕ) (start : Table) (all : List PlacedChange) (table : Table) (rest : List PlacedChange) (waiting : Table) (ended : List ℕ) : Type 0 where
@@ -33,15 +34,10 @@ module _ (position : ℕ) (start : Table) (all : List PlacedChange) (table : Tab
         (playing.numbers (entries_of (ended_rows (change_of c) table) ++ more) (ended-first position c rest table playing.lawful playing.fresh more h));
   }
 
-  pub playing-spared : MakesNone c → Playing position start all (spared_rows (change_of c) table) rest staged (ended ++ entries_of (ended_rows (change_of c) table))
-  playing-spared none =
-      subst (λ t. Playing position start all t rest staged (ended ++ entries_of (ended_rows (change_of c) table))) (sym (place-spared position c table none))
-      (playing-place staged (playing.staged ∙ ap (λ puts. rows_of_puts position (puts ++ puts_of rest)) none))
-
-module _ (position : ℕ) (start : Table) (all : List PlacedChange) (table : Table) (put : Put) (rest : List PlacedChange) (staged left : Table) (id : RecordId) (cell : Cell) (ended : List ℕ)
-    (playing : Playing position start all table (placed.Put put ∷ rest) staged ended) (first : staged ≡ (id, cell) ∷ left) where
-  both : (id, cell) ∷ left ≡ (put.id, cell_of_put position put) ∷ rows_of_puts position (puts_of rest)
-  both = sym first ∙ playing.staged
+-- the first row that is staged is that of the put
+module _ (position : ℕ) (put : Put) (later : List Put) (table : Table) (staged left : Table) (id : RecordId) (cell : Cell) (is : staged ≡ rows_of_puts position (put ∷ later)) (first : staged ≡ (id, cell) ∷ left) where
+  both : (id, cell) ∷ left ≡ (put.id, cell_of_put position put) ∷ rows_of_puts position later
+  both = sym first ∙ is
 
   id_is : id ≡ put.id
   id_is = let e = both in let pair : (id, cell) ≡ (put.id, cell_of_put position put) = cc in ap (λ (p : RecordId × Cell). p.0) pair
@@ -49,21 +45,18 @@ module _ (position : ℕ) (start : Table) (all : List PlacedChange) (table : Tab
   cell_is : cell ≡ cell_of_put position put
   cell_is = let e = both in let pair : (id, cell) ≡ (put.id, cell_of_put position put) = cc in ap (λ (p : RecordId × Cell). p.1) pair
 
-  left_is : left ≡ rows_of_puts position (puts_of rest)
-  left_is = let e = both in cc
+  pub left-first : left ≡ rows_of_puts position later
+  left-first = let e = both in cc
 
   pub absent-first : cell_at (spared_rows (change_of (placed.Put put)) table) id ≡ None
   absent-first = ap (cell_at (spared_rows (change_of (placed.Put put)) table)) id_is ∙ absent-spared put table
 
-  pub playing-put : Playing position start all (with_cell id cell (spared_rows (change_of (placed.Put put)) table)) rest left (ended ++ entries_of (ended_rows (change_of (placed.Put put)) table))
-  playing-put =
-      subst (λ t. Playing position start all t rest left (ended ++ entries_of (ended_rows (change_of (placed.Put put)) table)))
-      (sym ((λ k. with_cell (id_is k) (cell_is k) (spared_rows (change_of (placed.Put put)) table)) ∙ place-made position put table (sorted-lawful table playing.lawful)))
-      (playing-place position start all table (placed.Put put) rest staged ended playing left left_is)
+  pub placed-first : IsSortedTable table → with_cell id cell (spared_rows (change_of (placed.Put put)) table) ≡ place position table (placed.Put put)
+  placed-first sorted = (λ k. with_cell (id_is k) (cell_is k) (spared_rows (change_of (placed.Put put)) table)) ∙ place-made position put table sorted
 
 -- a put finds its row staged
-pub staged-first : (position : ℕ) (start : Table) (all : List PlacedChange) (table : Table) (put : Put) (rest : List PlacedChange) (ended : List ℕ) → Playing position start all table (placed.Put put ∷ rest) [] ended → ⊥
-staged-first position start all table put rest ended playing = let e = playing.staged in cc
+pub staged-first : (position : ℕ) (put : Put) (later : List Put) → [] ≡ rows_of_puts position (put ∷ later) → ⊥
+staged-first position put later e = cc
 
 pub playing-end : (position : ℕ) (start : Table) (all : List PlacedChange) (table : Table) (staged : Table) (ended : List ℕ) → Playing position start all table [] staged ended → (table ≡ place_all position start all) × AreNumbersEnded position start all ended
 playing-end position start all table staged ended playing = (playing.same, subst (λ numbers. AreNumbersEnded position start all numbers) (append-nil ended) (playing.numbers [] (none-ended position table)))
@@ -75,29 +68,14 @@ module _ (position : ℕ) (start : Table) (all : List PlacedChange) (table : Tab
   at_change : Playing position start all table (c ∷ drop (n + 1) all) waiting ended
   at_change = subst (λ rest. Playing position start all table rest waiting ended) (drop_more all n c lt ∙ ap (λ x. x ∷ drop (n + 1) all) (sym is)) playing
 
-  at_put : (put : Put) → c ≡ placed.Put put → Playing position start all table (placed.Put put ∷ drop (n + 1) all) waiting ended
-  at_put put kind = subst (λ x. Playing position start all table (x ∷ drop (n + 1) all) waiting ended) kind at_change
+  pub staged-step : waiting ≡ rows_of_puts position (put_of c ++ puts_of (drop (n + 1) all))
+  staged-step = at_change.staged
 
-  pub is_staged : (put : Put) → c ≡ placed.Put put → waiting ≡ [] → ⊥
-  is_staged put kind none = staged-first position start all table put (drop (n + 1) all) ended (subst (λ t. Playing position start all table (placed.Put put ∷ drop (n + 1) all) t ended) none (at_put put kind))
-
-  pub absent-step : (put : Put) → c ≡ placed.Put put → (id : RecordId) (cell : Cell) (left : Table) → waiting ≡ (id, cell) ∷ left → (after : Table) → after ≡ spared_rows (change_of c) table → cell_at after id ≡ None
-  absent-step put kind id cell left first after leaves =
-      ap (λ t. cell_at t id) (leaves ∙ ap (λ x. spared_rows (change_of x) table) kind)
-      ∙ absent-first position start all table put (drop (n + 1) all) waiting left id cell ended (at_put put kind) first
-
-  pub put-step : (put : Put) → c ≡ placed.Put put → (id : RecordId) (cell : Cell) (left : Table) → waiting ≡ (id, cell) ∷ left → (after final : Table) → after ≡ spared_rows (change_of c) table → final ≡ with_cell id cell after
-      → (named : List ℕ) → named ≡ ended ++ entries_of (ended_rows (change_of c) table) → Playing position start all final (drop (n + 1) all) left named
-  put-step put kind id cell left first after final leaves with_row named is_named =
-      subst₂ (λ t e. Playing position start all t (drop (n + 1) all) left e)
-      (sym (with_row ∙ ap (with_cell id cell) (leaves ∙ ap (λ x. spared_rows (change_of x) table) kind)))
-      (sym (is_named ∙ ap (λ x. ended ++ entries_of (ended_rows (change_of x) table)) kind))
-      (playing-put position start all table put (drop (n + 1) all) waiting left id cell ended (at_put put kind) first)
-
-  pub other-step : MakesNone c → (after : Table) → after ≡ spared_rows (change_of c) table → (named : List ℕ) → named ≡ ended ++ entries_of (ended_rows (change_of c) table) → Playing position start all after (drop (n + 1) all) waiting named
-  other-step none after leaves named is_named =
-      subst₂ (λ t e. Playing position start all t (drop (n + 1) all) waiting e) (sym leaves) (sym is_named)
-      (playing-spared position start all table c (drop (n + 1) all) waiting ended at_change none)
+  pub change-step : (after left : Table) → after ≡ place position table c → left ≡ rows_of_puts position (puts_of (drop (n + 1) all)) → (named : List ℕ) → named ≡ ended ++ entries_of (ended_rows (change_of c) table)
+      → Playing position start all after (drop (n + 1) all) left named
+  change-step after left is left_is named is_named =
+      subst₂ (λ t e. Playing position start all t (drop (n + 1) all) left e) (sym is) (sym is_named)
+      (playing-place position start all table c (drop (n + 1) all) waiting ended at_change left left_is)
 
 pub makes_none : (c : PlacedChange) → ((put : Put) → c ≡ placed.Put put → ⊥) → MakesNone c
 makes_none (placed.Put put) other = absurd (other put refl)

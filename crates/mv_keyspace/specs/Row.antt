@@ -1,14 +1,16 @@
 -- The rows of a list, as a table.
-use Rattle.std.specs.Prelude.{◌≡◌, ℕ, not, List, [], ◌∷◌, map, refl}
+use Rattle.std.specs.Prelude.{◌≡◌, ℕ, ◌+◌, ◌≤◌, Bool, not, List, [], ◌∷◌, ◌++◌, map, Vec, vec_len, vec_capacity, refl}
 use Rattle.std.proofs.Common.{ap}
 use Rattle.std.specs.FinMap.Entries.{where_key}
+use Rattle.std.specs.Global.{Global}
 use Rattle.kv_types.specs.declared.place.EntryNo.{EntryNo}
 use Rattle.kv_types.specs.declared.change.Change.{Change}
+use Rattle.kv_types.specs.declared.record_id.RecordId.{RecordId}
 use Rattle.kv_types.specs.Keyspace.{Keyspace, record_cmp}
 use Rattle.model.specs.declared.group.Put.{Put}
 use Rattle.model.specs.Group.{ends_record}
 use Rattle.mv_keyspace.specs.declared.row.Row.{Row}
-use Rattle.mv_keyspace.specs.Table.{Cell, Table, records, cell_of_put}
+use Rattle.mv_keyspace.specs.Table.{Cell, Table, records, cell_of_put, entries_of}
 
 abbrev pub cell_of_row : Row → Cell
 cell_of_row row = record { value = row.value; entry = row.entry.0; position = row.position }
@@ -39,3 +41,12 @@ ended_rows change = where_key record_cmp (ends_record change)
 -- the rows that a change leaves
 abbrev pub spared_rows : Change → Table → Table
 spared_rows change = where_key record_cmp (λ id. not (ends_record change id))
+
+-- the rows whose records pass the test were taken out, and their entries appended to those that were ended, in the room that there was
+pub record TakesOut (passes : RecordId → Bool) (rows left : Vec Row Global) (before after : Vec EntryNo Global) : Type 0 where
+  pub table : table_of left.items ≡ where_key record_cmp (λ id. not (passes id)) (table_of rows.items)
+  pub numbers : numbers_of after.items ≡ numbers_of before.items ++ entries_of (where_key record_cmp passes (table_of rows.items))
+  pub len : vec_len after + vec_len left ≡ vec_len before + vec_len rows
+  pub fewer : vec_len left ≤ vec_len rows
+  pub capacity : vec_capacity left ≡ vec_capacity rows
+  pub capacity_for_ended : vec_capacity before ≤ vec_capacity after

@@ -1,6 +1,8 @@
 //! The keyspace that a node keeps in memory: each live record, and the entry that holds it.
 #![tactic(auto)]
 
+mod counting;
+mod ending;
 mod keyspace;
 mod list_keyspace;
 mod row;

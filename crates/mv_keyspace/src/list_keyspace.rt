@@ -1,25 +1,36 @@
 //! The keyspace as a list of rows in the order of records.
-ghost use Rattle.std.specs.Prelude.{◌≡◌, ℕ, ◌+◌, ◌<◌, ◌≤◌, ◌==◌, ◌++◌, List, [], ◌∷◌, length, insert, IsTrue, IfOk, IfErr, vec_len, vec_capacity};
-ghost use Rattle.std.specs.Ordering.{eq_by_cmp};
+ghost use Rattle.std.specs.Prelude.{◌≡◌, ℕ, ◌+◌, ◌<◌, ◌≤◌, ◌==◌, ◌++◌, List, [], length, insert, IsTrue, IfOk, IfErr, vec_len, vec_capacity};
+ghost use Rattle.std.specs.Vec.Iter.{into_iter_items, into_iter_len};
 ghost use Rattle.std.specs.FinMap.Entries.{is_sorted};
-ghost use Rattle.kv_types.specs.declared.change.Change.TheVariants as kinds;
 ghost use Rattle.kv_types.specs.Keyspace.{record_cmp};
-ghost use Rattle.model.specs.Group.{change_of, ends_record};
-ghost use Rattle.mv_keyspace.specs.Table.{Cell, cell_at, entries_of, with_cell, cell_of_put, place_all, puts_of, AreEnded, AreFresh, IsLawful};
-ghost use Rattle.mv_keyspace.specs.Row.{cell_of_row, records_of, table_of, rows_of_puts, numbers_of, ended_rows, spared_rows};
+ghost use Rattle.cmd_core.specs.Contents.{keys_of};
+ghost use Rattle.model.specs.declared.group.Put.{Put};
+ghost use Rattle.model.specs.Group.{change_of, put_of};
+ghost use Rattle.mv_keyspace.specs.Table.{Cell, cell_at, entries_of, with_cell, place, place_all, puts_of, AreEnded, AreFresh, IsLawful};
+ghost use Rattle.mv_keyspace.specs.Row.{cell_of_row, records_of, table_of, rows_of_puts, numbers_of, ended_rows};
 
+use crate::counting::{count_others, count_with};
+use crate::ending::end_rows;
 use crate::keyspace::Keyspace;
 use crate::row::{Row, row_of};
-use cmd_core::{Lookup, count_fields_in, count_keys_in, field_in, fields_in, has_in, string_in};
+use cmd_core::{
+    Lookup, count_fields_in_order, field_in_order, fields_in_order, has_in_order, start_of_field,
+    start_of_key, string_in_order,
+};
 use kv_types::{EntryNo, Field, RecordId, Refusal, Value};
 use model::PlacedChange;
 use std::alloc::{AllocError, Global};
+use std::vec::IntoIter;
 
-/// The live records of a node, as a list in their order. Each change goes through the whole list.
+/// The live records of a node, as a list in their order. It is halved to find a record
+/// or the place of one, and the keys are counted as they come and go.
 #[derive(Debug, Drop)]
 pub struct ListKeyspace {
     rows: Vec<Row>,
+    /// How many keys there are.
+    keys: u64,
     ghost in_order: { IsTrue (is_sorted record_cmp (records_of rows.items)) },
+    ghost counted: { keys ≡ length (keys_of (records_of rows.items)) },
 }
 
 impl ListKeyspace {
@@ -32,6 +43,7 @@ impl ListKeyspace {
     {
         ListKeyspace {
             rows: Vec::new(alloc),
+            keys: 0,
         }
     }
 
@@ -55,27 +67,27 @@ impl Lookup for ListKeyspace {
     ghost keyspace = { λ keyspace. records_of keyspace.rows.items };
 
     fn string(&self, key: &[u8]) -> Option<&Value> {
-        string_in(&self.rows, key)
+        string_in_order(&self.rows, key)
     }
 
     fn field(&self, key: &[u8], field: &[u8]) -> Option<&Value> {
-        field_in(&self.rows, key, field)
+        field_in_order(&self.rows, key, field)
     }
 
     fn has(&self, key: &[u8]) -> bool {
-        has_in(&self.rows, key)
+        has_in_order(&self.rows, key)
     }
 
     fn count_keys(&self) -> u64 {
-        count_keys_in(&self.rows)
+        self.keys
     }
 
     fn count_fields(&self, key: &[u8]) -> u64 {
-        count_fields_in(&self.rows, key)
+        count_fields_in_order(&self.rows, key)
     }
 
     fn fields(&self, alloc: Global, key: &[u8]) -> Result<Vec<(Field, Value)>, AllocError> {
-        fields_in(alloc, &self.rows, key)
+        fields_in_order(alloc, &self.rows, key)
     }
 }
 
@@ -96,17 +108,8 @@ impl Keyspace for ListKeyspace {
         let staged = stage(alloc, changes, position)?;
         self.rows.reserve(staged.len())?;
         let mut ended = Vec::with_capacity(alloc, self.rows.len() + staged.len())?;
-        play(&mut self.rows, changes, staged, &mut ended);
+        self.keys = play(&mut self.rows, self.keys, changes, staged, &mut ended);
         Ok(ended)
-    }
-}
-
-fn is_string_at(id: &RecordId, key: &[u8]) -> bool
-    ensures { result ≡ eq_by_cmp record_cmp id.now (RecordId.Str key.now) }
-{
-    match id {
-        RecordId::Str(own) => own.as_slice() == key,
-        RecordId::Field(..) => false,
     }
 }
 
@@ -124,11 +127,19 @@ fn stage(alloc: Global, changes: &[PlacedChange], position: u64) -> Result<Vec<R
     Ok(staged)
 }
 
-/// Makes the changes, whose puts have their rows staged. There is room for everything that they add.
-fn play(rows: &mut Vec<Row>, changes: &[PlacedChange], staged: Vec<Row>, ended: &mut Vec<EntryNo>)
+/// Makes the changes, whose puts have their rows staged, and returns how many keys there are then; there were `keys`.
+/// There is room for everything that the changes add.
+fn play(
+    rows: &mut Vec<Row>,
+    keys: u64,
+    changes: &[PlacedChange],
+    staged: Vec<Row>,
+    ended: &mut Vec<EntryNo>,
+) -> u64
     requires lawful { IsLawful (table_of rows.old.items) }
     requires fresh { AreFresh (table_of rows.old.items) (puts_of changes.now) }
     requires staged { (position : ℕ) × (table_of staged.items ≡ rows_of_puts position (puts_of changes.now)) }
+    requires counted { keys ≡ length (keys_of (records_of rows.old.items)) }
     requires none { ended.old.items ≡ [] }
     requires room { vec_len rows.old + vec_len staged ≤ vec_capacity rows.old }
     requires room_for_ended { vec_len rows.old + vec_len staged ≤ vec_capacity ended.old }
@@ -136,67 +147,46 @@ fn play(rows: &mut Vec<Row>, changes: &[PlacedChange], staged: Vec<Row>, ended: 
         → table_of rows.new.items ≡ place_all position (table_of rows.old.items) changes.now }
     ensures ended { (position : ℕ) → table_of staged.items ≡ rows_of_puts position (puts_of changes.now)
         → AreEnded position (table_of rows.old.items) changes.now ended.new.items }
+    ensures counted { result ≡ length (keys_of (records_of rows.new.items)) }
 {
+    let mut count = keys;
     let mut staged = staged.into_iter();
     for change in changes {
-        end_rows(rows, change, ended);
-        if let PlacedChange::Put(_) = change {
-            let row = staged.next().unwrap();
-            put_row(rows, row);
-        }
+        let others = count_others(rows, count, change);
+        make_change(rows, change, &mut staged, ended);
+        count = count_with(rows, others, change);
     }
+    count
 }
 
-/// Removes the rows that a change ends, and appends their entries to `ended`.
-fn end_rows(rows: &mut Vec<Row>, change: &PlacedChange, ended: &mut Vec<EntryNo>)
-    requires room { vec_len ended.old + vec_len rows.old ≤ vec_capacity ended.old }
-    ensures table { table_of rows.new.items ≡ spared_rows (change_of change.now) (table_of rows.old.items) }
+/// Makes one change. A put takes the first of the rows that are staged.
+fn make_change(
+    rows: &mut Vec<Row>,
+    change: &PlacedChange,
+    staged: &mut IntoIter<Row>,
+    ended: &mut Vec<EntryNo>,
+)
+    requires order { IsTrue (is_sorted record_cmp (records_of rows.old.items)) }
+    requires staged { (position : ℕ) × (later : List Put) × (table_of (into_iter_items staged.old) ≡ rows_of_puts position (put_of change.now ++ later)) }
+    requires room { vec_len rows.old + into_iter_len staged.old ≤ vec_capacity rows.old }
+    requires room_for_ended { vec_len ended.old + vec_len rows.old ≤ vec_capacity ended.old }
+    ensures table { (position : ℕ) (later : List Put) → table_of (into_iter_items staged.old) ≡ rows_of_puts position (put_of change.now ++ later)
+        → (table_of rows.new.items ≡ place position (table_of rows.old.items) change.now) × (table_of (into_iter_items staged.new) ≡ rows_of_puts position later) }
     ensures ended { numbers_of ended.new.items ≡ numbers_of ended.old.items ++ entries_of (ended_rows (change_of change.now) (table_of rows.old.items)) }
-    ensures len { vec_len ended.new + vec_len rows.new ≡ vec_len ended.old + vec_len rows.old }
-    ensures rows_len { vec_len rows.new ≤ vec_len rows.old }
-    ensures capacity { vec_capacity rows.new ≡ vec_capacity rows.old }
+    ensures len { vec_len ended.new + (vec_len rows.new + into_iter_len staged.new) ≡ vec_len ended.old + (vec_len rows.old + into_iter_len staged.old) }
+    ensures room { vec_len rows.new + into_iter_len staged.new ≤ vec_capacity rows.new }
     ensures capacity_for_ended { vec_capacity ended.old ≤ vec_capacity ended.new }
 {
-    name_ended(rows, change, ended);
-    rows.retain(|row| !ends(change, &row.id));
-}
-
-fn name_ended(rows: &[Row], change: &PlacedChange, ended: &mut Vec<EntryNo>)
-    requires room { vec_len ended.old + length rows.now ≤ vec_capacity ended.old }
-    ensures ended { numbers_of ended.new.items ≡ numbers_of ended.old.items ++ entries_of (ended_rows (change_of change.now) (table_of rows.now)) }
-    ensures capacity { vec_capacity ended.old ≤ vec_capacity ended.new }
-{
-    for row in rows {
-        if ends(change, &row.id) {
-            ended.push(row.entry).unwrap();
-        }
-    }
-}
-
-/// Whether a change ends a record. A put ends the record that it replaces.
-fn ends(change: &PlacedChange, id: &RecordId) -> bool
-    ensures { result ≡ ends_record (change_of change.now) id.now }
-{
-    match change {
-        PlacedChange::Put(put) => replaces(&put.id, id),
-        PlacedChange::Drop(dropped) => *id == *dropped,
-        PlacedChange::DropKey(key) => *id.key() == *key,
-        PlacedChange::Clear => true,
-    }
-}
-
-/// Whether a put of one record ends another: a string ends all records of its key, a field ends itself and the string of its key.
-fn replaces(put: &RecordId, id: &RecordId) -> bool
-    ensures { (value : List ℕ) → result ≡ ends_record (kinds.Put put.now value) id.now }
-{
-    match put {
-        RecordId::Str(key) => *id.key() == *key,
-        RecordId::Field(key, _) => *id == *put || is_string_at(id, key.as_slice()),
+    end_rows(rows, change, ended);
+    if let PlacedChange::Put(_) = change {
+        let row = staged.next().unwrap();
+        put_row(rows, row);
     }
 }
 
 /// Inserts the row of a record that the list does not have.
 fn put_row(rows: &mut Vec<Row>, row: Row)
+    requires order { IsTrue (is_sorted record_cmp (records_of rows.old.items)) }
     requires absent { cell_at (table_of rows.old.items) row.id ≡ None }
     requires room { vec_len rows.old < vec_capacity rows.old }
     ensures table { table_of rows.new.items ≡ with_cell row.id (cell_of_row row) (table_of rows.old.items) }
@@ -209,14 +199,13 @@ fn put_row(rows: &mut Vec<Row>, row: Row)
 
 /// The index at which a record that the list does not have goes in.
 fn place_for(rows: &[Row], id: &RecordId) -> usize
+    requires order { IsTrue (is_sorted record_cmp (records_of rows.now)) }
     requires absent { cell_at (table_of rows.now) id.now ≡ None }
     ensures within { result ≤ length rows.now }
     ensures place { (cell : Cell) → with_cell id.now cell (table_of rows.now) ≡ insert (table_of rows.now) result (id.now, cell) }
 {
-    for (place, row) in rows.iter().enumerate() {
-        if id.cmp(&row.id).is_lt() {
-            return place;
-        }
+    match id {
+        RecordId::Str(key) => start_of_key(rows, key.as_slice()),
+        RecordId::Field(key, field) => start_of_field(rows, key.as_slice(), field.as_slice()),
     }
-    rows.len()
 }

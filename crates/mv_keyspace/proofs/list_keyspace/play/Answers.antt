@@ -1,10 +1,15 @@
-use Rattle.std.proofs.Common.{◌++◌, ◌+◌, length, drop, vec_len, vec_capacity, subst, subst₂, sym, ap, ◌∙◌, arith, drop_of_length-le}
-use Rattle.std.specs.Option.{option_to_list}
-use Rattle.std.specs.Vec.Iter.{into_iter_items, into_iter_len}
-use Rattle.mv_keyspace.specs.Row.{table_of, numbers_of, cell_of_row}
-use Rattle.mv_keyspace.proofs.PlayingLemmas.{Playing, playing-start, playing-end, put-step, other-step, absent-step, makes_none}
+use Rattle.std.proofs.Common.{◌+◌, [], ◌∷◌, length, drop, subst, sym, ap, ◌∙◌, arith, drop_of_length-le}
+use Rattle.std.specs.Vec.Iter.{into_iter_items}
+use Rattle.cmd_core.specs.Contents.{keys_of}
+use Rattle.model.specs.Group.{change_of}
+use Rattle.mv_keyspace.specs.Table.{puts_of}
+use Rattle.mv_keyspace.specs.Keys.{keys_beside}
+use Rattle.mv_keyspace.specs.Row.{records_of, table_of, numbers_of}
+use Rattle.mv_keyspace.proofs.EndingLemmas.{AreInOrder, order-lawful}
+use Rattle.mv_keyspace.proofs.KeyCountLemmas.{keys_beside-placed}
+use Rattle.mv_keyspace.proofs.ListLemmas.{in_order-placed}
+use Rattle.mv_keyspace.proofs.PlayingLemmas.{Playing, playing-start, playing-end, staged-step, change-step}
 use Rattle.mv_keyspace.proofs.list_keyspace.play.Goals as goal
-use Rattle.mv_keyspace.proofs.list_keyspace.play.Goals.{in-Put, in_default}
 
 pub loop-change-init : goal.loop-change-init
 loop-change-init c = record {
@@ -15,60 +20,70 @@ loop-change-init c = record {
       λ position is.
       subst (λ ended. Playing position table changes table changes staged ended) (sym (ap numbers_of c.requires.none))
       (playing-start position table changes staged c.requires.lawful c.requires.fresh (ap table_of c.into_iter-staged.ensures.rest ∙ is));
+  counted = c.requires.counted;
   room = omega (arith, c.into_iter-staged.ensures.len, c.requires.room);
   room_for_ended =
       let none = ap length c.requires.none in
       omega (arith, none, c.args.ended.now.ok.0, c.into_iter-staged.ensures.len, c.requires.room_for_ended);
 }
 
-pub put_row-requires-clause-absent : goal.put_row-requires-clause-absent
-put_row-requires-clause-absent c =
-    let row = c.unwrap-row.result in
-    absent-step c.requires.staged.0 (table_of c.args.rows.now.items) c.args.changes.now (table_of c.loop-change.rows.items) c.loop-change.change-index c.change-item.result (table_of (into_iter_items c.loop-change.staged)) (numbers_of c.loop-change.ended.items)
-    (c.loop-change.invariant.playing c.requires.staged.0 c.requires.staged.1) c.loop-change-test.true c.change-item.is c.in-Put.field-0 c.in-Put.is row.id (cell_of_row row) (table_of (into_iter_items c.next.new.self))
-    (ap table_of (c.next.ensures.items ∙ ap (λ r. option_to_list r ++ into_iter_items c.next.new.self) c.unwrap-row.ensures))
-    (table_of c.end_rows.new.rows.items) c.end_rows.ensures.table
+pub count_others-others-requires-clause-order : goal.count_others-others-requires-clause-order
+count_others-others-requires-clause-order c =
+    subst (λ rows. AreInOrder rows) (sym c.deref.ensures.value) (order-lawful c.loop-change.rows.items (c.loop-change.invariant.playing c.requires.staged.0 c.requires.staged.1).lawful)
 
-pub loop-change-preserved : goal.loop-change-preserved
-loop-change-preserved c =
-    let start = table_of c.args.rows.now.items in
+pub count_others-others-requires-clause-counted : goal.count_others-others-requires-clause-counted
+count_others-others-requires-clause-counted c = c.loop-change.invariant.counted ∙ ap (λ rows. length (keys_of (records_of rows))) (sym c.deref.ensures.value)
+
+pub make_change-requires-clause-order : goal.make_change-requires-clause-order
+make_change-requires-clause-order c = order-lawful c.loop-change.rows.items (c.loop-change.invariant.playing c.requires.staged.0 c.requires.staged.1).lawful
+
+pub count_with-count-requires-clause-order : goal.count_with-count-requires-clause-order
+count_with-count-requires-clause-order c =
+    let position = c.requires.staged.0 in
     let changes = c.args.changes.now in
+    let rows = c.loop-change.rows.items in
     let n = c.loop-change.change-index in
     let change = c.change-item.result in
-    let waiting = table_of (into_iter_items c.loop-change.staged) in
-    let ended = numbers_of c.loop-change.ended.items in
-    let left = table_of c.end_rows.new.rows.items in
-    let named = numbers_of c.end_rows.new.ended.items in
-    let lent = c.end_rows.ensures.len in
-    elim c.match-change.branch [
-      | in-Put w ↦
-          let row = w.unwrap-row.result in
-          let taken = ap (λ r. length (option_to_list r)) w.unwrap-row.ensures in
-          let rows_len = ap (λ v. vec_len v) w.rows-is in
-          let rows_room = ap (λ v. vec_capacity v) w.rows-is in
-          let left_len = ap (λ s. into_iter_len s) w.staged-is in
-          record {
-            playing = λ position is.
-                subst₂ (λ t s. Playing position start changes t (drop (n + 1) changes) s named) (ap (λ v. table_of v.items) (sym w.rows-is)) (ap (λ s. table_of (into_iter_items s)) (sym w.staged-is))
-                (put-step position start changes (table_of c.loop-change.rows.items) n change waiting ended (c.loop-change.invariant.playing position is) c.loop-change-test.true c.change-item.is w.in-Put.field-0 w.in-Put.is
-                row.id (cell_of_row row) (table_of (into_iter_items w.next.new.self)) (ap table_of (w.next.ensures.items ∙ ap (λ r. option_to_list r ++ into_iter_items w.next.new.self) w.unwrap-row.ensures))
-                left (table_of w.put_row.new.rows.items) c.end_rows.ensures.table w.put_row.ensures.table named c.end_rows.ensures.ended);
-            room = omega (arith, taken, rows_len, rows_room, left_len, w.next.ensures.len, w.put_row.ensures.len, w.put_row.ensures.capacity, c.end_rows.ensures.rows_len, c.end_rows.ensures.capacity, c.loop-change.invariant.room);
-            room_for_ended = omega (arith, lent, taken, rows_len, left_len, w.next.ensures.len, w.put_row.ensures.len, c.end_rows.ensures.capacity_for_ended, c.loop-change.invariant.room_for_ended);
-          }
-      | in_default w ↦
-          let rows_len = ap (λ v. vec_len v) w.rows-is in
-          let rows_room = ap (λ v. vec_capacity v) w.rows-is in
-          let left_len = ap (λ s. into_iter_len s) w.staged-is in
-          record {
-            playing = λ position is.
-                subst₂ (λ t s. Playing position start changes t (drop (n + 1) changes) s named) (ap (λ v. table_of v.items) (sym w.rows-is)) (ap (λ s. table_of (into_iter_items s)) (sym w.staged-is))
-                (other-step position start changes (table_of c.loop-change.rows.items) n change waiting ended (c.loop-change.invariant.playing position is) c.loop-change-test.true c.change-item.is
-                (makes_none change w.in_default.not-Put) left c.end_rows.ensures.table named c.end_rows.ensures.ended);
-            room = omega (arith, rows_len, rows_room, left_len, c.end_rows.ensures.rows_len, c.end_rows.ensures.capacity, c.loop-change.invariant.room);
-            room_for_ended = omega (arith, lent, rows_len, left_len, c.end_rows.ensures.capacity_for_ended, c.loop-change.invariant.room_for_ended);
-          }
-    ]
+    let playing = c.loop-change.invariant.playing position c.requires.staged.1 in
+    let staged = staged-step position (table_of c.args.rows.now.items) changes (table_of rows) n change (table_of (into_iter_items c.loop-change.staged)) (numbers_of c.loop-change.ended.items) playing c.loop-change-test.true c.change-item.is in
+    let placed = (c.make_change.ensures.table position (puts_of (drop (n + 1) changes)) staged).0 in
+    subst (λ left. AreInOrder left) (sym c.deref-in-loop-change.ensures.value)
+    (in_order-placed position rows c.make_change.new.rows.items (change ∷ []) placed (order-lawful rows playing.lawful))
+
+pub count_with-count-requires-clause-others : goal.count_with-count-requires-clause-others
+count_with-count-requires-clause-others c =
+    let position = c.requires.staged.0 in
+    let changes = c.args.changes.now in
+    let rows = c.loop-change.rows.items in
+    let n = c.loop-change.change-index in
+    let change = c.change-item.result in
+    let playing = c.loop-change.invariant.playing position c.requires.staged.1 in
+    let staged = staged-step position (table_of c.args.rows.now.items) changes (table_of rows) n change (table_of (into_iter_items c.loop-change.staged)) (numbers_of c.loop-change.ended.items) playing c.loop-change-test.true c.change-item.is in
+    let placed = (c.make_change.ensures.table position (puts_of (drop (n + 1) changes)) staged).0 in
+    c.count_others-others.ensures.value
+    ∙ ap (λ left. length (keys_beside (change_of change) (records_of left))) c.deref.ensures.value
+    ∙ ap (λ keys. length keys) (sym (keys_beside-placed position rows c.make_change.new.rows.items change placed))
+    ∙ ap (λ left. length (keys_beside (change_of change) (records_of left))) (sym c.deref-in-loop-change.ensures.value)
+
+pub loop-change-preserved : goal.loop-change-preserved
+loop-change-preserved c = record {
+  playing = λ position is.
+      let start = table_of c.args.rows.now.items in
+      let changes = c.args.changes.now in
+      let table = table_of c.loop-change.rows.items in
+      let n = c.loop-change.change-index in
+      let change = c.change-item.result in
+      let waiting = table_of (into_iter_items c.loop-change.staged) in
+      let ended = numbers_of c.loop-change.ended.items in
+      let playing = c.loop-change.invariant.playing position is in
+      let staged = staged-step position start changes table n change waiting ended playing c.loop-change-test.true c.change-item.is in
+      let made = c.make_change.ensures.table position (puts_of (drop (n + 1) changes)) staged in
+      change-step position start changes table n change waiting ended playing c.loop-change-test.true c.change-item.is
+      (table_of c.make_change.new.rows.items) (table_of (into_iter_items c.make_change.new.staged)) made.0 made.1 (numbers_of c.make_change.new.ended.items) c.make_change.ensures.ended;
+  counted = c.count_with-count.ensures ∙ ap (λ rows. length (keys_of (records_of rows))) c.deref-in-loop-change.ensures.value;
+  room = c.make_change.ensures.room;
+  room_for_ended = omega (arith, c.make_change.ensures.len, c.make_change.ensures.capacity_for_ended, c.loop-change.invariant.room_for_ended);
+}
 
 pub returns-clause-ended : goal.returns-clause-ended
 returns-clause-ended c = λ position is.

@@ -5,10 +5,14 @@ use Rattle.mv_keyspace.proofs.ListLemmas.{in_order-placed}
 use Rattle.mv_keyspace.proofs.list_keyspace.ListKeyspaceKeyspace.apply.Goals as goal
 
 pub returns-clause-ended : goal.returns-clause-ended
-returns-clause-ended c = subst (λ items. AreEnded c.args.position (table_of items) c.args.changes.now c.play.new.ended.items) c.in_ok-reserve.ensures.items (c.play.ensures.ended c.args.position c.in_ok-staged.ensures.ok)
+returns-clause-ended c =
+    subst (λ items. AreEnded c.args.position (table_of items) c.args.changes.now c.play-self.new.ended.items) c.in_ok-reserve.ensures.items (c.play-self.ensures.ended c.args.position c.in_ok-staged.ensures.ok)
 
 pub invariant_of-self-2 : goal.invariant_of-self-2
 invariant_of-self-2 c =
     let changes = c.args.changes.now in
-    let placed = c.play.ensures.table c.args.position c.in_ok-staged.ensures.ok ∙ ap (λ items. place_all c.args.position (table_of items) changes) c.in_ok-reserve.ensures.items in
-    record { in_order = in_order-placed c.args.position c.args.self.now.rows.items c.play.new.rows.items changes placed c.args.self.now.in_order }
+    let placed = c.play-self.ensures.table c.args.position c.in_ok-staged.ensures.ok ∙ ap (λ items. place_all c.args.position (table_of items) changes) c.in_ok-reserve.ensures.items in
+    record {
+      in_order = in_order-placed c.args.position c.args.self.now.rows.items c.play-self.new.rows.items changes placed c.args.self.now.in_order;
+      counted = c.play-self.ensures.counted;
+    }
