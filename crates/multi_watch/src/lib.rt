@@ -1,0 +1,16 @@
+//! Sessions: the transaction of each connection, and the keys that it watches.
+#![tactic(auto)]
+
+mod act;
+mod error;
+mod session;
+mod sessions;
+mod verb;
+mod watch;
+mod watchers;
+
+pub use act::Act;
+pub use error::SessionError;
+pub use sessions::{SessionNo, Sessions};
+pub use verb::{MAX_QUEUED_REQUESTS, Verb};
+pub use watch::Watch;
