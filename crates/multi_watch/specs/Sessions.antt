@@ -1,5 +1,5 @@
 -- The sessions of all connections, each under a number.
-use Rattle.std.specs.Prelude.{◌≡◌, ◌≢◌, ◌≤◌, ℕ, List, [], length, vec_len, map, Option, Some, None, slice_index_or, slice_set}
+use Rattle.std.specs.Prelude.{◌≡◌, ◌≢◌, ◌≤◌, ℕ, List, [], length, vec_len, map, Option, Some, None, slice_index_or, Bool, if◌then◌else◌}
 use Rattle.std.specs.Option.{option_map}
 use Rattle.std.specs.Vec.{vec_capacity}
 use Rattle.slab.specs.Slab.{Slab}
@@ -45,12 +45,6 @@ pub record Steps (old : Sessions) (number : ℕ) (step : Step) (act : Act) (new 
 abbrev pub Agree : Table → Sessions → Type 0
 Agree table sessions = (key : List ℕ) (number : ℕ) → watches table key number ≡ is_watched key (session_at sessions number).watched
 
--- ---- the sessions of some numbers are marked
-
-abbrev pub set_if_open : Option Session → List ℕ → ℕ → Sessions → Sessions
-set_if_open None key number sessions = sessions
-set_if_open (Some session) key number sessions = slice_set sessions number (Some (modified key session))
-
--- a key is marked in the session of this number, if it is open
-abbrev pub marked_at : List ℕ → ℕ → Sessions → Sessions
-marked_at key number sessions = set_if_open (slot sessions number) key number sessions
+-- a key is marked in some sessions, and the others stay as they were
+abbrev pub marked_if : List ℕ → Bool → Option Session → Option Session
+marked_if key is_marked slot = if is_marked then option_map (modified key) slot else slot

@@ -35,8 +35,7 @@ impl SessionError {
             SessionError::DiscardOutside => b"ERR DISCARD without MULTI",
             SessionError::WatchInside => b"ERR WATCH inside MULTI is not allowed",
             SessionError::TooLong => b"ERR transaction is too long",
-            SessionError::Aborted =>
-                b"EXECABORT Transaction discarded because of previous errors.",
+            SessionError::Aborted => b"EXECABORT Transaction discarded because of previous errors.",
         }
     }
 

@@ -159,11 +159,7 @@ impl Session {
     }
 
     /// An empty list with room for the watched keys and these.
-    pub(crate) fn room_for(
-        &self,
-        alloc: Global,
-        fresh: &[Watch],
-    ) -> Result<Vec<Watch>, AllocError>
+    pub(crate) fn room_for(&self, alloc: Global, fresh: &[Watch]) -> Result<Vec<Watch>, AllocError>
         ensures empty { IfOk result (λ room. room.items ≡ []) }
         ensures room { IfOk result (λ room. length self.now.watched + length fresh.now ≤ vec_capacity room) }
     {

@@ -1,5 +1,5 @@
 //! The sessions of all connections.
-ghost use Rattle.std.specs.Prelude.{◌≡◌, ◌≢◌, ℕ, List, [], IsTrue, IsSome, None, Some, ◌↔◌, IfOk, IfErr, OnErr, OnOk};
+ghost use Rattle.std.specs.Prelude.{◌≡◌, ◌≢◌, ℕ, List, [], nat_eq, IsTrue, IsSome, None, Some, drop, ◌↔◌, IfOk, IfErr, OnErr, OnOk};
 ghost use Rattle.std.specs.Option.{option_map};
 ghost use Rattle.cmd_core.specs.declared.shape.Keys.TheVariants as shape;
 ghost use Rattle.cmd_core.specs.Shape.{are_short};
@@ -7,7 +7,8 @@ ghost use Rattle.multi_watch.specs.Session as spec;
 ghost use Rattle.multi_watch.specs.Session.{idle_session, spoiled, with_watched, modified};
 ghost use Rattle.multi_watch.specs.Admission.{admit, step, step_of, act_now, session_after_refusal, spoiled_if_open};
 ghost use Rattle.multi_watch.specs.Admission.{after_misuse, after_exec, after_discard, after_watch, after_unwatch, after_other};
-ghost use Rattle.multi_watch.specs.Sessions.{slot, session_at, Moves, Steps, marked_at};
+ghost use Rattle.multi_watch.specs.Watchers.{has_number};
+ghost use Rattle.multi_watch.specs.Sessions.{slot, session_at, Moves, Steps, marked_if};
 
 use crate::act::Act;
 use crate::error::SessionError;
@@ -87,9 +88,7 @@ impl Sessions {
     pub fn modified(&mut self, key: &Key)
         ensures { (number : ℕ) → slot self.new number ≡ option_map (modified key.now) (slot self.old number) }
     {
-        for number in self.watchers.of(key) {
-            mark(&mut self.sessions, *number, key);
-        }
+        mark_all(&mut self.sessions, self.watchers.of(key), key);
     }
 
     /// What is to be done for a request of the session with an open number.
@@ -127,7 +126,7 @@ impl Sessions {
             Verb::Multi => Ok(self.sessions[number.0].multi()),
             Verb::Exec => self.exec(alloc, number),
             Verb::Discard => Ok(self.discard(alloc, number)),
-            Verb::Watch => self.watch(alloc, number, &request.words()[1..]),
+            Verb::Watch => self.watch(alloc, number, arguments(&request)),
             Verb::Unwatch => self.unwatch(alloc, number, request),
             Verb::Other => self.other(number, request),
         }
@@ -178,12 +177,7 @@ impl Sessions {
     }
 
     /// WATCH. Where memory is refused, nothing changes.
-    fn watch(
-        &mut self,
-        alloc: Global,
-        number: SessionNo,
-        keys: &[Bytes],
-    ) -> Result<Act, AllocError>
+    fn watch(&mut self, alloc: Global, number: SessionNo, keys: &[Bytes]) -> Result<Act, AllocError>
         requires opened { IsSome (slot self.old number.0) }
         requires short { IsTrue (are_short shape.All keys.now) }
         ensures ok { IfOk result (λ act. Steps self.old number.0 (after_watch keys.now (session_at self.old number.0)) act self.new) }
@@ -242,9 +236,28 @@ impl Sessions {
     }
 }
 
+/// The words after the name.
+fn arguments(request: &Request) -> &[Bytes]
+    ensures { result.now ≡ drop 1 request.now }
+{
+    match request.words() {
+        [_, arguments @ ..] => arguments,
+        [] => &[],
+    }
+}
+
+/// Marks a key in the sessions of these numbers.
+fn mark_all(sessions: &mut Slab<Session>, numbers: &[usize], key: &Key)
+    ensures { (n : ℕ) → slot sessions.new.slots n ≡ marked_if key.now (has_number n numbers.now) (slot sessions.old.slots n) }
+{
+    for number in numbers {
+        mark(sessions, *number, key);
+    }
+}
+
 /// Marks a key in the session of one number.
 fn mark(sessions: &mut Slab<Session>, number: usize, key: &Key)
-    ensures { sessions.new.slots ≡ marked_at key.now number sessions.old.slots }
+    ensures { (n : ℕ) → slot sessions.new.slots n ≡ marked_if key.now (nat_eq number n) (slot sessions.old.slots n) }
 {
     if let Some(session) = sessions.get_mut(number) {
         session.mark(key);

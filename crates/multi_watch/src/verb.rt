@@ -1,5 +1,7 @@
 //! What a request asks of a session.
-ghost use Rattle.std.specs.Prelude.{◌≡◌};
+ghost use Rattle.std.specs.Prelude.{◌≡◌, IsTrue, drop};
+ghost use Rattle.cmd_core.specs.declared.shape.Keys.TheVariants as shape;
+ghost use Rattle.cmd_core.specs.Shape.{are_short};
 ghost use Rattle.multi_watch.specs.Verb as spec;
 
 use cmd_table::{CommandName, Misuse, read_request};
@@ -27,7 +29,8 @@ impl Verb {
     /// What a request asks of a session.
     #[tactic(auto, unfolding(crate::specs::Verb::verb_of))]
     pub fn of(request: &Request) -> Verb
-        ensures { result ≡ spec.verb_of request.now }
+        ensures verb { result ≡ spec.verb_of request.now }
+        ensures keys { result ≡ Verb.Watch → IsTrue (are_short shape.All (drop 1 request.now)) }
     {
         match read_request(request.words()) {
             Ok(command) => Verb::of_name(command.name),
@@ -36,7 +39,8 @@ impl Verb {
     }
 
     fn of_name(name: CommandName) -> Verb
-        ensures { result ≡ spec.verb_of_name name }
+        ensures verb { result ≡ spec.verb_of_name name }
+        ensures watch { result ≡ Verb.Watch → name ≡ CommandName.Watch }
     {
         match name {
             CommandName::Quit => Verb::Quit,

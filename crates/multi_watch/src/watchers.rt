@@ -34,12 +34,7 @@ impl Watchers {
     }
 
     /// Adds a session to those that watch a key. Where memory is refused, nothing changes.
-    pub(crate) fn add(
-        &mut self,
-        alloc: Global,
-        key: &Key,
-        number: usize,
-    ) -> Result<(), AllocError>
+    pub(crate) fn add(&mut self, alloc: Global, key: &Key, number: usize) -> Result<(), AllocError>
         ensures ok { OnOk result (Adds self.old.table key.now number self.new.table) }
         ensures err { OnErr result (SaysSame self.old.table self.new.table) }
     {
