@@ -1,9 +1,10 @@
 -- What a change of the table at one key says of every key.
-use Rattle.std.proofs.Common.{◌≡◌, ℕ, zero, suc, ◌+◌, ◌<◌, ◌≤◌, Bool, true, false, not, cond, ◌&&◌, ◌||◌, List, [], ◌∷◌, ◌++◌, length, drop, drop-cons, get_or, Option, Some, None, nat_eq, refl, sym, ap, ◌∙◌, arith}
+use Rattle.std.proofs.Common.{◌≡◌, ◌≢◌, ℕ, zero, suc, ◌+◌, ◌<◌, ◌≤◌, Bool, true, false, not, cond, ◌&&◌, ◌||◌, List, [], ◌∷◌, ◌++◌, length, drop, drop-cons, get_or, Option, Some, None, Result, Ok, Err, OnOk, OnErr, nat_eq, refl, sym, ap, ◌∙◌, arith}
 use Rattle.std.specs.List.{list_any, filter}
 use Rattle.std.specs.Global.{Vec}
 use Rattle.std.specs.Ordering.{is_eq}
-use Rattle.std.specs.BTreeMap.{get}
+use Rattle.std.specs.BTreeMap.{get, is_at}
+use Rattle.std.specs.Map.{lookup}
 use Rattle.std.proofs.lemmas.List.{drop_all}
 use Rattle.std.proofs.lemmas.List.Folds.{list_any-append}
 use Rattle.std.proofs.lemmas.Map.Text.{is_eq-slice_cmp}
@@ -14,7 +15,7 @@ use Rattle.kv_types.specs.Keyspace.{bytes_cmp}
 use Rattle.cmd_core.specs.Contents.{same_bytes}
 use Rattle.multi_watch.specs.declared.watch.Watch.{Watch}
 use Rattle.multi_watch.specs.Session.{is_watched}
-use Rattle.multi_watch.specs.Watchers.{Table, numbers_of, has_number, watches, SaysSame, Adds, Removes}
+use Rattle.multi_watch.specs.Watchers.{Table, numbers_of, has_number, watches, SaysSame, Adds, Removes, EachWatched}
 
 same_is : (x y : List ℕ) → same_bytes x y ≡ true → x ≡ y
 same_is x y same = (bytes_eq-Decides x y).0 same
@@ -68,6 +69,51 @@ module _ (old new : Table) (key : List ℕ) (slot : Option (Vec ℕ)) (becomes :
     by_same : (same : Bool) → same_bytes key q ≡ same → watches new q n ≡ (watches old q n && not (same_bytes key q && nat_eq number n))
     by_same true is = at_key q n true is ∙ slot_is n ∙ ap (λ b. b && not (nat_eq number n)) (old_at q n is) ∙ ap (λ s. watches old q n && not (s && nat_eq number n)) (sym is)
     by_same false is = at_key q n false is ∙ sym (and_true (watches old q n)) ∙ ap (λ s. watches old q n && not (s && nat_eq number n)) (sym is)
+
+-- ---- no key is left that nobody watches
+
+pub one_more : (numbers : List ℕ) (number : ℕ) → numbers ++ number ∷ [] ≢ []
+one_more [] number is = let p = is in cc
+one_more (first ∷ numbers) number is = let p = is in cc
+
+module _ (old new : Table) (key : List ℕ) (watched : EachWatched old) where
+  -- the key has some sessions, and the others have what they had
+  pub still_watched : (now : Vec ℕ) → now.items ≢ [] → Becomes old key (Some now) new → EachWatched new
+  still_watched now some becomes q numbers is = by_same (same_bytes key q) refl where
+    by_same : (same : Bool) → same_bytes key q ≡ same → numbers.items ≢ []
+    by_same true same none =
+        let here : Some now ≡ Some numbers = sym (becomes q ∙ ap (λ b. cond b (Some now) (get bytes_cmp old q)) (is_eq-slice_cmp key q ∙ same)) ∙ is in
+        some (ap (λ o. numbers_of o) here ∙ none)
+    by_same false same none =
+        watched q numbers (sym (becomes q ∙ ap (λ b. cond b (Some now) (get bytes_cmp old q)) (is_eq-slice_cmp key q ∙ same)) ∙ is) none
+
+  -- the key is gone, and the others have what they had
+  pub watched_without : (left : Table) → ((other : List ℕ) → same_bytes key other ≡ false → get bytes_cmp left other ≡ get bytes_cmp old other)
+      → Becomes left key None new → EachWatched new
+  watched_without left others becomes q numbers is = by_same (same_bytes key q) refl where
+    by_same : (same : Bool) → same_bytes key q ≡ same → numbers.items ≢ []
+    by_same true same none =
+        let gone : None ≡ Some numbers = sym (becomes q ∙ ap (λ b. cond b None (get bytes_cmp left q)) (is_eq-slice_cmp key q ∙ same)) ∙ is in
+        let p = gone in cc
+    by_same false same none =
+        watched q numbers (sym (others q same) ∙ sym (becomes q ∙ ap (λ b. cond b None (get bytes_cmp left q)) (is_eq-slice_cmp key q ∙ same)) ∙ is) none
+
+-- a key has what it had where it is not the changed one
+pub others_stay : (old new : Table) (key : List ℕ) (slot : Option (Vec ℕ)) → Becomes old key slot new
+    → (other : List ℕ) → same_bytes key other ≡ false → get bytes_cmp new other ≡ get bytes_cmp old other
+others_stay old new key slot becomes other apart = becomes other ∙ ap (λ b. cond b slot (get bytes_cmp old other)) (is_eq-slice_cmp key other ∙ apart)
+
+-- a list that grew, or stayed as it was
+pub some_still : (grew : Bool) (numbers : List ℕ) (number : ℕ) → numbers ≢ [] → cond grew (numbers ++ number ∷ []) numbers ≢ []
+some_still true numbers number some = one_more numbers number
+some_still false numbers number some = some
+
+pub watched_as_before : (old new : Table) → new.entries ≡ old.entries → EachWatched old → EachWatched new
+watched_as_before old new same watched key numbers is = watched key numbers (ap (λ entries. lookup (is_at (bytes_cmp key)) entries) (sym same) ∙ is)
+
+pub either_way : {X E P Q G : Type 0} (result : Result X E) → OnOk result P → OnErr result Q → (P → G) → (Q → G) → G
+either_way (Ok x) done failed if_done if_failed = if_done done
+either_way (Err e) done failed if_done if_failed = if_failed failed
 
 -- ---- the list of one key, without a number
 

@@ -9,7 +9,7 @@ use Rattle.multi_watch.specs.declared.error.SessionError.{SessionError}
 use Rattle.multi_watch.specs.declared.error.SessionError.TheVariants.{NestedMulti, ExecOutside, DiscardOutside, WatchInside, TooLong, Aborted}
 use Rattle.multi_watch.specs.declared.verb.Verb.{Verb}
 use Rattle.multi_watch.specs.declared.verb.Verb.TheVariants as verb
-use Rattle.multi_watch.specs.declared.verb.TheConstants.{MAX_QUEUED_REQUESTS}
+use Rattle.multi_watch.specs.declared.limits.TheConstants.{MAX_QUEUED_REQUESTS}
 use Rattle.multi_watch.specs.declared.act.Act.{Act}
 use Rattle.multi_watch.specs.declared.act.Act.TheVariants as code
 use Rattle.multi_watch.specs.Session.{Session, idle_session, with_watched, watching, has_modified, spoiled}

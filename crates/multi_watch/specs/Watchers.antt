@@ -1,5 +1,5 @@
 -- Which sessions watch which keys, as the table has it.
-use Rattle.std.specs.Prelude.{◌≡◌, ℕ, Bool, ◌&&◌, ◌||◌, not, nat_eq, List, [], Option, Some, None}
+use Rattle.std.specs.Prelude.{◌≡◌, ◌≢◌, ℕ, Bool, ◌&&◌, ◌||◌, not, nat_eq, List, [], Option, Some, None}
 use Rattle.std.specs.List.{list_any}
 use Rattle.std.specs.Global.{Vec}
 use Rattle.std.specs.BTreeMap.{BTreeMap, get}
@@ -22,6 +22,10 @@ has_number number numbers = list_any (λ other. nat_eq other number) numbers
 -- the session of this number watches the key
 abbrev pub watches : Table → List ℕ → ℕ → Bool
 watches table key number = has_number number (numbers_of (get bytes_cmp table key))
+
+-- each key of the table is watched by some session
+abbrev pub EachWatched : Table → Type 0
+EachWatched table = (key : List ℕ) (numbers : Vec ℕ) → get bytes_cmp table key ≡ Some numbers → numbers.items ≢ []
 
 -- the table says the same
 abbrev pub SaysSame : Table → Table → Type 0

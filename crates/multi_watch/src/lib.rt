@@ -3,6 +3,7 @@
 
 mod act;
 mod error;
+mod limits;
 mod session;
 mod sessions;
 mod verb;
@@ -11,6 +12,7 @@ mod watchers;
 
 pub use act::Act;
 pub use error::SessionError;
+pub use limits::MAX_QUEUED_REQUESTS;
 pub use sessions::{SessionNo, Sessions};
-pub use verb::{MAX_QUEUED_REQUESTS, Verb};
+pub use verb::Verb;
 pub use watch::Watch;

@@ -11,7 +11,7 @@ ghost use Rattle.multi_watch.specs.Sessions.{HasRoom};
 
 use crate::act::Act;
 use crate::error::SessionError;
-use crate::verb::MAX_QUEUED_REQUESTS;
+use crate::limits::MAX_QUEUED_REQUESTS;
 use crate::watch::{Watch, append_reserved, has_modified, is_in, mark_all, watch_of};
 use bytes::Bytes;
 use kv_types::{Key, Reply, Request};

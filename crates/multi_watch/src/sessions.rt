@@ -84,7 +84,8 @@ impl Sessions {
         }
     }
 
-    /// A call has modified a key: each session that watches it is marked, and costs a step; other sessions cost nothing. It takes no memory.
+    /// A call has modified a key: it is marked in each session that watches it. Goes through the watches of those sessions, and of no
+    /// others; a key that nobody watches costs one look-up. It takes no memory.
     pub fn modified(&mut self, key: &Key)
         ensures { (number : ℕ) → slot self.new number ≡ option_map (modified key.now) (slot self.old number) }
     {

@@ -7,9 +7,6 @@ ghost use Rattle.multi_watch.specs.Verb as spec;
 use cmd_table::{CommandName, Misuse, read_request};
 use kv_types::Request;
 
-/// How many requests may wait in a transaction.
-pub const MAX_QUEUED_REQUESTS: usize = 256;
-
 /// What a request asks of a session.
 #[derive(Clone, Copy, Debug, PartialEq, Eq)]
 pub enum Verb {

@@ -1,6 +1,9 @@
 //! The sessions that watch each key.
 ghost use Rattle.std.specs.Prelude.{◌≡◌, ◌&&◌, ℕ, false, not, nat_eq, List, IsTrue, OnOk, OnErr};
-ghost use Rattle.multi_watch.specs.Watchers.{watches, has_number, SaysSame, Adds, Removes, AddsAll, RemovesAll};
+ghost use Rattle.multi_watch.specs.Watchers.{watches, has_number, SaysSame, Adds, Removes, AddsAll, RemovesAll, EachWatched};
+ghost use Rattle.std.specs.BTreeMap.{get};
+ghost use Rattle.kv_types.specs.Keyspace.{bytes_cmp};
+ghost use Rattle.cmd_core.specs.Contents.{same_bytes};
 
 use crate::watch::Watch;
 use kv_types::Key;
@@ -11,6 +14,8 @@ use std::collections::BTreeMap;
 #[derive(Drop)]
 pub(crate) struct Watchers {
     table: BTreeMap<Key, Vec<usize>>,
+    // A key that nobody watches takes no room.
+    ghost each_watched: { EachWatched table },
 }
 
 impl Watchers {
@@ -51,9 +56,7 @@ impl Watchers {
     pub(crate) fn remove(&mut self, key: &Key, number: usize)
         ensures { Removes self.old.table key.now number self.new.table }
     {
-        if self.take_out(key, number) {
-            self.table.remove(key);
-        }
+        remove_from(&mut self.table, key, number);
     }
 
     /// Adds a session to those that watch each of the keys, which it does not watch yet. Where memory is refused, it watches none of them.
@@ -83,18 +86,32 @@ impl Watchers {
             self.remove(&watch.key, number);
         }
     }
+}
 
-    /// Takes a session out of the list of a key, and returns whether the list is left empty.
-    fn take_out(&mut self, key: &Key, number: usize) -> bool
-        ensures removed { Removes self.old.table key.now number self.new.table }
-        ensures empty { IsTrue result → (n : ℕ) → watches self.new.table key.now n ≡ false }
-    {
-        let Some(numbers) = self.table.get_mut(key) else {
-            return false;
-        };
-        remove_number(numbers, number);
-        numbers.is_empty()
+/// Removes a session from those that watch a key, and the key where it was the last.
+fn remove_from(table: &mut BTreeMap<Key, Vec<usize>>, key: &Key, number: usize)
+    requires { EachWatched table.old }
+    ensures removed { Removes table.old key.now number table.new }
+    ensures watched { EachWatched table.new }
+{
+    if take_out(table, key, number) {
+        table.remove(key);
     }
+}
+
+/// Takes a session out of the list of a key, and returns whether the list is left empty.
+fn take_out(table: &mut BTreeMap<Key, Vec<usize>>, key: &Key, number: usize) -> bool
+    requires { EachWatched table.old }
+    ensures removed { Removes table.old key.now number table.new }
+    ensures empty { IsTrue result → (n : ℕ) → watches table.new key.now n ≡ false }
+    ensures others { (other : List ℕ) → same_bytes key.now other ≡ false → get bytes_cmp table.new other ≡ get bytes_cmp table.old other }
+    ensures watched { result ≡ false → EachWatched table.new }
+{
+    let Some(numbers) = table.get_mut(key) else {
+        return false;
+    };
+    remove_number(numbers, number);
+    numbers.is_empty()
 }
 
 fn remove_number(numbers: &mut Vec<usize>, number: usize)
