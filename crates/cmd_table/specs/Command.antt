@@ -5,7 +5,8 @@ use Rattle.cmd_table.specs.declared.name.CommandName.{CommandName}
 use Rattle.cmd_table.specs.declared.command.Command as code
 use Rattle.cmd_table.specs.declared.misuse.Misuse.{Misuse}
 use Rattle.cmd_table.specs.declared.misuse.Misuse.TheVariants.{UnknownName, WrongNumberOfWords, LongKey}
-use Rattle.cmd_table.specs.Row.{row, command_named}
+use Rattle.cmd_table.specs.declared.name.TheConstants.{COMMANDS}
+use Rattle.cmd_table.specs.Row.{row, find, command_named}
 
 pub record Command : Type 0 where
   pub name : CommandName
@@ -25,6 +26,11 @@ read_named (Some name) arguments = read_arguments name arguments
 abbrev pub read_command : List (List ℕ) → Result Command Misuse
 read_command [] = Err UnknownName
 read_command (word ∷ arguments) = read_named (command_named word) arguments
+
+-- The same, where the name may also be that of a command that is not served here.
+abbrev pub read_request : List (List ℕ) → Result Command Misuse
+read_request [] = Err UnknownName
+read_request (word ∷ arguments) = read_named (find COMMANDS word) arguments
 
 -- the reading as the code has it
 abbrev pub reading_now : Result code.Command Misuse → Result Command Misuse

@@ -1,5 +1,5 @@
 //! From the words of a request to a command, or to why it is none: tested once, over the table.
-ghost use Rattle.std.specs.Prelude.{◌≡◌, ◌≤◌, IsTrue, length, IfOk};
+ghost use Rattle.std.specs.Prelude.{◌≡◌, ◌≤◌, IsTrue, length, drop, IfOk};
 ghost use Rattle.std.specs.List.{AllByRecursion};
 ghost use Rattle.kv_types.specs.declared.limits.TheConstants.{MAX_VALUE_BYTES};
 ghost use Rattle.cmd_core.specs.Shape.{Fits};
@@ -32,8 +32,35 @@ pub fn read_command(words: &[Bytes]) -> Result<Command<'_>, Misuse>
     let Some(name) = CommandName::named(word.as_slice()) else {
         return Err(Misuse::UnknownName);
     };
+    read_arguments(name, arguments)
+}
+
+/// The command that the words name, served or not, whose arguments are as its row asks: what `read_command` reads, and besides the
+/// commands that do not run on a keyspace.
+pub fn read_request(words: &[Bytes]) -> Result<Command<'_>, Misuse>
+    requires { AllByRecursion (λ word. length word ≤ MAX_VALUE_BYTES) words.now }
+    ensures read { spec.reading_now result ≡ spec.read_request words.now }
+    ensures arguments { IfOk result (λ command. command.arguments.now ≡ drop 1 words.now) }
+    ensures fits { IfOk result (λ command. Fits (row command.name).words (row command.name).keys command.arguments.now) }
+{
+    let Some((word, arguments)) = words.split_first() else {
+        return Err(Misuse::UnknownName);
+    };
+    let Some(name) = CommandName::listed(word.as_slice()) else {
+        return Err(Misuse::UnknownName);
+    };
+    read_arguments(name, arguments)
+}
+
+fn read_arguments(name: CommandName, arguments: &[Bytes]) -> Result<Command<'_>, Misuse>
+    requires { AllByRecursion (λ word. length word ≤ MAX_VALUE_BYTES) arguments.now }
+    ensures read { spec.reading_now result ≡ spec.read_arguments name arguments.now }
+    ensures fits { IfOk result (λ command. Fits (row command.name).words (row command.name).keys command.arguments.now) }
+    ensures named { IfOk result (λ command. command.name ≡ name) }
+    ensures arguments { IfOk result (λ command. command.arguments.now ≡ arguments.now) }
+{
     let row = name.row();
-    if !row.words.takes(words.len()) {
+    if !row.words.takes(arguments.len() + 1) {
         return Err(Misuse::WrongNumberOfWords(name));
     }
     if !row.keys.are_short(arguments) {

@@ -1,5 +1,6 @@
 //! From the first word of a request to the command that it names.
 ghost use Rattle.std.specs.Prelude.{◌≡◌, IsTrue, IfSome};
+ghost use Rattle.cmd_table.specs.declared.name.TheConstants.{COMMANDS};
 ghost use Rattle.cmd_table.specs.Row as spec;
 
 use crate::name::{COMMANDS, CommandName};
@@ -14,6 +15,13 @@ impl CommandName {
             Some(name) if name.is_served() => Some(name),
             _ => None,
         }
+    }
+
+    /// The command that a word names, served or not, in any ASCII case, and `None` where there is none.
+    pub fn listed(word: &[u8]) -> Option<CommandName>
+        ensures { result ≡ spec.find COMMANDS word.now }
+    {
+        find(&COMMANDS, word)
     }
 }
 

@@ -10,7 +10,7 @@ mod name;
 mod request;
 mod row;
 
-pub use command::{Command, read_command};
+pub use command::{Command, read_command, read_request};
 pub use dispatch::run;
 pub use laws::every_command_is_found;
 pub use misuse::Misuse;

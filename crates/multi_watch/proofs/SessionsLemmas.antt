@@ -1,0 +1,126 @@
+-- Marking a key in the sessions that watch it, and adding watches that are new.
+use Rattle.std.proofs.Common.{◌≡◌, ℕ, zero, suc, ◌+◌, ◌<◌, ◌≤◌, Bool, true, false, not, cond, ◌&&◌, ◌||◌, List, [], ◌∷◌, ◌++◌, length, map, drop, drop-cons, get_or, Option, Some, None, nat_eq, refl, sym, ap, ap₂, ◌∙◌, arith}
+use Rattle.std.specs.List.{list_any}
+use Rattle.std.specs.Option.{option_map}
+use Rattle.std.proofs.lemmas.List.{drop_all}
+use Rattle.std.proofs.lemmas.Bool.{eqb-true}
+use Rattle.std.proofs.lemmas.Slice.Eq.{bytes_eq-Decides}
+use Rattle.cmd_core.specs.Contents.{same_bytes}
+use Rattle.multi_watch.specs.declared.watch.Watch.{Watch}
+use Rattle.multi_watch.specs.Session.{Session, is_watched, marked, modified}
+use Rattle.multi_watch.specs.Watchers.{Table, has_number, watches, RemovesAll}
+use Rattle.multi_watch.specs.Sessions.{Sessions, slot, session_of, session_at, marked_if, Agree}
+
+same_is : (x y : List ℕ) → same_bytes x y ≡ true → x ≡ y
+same_is x y same = (bytes_eq-Decides x y).0 same
+
+or_parts : (a b : Bool) → (a || b) ≡ false → (a ≡ false) × (b ≡ false)
+or_parts true b is = let p = is in cc
+or_parts false b is = (refl, is)
+
+-- ---- a key is marked
+
+twice : (was same : Bool) → ((was || same) || same) ≡ (was || same)
+twice true same = refl
+twice false true = refl
+twice false false = refl
+
+or_none : (was : Bool) → (was || false) ≡ was
+or_none true = refl
+or_none false = refl
+
+abbrev with_mark : List ℕ → Bool → Watch
+with_mark key is_modified = record { key = key; is_modified = is_modified }
+
+marked_again : (key : List ℕ) (watch : Watch) → marked key (marked key watch) ≡ marked key watch
+marked_again key watch = ap (λ b. with_mark watch.key b) (twice watch.is_modified (same_bytes watch.key key))
+
+marked_other : (key : List ℕ) (watch : Watch) → same_bytes watch.key key ≡ false → marked key watch ≡ watch
+marked_other key watch is = ap (λ b. with_mark watch.key (watch.is_modified || b)) is ∙ ap (λ b. with_mark watch.key b) (or_none watch.is_modified)
+
+marked_twice : (key : List ℕ) (watched : List Watch) → map (marked key) (map (marked key) watched) ≡ map (marked key) watched
+marked_twice key [] = refl
+marked_twice key (watch ∷ watched) = ap₂ (λ w ws. w ∷ ws) (marked_again key watch) (marked_twice key watched)
+
+not_marked : (key : List ℕ) (watched : List Watch) → is_watched key watched ≡ false → map (marked key) watched ≡ watched
+not_marked key [] is = refl
+not_marked key (watch ∷ watched) is =
+    let apart = or_parts (same_bytes watch.key key) (is_watched key watched) is in
+    ap₂ (λ w ws. w ∷ ws) (marked_other key watch apart.0) (not_marked key watched apart.1)
+
+-- marking leaves the watched keys as they are
+same_keys : (key other : List ℕ) (watched : List Watch) → is_watched other (map (marked key) watched) ≡ is_watched other watched
+same_keys key other [] = refl
+same_keys key other (watch ∷ watched) = ap (λ b. same_bytes watch.key other || b) (same_keys key other watched)
+
+modified_twice : (key : List ℕ) (o : Option Session) → option_map (modified key) (option_map (modified key) o) ≡ option_map (modified key) o
+modified_twice key None = refl
+modified_twice key (Some s) = ap (λ ws. Some (record s { watched = ws })) (marked_twice key s.watched)
+
+not_modified : (key : List ℕ) (o : Option Session) → is_watched key (session_of o).watched ≡ false → option_map (modified key) o ≡ o
+not_modified key None is = refl
+not_modified key (Some s) is = ap (λ ws. Some (record s { watched = ws })) (not_marked key s.watched is)
+
+-- a number that comes now, or later
+in_turn : (key : List ℕ) (here later : Bool) (o : Option Session) → marked_if key later (marked_if key here o) ≡ marked_if key (here || later) o
+in_turn key true true o = modified_twice key o
+in_turn key true false o = refl
+in_turn key false later o = refl
+
+next_number : (numbers : List ℕ) (i n : ℕ) → i < length numbers → has_number n (drop i numbers) ≡ (nat_eq (get_or numbers i 0) n || has_number n (drop (i + 1) numbers))
+next_number numbers i n within =
+    let e : suc i ≡ i + 1 = omega arith in
+    ap (has_number n) (drop-cons numbers i 0 within ∙ ap (λ m. get_or numbers i 0 ∷ drop m numbers) e)
+
+pub marked_next : (key : List ℕ) (numbers : List ℕ) (i n : ℕ) → i < length numbers → (was now : Option Session)
+    → now ≡ marked_if key (nat_eq (get_or numbers i 0) n) was → marked_if key (has_number n (drop (i + 1) numbers)) now ≡ marked_if key (has_number n (drop i numbers)) was
+marked_next key numbers i n within was now step =
+    let later = has_number n (drop (i + 1) numbers) in
+    ap (marked_if key later) step ∙ in_turn key (nat_eq (get_or numbers i 0) n) later was ∙ ap (λ b. marked_if key b was) (sym (next_number numbers i n within))
+
+pub marked_last : (key : List ℕ) (numbers : List ℕ) (i n : ℕ) → length numbers ≤ i → (now : Option Session) → now ≡ marked_if key (has_number n (drop i numbers)) now
+marked_last key numbers i n past now = ap (λ ns. marked_if key (has_number n ns) now) (sym (drop_all i numbers past))
+
+module _ (table : Table) (old : Sessions) (key : List ℕ) (agree : Agree table old) where
+  -- marking those that the table names marks all
+  pub all_marked : (n : ℕ) → marked_if key (watches table key n) (slot old n) ≡ option_map (modified key) (slot old n)
+  all_marked n = either (watches table key n) refl where
+    either : (is_there : Bool) → watches table key n ≡ is_there → marked_if key is_there (slot old n) ≡ option_map (modified key) (slot old n)
+    either true is = refl
+    either false is = sym (not_modified key (slot old n) (sym (agree key n) ∙ is))
+
+  pub agrees_still : (new : Sessions) → ((n : ℕ) → slot new n ≡ option_map (modified key) (slot old n)) → Agree table new
+  agrees_still new now other n = agree other n ∙ by_slot (slot old n) ∙ ap (λ o. is_watched other (session_of o).watched) (sym (now n)) where
+    by_slot : (o : Option Session) → is_watched other (session_of o).watched ≡ is_watched other (session_of (option_map (modified key) o)).watched
+    by_slot None = refl
+    by_slot (Some s) = sym (same_keys key other s.watched)
+
+-- ---- watches that are new
+
+apart_key : (watched fresh : List Watch) → list_any (λ watch. is_watched watch.key watched) fresh ≡ false
+    → (key : List ℕ) → is_watched key fresh ≡ true → is_watched key watched ≡ false
+apart_key watched [] none key is = let p = is in cc
+apart_key watched (watch ∷ fresh) none key is = by_same (λ apart is_later. apart_key watched fresh apart key is_later) (same_bytes watch.key key) refl where
+  parts : (is_watched watch.key watched ≡ false) × (list_any (λ other. is_watched other.key watched) fresh ≡ false)
+  parts = or_parts (is_watched watch.key watched) (list_any (λ other. is_watched other.key watched) fresh) none
+
+  by_same : (list_any (λ other. is_watched other.key watched) fresh ≡ false → is_watched key fresh ≡ true → is_watched key watched ≡ false)
+      → (same : Bool) → same_bytes watch.key key ≡ same → is_watched key watched ≡ false
+  by_same later true same = ap (λ k. is_watched k watched) (sym (same_is watch.key key same)) ∙ parts.0
+  by_same later false same = later parts.1 (ap (λ b. b || is_watched key fresh) (sym same) ∙ is)
+
+nothing_removed : (was fresh own : Bool) → (fresh ≡ true → own ≡ true → was ≡ false) → (was && not (fresh && own)) ≡ was
+nothing_removed false fresh own apart = refl
+nothing_removed true true true apart = sym (apart refl refl)
+nothing_removed true true false apart = refl
+nothing_removed true false own apart = refl
+
+-- Where none of the removed keys was watched, the table agrees as it did.
+pub agrees_without : (table new : Table) (sessions : Sessions) (fresh : List Watch) (number : ℕ) → Agree table sessions
+    → list_any (λ watch. is_watched watch.key (session_at sessions number).watched) fresh ≡ false → RemovesAll table fresh number new → Agree new sessions
+agrees_without table new sessions fresh number agree apart removes key n =
+    removes key n ∙ nothing_removed (watches table key n) (is_watched key fresh) (nat_eq number n) unwatched ∙ agree key n where
+      unwatched : is_watched key fresh ≡ true → nat_eq number n ≡ true → watches table key n ≡ false
+      unwatched is own =
+          let same : number ≡ n = eqb-true number n own in
+          ap (watches table key) (sym same) ∙ agree key number ∙ apart_key (session_at sessions number).watched fresh apart key is

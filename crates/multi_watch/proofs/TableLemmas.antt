@@ -1,0 +1,206 @@
+-- What a change of the table at one key says of every key.
+use Rattle.std.proofs.Common.{◌≡◌, ◌≢◌, ℕ, zero, suc, ◌+◌, ◌<◌, ◌≤◌, Bool, true, false, not, cond, ◌&&◌, ◌||◌, List, [], ◌∷◌, ◌++◌, length, drop, drop-cons, get_or, Option, Some, None, Result, Ok, Err, OnOk, OnErr, nat_eq, refl, sym, ap, ◌∙◌, arith}
+use Rattle.std.specs.List.{list_any, filter}
+use Rattle.std.specs.Global.{Vec}
+use Rattle.std.specs.Ordering.{is_eq}
+use Rattle.std.specs.BTreeMap.{get, is_at}
+use Rattle.std.specs.Map.{lookup}
+use Rattle.std.proofs.lemmas.List.{drop_all}
+use Rattle.std.proofs.lemmas.List.Folds.{list_any-append}
+use Rattle.std.proofs.lemmas.Map.Text.{is_eq-slice_cmp}
+use Rattle.std.proofs.lemmas.Map.Views.{any-filter_same}
+use Rattle.std.proofs.lemmas.Bool.{eqb-true}
+use Rattle.std.proofs.lemmas.Slice.Eq.{bytes_eq-Decides}
+use Rattle.kv_types.specs.Keyspace.{bytes_cmp}
+use Rattle.cmd_core.specs.Contents.{same_bytes}
+use Rattle.multi_watch.specs.declared.watch.Watch.{Watch}
+use Rattle.multi_watch.specs.Session.{is_watched}
+use Rattle.multi_watch.specs.Watchers.{Table, numbers_of, has_number, watches, SaysSame, Adds, Removes, EachWatched}
+
+same_is : (x y : List ℕ) → same_bytes x y ≡ true → x ≡ y
+same_is x y same = (bytes_eq-Decides x y).0 same
+
+or_false : (b : Bool) → (b || false) ≡ b
+or_false true = refl
+or_false false = refl
+
+and_true : (b : Bool) → (b && true) ≡ b
+and_true true = refl
+and_true false = refl
+
+and_false : (b : Bool) → (b && false) ≡ false
+and_false true = refl
+and_false false = refl
+
+or_right : (a : Bool) {b : Bool} → b ≡ true → (a || b) ≡ true
+or_right true is = refl
+or_right false is = is
+
+pub pushed : (n number : ℕ) (numbers : List ℕ) → has_number n (numbers ++ number ∷ []) ≡ (has_number n numbers || nat_eq number n)
+pushed n number numbers = list_any-append (λ other. nat_eq other n) numbers (number ∷ []) ∙ ap (λ b. has_number n numbers || b) (or_false (nat_eq number n))
+
+-- the table has this at the key, and elsewhere what it had
+abbrev pub Becomes : Table → List ℕ → Option (Vec ℕ) → Table → Type 0
+Becomes old key slot new = (q : List ℕ) → get bytes_cmp new q ≡ cond (is_eq (bytes_cmp key q)) slot (get bytes_cmp old q)
+
+module _ (old new : Table) (key : List ℕ) (slot : Option (Vec ℕ)) (becomes : Becomes old key slot new) where
+  -- a key is the changed one, or has what it had
+  at_key : (q : List ℕ) (n : ℕ) (same : Bool) → same_bytes key q ≡ same → watches new q n ≡ cond same (has_number n (numbers_of slot)) (watches old q n)
+  at_key q n true is = ap (λ o. has_number n (numbers_of o)) (becomes q ∙ ap (λ b. cond b slot (get bytes_cmp old q)) (is_eq-slice_cmp key q ∙ is))
+  at_key q n false is = ap (λ o. has_number n (numbers_of o)) (becomes q ∙ ap (λ b. cond b slot (get bytes_cmp old q)) (is_eq-slice_cmp key q ∙ is))
+
+  old_at : (q : List ℕ) (n : ℕ) → same_bytes key q ≡ true → watches old key n ≡ watches old q n
+  old_at q n is = ap (λ k. watches old k n) (same_is key q is)
+
+  pub says_same : ((n : ℕ) → has_number n (numbers_of slot) ≡ watches old key n) → SaysSame old new
+  says_same slot_is q n = by_same (same_bytes key q) refl where
+    by_same : (same : Bool) → same_bytes key q ≡ same → watches new q n ≡ watches old q n
+    by_same true is = at_key q n true is ∙ slot_is n ∙ old_at q n is
+    by_same false is = at_key q n false is
+
+  pub adds : (number : ℕ) → ((n : ℕ) → has_number n (numbers_of slot) ≡ (watches old key n || nat_eq number n)) → Adds old key number new
+  adds number slot_is q n = by_same (same_bytes key q) refl where
+    by_same : (same : Bool) → same_bytes key q ≡ same → watches new q n ≡ (watches old q n || (same_bytes key q && nat_eq number n))
+    by_same true is = at_key q n true is ∙ slot_is n ∙ ap (λ b. b || nat_eq number n) (old_at q n is) ∙ ap (λ s. watches old q n || (s && nat_eq number n)) (sym is)
+    by_same false is = at_key q n false is ∙ sym (or_false (watches old q n)) ∙ ap (λ s. watches old q n || (s && nat_eq number n)) (sym is)
+
+  pub removes : (number : ℕ) → ((n : ℕ) → has_number n (numbers_of slot) ≡ (watches old key n && not (nat_eq number n))) → Removes old key number new
+  removes number slot_is q n = by_same (same_bytes key q) refl where
+    by_same : (same : Bool) → same_bytes key q ≡ same → watches new q n ≡ (watches old q n && not (same_bytes key q && nat_eq number n))
+    by_same true is = at_key q n true is ∙ slot_is n ∙ ap (λ b. b && not (nat_eq number n)) (old_at q n is) ∙ ap (λ s. watches old q n && not (s && nat_eq number n)) (sym is)
+    by_same false is = at_key q n false is ∙ sym (and_true (watches old q n)) ∙ ap (λ s. watches old q n && not (s && nat_eq number n)) (sym is)
+
+-- ---- no key is left that nobody watches
+
+pub one_more : (numbers : List ℕ) (number : ℕ) → numbers ++ number ∷ [] ≢ []
+one_more [] number is = let p = is in cc
+one_more (first ∷ numbers) number is = let p = is in cc
+
+module _ (old new : Table) (key : List ℕ) (watched : EachWatched old) where
+  -- the key has some sessions, and the others have what they had
+  pub still_watched : (now : Vec ℕ) → now.items ≢ [] → Becomes old key (Some now) new → EachWatched new
+  still_watched now some becomes q numbers is = by_same (same_bytes key q) refl where
+    by_same : (same : Bool) → same_bytes key q ≡ same → numbers.items ≢ []
+    by_same true same none =
+        let here : Some now ≡ Some numbers = sym (becomes q ∙ ap (λ b. cond b (Some now) (get bytes_cmp old q)) (is_eq-slice_cmp key q ∙ same)) ∙ is in
+        some (ap (λ o. numbers_of o) here ∙ none)
+    by_same false same none =
+        watched q numbers (sym (becomes q ∙ ap (λ b. cond b (Some now) (get bytes_cmp old q)) (is_eq-slice_cmp key q ∙ same)) ∙ is) none
+
+  -- the key is gone, and the others have what they had
+  pub watched_without : (left : Table) → ((other : List ℕ) → same_bytes key other ≡ false → get bytes_cmp left other ≡ get bytes_cmp old other)
+      → Becomes left key None new → EachWatched new
+  watched_without left others becomes q numbers is = by_same (same_bytes key q) refl where
+    by_same : (same : Bool) → same_bytes key q ≡ same → numbers.items ≢ []
+    by_same true same none =
+        let gone : None ≡ Some numbers = sym (becomes q ∙ ap (λ b. cond b None (get bytes_cmp left q)) (is_eq-slice_cmp key q ∙ same)) ∙ is in
+        let p = gone in cc
+    by_same false same none =
+        watched q numbers (sym (others q same) ∙ sym (becomes q ∙ ap (λ b. cond b None (get bytes_cmp left q)) (is_eq-slice_cmp key q ∙ same)) ∙ is) none
+
+-- a key has what it had where it is not the changed one
+pub others_stay : (old new : Table) (key : List ℕ) (slot : Option (Vec ℕ)) → Becomes old key slot new
+    → (other : List ℕ) → same_bytes key other ≡ false → get bytes_cmp new other ≡ get bytes_cmp old other
+others_stay old new key slot becomes other apart = becomes other ∙ ap (λ b. cond b slot (get bytes_cmp old other)) (is_eq-slice_cmp key other ∙ apart)
+
+-- a list that grew, or stayed as it was
+pub some_still : (grew : Bool) (numbers : List ℕ) (number : ℕ) → numbers ≢ [] → cond grew (numbers ++ number ∷ []) numbers ≢ []
+some_still true numbers number some = one_more numbers number
+some_still false numbers number some = some
+
+pub watched_as_before : (old new : Table) → new.entries ≡ old.entries → EachWatched old → EachWatched new
+watched_as_before old new same watched key numbers is = watched key numbers (ap (λ entries. lookup (is_at (bytes_cmp key)) entries) (sym same) ∙ is)
+
+pub either_way : {X E P Q G : Type 0} (result : Result X E) → OnOk result P → OnErr result Q → (P → G) → (Q → G) → G
+either_way (Ok x) done failed if_done if_failed = if_done done
+either_way (Err e) done failed if_done if_failed = if_failed failed
+
+-- ---- the list of one key, without a number
+
+equal_sym : (m n : ℕ) → nat_eq m n ≡ nat_eq n m
+equal_sym m n = grind arith
+
+and_sym : (a b : Bool) → (a && b) ≡ (b && a)
+and_sym true true = refl
+and_sym true false = refl
+and_sym false true = refl
+and_sym false false = refl
+
+pub filtered : (n number : ℕ) (numbers : List ℕ) → has_number n (filter (λ x. not (nat_eq x number)) numbers) ≡ (has_number n numbers && not (nat_eq number n))
+filtered n number numbers =
+    any-filter_same (λ x. nat_eq x n) (λ x. not (nat_eq x number)) (not (nat_eq number n)) (λ x is. ap (λ y. not (nat_eq y number)) (eqb-true x n is) ∙ ap not (equal_sym n number)) numbers
+    ∙ and_sym (not (nat_eq number n)) (has_number n numbers)
+
+-- ---- one key after another
+
+-- the keys from the next on
+pub next_watched : (watched : List Watch) (i : ℕ) (watch : Watch) → i < length watched → watch ≡ get_or watched i watch
+    → (key : List ℕ) → is_watched key (drop i watched) ≡ (same_bytes watch.key key || is_watched key (drop (i + 1) watched))
+next_watched watched i watch within is key =
+    let cons = drop-cons watched i watch within in
+    let e : suc i ≡ i + 1 = omega arith in
+    ap (is_watched key) (cons ∙ ap (λ w. w ∷ drop (suc i) watched) (sym is) ∙ ap (λ n. watch ∷ drop n watched) e)
+
+none_left : (watched : List Watch) (i : ℕ) → length watched ≤ i → (key : List ℕ) → is_watched key (drop i watched) ≡ false
+none_left watched i past key = ap (is_watched key) (drop_all i watched past)
+
+-- one is removed here, and the rest below
+remove_in_turn : (was here later own : Bool) → ((was && not (here && own)) && not (later && own)) ≡ (was && not ((here || later) && own))
+remove_in_turn false here later own = refl
+remove_in_turn true true true true = refl
+remove_in_turn true true false true = refl
+remove_in_turn true false later own = refl
+remove_in_turn true true true false = refl
+remove_in_turn true true false false = refl
+
+pub removed_next : (watched : List Watch) (i : ℕ) (watch : Watch) → i < length watched → watch ≡ get_or watched i watch
+    → (key : List ℕ) (n number : ℕ) (was now : Bool) → now ≡ (was && not (same_bytes watch.key key && nat_eq number n))
+    → (now && not (is_watched key (drop (i + 1) watched) && nat_eq number n)) ≡ (was && not (is_watched key (drop i watched) && nat_eq number n))
+removed_next watched i watch within is key n number was now after =
+    ap (λ b. b && not (is_watched key (drop (i + 1) watched) && nat_eq number n)) after
+    ∙ remove_in_turn was (same_bytes watch.key key) (is_watched key (drop (i + 1) watched)) (nat_eq number n)
+    ∙ ap (λ b. was && not (b && nat_eq number n)) (sym (next_watched watched i watch within is key))
+
+pub removed_last : (watched : List Watch) (i : ℕ) (key : List ℕ) (n number : ℕ) (now : Bool) → length watched ≤ i
+    → now ≡ (now && not (is_watched key (drop i watched) && nat_eq number n))
+removed_last watched i key n number now past =
+    sym (and_true now) ∙ ap (λ b. now && not (b && nat_eq number n)) (sym (none_left watched i past key))
+
+add_in_turn : (was here later own : Bool) → ((was || (here && own)) || (later && own)) ≡ (was || ((here || later) && own))
+add_in_turn true here later own = refl
+add_in_turn false true true true = refl
+add_in_turn false true false true = refl
+add_in_turn false false later own = refl
+add_in_turn false true true false = refl
+add_in_turn false true false false = refl
+
+pub added_next : (watched : List Watch) (i : ℕ) (watch : Watch) → i < length watched → watch ≡ get_or watched i watch
+    → (key : List ℕ) (n number : ℕ) (was now : Bool) → now ≡ (was || (same_bytes watch.key key && nat_eq number n))
+    → (now || (is_watched key (drop (i + 1) watched) && nat_eq number n)) ≡ (was || (is_watched key (drop i watched) && nat_eq number n))
+added_next watched i watch within is key n number was now after =
+    ap (λ b. b || (is_watched key (drop (i + 1) watched) && nat_eq number n)) after
+    ∙ add_in_turn was (same_bytes watch.key key) (is_watched key (drop (i + 1) watched)) (nat_eq number n)
+    ∙ ap (λ b. was || (b && nat_eq number n)) (sym (next_watched watched i watch within is key))
+
+pub added_last : (watched : List Watch) (i : ℕ) (key : List ℕ) (n number : ℕ) (now : Bool) → length watched ≤ i
+    → now ≡ (now || (is_watched key (drop i watched) && nat_eq number n))
+added_last watched i key n number now past =
+    sym (or_false now) ∙ ap (λ b. now || (b && nat_eq number n)) (sym (none_left watched i past key))
+
+-- What was added before the rest is removed with the whole. Each of the rest is one of the whole.
+drop_watched : (watched : List Watch) (i : ℕ) (key : List ℕ) → is_watched key (drop i watched) ≡ true → is_watched key watched ≡ true
+drop_watched [] zero key is = is
+drop_watched [] (suc i) key is = is
+drop_watched (watch ∷ watched) zero key is = is
+drop_watched (watch ∷ watched) (suc i) key is = or_right (same_bytes watch.key key) (drop_watched watched i key is)
+
+undo : (old now whole rest own : Bool) → (rest ≡ true → whole ≡ true) → (now || (rest && own)) ≡ (old || (whole && own)) → (now && not (whole && own)) ≡ (old && not (whole && own))
+undo old now true rest true within same = and_false now ∙ sym (and_false old)
+undo old now true rest false within same = and_true now ∙ sym (or_false now) ∙ ap (λ b. now || b) (sym (and_false rest)) ∙ same ∙ or_false old ∙ sym (and_true old)
+undo old now false true own within same = let p = within refl in cc
+undo old now false false own within same = and_true now ∙ sym (or_false now) ∙ same ∙ or_false old ∙ sym (and_true old)
+
+pub undone : (watched : List Watch) (i : ℕ) (key : List ℕ) (n number : ℕ) (old now : Bool)
+    → (now || (is_watched key (drop i watched) && nat_eq number n)) ≡ (old || (is_watched key watched && nat_eq number n))
+    → (now && not (is_watched key watched && nat_eq number n)) ≡ (old && not (is_watched key watched && nat_eq number n))
+undone watched i key n number old now = undo old now (is_watched key watched) (is_watched key (drop i watched)) (nat_eq number n) (drop_watched watched i key)

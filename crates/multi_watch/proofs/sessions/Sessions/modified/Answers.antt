@@ -1,0 +1,24 @@
+use Rattle.std.proofs.Common.{◌≡◌, ℕ, ap, ◌∙◌, rules}
+use Rattle.std.specs.Option.{option_map}
+use Rattle.multi_watch.specs.Session.{modified}
+use Rattle.multi_watch.specs.Sessions.{slot, marked_if}
+use Rattle.multi_watch.proofs.SessionsLemmas.{all_marked, agrees_still}
+use Rattle.multi_watch.proofs.sessions.Sessions.modified.Goals as goal
+
+pub invariant_of-self : goal.invariant_of-self
+invariant_of-self c =
+    let key = c.args.key.now in
+    let old = c.self.inside.sessions.slots in
+    let table = c.self.inside.watchers.table in
+    let all : (n : ℕ) → slot c.mark_all.new.sessions.slots n ≡ option_map (modified key) (slot old n)
+    = λ n. (c.mark_all.ensures n ∙ ap (λ b. marked_if key b (slot old n)) (c.of.ensures n) ∙ all_marked table old key c.self.invariant n) in
+    agrees_still table old key c.self.invariant c.mark_all.new.sessions.slots all
+
+pub returns : goal.returns
+returns c =
+    let key = c.args.key.now in
+    let old = c.self.inside.sessions.slots in
+    let table = c.self.inside.watchers.table in
+    let all : (n : ℕ) → slot c.mark_all.new.sessions.slots n ≡ option_map (modified key) (slot old n)
+    = λ n. (c.mark_all.ensures n ∙ ap (λ b. marked_if key b (slot old n)) (c.of.ensures n) ∙ all_marked table old key c.self.invariant n) in
+    search (rules, all)

@@ -1,0 +1,6 @@
+pub mod Session
+pub mod Error
+pub mod Verb
+pub mod Admission
+pub mod Watchers
+pub mod Sessions

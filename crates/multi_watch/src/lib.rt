@@ -1,0 +1,18 @@
+//! Sessions: the transaction of each connection, and the keys that it watches.
+#![tactic(auto)]
+
+mod act;
+mod error;
+mod limits;
+mod session;
+mod sessions;
+mod verb;
+mod watch;
+mod watchers;
+
+pub use act::Act;
+pub use error::SessionError;
+pub use limits::MAX_QUEUED_REQUESTS;
+pub use sessions::{SessionNo, Sessions};
+pub use verb::Verb;
+pub use watch::Watch;

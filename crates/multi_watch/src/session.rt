@@ -1,0 +1,186 @@
+//! What one connection has set up.
+ghost use Rattle.std.specs.Prelude.{◌≡◌, ◌≤◌, ◌+◌, false, ◌++◌, [], length, vec_len, IsTrue, IfOk, OnOk, OnErr};
+ghost use Rattle.std.specs.List.{list_any};
+ghost use Rattle.std.specs.Vec.{vec_capacity};
+ghost use Rattle.cmd_core.specs.declared.shape.Keys.TheVariants as shape;
+ghost use Rattle.cmd_core.specs.Shape.{are_short};
+ghost use Rattle.multi_watch.specs.Session as spec;
+ghost use Rattle.multi_watch.specs.Session.{idle_session, spoiled, closed, watching, with_watched, is_watched};
+ghost use Rattle.multi_watch.specs.Admission.{act_now, after_multi, after_closing, after_waiting};
+ghost use Rattle.multi_watch.specs.Sessions.{HasRoom};
+
+use crate::act::Act;
+use crate::error::SessionError;
+use crate::limits::MAX_QUEUED_REQUESTS;
+use crate::watch::{Watch, append_reserved, has_modified, is_in, mark_all, watch_of};
+use bytes::Bytes;
+use kv_types::{Key, Reply, Request};
+use std::alloc::{AllocError, Global};
+use std::marker::Model;
+use std::mem;
+
+/// The transaction of a connection, and the keys that it watches.
+#[derive(Drop)]
+pub(crate) struct Session {
+    is_open: bool,
+    queue: Vec<Request>,
+    is_spoiled: bool,
+    watched: Vec<Watch>,
+}
+
+impl Model for Session {
+    ghost use Rattle.multi_watch.specs.Session as spec;
+
+    ghost Value = { spec.Session };
+
+    ghost view = { λ s. record { is_open = s.is_open; queue = s.queue.items; is_spoiled = s.is_spoiled; watched = s.watched.items } };
+}
+
+impl Session {
+    /// No transaction is open and no key is watched. It takes no memory.
+    pub(crate) fn new(alloc: Global) -> Session
+        ensures { result ≡ idle_session }
+    {
+        Session {
+            is_open: false,
+            queue: Vec::new(alloc),
+            is_spoiled: false,
+            watched: Vec::new(alloc),
+        }
+    }
+
+    /// Whether a transaction is open.
+    pub(crate) fn is_open(&self) -> bool
+        ensures { result ≡ self.now.is_open }
+    {
+        self.is_open
+    }
+
+    /// The watched keys.
+    pub(crate) fn watched(&self) -> &[Watch]
+        ensures { result.now ≡ self.now.watched }
+    {
+        self.watched.as_slice()
+    }
+
+    /// MULTI. It takes no memory.
+    pub(crate) fn multi(&mut self) -> Act
+        ensures act { act_now result ≡ (after_multi self.old).admission }
+        ensures session { self.new ≡ (after_multi self.old).session }
+        ensures room { HasRoom result }
+    {
+        if self.is_open {
+            return SessionError::NestedMulti.answer();
+        }
+        self.is_open = true;
+        self.queue.clear();
+        self.is_spoiled = false;
+        Act::ok()
+    }
+
+    /// A request that waits for EXEC. Where memory is refused, the transaction is spoiled.
+    pub(crate) fn wait(&mut self, request: Request) -> Result<Act, AllocError>
+        ensures act { IfOk result (λ act. act_now act ≡ (after_waiting request self.old).admission) }
+        ensures session { OnOk result (self.new ≡ (after_waiting request self.old).session) }
+        ensures room { IfOk result HasRoom }
+        ensures err { OnErr result (self.new ≡ spoiled self.old) }
+    {
+        if self.queue.len() >= MAX_QUEUED_REQUESTS {
+            self.spoil();
+            return Ok(SessionError::TooLong.answer());
+        }
+        match self.queue.push(request) {
+            Ok(()) => Ok(Act::queued()),
+            Err(refused) => {
+                self.spoil();
+                Err(refused.into())
+            }
+        }
+    }
+
+    /// A transaction that is open will not run.
+    pub(crate) fn spoil(&mut self)
+        ensures { self.new ≡ spoiled self.old }
+    {
+        self.is_spoiled = self.is_open || self.is_spoiled;
+    }
+
+    /// EXEC of an open transaction, which leaves the watched keys to be forgotten. Where memory is refused, nothing changes.
+    pub(crate) fn exec(&mut self, alloc: Global) -> Result<Act, AllocError>
+        ensures act { IfOk result (λ act. act_now act ≡ (after_closing self.old).admission) }
+        ensures session { OnOk result (self.new ≡ closed self.old) }
+        ensures room { IfOk result HasRoom }
+        ensures err { OnErr result (self.new ≡ self.old) }
+    {
+        if self.is_spoiled {
+            self.discard(alloc);
+            return Ok(SessionError::Aborted.answer());
+        }
+        if has_modified(&self.watched) {
+            self.discard(alloc);
+            return Ok(Act::Answer(Reply::NullArray));
+        }
+        let replies = Vec::with_capacity(alloc, self.queue.len())?;
+        let requests = self.discard(alloc);
+        Ok(Act::RunAll { requests, replies })
+    }
+
+    /// Closes the transaction, which leaves the watched keys to be forgotten, and returns the requests that waited in it. It takes no memory.
+    pub(crate) fn discard(&mut self, alloc: Global) -> Vec<Request>
+        ensures queue { result.items ≡ self.old.queue }
+        ensures session { self.new ≡ closed self.old }
+    {
+        self.is_open = false;
+        self.is_spoiled = false;
+        mem::replace(&mut self.queue, Vec::new(alloc))
+    }
+
+    /// Forgets the watched keys, and returns them. It takes no memory.
+    pub(crate) fn forget(&mut self, alloc: Global) -> Vec<Watch>
+        ensures watched { result.items ≡ self.old.watched }
+        ensures session { self.new ≡ with_watched [] self.old }
+    {
+        mem::replace(&mut self.watched, Vec::new(alloc))
+    }
+
+    /// The watches that are to be added, so that these keys are watched.
+    pub(crate) fn fresh(&self, alloc: Global, keys: &[Bytes]) -> Result<Vec<Watch>, AllocError>
+        requires short { IsTrue (are_short shape.All keys.now) }
+        ensures watching { IfOk result (λ fresh. self.now.watched ++ fresh.items ≡ watching keys.now self.now.watched) }
+        ensures apart { IfOk result (λ fresh. list_any (λ watch. is_watched watch.key self.now.watched) fresh.items ≡ false) }
+    {
+        let mut fresh = Vec::new(alloc);
+        for key in keys {
+            if !is_in(&self.watched, key) && !is_in(&fresh, key) {
+                fresh.push(watch_of(key)?)?;
+            }
+        }
+        Ok(fresh)
+    }
+
+    /// An empty list with room for the watched keys and these.
+    pub(crate) fn room_for(&self, alloc: Global, fresh: &[Watch]) -> Result<Vec<Watch>, AllocError>
+        ensures empty { IfOk result (λ room. room.items ≡ []) }
+        ensures room { IfOk result (λ room. length self.now.watched + length fresh.now ≤ vec_capacity room) }
+    {
+        Vec::with_capacity(alloc, self.watched.len() + fresh.len())
+    }
+
+    /// Watches more keys, in the room that was made for them. It takes no memory.
+    pub(crate) fn watch(&mut self, fresh: Vec<Watch>, room: Vec<Watch>)
+        requires empty { room.items ≡ [] }
+        requires room { length self.old.watched + length fresh.items ≤ vec_capacity room }
+        ensures { self.new ≡ with_watched (self.old.watched ++ fresh.items) self.old }
+    {
+        let old = mem::replace(&mut self.watched, room);
+        append_reserved(&mut self.watched, old);
+        append_reserved(&mut self.watched, fresh);
+    }
+
+    /// A call has modified a key. It takes no memory.
+    pub(crate) fn mark(&mut self, key: &Key)
+        ensures { self.new ≡ spec.modified key.now self.old }
+    {
+        mark_all(&mut self.watched, key);
+    }
+}

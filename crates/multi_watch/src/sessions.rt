@@ -1,0 +1,266 @@
+//! The sessions of all connections.
+ghost use Rattle.std.specs.Prelude.{◌≡◌, ◌≢◌, ℕ, List, [], nat_eq, IsTrue, IsSome, None, Some, drop, ◌↔◌, IfOk, IfErr, OnErr, OnOk};
+ghost use Rattle.std.specs.Option.{option_map};
+ghost use Rattle.cmd_core.specs.declared.shape.Keys.TheVariants as shape;
+ghost use Rattle.cmd_core.specs.Shape.{are_short};
+ghost use Rattle.multi_watch.specs.Session as spec;
+ghost use Rattle.multi_watch.specs.Session.{idle_session, spoiled, with_watched, modified};
+ghost use Rattle.multi_watch.specs.Admission.{admit, step, step_of, act_now, session_after_refusal, spoiled_if_open};
+ghost use Rattle.multi_watch.specs.Admission.{after_misuse, after_exec, after_discard, after_watch, after_unwatch, after_other};
+ghost use Rattle.multi_watch.specs.Watchers.{has_number};
+ghost use Rattle.multi_watch.specs.Sessions.{slot, session_at, Moves, Steps, marked_if};
+
+use crate::act::Act;
+use crate::error::SessionError;
+use crate::session::Session;
+use crate::verb::Verb;
+use crate::watchers::Watchers;
+use bytes::Bytes;
+use cmd_table::Misuse;
+use kv_types::{Key, Refusal, Reply, Request};
+use slab::Slab;
+use std::alloc::{AllocError, Global};
+use std::marker::Model;
+
+/// The number of an open session. A number that was closed may be given out again.
+#[derive(Clone, Copy, Debug, PartialEq, Eq)]
+pub struct SessionNo(pub usize);
+
+/// The sessions of all connections, and which of them watch which keys. A clause sees the session of each number that is open.
+#[derive(Drop)]
+pub struct Sessions {
+    sessions: Slab<Session>,
+    watchers: Watchers,
+}
+
+impl Model for Sessions {
+    ghost use Rattle.multi_watch.specs.Sessions as spec;
+
+    ghost Value = { spec.Sessions };
+
+    ghost view = { λ s. s.sessions.slots };
+
+    ghost invariant = { λ s. spec.Agree s.watchers.table s.sessions.slots };
+}
+
+impl Sessions {
+    /// No session is open. It takes no memory.
+    pub fn new(alloc: Global) -> Sessions
+        ensures { (number : ℕ) → slot result number ≡ None }
+    {
+        Sessions {
+            sessions: Slab::new(alloc),
+            watchers: Watchers::new(alloc),
+        }
+    }
+
+    /// Whether a number is open.
+    pub fn is_opened(&self, number: SessionNo) -> bool
+        ensures { IsTrue result ↔ IsSome (slot self.now number.0) }
+    {
+        self.sessions.contains(number.0)
+    }
+
+    /// Opens an idle session, under a number that was not open.
+    ///
+    /// # Errors
+    ///
+    /// Only `Memory`. Nothing has changed then.
+    pub fn open(&mut self, alloc: Global) -> Result<SessionNo, Refusal>
+        ensures fresh { IfOk result (λ number. slot self.old number.0 ≡ None) }
+        ensures opened { IfOk result (λ number. Moves self.old number.0 (Some idle_session) self.new) }
+        ensures cause { IfErr result (λ refusal. refusal ≡ Refusal.Memory) }
+        ensures err { OnErr result (self.new ≡ self.old) }
+    {
+        Ok(SessionNo(self.sessions.insert(Session::new(alloc))?))
+    }
+
+    /// Closes a session: its queue and its watches are gone. A number that is not open changes nothing. It takes no memory.
+    pub fn close(&mut self, number: SessionNo)
+        ensures { Moves self.old number.0 None self.new }
+    {
+        if let Some(session) = self.sessions.try_remove(number.0) {
+            self.watchers.remove_all(session.watched(), number.0);
+        }
+    }
+
+    /// A call has modified a key: it is marked in each session that watches it. Goes through the watches of those sessions, and of no
+    /// others; a key that nobody watches costs one look-up. It takes no memory.
+    pub fn modified(&mut self, key: &Key)
+        ensures { (number : ℕ) → slot self.new number ≡ option_map (modified key.now) (slot self.old number) }
+    {
+        mark_all(&mut self.sessions, self.watchers.of(key), key);
+    }
+
+    /// What is to be done for a request of the session with an open number.
+    ///
+    /// # Errors
+    ///
+    /// Only `Memory`. The session is as it was then, but a transaction in which the request would have waited is spoiled.
+    pub fn call(
+        &mut self,
+        alloc: Global,
+        number: SessionNo,
+        request: Request,
+    ) -> Result<Act, Refusal>
+        requires opened { IsSome (slot self.old number.0) }
+        ensures ok { IfOk result (λ act. Steps self.old number.0 (step (session_at self.old number.0) request) act self.new) }
+        ensures cause { IfErr result (λ refusal. refusal ≡ Refusal.Memory) }
+        ensures err { OnErr result (Moves self.old number.0 (Some (session_after_refusal (session_at self.old number.0) request)) self.new) }
+    {
+        Ok(self.called(alloc, number, request)?)
+    }
+
+    fn called(
+        &mut self,
+        alloc: Global,
+        number: SessionNo,
+        request: Request,
+    ) -> Result<Act, AllocError>
+        requires opened { IsSome (slot self.old number.0) }
+        ensures ok { IfOk result (λ act. Steps self.old number.0 (step (session_at self.old number.0) request) act self.new) }
+        ensures err { OnErr result (Moves self.old number.0 (Some (session_after_refusal (session_at self.old number.0) request)) self.new) }
+    {
+        match Verb::of(&request) {
+            Verb::Misused(misuse) => self.misused(alloc, number, misuse),
+            Verb::Quit => Ok(Act::Run(request)),
+            Verb::Multi => Ok(self.sessions[number.0].multi()),
+            Verb::Exec => self.exec(alloc, number),
+            Verb::Discard => Ok(self.discard(alloc, number)),
+            Verb::Watch => self.watch(alloc, number, arguments(&request)),
+            Verb::Unwatch => self.unwatch(alloc, number, request),
+            Verb::Other => self.other(number, request),
+        }
+    }
+
+    /// A request that is no command. Where memory is refused, nothing changes.
+    fn misused(
+        &mut self,
+        alloc: Global,
+        number: SessionNo,
+        misuse: Misuse,
+    ) -> Result<Act, AllocError>
+        requires opened { IsSome (slot self.old number.0) }
+        ensures ok { IfOk result (λ act. Steps self.old number.0 (after_misuse misuse (session_at self.old number.0)) act self.new) }
+        ensures err { OnErr result (self.new ≡ self.old) }
+    {
+        let text = misuse.text(alloc)?;
+        self.sessions[number.0].spoil();
+        Ok(Act::Answer(Reply::Error(text)))
+    }
+
+    fn exec(&mut self, alloc: Global, number: SessionNo) -> Result<Act, AllocError>
+        requires opened { IsSome (slot self.old number.0) }
+        ensures ok { IfOk result (λ act. Steps self.old number.0 (after_exec (session_at self.old number.0)) act self.new) }
+        ensures err { OnErr result (self.new ≡ self.old) }
+    {
+        let session = &mut self.sessions[number.0];
+        if !session.is_open() {
+            return Ok(SessionError::ExecOutside.answer());
+        }
+        let act = session.exec(alloc)?;
+        self.forget(alloc, number);
+        Ok(act)
+    }
+
+    /// DISCARD. It takes no memory.
+    fn discard(&mut self, alloc: Global, number: SessionNo) -> Act
+        requires opened { IsSome (slot self.old number.0) }
+        ensures { Steps self.old number.0 (after_discard (session_at self.old number.0)) result self.new }
+    {
+        let session = &mut self.sessions[number.0];
+        if !session.is_open() {
+            return SessionError::DiscardOutside.answer();
+        }
+        session.discard(alloc);
+        self.forget(alloc, number);
+        Act::ok()
+    }
+
+    /// WATCH. Where memory is refused, nothing changes.
+    fn watch(&mut self, alloc: Global, number: SessionNo, keys: &[Bytes]) -> Result<Act, AllocError>
+        requires opened { IsSome (slot self.old number.0) }
+        requires short { IsTrue (are_short shape.All keys.now) }
+        ensures ok { IfOk result (λ act. Steps self.old number.0 (after_watch keys.now (session_at self.old number.0)) act self.new) }
+        ensures err { OnErr result (self.new ≡ self.old) }
+    {
+        let session = &self.sessions[number.0];
+        if session.is_open() {
+            return Ok(SessionError::WatchInside.answer());
+        }
+        let fresh = session.fresh(alloc, keys)?;
+        let room = session.room_for(alloc, &fresh)?;
+        self.watchers.add_all(alloc, &fresh, number.0)?;
+        self.sessions[number.0].watch(fresh, room);
+        Ok(Act::ok())
+    }
+
+    /// UNWATCH, which waits in a transaction. Where memory is refused there, the transaction is spoiled.
+    fn unwatch(
+        &mut self,
+        alloc: Global,
+        number: SessionNo,
+        request: Request,
+    ) -> Result<Act, AllocError>
+        requires opened { IsSome (slot self.old number.0) }
+        ensures ok { IfOk result (λ act. Steps self.old number.0 (after_unwatch request (session_at self.old number.0)) act self.new) }
+        ensures err { OnErr result (Moves self.old number.0 (Some (spoiled_if_open (session_at self.old number.0))) self.new) }
+    {
+        let session = &mut self.sessions[number.0];
+        if session.is_open() {
+            return session.wait(request);
+        }
+        self.forget(alloc, number);
+        Ok(Act::ok())
+    }
+
+    /// A command that runs on the keyspace, and waits in a transaction. Where memory is refused there, the transaction is spoiled.
+    fn other(&mut self, number: SessionNo, request: Request) -> Result<Act, AllocError>
+        requires opened { IsSome (slot self.old number.0) }
+        ensures ok { IfOk result (λ act. Steps self.old number.0 (after_other request (session_at self.old number.0)) act self.new) }
+        ensures err { OnErr result (Moves self.old number.0 (Some (spoiled_if_open (session_at self.old number.0))) self.new) }
+    {
+        let session = &mut self.sessions[number.0];
+        if session.is_open() {
+            return session.wait(request);
+        }
+        Ok(Act::Run(request))
+    }
+
+    /// Forgets all watches of a session. It takes no memory.
+    fn forget(&mut self, alloc: Global, number: SessionNo)
+        requires opened { IsSome (slot self.old number.0) }
+        ensures { Moves self.old number.0 (Some (with_watched [] (session_at self.old number.0))) self.new }
+    {
+        let forgotten = self.sessions[number.0].forget(alloc);
+        self.watchers.remove_all(&forgotten, number.0);
+    }
+}
+
+/// The words after the name.
+fn arguments(request: &Request) -> &[Bytes]
+    ensures { result.now ≡ drop 1 request.now }
+{
+    match request.words() {
+        [_, arguments @ ..] => arguments,
+        [] => &[],
+    }
+}
+
+/// Marks a key in the sessions of these numbers.
+fn mark_all(sessions: &mut Slab<Session>, numbers: &[usize], key: &Key)
+    ensures { (n : ℕ) → slot sessions.new.slots n ≡ marked_if key.now (has_number n numbers.now) (slot sessions.old.slots n) }
+{
+    for number in numbers {
+        mark(sessions, *number, key);
+    }
+}
+
+/// Marks a key in the session of one number.
+fn mark(sessions: &mut Slab<Session>, number: usize, key: &Key)
+    ensures { (n : ℕ) → slot sessions.new.slots n ≡ marked_if key.now (nat_eq number n) (slot sessions.old.slots n) }
+{
+    if let Some(session) = sessions.get_mut(number) {
+        session.mark(key);
+    }
+}
