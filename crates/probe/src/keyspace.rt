@@ -5,7 +5,7 @@ use crate::command;
 use crate::words::{bytes, change, changes, key, number, record_id};
 use bytes::Bytes;
 use cmd_core::{Lookup, check_hash};
-use kv_types::{Key, PlainKeyspace, Value, changes_fit};
+use kv_types::{Field, Key, PlainKeyspace, Value, changes_fit};
 use std::alloc::Global;
 
 /// The most bytes that a key or a value is made of.
@@ -119,10 +119,20 @@ fn fields_text(alloc: Global, keyspace: &PlainKeyspace, key: &[u8]) -> Result<St
     }
     let mut answer = keyspace.count_fields(key).to_string(alloc)?;
     for (field, _) in keyspace.fields(alloc, key)? {
-        let value = keyspace.field(key, field.as_slice());
-        let value = hexed_or_none(alloc, value.map(|value| value.as_slice()))?;
-        let field = hexed(alloc, field.as_slice())?;
-        add_word(&mut answer, &format!(in alloc; "{field}={value}")?)?;
+        add_word(&mut answer, &field_text(alloc, keyspace, key, &field)?)?;
     }
     Ok(answer)
+}
+
+/// A field of the hash at a key, as `FIELD=VALUE`.
+fn field_text(
+    alloc: Global,
+    keyspace: &PlainKeyspace,
+    key: &[u8],
+    field: &Field,
+) -> Result<String, Cause> {
+    let value = keyspace.field(key, field.as_slice());
+    let value = hexed_or_none(alloc, value.map(|value| value.as_slice()))?;
+    let field = hexed(alloc, field.as_slice())?;
+    Ok(format!(in alloc; "{field}={value}")?)
 }
