@@ -1,13 +1,13 @@
 //! The keyspace as a list of rows in the order of records.
-ghost use Rattle.std.specs.Prelude.{◌≡◌, ℕ, ◌+◌, ◌<◌, ◌≤◌, ◌==◌, ◌++◌, List, [], length, insert, IsTrue, IfOk, IfErr, vec_len, vec_capacity};
+ghost use Rattle.std.specs.Prelude.{◌≡◌, ℕ, ◌+◌, ◌<◌, ◌≤◌, ◌==◌, ◌++◌, List, [], length, IsTrue, IfOk, IfErr, vec_len, vec_capacity};
 ghost use Rattle.std.specs.Vec.Iter.{into_iter_items, into_iter_len};
 ghost use Rattle.std.specs.FinMap.Entries.{is_sorted};
 ghost use Rattle.kv_types.specs.Keyspace.{record_cmp};
 ghost use Rattle.cmd_core.specs.Contents.{keys_of};
 ghost use Rattle.model.specs.declared.group.Put.{Put};
 ghost use Rattle.model.specs.Group.{change_of, put_of};
-ghost use Rattle.mv_keyspace.specs.Table.{Cell, cell_at, entries_of, with_cell, place, place_all, puts_of, AreEnded, AreFresh, IsLawful};
-ghost use Rattle.mv_keyspace.specs.Row.{cell_of_row, records_of, table_of, rows_of_puts, numbers_of, ended_rows};
+ghost use Rattle.mv_keyspace.specs.Table.{entries_of, place, place_all, puts_of, AreEnded, AreFresh, IsLawful};
+ghost use Rattle.mv_keyspace.specs.Row.{records_of, table_of, rows_of_puts, numbers_of, ended_rows};
 
 use crate::counting::{count_others, count_with};
 use crate::ending::{end_all, end_key, end_record};
@@ -22,8 +22,8 @@ use model::PlacedChange;
 use std::alloc::{AllocError, Global};
 use std::vec::IntoIter;
 
-/// The live records of a node, as a list in their order. It is halved to find a record
-/// or the place of one, and the keys are counted as they come and go.
+/// The live records of a node, as a list in their order. It is halved to find a record or the place of one, and the keys are
+/// counted as they come and go.
 #[derive(Debug, Drop)]
 pub struct ListKeyspace {
     rows: Vec<Row>,
