@@ -8,3 +8,4 @@ pub mod EndedLemmas
 pub mod PlayingLemmas
 pub mod EndingLemmas
 pub mod KeyCountLemmas
+pub mod PuttingLemmas

@@ -1,15 +1,15 @@
 -- Changes made one after another: what holds between two of them.
-use Rattle.std.proofs.Common.{◌≡◌, ℕ, ◌<◌, List, [], ◌∷◌, ◌++◌, length, None, refl, sym, ap, subst, ◌∙◌, append_assoc, subst₂, drop, get_or, ◌+◌}
+use Rattle.std.proofs.Common.{◌≡◌, ℕ, ◌<◌, List, [], ◌∷◌, ◌++◌, length, refl, sym, ap, subst, ◌∙◌, append_assoc, subst₂, drop, get_or, ◌+◌}
 use Rattle.std.proofs.lemmas.List.{append-nil, drop_more}
 use Rattle.kv_types.specs.declared.record_id.RecordId.{RecordId}
 use Rattle.model.specs.declared.group.Put.{Put}
 use Rattle.model.specs.declared.group.PlacedChange.{PlacedChange}
 use Rattle.model.specs.declared.group.PlacedChange.TheVariants as placed
 use Rattle.model.specs.Group.{change_of, put_of}
-use Rattle.mv_keyspace.specs.Table.{Cell, Table, cell_at, with_cell, entries_of, cell_of_put, place, place_all, puts_of, AreFresh, IsLawful, AreNumbersEnded}
+use Rattle.mv_keyspace.specs.Table.{Cell, Table, with_cell, entries_of, cell_of_put, place, place_all, puts_of, AreFresh, IsLawful, AreNumbersEnded}
 use Rattle.mv_keyspace.specs.Row.{ended_rows, spared_rows, rows_of_puts}
 use Rattle.mv_keyspace.proofs.TableMembers.{IsSortedTable}
-use Rattle.mv_keyspace.proofs.EndedLemmas.{absent-spared, place-made, MakesNone, lawful-place, fresh-place, none-ended, ended-first}
+use Rattle.mv_keyspace.proofs.EndedLemmas.{place-made, lawful-place, fresh-place, none-ended, ended-first}
 
 -- From `start` on, all changes before `rest` have been made: the table is now `table`, the rows of `rest` are staged, and `ended` were ended so far.
 pub record Playing (position : ℕ) (start : Table) (all : List PlacedChange) (table : Table) (rest : List PlacedChange) (waiting : Table) (ended : List ℕ) : Type 0 where
@@ -39,8 +39,8 @@ module _ (position : ℕ) (put : Put) (later : List Put) (table : Table) (staged
   both : (id, cell) ∷ left ≡ (put.id, cell_of_put position put) ∷ rows_of_puts position later
   both = sym first ∙ is
 
-  id_is : id ≡ put.id
-  id_is = let e = both in let pair : (id, cell) ≡ (put.id, cell_of_put position put) = cc in ap (λ (p : RecordId × Cell). p.0) pair
+  pub id-first : id ≡ put.id
+  id-first = let e = both in let pair : (id, cell) ≡ (put.id, cell_of_put position put) = cc in ap (λ (p : RecordId × Cell). p.0) pair
 
   cell_is : cell ≡ cell_of_put position put
   cell_is = let e = both in let pair : (id, cell) ≡ (put.id, cell_of_put position put) = cc in ap (λ (p : RecordId × Cell). p.1) pair
@@ -48,11 +48,8 @@ module _ (position : ℕ) (put : Put) (later : List Put) (table : Table) (staged
   pub left-first : left ≡ rows_of_puts position later
   left-first = let e = both in cc
 
-  pub absent-first : cell_at (spared_rows (change_of (placed.Put put)) table) id ≡ None
-  absent-first = ap (cell_at (spared_rows (change_of (placed.Put put)) table)) id_is ∙ absent-spared put table
-
   pub placed-first : IsSortedTable table → with_cell id cell (spared_rows (change_of (placed.Put put)) table) ≡ place position table (placed.Put put)
-  placed-first sorted = (λ k. with_cell (id_is k) (cell_is k) (spared_rows (change_of (placed.Put put)) table)) ∙ place-made position put table sorted
+  placed-first sorted = (λ k. with_cell (id-first k) (cell_is k) (spared_rows (change_of (placed.Put put)) table)) ∙ place-made position put table sorted
 
 -- a put finds its row staged
 pub staged-first : (position : ℕ) (put : Put) (later : List Put) → [] ≡ rows_of_puts position (put ∷ later) → ⊥
@@ -76,9 +73,3 @@ module _ (position : ℕ) (start : Table) (all : List PlacedChange) (table : Tab
   change-step after left is left_is named is_named =
       subst₂ (λ t e. Playing position start all t (drop (n + 1) all) left e) (sym is) (sym is_named)
       (playing-place position start all table c (drop (n + 1) all) waiting ended at_change left left_is)
-
-pub makes_none : (c : PlacedChange) → ((put : Put) → c ≡ placed.Put put → ⊥) → MakesNone c
-makes_none (placed.Put put) other = absurd (other put refl)
-makes_none (placed.Drop id) other = refl
-makes_none (placed.DropKey key) other = refl
-makes_none placed.Clear other = refl

@@ -1,54 +1,28 @@
 //! The rows that a change ends, taken out of a list in order by the ranges in which they stand.
-ghost use Rattle.std.specs.Prelude.{◌≡◌, ℕ, List, ◌+◌, ◌≤◌, ◌++◌, IsTrue, nat_eq, slice_range, vec_len, vec_capacity};
+ghost use Rattle.std.specs.Prelude.{◌≡◌, ◌+◌, ◌≤◌, ◌++◌, true, IsTrue, nat_eq, slice_range, vec_len, vec_capacity};
 ghost use Rattle.std.specs.List.{remove_range};
 ghost use Rattle.std.specs.Ordering.{eq_by_cmp};
 ghost use Rattle.std.specs.Cmp.Lexicographic.{pointwise};
 ghost use Rattle.std.specs.FinMap.Entries.{is_sorted};
-ghost use Rattle.kv_types.specs.declared.change.Change.TheVariants as kinds;
 ghost use Rattle.kv_types.specs.Keyspace.{key_of, record_cmp};
-ghost use Rattle.model.specs.Group.{change_of, ends_record};
 ghost use Rattle.mv_keyspace.specs.Table.{entries_of};
-ghost use Rattle.mv_keyspace.specs.Row.{TakesOut, numbers_of, records_of, table_of};
+ghost use Rattle.mv_keyspace.specs.Row.{TakesOut, is_string_of, numbers_of, records_of, table_of};
 
 use crate::row::Row;
 use cmd_core::{end_of_field, end_of_key, start_of_field, start_of_fields, start_of_key};
 use kv_types::{EntryNo, Field, Key, RecordId};
-use model::PlacedChange;
 
-/// Removes the rows that a change ends, and appends their entries to `ended`. A put ends the record that it replaces.
-pub(crate) fn end_rows(rows: &mut Vec<Row>, change: &PlacedChange, ended: &mut Vec<EntryNo>)
-    requires order { IsTrue (is_sorted record_cmp (records_of rows.old.items)) }
+/// Ends all records.
+pub(crate) fn end_all(rows: &mut Vec<Row>, ended: &mut Vec<EntryNo>)
     requires room { vec_len ended.old + vec_len rows.old ≤ vec_capacity ended.old }
-    ensures { TakesOut (ends_record (change_of change.now)) rows.old rows.new ended.old ended.new }
+    ensures { TakesOut (λ id. true) rows.old rows.new ended.old ended.new }
 {
-    match change {
-        PlacedChange::Put(put) => end_replaced(rows, &put.id, ended),
-        PlacedChange::Drop(id) => end_record(rows, id, ended),
-        PlacedChange::DropKey(key) => end_key(rows, key, ended),
-        PlacedChange::Clear => {
-            let end = rows.len();
-            end_range(rows, 0, end, ended);
-        }
-    }
-}
-
-/// Ends what a put of a record replaces: a string all records of its key, a field itself and the string of its key.
-fn end_replaced(rows: &mut Vec<Row>, put: &RecordId, ended: &mut Vec<EntryNo>)
-    requires order { IsTrue (is_sorted record_cmp (records_of rows.old.items)) }
-    requires room { vec_len ended.old + vec_len rows.old ≤ vec_capacity ended.old }
-    ensures { (value : List ℕ) → TakesOut (ends_record (kinds.Put put.now value)) rows.old rows.new ended.old ended.new }
-{
-    match put {
-        RecordId::Str(key) => end_key(rows, key, ended),
-        RecordId::Field(key, _) => {
-            end_string(rows, key, ended);
-            end_record(rows, put, ended);
-        }
-    }
+    let end = rows.len();
+    end_range(rows, 0, end, ended);
 }
 
 /// Ends all records of a key.
-fn end_key(rows: &mut Vec<Row>, key: &Key, ended: &mut Vec<EntryNo>)
+pub(crate) fn end_key(rows: &mut Vec<Row>, key: &Key, ended: &mut Vec<EntryNo>)
     requires order { IsTrue (is_sorted record_cmp (records_of rows.old.items)) }
     requires room { vec_len ended.old + vec_len rows.old ≤ vec_capacity ended.old }
     ensures { TakesOut (λ id. pointwise nat_eq (key_of id) key.now) rows.old rows.new ended.old ended.new }
@@ -59,7 +33,7 @@ fn end_key(rows: &mut Vec<Row>, key: &Key, ended: &mut Vec<EntryNo>)
 }
 
 /// Ends one record, if it is there.
-fn end_record(rows: &mut Vec<Row>, id: &RecordId, ended: &mut Vec<EntryNo>)
+pub(crate) fn end_record(rows: &mut Vec<Row>, id: &RecordId, ended: &mut Vec<EntryNo>)
     requires order { IsTrue (is_sorted record_cmp (records_of rows.old.items)) }
     requires room { vec_len ended.old + vec_len rows.old ≤ vec_capacity ended.old }
     ensures { TakesOut (λ other. eq_by_cmp record_cmp other id.now) rows.old rows.new ended.old ended.new }
@@ -81,6 +55,18 @@ fn end_string(rows: &mut Vec<Row>, key: &Key, ended: &mut Vec<EntryNo>)
     end_range(rows, start, end, ended);
 }
 
+/// Ends what a put of a record ends beside the rows in whose place it goes: the string of a field's key.
+pub(crate) fn end_string_of(rows: &mut Vec<Row>, id: &RecordId, ended: &mut Vec<EntryNo>)
+    requires order { IsTrue (is_sorted record_cmp (records_of rows.old.items)) }
+    requires room { vec_len ended.old + vec_len rows.old ≤ vec_capacity ended.old }
+    ensures { TakesOut (is_string_of id.now) rows.old rows.new ended.old ended.new }
+{
+    match id {
+        RecordId::Str(_) => {}
+        RecordId::Field(key, _) => end_string(rows, key, ended),
+    }
+}
+
 /// Ends a field of a key, if it is there.
 fn end_field(rows: &mut Vec<Row>, key: &Key, field: &Field, ended: &mut Vec<EntryNo>)
     requires order { IsTrue (is_sorted record_cmp (records_of rows.old.items)) }
@@ -93,10 +79,10 @@ fn end_field(rows: &mut Vec<Row>, key: &Key, field: &Field, ended: &mut Vec<Entr
 }
 
 /// Removes the rows from `start` to before `end`, and appends their entries to `ended`.
-fn end_range(rows: &mut Vec<Row>, start: usize, end: usize, ended: &mut Vec<EntryNo>)
+pub(crate) fn end_range(rows: &mut Vec<Row>, start: usize, end: usize, ended: &mut Vec<EntryNo>)
     requires rise { start ≤ end }
     requires within { end ≤ vec_len rows.old }
-    requires room { vec_len ended.old + vec_len rows.old ≤ vec_capacity ended.old }
+    requires room { vec_len ended.old + end ≤ vec_capacity ended.old + start }
     ensures left { rows.new.items ≡ remove_range rows.old.items start end }
     ensures ended { numbers_of ended.new.items ≡ numbers_of ended.old.items ++ entries_of (table_of (slice_range rows.old.items start end)) }
     ensures capacity { vec_capacity rows.new ≡ vec_capacity rows.old }

@@ -5,6 +5,7 @@ mod counting;
 mod ending;
 mod keyspace;
 mod list_keyspace;
+mod putting;
 mod row;
 
 pub use keyspace::Keyspace;

@@ -1,29 +1,29 @@
 //! The keyspace as a list of rows in the order of records.
-ghost use Rattle.std.specs.Prelude.{◌≡◌, ℕ, ◌+◌, ◌<◌, ◌≤◌, ◌==◌, ◌++◌, List, [], length, insert, IsTrue, IfOk, IfErr, vec_len, vec_capacity};
+ghost use Rattle.std.specs.Prelude.{◌≡◌, ℕ, ◌+◌, ◌<◌, ◌≤◌, ◌==◌, ◌++◌, List, [], length, IsTrue, IfOk, IfErr, vec_len, vec_capacity};
 ghost use Rattle.std.specs.Vec.Iter.{into_iter_items, into_iter_len};
 ghost use Rattle.std.specs.FinMap.Entries.{is_sorted};
 ghost use Rattle.kv_types.specs.Keyspace.{record_cmp};
 ghost use Rattle.cmd_core.specs.Contents.{keys_of};
 ghost use Rattle.model.specs.declared.group.Put.{Put};
 ghost use Rattle.model.specs.Group.{change_of, put_of};
-ghost use Rattle.mv_keyspace.specs.Table.{Cell, cell_at, entries_of, with_cell, place, place_all, puts_of, AreEnded, AreFresh, IsLawful};
-ghost use Rattle.mv_keyspace.specs.Row.{cell_of_row, records_of, table_of, rows_of_puts, numbers_of, ended_rows};
+ghost use Rattle.mv_keyspace.specs.Table.{entries_of, place, place_all, puts_of, AreEnded, AreFresh, IsLawful};
+ghost use Rattle.mv_keyspace.specs.Row.{records_of, table_of, rows_of_puts, numbers_of, ended_rows};
 
 use crate::counting::{count_others, count_with};
-use crate::ending::end_rows;
+use crate::ending::{end_all, end_key, end_record};
 use crate::keyspace::Keyspace;
+use crate::putting::put_row;
 use crate::row::{Row, row_of};
 use cmd_core::{
-    Lookup, count_fields_in_order, field_in_order, fields_in_order, has_in_order, start_of_field,
-    start_of_key, string_in_order,
+    Lookup, count_fields_in_order, field_in_order, fields_in_order, has_in_order, string_in_order,
 };
-use kv_types::{EntryNo, Field, RecordId, Refusal, Value};
+use kv_types::{EntryNo, Field, Refusal, Value};
 use model::PlacedChange;
 use std::alloc::{AllocError, Global};
 use std::vec::IntoIter;
 
-/// The live records of a node, as a list in their order. It is halved to find a record
-/// or the place of one, and the keys are counted as they come and go.
+/// The live records of a node, as a list in their order. It is halved to find a record or the place of one, and the keys are
+/// counted as they come and go.
 #[derive(Debug, Drop)]
 pub struct ListKeyspace {
     rows: Vec<Row>,
@@ -177,35 +177,13 @@ fn make_change(
     ensures room { vec_len rows.new + into_iter_len staged.new ≤ vec_capacity rows.new }
     ensures capacity_for_ended { vec_capacity ended.old ≤ vec_capacity ended.new }
 {
-    end_rows(rows, change, ended);
-    if let PlacedChange::Put(_) = change {
-        let row = staged.next().unwrap();
-        put_row(rows, row);
-    }
-}
-
-/// Inserts the row of a record that the list does not have.
-fn put_row(rows: &mut Vec<Row>, row: Row)
-    requires order { IsTrue (is_sorted record_cmp (records_of rows.old.items)) }
-    requires absent { cell_at (table_of rows.old.items) row.id ≡ None }
-    requires room { vec_len rows.old < vec_capacity rows.old }
-    ensures table { table_of rows.new.items ≡ with_cell row.id (cell_of_row row) (table_of rows.old.items) }
-    ensures len { vec_len rows.new ≡ vec_len rows.old + 1 }
-    ensures capacity { vec_capacity rows.old ≤ vec_capacity rows.new }
-{
-    let place = place_for(rows, &row.id);
-    rows.insert(place, row).unwrap();
-}
-
-/// The index at which a record that the list does not have goes in.
-fn place_for(rows: &[Row], id: &RecordId) -> usize
-    requires order { IsTrue (is_sorted record_cmp (records_of rows.now)) }
-    requires absent { cell_at (table_of rows.now) id.now ≡ None }
-    ensures within { result ≤ length rows.now }
-    ensures place { (cell : Cell) → with_cell id.now cell (table_of rows.now) ≡ insert (table_of rows.now) result (id.now, cell) }
-{
-    match id {
-        RecordId::Str(key) => start_of_key(rows, key.as_slice()),
-        RecordId::Field(key, field) => start_of_field(rows, key.as_slice(), field.as_slice()),
+    match change {
+        PlacedChange::Put(_) => {
+            let row = staged.next().unwrap();
+            put_row(rows, row, ended);
+        }
+        PlacedChange::Drop(id) => end_record(rows, id, ended),
+        PlacedChange::DropKey(key) => end_key(rows, key, ended),
+        PlacedChange::Clear => end_all(rows, ended),
     }
 }
