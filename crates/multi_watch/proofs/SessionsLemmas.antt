@@ -1,5 +1,5 @@
 -- Marking a key in the sessions that watch it, and adding watches that are new.
-use Rattle.std.proofs.Common.{◌≡◌, ℕ, zero, suc, ◌+◌, ◌<◌, ◌≤◌, Bool, true, false, not, cond, ◌&&◌, ◌||◌, List, [], ◌∷◌, ◌++◌, length, map, drop, drop-cons, get_or, Option, Some, None, nat_eq, refl, sym, ap, ap₂, ◌∙◌, arith}
+use Rattle.std.proofs.Common.{◌≡◌, ℕ, suc, ◌+◌, ◌<◌, ◌≤◌, Bool, true, false, not, ◌&&◌, ◌||◌, List, [], ◌∷◌, length, map, drop, drop-cons, get_or, Option, Some, None, nat_eq, refl, sym, ap, ap₂, ◌∙◌, arith}
 use Rattle.std.specs.List.{list_any}
 use Rattle.std.specs.Option.{option_map}
 use Rattle.std.proofs.lemmas.List.{drop_all}
@@ -49,7 +49,7 @@ not_marked key (watch ∷ watched) is =
     ap₂ (λ w ws. w ∷ ws) (marked_other key watch apart.0) (not_marked key watched apart.1)
 
 -- marking leaves the watched keys as they are
-same_keys : (key other : List ℕ) (watched : List Watch) → is_watched other (map (marked key) watched) ≡ is_watched other watched
+pub same_keys : (key other : List ℕ) (watched : List Watch) → is_watched other (map (marked key) watched) ≡ is_watched other watched
 same_keys key other [] = refl
 same_keys key other (watch ∷ watched) = ap (λ b. same_bytes watch.key other || b) (same_keys key other watched)
 
@@ -94,6 +94,11 @@ module _ (table : Table) (old : Sessions) (key : List ℕ) (agree : Agree table 
     by_slot : (o : Option Session) → is_watched other (session_of o).watched ≡ is_watched other (session_of (option_map (modified key) o)).watched
     by_slot None = refl
     by_slot (Some s) = sym (same_keys key other s.watched)
+
+-- a number that is not open has an idle session, in which nothing is marked
+pub marked_session : (key : List ℕ) (o : Option Session) → session_of (option_map (modified key) o) ≡ modified key (session_of o)
+marked_session key None = refl
+marked_session key (Some s) = refl
 
 -- ---- watches that are new
 
