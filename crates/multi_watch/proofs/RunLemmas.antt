@@ -1,6 +1,7 @@
 -- A mark stays for as long as its key is watched, and a marked session runs no transaction.
 use Rattle.std.proofs.Common.{◌≡◌, ◌≢◌, ℕ, Bool, true, false, cond, ◌&&◌, ◌||◌, List, [], ◌∷◌, ◌++◌, map, drop, refl, sym, ◌∙◌}
 use Rattle.std.specs.List.{list_any}
+use Rattle.std.proofs.lemmas.Bool.{and_parts, and_from, or_left, or_right}
 use Rattle.std.proofs.lemmas.List.Folds.{list_any-append}
 use Rattle.kv_types.specs.declared.reply.Reply.{Reply}
 use Rattle.cmd_core.specs.Contents.{same_bytes}
@@ -13,27 +14,9 @@ use Rattle.multi_watch.specs.Admission.{Step, Answer, Run, RunAll, step_of, admi
 use Rattle.multi_watch.proofs.SessionsLemmas.{same_keys}
 use Rattle.multi_watch.specs.Run.{Event, Asks, Modifies, after_event, after_events, WatchesThrough}
 
-or_left : (a b : Bool) → a ≡ true → (a || b) ≡ true
-or_left true b is = refl
-or_left false b is = let p = is in cc
-
-or_right : (a : Bool) {b : Bool} → b ≡ true → (a || b) ≡ true
-or_right true is = refl
-or_right false is = is
-
 or_one : (a b : Bool) {C : Type 0} → (a || b) ≡ true → (a ≡ true → C) → (b ≡ true → C) → C
 or_one true b is here later = here refl
 or_one false b is here later = later is
-
-and_both : (a b : Bool) → (a && b) ≡ true → (a ≡ true) × (b ≡ true)
-and_both true true is = (refl, refl)
-and_both true false is = let p = is in cc
-and_both false b is = let p = is in cc
-
-both_and : (a b : Bool) → a ≡ true → b ≡ true → (a && b) ≡ true
-both_and true true is too = refl
-both_and true false is too = too
-both_and false b is too = is
 
 -- some watch of the key is marked
 abbrev has_mark : List ℕ → List Watch → Bool
@@ -44,18 +27,18 @@ now_marked key [] is = is
 now_marked key (watch ∷ watched) is =
     or_one (same_bytes watch.key key) (is_watched key watched) is
     (λ same. or_left ((watch.is_modified || same_bytes watch.key key) && same_bytes watch.key key) _
-    (both_and (watch.is_modified || same_bytes watch.key key) (same_bytes watch.key key) (or_right watch.is_modified same) same))
-    (λ later. or_right ((watch.is_modified || same_bytes watch.key key) && same_bytes watch.key key) (now_marked key watched later))
+    (and_from (watch.is_modified || same_bytes watch.key key) (same_bytes watch.key key) (or_right watch.is_modified _ same) same))
+    (λ later. or_right ((watch.is_modified || same_bytes watch.key key) && same_bytes watch.key key) _ (now_marked key watched later))
 
 still_marked : (key other : List ℕ) (watched : List Watch) → has_mark key watched ≡ true → has_mark key (map (marked other) watched) ≡ true
 still_marked key other [] is = is
 still_marked key other (watch ∷ watched) is =
     or_one (watch.is_modified && same_bytes watch.key key) (has_mark key watched) is
     (λ here.
-    let both = and_both watch.is_modified (same_bytes watch.key key) here in
+    let both = and_parts watch.is_modified (same_bytes watch.key key) here in
     or_left ((watch.is_modified || same_bytes watch.key other) && same_bytes watch.key key) _
-    (both_and (watch.is_modified || same_bytes watch.key other) (same_bytes watch.key key) (or_left watch.is_modified _ both.0) both.1))
-    (λ later. or_right ((watch.is_modified || same_bytes watch.key other) && same_bytes watch.key key) (still_marked key other watched later))
+    (and_from (watch.is_modified || same_bytes watch.key other) (same_bytes watch.key key) (or_left watch.is_modified _ both.0) both.1))
+    (λ later. or_right ((watch.is_modified || same_bytes watch.key other) && same_bytes watch.key key) _ (still_marked key other watched later))
 
 marked_beside : (key : List ℕ) (known : Bool) (other : List ℕ) (watched : List Watch) → has_mark key watched ≡ true
     → has_mark key (cond known watched (watched ++ unmodified other ∷ [])) ≡ true
@@ -70,8 +53,8 @@ marked_watching key (other ∷ keys) watched is =
 has_some : (key : List ℕ) (watched : List Watch) → has_mark key watched ≡ true → list_any (λ watch. watch.is_modified) watched ≡ true
 has_some key [] is = is
 has_some key (watch ∷ watched) is =
-    or_one (watch.is_modified && same_bytes watch.key key) (has_mark key watched) is (λ here. or_left watch.is_modified _ (and_both watch.is_modified (same_bytes watch.key key) here).0)
-    (λ later. or_right watch.is_modified (has_some key watched later))
+    or_one (watch.is_modified && same_bytes watch.key key) (has_mark key watched) is (λ here. or_left watch.is_modified _ (and_parts watch.is_modified (same_bytes watch.key key) here).0)
+    (λ later. or_right watch.is_modified _ (has_some key watched later))
 
 -- ---- one request
 

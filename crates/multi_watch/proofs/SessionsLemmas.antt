@@ -3,20 +3,15 @@ use Rattle.std.proofs.Common.{◌≡◌, ℕ, suc, ◌+◌, ◌<◌, ◌≤◌, 
 use Rattle.std.specs.List.{list_any}
 use Rattle.std.specs.Option.{option_map}
 use Rattle.std.proofs.lemmas.List.{drop_all}
-use Rattle.std.proofs.lemmas.Bool.{eqb-true}
+use Rattle.std.proofs.Math.Bool.{or-false}
+use Rattle.std.proofs.lemmas.Bool.{eqb-true, or_parts}
 use Rattle.std.proofs.lemmas.Slice.Eq.{bytes_eq-Decides}
 use Rattle.cmd_core.specs.Contents.{same_bytes}
+use Rattle.multi_watch.proofs.TableLemmas.{same_is}
 use Rattle.multi_watch.specs.declared.watch.Watch.{Watch}
 use Rattle.multi_watch.specs.Session.{Session, is_watched, marked, modified}
 use Rattle.multi_watch.specs.Watchers.{Table, has_number, watches, RemovesAll}
 use Rattle.multi_watch.specs.Sessions.{Sessions, slot, session_of, session_at, marked_if, Agree}
-
-same_is : (x y : List ℕ) → same_bytes x y ≡ true → x ≡ y
-same_is x y same = (bytes_eq-Decides x y).0 same
-
-or_parts : (a b : Bool) → (a || b) ≡ false → (a ≡ false) × (b ≡ false)
-or_parts true b is = let p = is in cc
-or_parts false b is = (refl, is)
 
 -- ---- a key is marked
 
@@ -25,10 +20,6 @@ twice true same = refl
 twice false true = refl
 twice false false = refl
 
-or_none : (was : Bool) → (was || false) ≡ was
-or_none true = refl
-or_none false = refl
-
 abbrev with_mark : List ℕ → Bool → Watch
 with_mark key is_modified = record { key = key; is_modified = is_modified }
 
@@ -36,7 +27,7 @@ marked_again : (key : List ℕ) (watch : Watch) → marked key (marked key watch
 marked_again key watch = ap (λ b. with_mark watch.key b) (twice watch.is_modified (same_bytes watch.key key))
 
 marked_other : (key : List ℕ) (watch : Watch) → same_bytes watch.key key ≡ false → marked key watch ≡ watch
-marked_other key watch is = ap (λ b. with_mark watch.key (watch.is_modified || b)) is ∙ ap (λ b. with_mark watch.key b) (or_none watch.is_modified)
+marked_other key watch is = ap (λ b. with_mark watch.key (watch.is_modified || b)) is ∙ ap (λ b. with_mark watch.key b) (or-false watch.is_modified)
 
 marked_twice : (key : List ℕ) (watched : List Watch) → map (marked key) (map (marked key) watched) ≡ map (marked key) watched
 marked_twice key [] = refl
