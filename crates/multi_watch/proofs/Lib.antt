@@ -1,3 +1,4 @@
 mod TableLemmas
 mod SessionsLemmas
 mod WorkedCases
+mod RunLemmas

@@ -1,22 +1,17 @@
 -- Marking a key in the sessions that watch it, and adding watches that are new.
-use Rattle.std.proofs.Common.{◌≡◌, ℕ, zero, suc, ◌+◌, ◌<◌, ◌≤◌, Bool, true, false, not, cond, ◌&&◌, ◌||◌, List, [], ◌∷◌, ◌++◌, length, map, drop, drop-cons, get_or, Option, Some, None, nat_eq, refl, sym, ap, ap₂, ◌∙◌, arith}
+use Rattle.std.proofs.Common.{◌≡◌, ℕ, suc, ◌+◌, ◌<◌, ◌≤◌, Bool, true, false, not, ◌&&◌, ◌||◌, List, [], ◌∷◌, length, map, drop, drop-cons, get_or, Option, Some, None, nat_eq, refl, sym, ap, ap₂, ◌∙◌, arith}
 use Rattle.std.specs.List.{list_any}
 use Rattle.std.specs.Option.{option_map}
 use Rattle.std.proofs.lemmas.List.{drop_all}
-use Rattle.std.proofs.lemmas.Bool.{eqb-true}
+use Rattle.std.proofs.Math.Bool.{or-false}
+use Rattle.std.proofs.lemmas.Bool.{eqb-true, or_parts}
 use Rattle.std.proofs.lemmas.Slice.Eq.{bytes_eq-Decides}
 use Rattle.cmd_core.specs.Contents.{same_bytes}
+use Rattle.multi_watch.proofs.TableLemmas.{same_is}
 use Rattle.multi_watch.specs.declared.watch.Watch.{Watch}
 use Rattle.multi_watch.specs.Session.{Session, is_watched, marked, modified}
 use Rattle.multi_watch.specs.Watchers.{Table, has_number, watches, RemovesAll}
 use Rattle.multi_watch.specs.Sessions.{Sessions, slot, session_of, session_at, marked_if, Agree}
-
-same_is : (x y : List ℕ) → same_bytes x y ≡ true → x ≡ y
-same_is x y same = (bytes_eq-Decides x y).0 same
-
-or_parts : (a b : Bool) → (a || b) ≡ false → (a ≡ false) × (b ≡ false)
-or_parts true b is = let p = is in cc
-or_parts false b is = (refl, is)
 
 -- ---- a key is marked
 
@@ -25,10 +20,6 @@ twice true same = refl
 twice false true = refl
 twice false false = refl
 
-or_none : (was : Bool) → (was || false) ≡ was
-or_none true = refl
-or_none false = refl
-
 abbrev with_mark : List ℕ → Bool → Watch
 with_mark key is_modified = record { key = key; is_modified = is_modified }
 
@@ -36,7 +27,7 @@ marked_again : (key : List ℕ) (watch : Watch) → marked key (marked key watch
 marked_again key watch = ap (λ b. with_mark watch.key b) (twice watch.is_modified (same_bytes watch.key key))
 
 marked_other : (key : List ℕ) (watch : Watch) → same_bytes watch.key key ≡ false → marked key watch ≡ watch
-marked_other key watch is = ap (λ b. with_mark watch.key (watch.is_modified || b)) is ∙ ap (λ b. with_mark watch.key b) (or_none watch.is_modified)
+marked_other key watch is = ap (λ b. with_mark watch.key (watch.is_modified || b)) is ∙ ap (λ b. with_mark watch.key b) (or-false watch.is_modified)
 
 marked_twice : (key : List ℕ) (watched : List Watch) → map (marked key) (map (marked key) watched) ≡ map (marked key) watched
 marked_twice key [] = refl
@@ -49,7 +40,7 @@ not_marked key (watch ∷ watched) is =
     ap₂ (λ w ws. w ∷ ws) (marked_other key watch apart.0) (not_marked key watched apart.1)
 
 -- marking leaves the watched keys as they are
-same_keys : (key other : List ℕ) (watched : List Watch) → is_watched other (map (marked key) watched) ≡ is_watched other watched
+pub same_keys : (key other : List ℕ) (watched : List Watch) → is_watched other (map (marked key) watched) ≡ is_watched other watched
 same_keys key other [] = refl
 same_keys key other (watch ∷ watched) = ap (λ b. same_bytes watch.key other || b) (same_keys key other watched)
 
@@ -94,6 +85,11 @@ module _ (table : Table) (old : Sessions) (key : List ℕ) (agree : Agree table 
     by_slot : (o : Option Session) → is_watched other (session_of o).watched ≡ is_watched other (session_of (option_map (modified key) o)).watched
     by_slot None = refl
     by_slot (Some s) = sym (same_keys key other s.watched)
+
+-- a number that is not open has an idle session, in which nothing is marked
+pub marked_session : (key : List ℕ) (o : Option Session) → session_of (option_map (modified key) o) ≡ modified key (session_of o)
+marked_session key None = refl
+marked_session key (Some s) = refl
 
 -- ---- watches that are new
 

@@ -1,6 +1,6 @@
 -- What a change of the table at one key says of every key.
 use Rattle.std.proofs.Common.{◌≡◌, ◌≢◌, ℕ, zero, suc, ◌+◌, ◌<◌, ◌≤◌, Bool, true, false, not, cond, ◌&&◌, ◌||◌, List, [], ◌∷◌, ◌++◌, length, drop, drop-cons, get_or, Option, Some, None, Result, Ok, Err, OnOk, OnErr, nat_eq, refl, sym, ap, ◌∙◌, arith}
-use Rattle.std.specs.List.{list_any, filter}
+use Rattle.std.specs.List.{filter}
 use Rattle.std.specs.Global.{Vec}
 use Rattle.std.specs.Ordering.{is_eq}
 use Rattle.std.specs.BTreeMap.{get, is_at}
@@ -9,7 +9,8 @@ use Rattle.std.proofs.lemmas.List.{drop_all}
 use Rattle.std.proofs.lemmas.List.Folds.{list_any-append}
 use Rattle.std.proofs.lemmas.Map.Text.{is_eq-slice_cmp}
 use Rattle.std.proofs.lemmas.Map.Views.{any-filter_same}
-use Rattle.std.proofs.lemmas.Bool.{eqb-true}
+use Rattle.std.proofs.Math.Bool.{or-false, and-true, and-false, and_comm}
+use Rattle.std.proofs.lemmas.Bool.{eqb-true, or_right}
 use Rattle.std.proofs.lemmas.Slice.Eq.{bytes_eq-Decides}
 use Rattle.kv_types.specs.Keyspace.{bytes_cmp}
 use Rattle.cmd_core.specs.Contents.{same_bytes}
@@ -17,27 +18,11 @@ use Rattle.multi_watch.specs.declared.watch.Watch.{Watch}
 use Rattle.multi_watch.specs.Session.{is_watched}
 use Rattle.multi_watch.specs.Watchers.{Table, numbers_of, has_number, watches, SaysSame, Adds, Removes, EachWatched}
 
-same_is : (x y : List ℕ) → same_bytes x y ≡ true → x ≡ y
+pub same_is : (x y : List ℕ) → same_bytes x y ≡ true → x ≡ y
 same_is x y same = (bytes_eq-Decides x y).0 same
 
-or_false : (b : Bool) → (b || false) ≡ b
-or_false true = refl
-or_false false = refl
-
-and_true : (b : Bool) → (b && true) ≡ b
-and_true true = refl
-and_true false = refl
-
-and_false : (b : Bool) → (b && false) ≡ false
-and_false true = refl
-and_false false = refl
-
-or_right : (a : Bool) {b : Bool} → b ≡ true → (a || b) ≡ true
-or_right true is = refl
-or_right false is = is
-
 pub pushed : (n number : ℕ) (numbers : List ℕ) → has_number n (numbers ++ number ∷ []) ≡ (has_number n numbers || nat_eq number n)
-pushed n number numbers = list_any-append (λ other. nat_eq other n) numbers (number ∷ []) ∙ ap (λ b. has_number n numbers || b) (or_false (nat_eq number n))
+pushed n number numbers = list_any-append (λ other. nat_eq other n) numbers (number ∷ []) ∙ ap (λ b. has_number n numbers || b) (or-false (nat_eq number n))
 
 -- the table has this at the key, and elsewhere what it had
 abbrev pub Becomes : Table → List ℕ → Option (Vec ℕ) → Table → Type 0
@@ -62,13 +47,13 @@ module _ (old new : Table) (key : List ℕ) (slot : Option (Vec ℕ)) (becomes :
   adds number slot_is q n = by_same (same_bytes key q) refl where
     by_same : (same : Bool) → same_bytes key q ≡ same → watches new q n ≡ (watches old q n || (same_bytes key q && nat_eq number n))
     by_same true is = at_key q n true is ∙ slot_is n ∙ ap (λ b. b || nat_eq number n) (old_at q n is) ∙ ap (λ s. watches old q n || (s && nat_eq number n)) (sym is)
-    by_same false is = at_key q n false is ∙ sym (or_false (watches old q n)) ∙ ap (λ s. watches old q n || (s && nat_eq number n)) (sym is)
+    by_same false is = at_key q n false is ∙ sym (or-false (watches old q n)) ∙ ap (λ s. watches old q n || (s && nat_eq number n)) (sym is)
 
   pub removes : (number : ℕ) → ((n : ℕ) → has_number n (numbers_of slot) ≡ (watches old key n && not (nat_eq number n))) → Removes old key number new
   removes number slot_is q n = by_same (same_bytes key q) refl where
     by_same : (same : Bool) → same_bytes key q ≡ same → watches new q n ≡ (watches old q n && not (same_bytes key q && nat_eq number n))
     by_same true is = at_key q n true is ∙ slot_is n ∙ ap (λ b. b && not (nat_eq number n)) (old_at q n is) ∙ ap (λ s. watches old q n && not (s && nat_eq number n)) (sym is)
-    by_same false is = at_key q n false is ∙ sym (and_true (watches old q n)) ∙ ap (λ s. watches old q n && not (s && nat_eq number n)) (sym is)
+    by_same false is = at_key q n false is ∙ sym (and-true (watches old q n)) ∙ ap (λ s. watches old q n && not (s && nat_eq number n)) (sym is)
 
 -- ---- no key is left that nobody watches
 
@@ -120,16 +105,10 @@ either_way (Err e) done failed if_done if_failed = if_failed failed
 equal_sym : (m n : ℕ) → nat_eq m n ≡ nat_eq n m
 equal_sym m n = grind arith
 
-and_sym : (a b : Bool) → (a && b) ≡ (b && a)
-and_sym true true = refl
-and_sym true false = refl
-and_sym false true = refl
-and_sym false false = refl
-
 pub filtered : (n number : ℕ) (numbers : List ℕ) → has_number n (filter (λ x. not (nat_eq x number)) numbers) ≡ (has_number n numbers && not (nat_eq number n))
 filtered n number numbers =
     any-filter_same (λ x. nat_eq x n) (λ x. not (nat_eq x number)) (not (nat_eq number n)) (λ x is. ap (λ y. not (nat_eq y number)) (eqb-true x n is) ∙ ap not (equal_sym n number)) numbers
-    ∙ and_sym (not (nat_eq number n)) (has_number n numbers)
+    ∙ and_comm (not (nat_eq number n)) (has_number n numbers)
 
 -- ---- one key after another
 
@@ -164,7 +143,7 @@ removed_next watched i watch within is key n number was now after =
 pub removed_last : (watched : List Watch) (i : ℕ) (key : List ℕ) (n number : ℕ) (now : Bool) → length watched ≤ i
     → now ≡ (now && not (is_watched key (drop i watched) && nat_eq number n))
 removed_last watched i key n number now past =
-    sym (and_true now) ∙ ap (λ b. now && not (b && nat_eq number n)) (sym (none_left watched i past key))
+    sym (and-true now) ∙ ap (λ b. now && not (b && nat_eq number n)) (sym (none_left watched i past key))
 
 add_in_turn : (was here later own : Bool) → ((was || (here && own)) || (later && own)) ≡ (was || ((here || later) && own))
 add_in_turn true here later own = refl
@@ -185,20 +164,20 @@ added_next watched i watch within is key n number was now after =
 pub added_last : (watched : List Watch) (i : ℕ) (key : List ℕ) (n number : ℕ) (now : Bool) → length watched ≤ i
     → now ≡ (now || (is_watched key (drop i watched) && nat_eq number n))
 added_last watched i key n number now past =
-    sym (or_false now) ∙ ap (λ b. now || (b && nat_eq number n)) (sym (none_left watched i past key))
+    sym (or-false now) ∙ ap (λ b. now || (b && nat_eq number n)) (sym (none_left watched i past key))
 
 -- What was added before the rest is removed with the whole. Each of the rest is one of the whole.
 drop_watched : (watched : List Watch) (i : ℕ) (key : List ℕ) → is_watched key (drop i watched) ≡ true → is_watched key watched ≡ true
 drop_watched [] zero key is = is
 drop_watched [] (suc i) key is = is
 drop_watched (watch ∷ watched) zero key is = is
-drop_watched (watch ∷ watched) (suc i) key is = or_right (same_bytes watch.key key) (drop_watched watched i key is)
+drop_watched (watch ∷ watched) (suc i) key is = or_right (same_bytes watch.key key) _ (drop_watched watched i key is)
 
 undo : (old now whole rest own : Bool) → (rest ≡ true → whole ≡ true) → (now || (rest && own)) ≡ (old || (whole && own)) → (now && not (whole && own)) ≡ (old && not (whole && own))
-undo old now true rest true within same = and_false now ∙ sym (and_false old)
-undo old now true rest false within same = and_true now ∙ sym (or_false now) ∙ ap (λ b. now || b) (sym (and_false rest)) ∙ same ∙ or_false old ∙ sym (and_true old)
+undo old now true rest true within same = and-false now ∙ sym (and-false old)
+undo old now true rest false within same = and-true now ∙ sym (or-false now) ∙ ap (λ b. now || b) (sym (and-false rest)) ∙ same ∙ or-false old ∙ sym (and-true old)
 undo old now false true own within same = let p = within refl in cc
-undo old now false false own within same = and_true now ∙ sym (or_false now) ∙ same ∙ or_false old ∙ sym (and_true old)
+undo old now false false own within same = and-true now ∙ sym (or-false now) ∙ same ∙ or-false old ∙ sym (and-true old)
 
 pub undone : (watched : List Watch) (i : ℕ) (key : List ℕ) (n number : ℕ) (old now : Bool)
     → (now || (is_watched key (drop i watched) && nat_eq number n)) ≡ (old || (is_watched key watched && nat_eq number n))

@@ -1,10 +1,10 @@
 -- The worked cases of sessions, from the definitions by evaluation alone.
-use Rattle.std.proofs.Common.{◌≡◌, ℕ, true, false, List, [], ◌∷◌, ◌++◌, codes, replicate, refl}
+use Rattle.std.proofs.Common.{◌≡◌, ℕ, true, false, List, [], ◌∷◌, codes, replicate, refl}
 use Rattle.kv_types.specs.declared.reply.Reply.{Simple, Error, NullArray}
 use Rattle.cmd_table.specs.Row.{is_named}
 use Rattle.multi_watch.specs.Session.{Session, idle_session, modified}
 use Rattle.multi_watch.specs.Verb.{verb_of}
-use Rattle.multi_watch.specs.Admission.{Admission, Answer, Run, RunAll, Step, admit, session_after_request, session_after_refusal}
+use Rattle.multi_watch.specs.Admission.{Admission, Answer, Run, RunAll, admit, session_after_request, session_after_refusal}
 
 abbrev after : Session → List (List (List ℕ)) → Session
 after session [] = session

@@ -1,6 +1,6 @@
 -- What a session makes of a request: what is to be done, and the session afterwards (the Redis pages of MULTI, EXEC, DISCARD, WATCH
 -- and UNWATCH; the limit of a transaction, and which errors spoil it, are this project's profile).
-use Rattle.std.specs.Prelude.{ℕ, Bool, true, false, if◌then◌else◌, ◌&&◌, nat_lt, List, [], ◌∷◌, ◌++◌, length, drop, codes}
+use Rattle.std.specs.Prelude.{ℕ, Bool, true, false, if◌then◌else◌, nat_lt, List, [], ◌∷◌, ◌++◌, length, drop, codes}
 use Rattle.kv_types.specs.declared.reply.Reply as reply
 use Rattle.kv_types.specs.declared.reply.Reply.{Reply}
 use Rattle.cmd_table.specs.declared.misuse.Misuse.{Misuse}

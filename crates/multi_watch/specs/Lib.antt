@@ -4,3 +4,4 @@ pub mod Verb
 pub mod Admission
 pub mod Watchers
 pub mod Sessions
+pub mod Run

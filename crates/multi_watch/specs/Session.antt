@@ -1,6 +1,6 @@
 -- What a connection has set up: its transaction, and the keys that it watches (the Redis pages of MULTI, EXEC, DISCARD, WATCH and
 -- UNWATCH).
-use Rattle.std.specs.Prelude.{ℕ, Bool, true, false, ◌||◌, if◌then◌else◌, List, [], ◌∷◌, ◌++◌, map}
+use Rattle.std.specs.Prelude.{ℕ, Bool, false, ◌||◌, if◌then◌else◌, List, [], ◌∷◌, ◌++◌, map}
 use Rattle.std.specs.List.{list_any}
 use Rattle.cmd_core.specs.Contents.{same_bytes}
 use Rattle.multi_watch.specs.declared.watch.Watch.{Watch}

@@ -1,8 +1,7 @@
 -- The sessions of all connections, each under a number.
-use Rattle.std.specs.Prelude.{◌≡◌, ◌≢◌, ◌≤◌, ℕ, List, [], length, vec_len, map, Option, Some, None, slice_index_or, Bool, if◌then◌else◌}
+use Rattle.std.specs.Prelude.{◌≡◌, ◌≢◌, ◌≤◌, ℕ, List, [], vec_len, Option, Some, None, slice_index_or, Bool, if◌then◌else◌}
 use Rattle.std.specs.Option.{option_map}
 use Rattle.std.specs.Vec.{vec_capacity}
-use Rattle.slab.specs.Slab.{Slab}
 use Rattle.multi_watch.specs.declared.act.Act.{Act}
 use Rattle.multi_watch.specs.declared.act.Act.TheVariants as act
 use Rattle.multi_watch.specs.Session.{Session, idle_session, is_watched, modified}

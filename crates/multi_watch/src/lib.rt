@@ -3,6 +3,7 @@
 
 mod act;
 mod error;
+mod laws;
 mod limits;
 mod session;
 mod sessions;
@@ -12,6 +13,7 @@ mod watchers;
 
 pub use act::Act;
 pub use error::SessionError;
+pub use laws::a_modified_key_stops_exec;
 pub use limits::MAX_QUEUED_REQUESTS;
 pub use sessions::{SessionNo, Sessions};
 pub use verb::Verb;

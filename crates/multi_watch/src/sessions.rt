@@ -1,11 +1,10 @@
 //! The sessions of all connections.
-ghost use Rattle.std.specs.Prelude.{◌≡◌, ◌≢◌, ℕ, List, [], nat_eq, IsTrue, IsSome, None, Some, drop, ◌↔◌, IfOk, IfErr, OnErr, OnOk};
+ghost use Rattle.std.specs.Prelude.{◌≡◌, ℕ, [], nat_eq, IsTrue, IsSome, None, Some, drop, ◌↔◌, IfOk, IfErr, OnErr};
 ghost use Rattle.std.specs.Option.{option_map};
 ghost use Rattle.cmd_core.specs.declared.shape.Keys.TheVariants as shape;
 ghost use Rattle.cmd_core.specs.Shape.{are_short};
-ghost use Rattle.multi_watch.specs.Session as spec;
-ghost use Rattle.multi_watch.specs.Session.{idle_session, spoiled, with_watched, modified};
-ghost use Rattle.multi_watch.specs.Admission.{admit, step, step_of, act_now, session_after_refusal, spoiled_if_open};
+ghost use Rattle.multi_watch.specs.Session.{idle_session, with_watched, modified};
+ghost use Rattle.multi_watch.specs.Admission.{step, session_after_refusal, spoiled_if_open};
 ghost use Rattle.multi_watch.specs.Admission.{after_misuse, after_exec, after_discard, after_watch, after_unwatch, after_other};
 ghost use Rattle.multi_watch.specs.Watchers.{has_number};
 ghost use Rattle.multi_watch.specs.Sessions.{slot, session_at, Moves, Steps, marked_if};
@@ -87,7 +86,8 @@ impl Sessions {
     /// A call has modified a key: it is marked in each session that watches it. Goes through the watches of those sessions, and of no
     /// others; a key that nobody watches costs one look-up. It takes no memory.
     pub fn modified(&mut self, key: &Key)
-        ensures { (number : ℕ) → slot self.new number ≡ option_map (modified key.now) (slot self.old number) }
+        ensures sessions { (number : ℕ) → session_at self.new number ≡ modified key.now (session_at self.old number) }
+        ensures slots { (number : ℕ) → slot self.new number ≡ option_map (modified key.now) (slot self.old number) }
     {
         mark_all(&mut self.sessions, self.watchers.of(key), key);
     }

@@ -1,4 +1,4 @@
-use Rattle.std.proofs.Common.{◌≡◌, ◌∙◌}
+use Rattle.std.proofs.Common.{◌∙◌}
 use Rattle.multi_watch.proofs.SessionsLemmas.{marked_next, marked_last}
 use Rattle.multi_watch.proofs.sessions.mark_all.Goals as goal
 

@@ -1,4 +1,4 @@
-use Rattle.std.proofs.Common.{rules, ◌≡◌, ◌<◌, length, sym, ap, ◌∙◌}
+use Rattle.std.proofs.Common.{rules, ◌≡◌, ◌<◌, length}
 use Rattle.std.proofs.lemmas.List.Edits.{map_over_more}
 use Rattle.multi_watch.specs.Session.{marked}
 use Rattle.multi_watch.proofs.watch.mark_all.Goals as goal

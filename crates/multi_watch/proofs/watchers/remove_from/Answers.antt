@@ -1,4 +1,4 @@
-use Rattle.std.proofs.Common.{◌≡◌, true, None, rules, refl, sym, ap, ◌∙◌}
+use Rattle.std.proofs.Common.{None, rules, sym, ◌∙◌}
 use Rattle.multi_watch.specs.Watchers.{SaysSame}
 use Rattle.multi_watch.proofs.TableLemmas.{Becomes, says_same, watched_without}
 use Rattle.multi_watch.proofs.watchers.remove_from.Goals as goal

@@ -1,4 +1,4 @@
-use Rattle.std.proofs.Common.{◌≡◌, refl, sym, ap, ◌∙◌, rules, nat_eq, not}
+use Rattle.std.proofs.Common.{ap, ◌∙◌, rules}
 use Rattle.std.proofs.lemmas.Fn.{filter_same}
 use Rattle.multi_watch.specs.Watchers.{has_number}
 use Rattle.multi_watch.proofs.TableLemmas.{filtered}

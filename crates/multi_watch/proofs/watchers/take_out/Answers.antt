@@ -1,7 +1,7 @@
-use Rattle.std.proofs.Common.{◌≡◌, ◌≢◌, [], ◌&&◌, not, ℕ, nat_eq, Some, rules, refl, sym, ap, ◌∙◌}
+use Rattle.std.proofs.Common.{◌≡◌, ◌≢◌, [], ◌&&◌, not, nat_eq, Some, rules, sym, ap, ◌∙◌}
 use Rattle.std.specs.BTreeMap.{get}
 use Rattle.kv_types.specs.Keyspace.{bytes_cmp}
-use Rattle.multi_watch.specs.Watchers.{numbers_of, has_number, Removes}
+use Rattle.multi_watch.specs.Watchers.{numbers_of, has_number}
 use Rattle.multi_watch.proofs.TableLemmas.{Becomes, removes, others_stay, still_watched}
 use Rattle.multi_watch.proofs.watchers.take_out.Goals as goal
 

@@ -1,8 +1,8 @@
-use Rattle.std.proofs.Common.{◌≡◌, ◌≢◌, is_ok, cond, ◌++◌, ◌∷◌, [], ◌||◌, ℕ, nat_eq, Some, None, rules, refl, sym, ap, ap₂, ◌∙◌}
+use Rattle.std.proofs.Common.{◌≡◌, ◌≢◌, is_ok, cond, ◌++◌, ◌∷◌, [], ◌||◌, nat_eq, Some, None, rules, sym, ap, ap₂, ◌∙◌}
 use Rattle.std.specs.Ordering.{is_eq}
 use Rattle.std.specs.BTreeMap.{get}
 use Rattle.kv_types.specs.Keyspace.{bytes_cmp}
-use Rattle.multi_watch.specs.Watchers.{watches, numbers_of, has_number, SaysSame, Adds, EachWatched}
+use Rattle.multi_watch.specs.Watchers.{numbers_of, has_number, SaysSame, EachWatched}
 use Rattle.multi_watch.proofs.TableLemmas.{Becomes, pushed, says_same, adds, one_more, some_still, still_watched, watched_as_before, either_way}
 use Rattle.multi_watch.proofs.watchers.Watchers.add.Goals as goal
 

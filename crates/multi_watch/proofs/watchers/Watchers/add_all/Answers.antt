@@ -1,4 +1,4 @@
-use Rattle.std.proofs.Common.{◌≡◌, ◌&&◌, ◌||◌, not, nat_eq, ap, ◌∙◌, rules}
+use Rattle.std.proofs.Common.{◌&&◌, not, nat_eq, ap, ◌∙◌, rules}
 use Rattle.multi_watch.specs.Session.{is_watched}
 use Rattle.multi_watch.specs.Watchers.{SaysSame, Adds}
 use Rattle.multi_watch.proofs.TableLemmas.{added_next, added_last, undone}

@@ -1,4 +1,4 @@
-use Rattle.std.proofs.Common.{◌≡◌, ◌<◌, length, get_or, sym, ap, ◌∙◌}
+use Rattle.std.proofs.Common.{◌∙◌}
 use Rattle.multi_watch.proofs.TableLemmas.{removed_next, removed_last}
 use Rattle.multi_watch.proofs.watchers.Watchers.remove_all.Goals as goal
 
