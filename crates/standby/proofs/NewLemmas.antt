@@ -1,0 +1,66 @@
+-- New images, and the tables and heaps that follow them.
+use Rattle.std.proofs.Common.{◌≡◌, ℕ, ◌<◌, ◌≤◌, ◌↔◌, [], IsTrue, None, ap, sym, subst, ◌∙◌}
+use Rattle.std.proofs.lemmas.Option.{none-some}
+use Rattle.model.specs.Image.{entries_of_lines, first_extent_line}
+use Rattle.model.specs.Group.{Contents, IsConsistent}
+use Rattle.model.specs.declared.record.Record.{Record}
+use Rattle.model.specs.declared.record.Role.{Role}
+use Rattle.extent_heap.specs.Room.{Room, is_free_entry, is_free_line}
+use Rattle.mv_keyspace.specs.Table.{Table, IsTable}
+use Rattle.mv_keyspace.proofs.PartTables.{table-none}
+use Rattle.wbl_engine.specs.Contents.{IsNew, Same}
+use Rattle.placing.specs.Left.{IsLeftOf}
+use Rattle.standby.specs.Following.{Follows}
+
+-- the heap has all lines and entries of a new image
+pub record HasAll (lines : ℕ) (room : Room) : Type 0 where
+  pub lines_free : (line : ℕ) → IsTrue (is_free_line room line) ↔ ((first_extent_line lines ≤ line) × (line < lines))
+  pub entries_free : (i : ℕ) → IsTrue (is_free_entry room i) ↔ (i < entries_of_lines lines)
+
+pub new-table : (lines : ℕ) (role : Role) (contents : Contents) (table : Table) → IsNew lines role contents → table ≡ [] → IsTable contents.versions table
+new-table lines role contents table new empty = subst (IsTable contents.versions) (sym empty) (table-none contents.versions new.versions)
+
+entries-left : (lines : ℕ) (role : Role) (contents : Contents) (room : Room) → IsNew lines role contents → HasAll lines room
+    → (i : ℕ) → IsTrue (is_free_entry room i) → (i < entries_of_lines contents.lines) × IsTrue (contents.is_free i) × (contents.versions i ≡ None)
+entries-left lines role contents room new all i free =
+    let within = (all.entries_free i).0 free in
+    (subst (λ n. i < entries_of_lines n) (sym new.line_count) within, new.is_free i within, new.versions i)
+
+lines-left : (lines : ℕ) (role : Role) (contents : Contents) (room : Room) → IsNew lines role contents → HasAll lines room
+    → (line : ℕ) → IsTrue (is_free_line room line) → (first_extent_line contents.lines ≤ line) × (line < contents.lines)
+lines-left lines role contents room new all line free =
+    subst (λ n. (first_extent_line n ≤ line) × (line < n)) (sym new.line_count) ((all.lines_free line).0 free)
+
+pub left-new : (lines : ℕ) (role : Role) (contents : Contents) (room : Room) → IsNew lines role contents → HasAll lines room → IsLeftOf contents room
+left-new lines role contents room new all = record {
+  entries = entries-left lines role contents room new all;
+  lines = lines-left lines role contents room new all;
+  apart = λ i version begun. absurd (none-some version (sym (new.versions i) ∙ begun));
+}
+
+pub new-consistent : (lines : ℕ) (role : Role) (contents : Contents) → IsNew lines role contents → IsConsistent contents
+new-consistent lines role contents new = record { free = λ i free. new.versions i; beyond = λ i past. new.versions i }
+
+pub follows-new : (lines : ℕ) (role : Role) (contents : Contents) (table : Table) (room : Room) → IsNew lines role contents → HasAll lines room → table ≡ [] → Follows contents table room
+follows-new lines role contents table room new all empty =
+    record {
+      consistent = new-consistent lines role contents new;
+      left = left-new lines role contents room new all;
+      table_is = new-table lines role contents table new empty;
+    }
+
+-- contents that say the same are new too
+pub new-same : (lines : ℕ) (role : Role) (old new : Contents) → Same old new → IsNew lines role old → IsNew lines role new
+new-same lines role old new same is =
+    record {
+      number = ap (λ (r : Record). r.number) same.current ∙ is.number;
+      position = ap (λ (r : Record). r.position) same.current ∙ is.position;
+      cp = ap (λ (r : Record). r.cp) same.current ∙ is.cp;
+      cd = ap (λ (r : Record). r.cd) same.current ∙ is.cd;
+      epoch = ap (λ (r : Record). r.epoch) same.current ∙ is.epoch;
+      role_is = ap (λ (r : Record). r.role) same.current ∙ is.role_is;
+      gaps = ap (λ (r : Record). r.gaps.items) same.current ∙ is.gaps;
+      line_count = same.lines ∙ is.line_count;
+      versions = λ i. same.versions i ∙ is.versions i;
+      is_free = λ i within. same.is_free i ∙ is.is_free i within;
+    }
