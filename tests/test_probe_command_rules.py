@@ -223,7 +223,7 @@ class Drawn(Probing):
         wanted = self.ERRORS | {simple(kind) for kind in (b"string", b"hash", b"none")}
         self.assertEqual(wanted - {it.reply for it in effects}, set())
         self.assertEqual(self.CHANGES, {type(change) for it in effects for change in it.changes})
-        self.assertGreater(sum(bool(it.changes) for it in effects), self.REQUESTS // 5)
+        self.assertGreater(sum(bool(it.changes) for it in effects), self.REQUESTS // 6)
 
     def draw_field(self, drawn, redis):
         """A line that makes a hash, or one more field of it, also where the key holds a string."""
