@@ -5,9 +5,11 @@ use Rattle.kv_types.specs.declared.reply.Reply.{Reply, Error}
 use Rattle.kv_types.specs.Keyspace.{Keyspace, IsKeyspace, play_all}
 use Rattle.kv_types.proofs.PlayLemmas.{is_keyspace-empty, is_keyspace-play_all}
 use Rattle.model.specs.declared.call.Call.{Call}
-use Rattle.model.specs.Command.{outcome_of}
-use Rattle.model.specs.State.{idle_session, State, start_state}
-use Rattle.model.specs.Call.{MayStand, MayReply, unless_error, outcome_at, changes_of, after_call, IsLegalFrom, IsLegal, state_from, state_after, keyspace_after, is_nonempty, is_changing, AreAlike, position_from, position_of, cut_changing, cut_from, cut_at, IsPrefix}
+use Rattle.multi_watch.specs.Session.{Session}
+use Rattle.multi_watch.specs.Admission.{Admission, Answer, Run, RunAll}
+use Rattle.model.specs.Command.{admission_of}
+use Rattle.model.specs.State.{State, start_state}
+use Rattle.model.specs.Call.{MayReply, MayAnswer, admission_at, changes_for, all_made, changes_of, after_call, IsLegalFrom, IsLegal, state_from, state_after, keyspace_after, is_nonempty, is_changing, AreAlike, position_from, position_of, cut_changing, cut_from, cut_at, IsPrefix}
 use Rattle.model.proofs.PrefixLemmas.{IsPrefix-itself, IsPrefix-none, IsPrefix-cons}
 
 -- ---- one more call
@@ -81,21 +83,17 @@ position_of_grows xs ys = omega (arith, position_of-append xs ys)
 
 pub MayReply-alike : (s t : State) (a b : Call) → AreAlike s a t b → MayReply s a → MayReply t b
 MayReply-alike s t a b alike may =
-    subst (λ (reply : Reply). MayStand (outcome_of t.keyspace b.item) reply) alike.reply
-    (subst (λ (item : Item). MayStand (outcome_of t.keyspace item) a.reply) alike.item (subst (λ (k : Keyspace). MayStand (outcome_of k a.item) a.reply) alike.keyspace may))
+    subst (λ (reply : Reply). MayAnswer t.keyspace (admission_of (t.sessions b.connection) b.item) reply) alike.reply
+    (subst (λ (item : Item). MayAnswer t.keyspace (admission_of (t.sessions b.connection) item) a.reply) alike.item
+    (subst (λ (session : Session). MayAnswer t.keyspace (admission_of session a.item) a.reply) alike.session
+    (subst (λ (k : Keyspace). MayAnswer k (admission_of (s.sessions a.connection) a.item) a.reply) alike.keyspace may)))
 
 pub changes_of-alike : (s t : State) (a b : Call) → AreAlike s a t b → changes_of s a ≡ changes_of t b
 changes_of-alike s t a b alike =
-    ap (λ (k : Keyspace). unless_error a.reply (outcome_of k a.item).changes) alike.keyspace
-    ∙ ap (λ (item : Item). unless_error a.reply (outcome_of t.keyspace item).changes) alike.item ∙ ap (λ (reply : Reply). unless_error reply (outcome_of t.keyspace b.item).changes) alike.reply
-
--- no call begins anything in a session yet
-sessions_from_idle : (s : State) (calls : List Call) (connection : ℕ) → s.sessions connection ≡ idle_session → (state_from s calls).sessions connection ≡ idle_session
-sessions_from_idle s [] connection now_idle = now_idle
-sessions_from_idle s (call ∷ calls) connection now_idle = sessions_from_idle (after_call s call) calls connection refl
-
-pub sessions_idle : (calls : List Call) (connection : ℕ) → (state_after calls).sessions connection ≡ idle_session
-sessions_idle calls connection = sessions_from_idle start_state calls connection refl
+    ap (λ (k : Keyspace). changes_for k (admission_of (s.sessions a.connection) a.item) a.reply) alike.keyspace
+    ∙ ap (λ (session : Session). changes_for t.keyspace (admission_of session a.item) a.reply) alike.session
+    ∙ ap (λ (item : Item). changes_for t.keyspace (admission_of (t.sessions b.connection) item) a.reply) alike.item
+    ∙ ap (λ (reply : Reply). changes_for t.keyspace (admission_of (t.sessions b.connection) b.item) reply) alike.reply
 
 -- ---- a call that changes nothing
 
@@ -110,9 +108,20 @@ changes_of_unchanging s call e = no_elements (changes_of s call) e
 pub after_call_unchanging : (s : State) (call : Call) → is_changing s call ≡ false → (after_call s call).keyspace ≡ s.keyspace
 after_call_unchanging s call e = ap (play_all s.keyspace) (changes_of_unchanging s call e)
 
+none_made : (s : Keyspace) (requests : List (List (List ℕ))) → all_made s requests [] ≡ []
+none_made s [] = refl
+none_made s (words ∷ requests) = refl
+
+pub changes_for-error : (s : Keyspace) (admission : Admission) (text : List ℕ) → changes_for s admission (Error text) ≡ []
+changes_for-error s (Answer proper) text = refl
+changes_for-error s (Run words) text = refl
+changes_for-error s (RunAll requests) text = none_made s requests
+
 -- and so does one that was answered with an error
 pub after_call_error : (s : State) (call : Call) (text : List ℕ) → call.reply ≡ Error text → (after_call s call).keyspace ≡ s.keyspace
-after_call_error s call text e = ap (λ reply. play_all s.keyspace (unless_error reply (outcome_at s call.connection call.item).changes)) e
+after_call_error s call text e =
+    let admission = admission_at s call.connection call.item in
+    ap (λ reply. play_all s.keyspace (changes_for s.keyspace admission reply)) e ∙ ap (play_all s.keyspace) (changes_for-error s.keyspace admission text)
 
 -- ---- cuts
 

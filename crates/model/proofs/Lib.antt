@@ -7,7 +7,8 @@ pub mod VersionsLemmas
 pub mod GroupsLemmas
 pub mod RecordLemmas
 pub mod StandingLemmas
-pub mod RightCallsLemmas
+pub mod SessionLemmas
+pub mod RequestLemmas
 pub mod ReadRecordLemmas
 pub mod ReadEntryLemmas
 pub mod ReadMapLemmas

@@ -8,6 +8,7 @@ use Rattle.kv_types.specs.declared.record_id.RecordId.TheVariants.{Str, Field}
 use Rattle.kv_types.specs.declared.reply.Reply.{Simple}
 use Rattle.kv_types.specs.Keyspace.{Keyspace}
 use Rattle.cmd_table.specs.Row.{is_named}
+use Rattle.multi_watch.specs.Verb.{verb_of}
 use Rattle.cmd_table.specs.Request.{outcome_of_words}
 use Rattle.model.specs.declared.call.Call.{Call}
 use Rattle.model.specs.declared.record.Record.{Record}
@@ -92,7 +93,7 @@ first_primary = record { lines = 4096; role = Primary; epoch = 1 }
 
 -- the image stands at position 1 of the list of that one call
 set_stands : StandsAt first_primary set_list 1 set_image
-unfolding outcome_of_words is_named
+unfolding outcome_of_words verb_of is_named
 set_stands = record { current = record_two; position = refl; role = refl; epoch = refl; holds = set_holds }
 
 -- ---- the root of the commit was lost
@@ -116,7 +117,7 @@ lost_holds = record {
 
 -- it stands at the position before the call
 lost_stands : StandsAt first_primary set_list 0 lost_image
-unfolding outcome_of_words is_named
+unfolding outcome_of_words verb_of is_named
 lost_stands = record { current = record_one; position = refl; role = refl; epoch = refl; holds = lost_holds }
 
 -- ---- HSET h f 1

@@ -4,14 +4,20 @@ use Rattle.std.specs.List.{flat_map}
 use Rattle.kv_types.specs.declared.change.Change.{Change}
 use Rattle.kv_types.specs.declared.change.Change.TheVariants.{Put, Drop, DropKey, Clear}
 use Rattle.kv_types.specs.declared.item.Item.{Item}
-use Rattle.kv_types.specs.declared.reply.Reply.{Reply, Simple, Error, Int, Bulk, NullBulk, Array', NullArray}
+use Rattle.kv_types.specs.declared.item.Item.TheVariants.{Request, Fault}
+use Rattle.kv_types.specs.declared.reply.Reply.{Reply, Simple, Error, Int, Bulk, NullBulk, Array, Array', NullArray, Row_of-Reply, end_of-Reply, more_of-Reply}
 use Rattle.kv_types.specs.Keyspace.{Keyspace, play_all}
 use Rattle.kv_types.specs.Change.{changes_size}
 use Rattle.kv_types.specs.Reply.{text_of}
 use Rattle.model.specs.declared.call.Call.{Call}
 use Rattle.model.specs.declared.call.TheConstants.{MAX_CHANGE_TEXT_BYTES}
-use Rattle.model.specs.Command.{Outcome, outcome_of, closes}
-use Rattle.model.specs.State.{Session, idle_session, State, start_state}
+use Rattle.cmd_core.specs.Contents.{same_bytes}
+use Rattle.cmd_table.specs.Request.{closes as request_closes}
+use Rattle.multi_watch.specs.Session.{Session, idle_session, modified_where}
+use Rattle.multi_watch.specs.Admission.{Admission, Answer, Run, RunAll, session_after_request, session_after_refusal}
+use Rattle.multi_watch.specs.Modified.{modifies}
+use Rattle.model.specs.Command.{Outcome, outcome_of, admission_of, closes}
+use Rattle.model.specs.State.{State, start_state}
 
 -- the change makes a new version
 abbrev pub is_put : Change → Bool
@@ -34,14 +40,15 @@ full_reply = Error (codes "ERR store is full")
 abbrev pub too_large_reply : Reply
 too_large_reply = Error (codes "ERR change is too large")
 
--- The replies that may be given where this is the outcome. Memory may be refused for any call. Otherwise a change text above the limit is
--- refused; otherwise the reply is the outcome's own or, for a command that writes, that there was no room.
-abbrev pub MayStand : Outcome → Reply → Type 0
-MayStand outcome reply =
+-- The replies that may be given where this is the outcome, after this many bytes of change text in the same call. Memory may be refused for any
+-- request. Otherwise a change text that comes above the limit with the bytes before it is refused; otherwise the reply is the outcome's own or,
+-- for a command that writes, that there was no room.
+abbrev pub MayStand : ℕ → Outcome → Reply → Type 0
+MayStand before outcome reply =
     (reply ≡ memory_reply)
-    ⊎ ((MAX_CHANGE_TEXT_BYTES < changes_size outcome.changes) × (reply ≡ too_large_reply))
-    ⊎ ((changes_size outcome.changes ≤ MAX_CHANGE_TEXT_BYTES) × (reply ≡ outcome.reply))
-    ⊎ ((changes_size outcome.changes ≤ MAX_CHANGE_TEXT_BYTES) × IsTrue (writes outcome.changes) × (reply ≡ full_reply))
+    ⊎ ((MAX_CHANGE_TEXT_BYTES < before + changes_size outcome.changes) × (reply ≡ too_large_reply))
+    ⊎ ((before + changes_size outcome.changes ≤ MAX_CHANGE_TEXT_BYTES) × (reply ≡ outcome.reply))
+    ⊎ ((before + changes_size outcome.changes ≤ MAX_CHANGE_TEXT_BYTES) × IsTrue (writes outcome.changes) × (reply ≡ full_reply))
 
 -- a command that answers an error changes nothing
 abbrev pub unless_error : Reply → List Change → List Change
@@ -53,24 +60,86 @@ unless_error NullBulk changes = changes
 unless_error (Array' shape replies) changes = changes
 unless_error NullArray changes = changes
 
+-- what a request changed that was run on this keyspace and got this reply
+abbrev pub made : Keyspace → List (List ℕ) → Reply → List Change
+made s words reply = unless_error reply (outcome_of s words).changes
+
+-- ---- the requests of an EXEC, run one after another
+
+-- Each of them got one of these replies, which may stand where it was run, after this many bytes of change text. One that was refused made no
+-- change, and adds nothing to the bytes.
+abbrev pub MayStandAll : Keyspace → ℕ → List (List (List ℕ)) → List Reply → Type 0
+MayStandAll s before [] [] = Unit {0}
+MayStandAll s before (words ∷ requests) (reply ∷ replies) =
+    MayStand before (outcome_of s words) reply
+    × MayStandAll (play_all s (made s words reply)) (before + changes_size (made s words reply)) requests replies
+MayStandAll s before _ _ = ⊥
+
+-- what they changed, in order
+abbrev pub all_made : Keyspace → List (List (List ℕ)) → List Reply → List Change
+all_made s [] replies = []
+all_made s (words ∷ requests) [] = []
+all_made s (words ∷ requests) (reply ∷ replies) = made s words reply ++ all_made (play_all s (made s words reply)) requests replies
+
+-- as a plain list
+abbrev pub list_of_row : {shape : _} → Row_of-Reply shape → List Reply
+list_of_row end_of-Reply = []
+list_of_row (more_of-Reply reply replies) = reply ∷ list_of_row replies
+
+-- the replies in an array; a reply of another form has none
+abbrev pub replies_in : Reply → List Reply
+replies_in (Array' shape replies) = list_of_row replies
+replies_in _ = []
+
 -- ---- one call
 
--- what an item of this connection asks for at this state; no command looks at the session yet
-abbrev pub outcome_at : State → ℕ → Item → Outcome
-outcome_at state connection item = outcome_of state.keyspace item
+-- what is to be done for an item of this connection at this state
+abbrev pub admission_at : State → ℕ → Item → Admission
+admission_at state connection item = admission_of (state.sessions connection) item
+
+-- The replies that may be given where this is to be done. Memory may be refused for any call; for an EXEC, that is for the array of its replies, and
+-- then nothing of it is run.
+abbrev pub MayAnswer : Keyspace → Admission → Reply → Type 0
+MayAnswer s (Answer proper) reply = (reply ≡ memory_reply) ⊎ (reply ≡ proper)
+MayAnswer s (Run words) reply = MayStand 0 (outcome_of s words) reply
+MayAnswer s (RunAll requests) reply = (reply ≡ memory_reply) ⊎ ((replies : List Reply) × (reply ≡ Array replies) × MayStandAll s 0 requests replies)
 
 -- the call's reply is one that may be given at this state
 abbrev pub MayReply : State → Call → Type 0
-MayReply state call = MayStand (outcome_at state call.connection call.item) call.reply
+MayReply state call = MayAnswer state.keyspace (admission_at state call.connection call.item) call.reply
+
+-- what a call changed that was to do this and got this reply
+abbrev pub changes_for : Keyspace → Admission → Reply → List Change
+changes_for s (Answer proper) reply = []
+changes_for s (Run words) reply = made s words reply
+changes_for s (RunAll requests) reply = all_made s requests (replies_in reply)
 
 -- what a call made at this state changed
 abbrev pub changes_of : State → Call → List Change
-changes_of state call = unless_error call.reply (outcome_at state call.connection call.item).changes
+changes_of state call = changes_for state.keyspace (admission_at state call.connection call.item) call.reply
 
--- The session of a connection after a call. No command opens a transaction, queues a request or watches a key yet, so every session
--- is idle, and there is no watched key for the call's changes to mark.
+-- memory was refused
+abbrev pub is_memory : Reply → Bool
+is_memory (Error text) = same_bytes text (codes "ERR out of memory")
+is_memory _ = false
+
+-- the session of a connection after an item of its own got this reply; nothing is left of that of a connection which the item closes
+abbrev pub session_after_item : Session → Item → Reply → Session
+session_after_item session (Fault fault) reply = idle_session
+session_after_item session (Request words) reply =
+    if request_closes words then idle_session
+    else (if is_memory reply then session_after_refusal session words else session_after_request session words)
+
+-- The session of a connection after a call, before the changed keys are marked in it.
+abbrev pub session_before_marks : State → Call → ℕ → Session
+session_before_marks state call connection =
+    if nat_eq call.connection connection then session_after_item (state.sessions call.connection) call.item call.reply
+    else state.sessions connection
+
+-- The session of a connection after a call, by whichever connection: each key that the call modified is marked where it is watched.
 abbrev pub session_after : State → Call → ℕ → Session
-session_after state call connection = idle_session
+session_after state call connection =
+    modified_where (modifies state.keyspace (changes_of state call)) (session_before_marks state call connection)
 
 abbrev pub after_call : State → Call → State
 after_call state call = record { keyspace = play_all state.keyspace (changes_of state call); sessions = session_after state call }

@@ -1,25 +1,35 @@
--- What an item of a connection asks for: a request means what the table of commands says, and a protocol fault is answered in its turn.
-use Rattle.std.specs.Prelude.{ℕ, Bool, true, List, []}
+-- What an item of a connection asks for. A request goes through the session of its connection, which has it run, or queued, or answers it; a
+-- protocol fault is answered in its turn.
+use Rattle.std.specs.Prelude.{◌≡◌, ℕ, Bool, true, List}
 use Rattle.kv_types.specs.declared.item.Item.{Item}
 use Rattle.kv_types.specs.declared.item.Item.TheVariants.{Request, Fault}
 use Rattle.kv_types.specs.declared.reply.Reply.{Error}
 use Rattle.kv_types.specs.Keyspace.{Keyspace}
 use Rattle.kv_types.specs.Fault.{fault_message}
 use Rattle.cmd_table.specs.Request as request
+use Rattle.multi_watch.specs.Session.{Session}
+use Rattle.multi_watch.specs.Admission.{Admission, Answer, admit}
+use Rattle.model.specs.declared.outcome.Outcome.{Outcome as Computed}
 
 -- what a command answers, and what it changes, one change after another
 abbrev pub Outcome : Type 0
 Outcome = request.Effect
 
-abbrev pub refusing : List ℕ → Outcome
-refusing message = record { reply = Error message; changes = [] }
+-- the meaning of the words of a request that is run
+abbrev pub outcome_of : Keyspace → List (List ℕ) → Outcome
+outcome_of = request.outcome_of_words
 
--- the meaning of one item
-abbrev pub outcome_of : Keyspace → Item → Outcome
-outcome_of s (Request words) = request.outcome_of_words s words
-outcome_of s (Fault fault) = refusing (fault_message fault)
+-- what is to be done for an item of a connection with this session
+abbrev pub admission_of : Session → Item → Admission
+admission_of session (Request words) = admit session words
+admission_of session (Fault fault) = Answer (Error (fault_message fault))
 
 -- after this item nothing more is taken from its connection
 abbrev pub closes : Item → Bool
 closes (Request words) = request.closes words
 closes (Fault fault) = true
+
+-- what was computed has this reply and these changes
+pub record Gives (computed : Computed) (outcome : Outcome) : Type 0 where
+  pub reply : computed.reply ≡ outcome.reply
+  pub changes : computed.changes.items ≡ outcome.changes

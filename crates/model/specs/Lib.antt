@@ -2,8 +2,6 @@ pub mod Command
 pub mod State
 pub mod Call
 pub mod Position
-pub mod RightCall
-pub mod Kept
 pub mod Layout
 pub mod Image
 pub mod Standing

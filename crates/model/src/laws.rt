@@ -1,12 +1,18 @@
 //! Laws of the definitions, each the contract of a function that does nothing.
-ghost use Rattle.std.specs.Prelude.{◌≡◌, ℕ, ◌+◌, ◌<◌, ◌≤◌, min, true, false, if◌then◌else◌, List, [], ◌∷◌, ◌++◌, length, Option, None};
-ghost use Rattle.kv_types.specs.declared.reply.Reply.{Error};
+ghost use Rattle.std.specs.Prelude.{◌≡◌, ◌≢◌, ℕ, ◌+◌, ◌<◌, ◌≤◌, ◌⊎◌, min, true, false, if◌then◌else◌, List, [], ◌∷◌, ◌++◌, length, Option, None};
+ghost use Rattle.kv_types.specs.declared.item.Item.TheVariants.{Request};
+ghost use Rattle.kv_types.specs.declared.reply.Reply.{Reply, Error, Array};
 ghost use Rattle.kv_types.specs.Keyspace.{Keyspace, IsKeyspace, play_all};
 ghost use Rattle.model.specs.declared.call.Call.{Call};
 ghost use Rattle.model.specs.declared.group.Group.{Group};
 ghost use Rattle.model.specs.declared.record.Record.{Record};
+ghost use Rattle.multi_watch.specs.Session.{idle_session, modified_where};
+ghost use Rattle.multi_watch.specs.Admission.{RunAll, session_after_request, session_after_refusal};
+ghost use Rattle.multi_watch.specs.Modified.{modifies};
+ghost use Rattle.model.specs.Command.{closes};
 ghost use Rattle.model.specs.State.{State};
-ghost use Rattle.model.specs.Call.{MayReply, changes_of, after_call, is_changing, AreAlike, IsLegal, state_after, keyspace_after, position_of, cut_at, IsPrefix};
+ghost use Rattle.model.specs.Call.{MayReply, MayAnswer, admission_at, memory_reply, replies_in, all_made, changes_for, changes_of, is_memory, after_call, is_changing, AreAlike};
+ghost use Rattle.model.specs.Call.{IsLegal, state_after, keyspace_after, position_of, cut_at, items_of, IsPrefix};
 ghost use Rattle.model.specs.Position.{changes_at};
 ghost use Rattle.model.specs.Image.{Image, Version, IsMapOf, map_below, Holds, entries_of_lines};
 ghost use Rattle.model.specs.Group.{Contents, IsGroup, IsConsistent, after_group, changes_of_group};
@@ -38,6 +44,30 @@ pub fn calls_see_their_own_session()
     ensures reply { (s t : State) (a b : Call) → AreAlike s a t b → MayReply s a → MayReply t b }
     ensures changes { (s t : State) (a b : Call) → AreAlike s a t b → changes_of s a ≡ changes_of t b }
     ensures session { (s t : State) (a b : Call) → AreAlike s a t b → (after_call s a).sessions a.connection ≡ (after_call t b).sessions b.connection }
+{}
+
+/// Sessions are read off the list of calls. A connection that has made no call has an idle session. A call moves the session of its own connection:
+/// as the request says, or, where memory was refused, as its refusal does; and one that closes the connection leaves nothing of it. In every session
+/// the call marks the watched keys that it modified, and does nothing else to those of other connections.
+pub fn sessions_are_read_off_the_list()
+    ensures new { (calls : List Call) (connection : ℕ) → items_of connection calls ≡ [] → (state_after calls).sessions connection ≡ idle_session }
+    ensures answered { (s : State) (call : Call) (words : List (List ℕ)) → call.item ≡ Request words → closes call.item ≡ false → is_memory call.reply ≡ false
+        → (after_call s call).sessions call.connection ≡ modified_where (modifies s.keyspace (changes_of s call)) (session_after_request (s.sessions call.connection) words) }
+    ensures refused { (s : State) (call : Call) (words : List (List ℕ)) → call.item ≡ Request words → closes call.item ≡ false → is_memory call.reply ≡ true
+        → (after_call s call).sessions call.connection ≡ modified_where (modifies s.keyspace (changes_of s call)) (session_after_refusal (s.sessions call.connection) words) }
+    ensures closed { (s : State) (call : Call) → closes call.item ≡ true → (after_call s call).sessions call.connection ≡ idle_session }
+    ensures others { (s : State) (call : Call) (connection : ℕ) → call.connection ≢ connection
+        → (after_call s call).sessions connection ≡ modified_where (modifies s.keyspace (changes_of s call)) (s.sessions connection) }
+{}
+
+/// A transaction that is run answers an array with one reply for each of its requests, or was refused memory for the array and changed nothing. What
+/// its requests changed is what the one call changed.
+pub fn transactions_answer_each_request()
+    ensures each { (s : Keyspace) (requests : List (List (List ℕ))) (reply : Reply) → MayAnswer s (RunAll requests) reply
+        → (reply ≡ memory_reply) ⊎ ((reply ≡ Array (replies_in reply)) × (length (replies_in reply) ≡ length requests)) }
+    ensures refused { (s : Keyspace) (requests : List (List (List ℕ))) → changes_for s (RunAll requests) memory_reply ≡ [] }
+    ensures changes { (s : State) (call : Call) (requests : List (List (List ℕ))) → admission_at s call.connection call.item ≡ RunAll requests
+        → changes_of s call ≡ all_made s.keyspace requests (replies_in call.reply) }
 {}
 
 /// The cut at position `p` is the longest prefix of the list with at most `p` changing calls: it is such a prefix, and begins with every other.
