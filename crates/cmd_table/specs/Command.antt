@@ -27,7 +27,7 @@ abbrev pub read_command : List (List ℕ) → Result Command Misuse
 read_command [] = Err UnknownName
 read_command (word ∷ arguments) = read_named (command_named word) arguments
 
--- The same, where the name may also be that of a command that is not served here.
+-- The same, where the name may also be that of a command that only sessions answer.
 abbrev pub read_request : List (List ℕ) → Result Command Misuse
 read_request [] = Err UnknownName
 read_request (word ∷ arguments) = read_named (find COMMANDS word) arguments

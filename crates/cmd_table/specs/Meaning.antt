@@ -1,7 +1,8 @@
 -- What each command answers and what it changes. The arguments are the words after the name.
 use Rattle.std.specs.Prelude.{ℕ, List}
 use Rattle.kv_types.specs.Keyspace.{Keyspace}
-use Rattle.cmd_core.specs.Outcome.{Outcome, excluded}
+use Rattle.cmd_core.specs.declared.outcome.Status.TheVariants as status
+use Rattle.cmd_core.specs.Outcome.{Outcome, Simple, reads, excluded}
 use Rattle.cmd_string.specs.Strings.{set, get, setnx, getdel, strlen, append, mset, msetnx, mget}
 use Rattle.cmd_string.specs.Counters.{incr, decr, incrby, decrby}
 use Rattle.cmd_string.specs.Keys.{del, exists, type_of, dbsize, flushdb}
@@ -12,6 +13,10 @@ use Rattle.cmd_hash.specs.Whole.{hlen, hgetall, hkeys, hvals}
 use Rattle.cmd_hash.specs.Counter.{hincrby}
 use Rattle.cmd_table.specs.declared.name.CommandName.{CommandName}
 use Rattle.cmd_table.specs.declared.name.CommandName.TheVariants as name
+
+-- The session forgets its watches (the Redis page of UNWATCH); of the keyspace nothing is asked.
+abbrev pub unwatch : Outcome
+unwatch = reads (Simple status.Ok)
 
 abbrev pub does : Keyspace → CommandName → List (List ℕ) → Outcome
 does s name.Set = set s
@@ -47,5 +52,6 @@ does s name.HIncrBy = hincrby s
 does s name.HGetAll = hgetall s
 does s name.HKeys = hkeys s
 does s name.HVals = hvals s
--- the others are not served
+does s name.Unwatch = λ arguments. unwatch
+-- the others are not served: those that only sessions answer
 does s _ = λ arguments. excluded

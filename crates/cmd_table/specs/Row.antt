@@ -63,13 +63,12 @@ row name.Unwatch = record { name = codes "unwatch"; words = Exactly 1; keys = ke
 abbrev pub row_now : code.Row → Row
 row_now r = record { name = r.name.now; words = r.words; keys = r.keys }
 
--- the other commands are served
+-- These are answered by sessions alone, and never run on a keyspace; the other commands are served.
 abbrev pub is_served : CommandName → Bool
 is_served name.Multi = false
 is_served name.Exec = false
 is_served name.Discard = false
 is_served name.Watch = false
-is_served name.Unwatch = false
 is_served _ = true
 
 -- in any ASCII case

@@ -36,7 +36,7 @@ pub fn read_command(words: &[Bytes]) -> Result<Command<'_>, Misuse>
 }
 
 /// The command that the words name, served or not, whose arguments are as its row asks: what `read_command` reads, and besides the
-/// commands that do not run on a keyspace.
+/// commands that only sessions answer.
 pub fn read_request(words: &[Bytes]) -> Result<Command<'_>, Misuse>
     requires { AllByRecursion (λ word. length word ≤ MAX_VALUE_BYTES) words.now }
     ensures read { spec.reading_now result ≡ spec.read_request words.now }

@@ -7,7 +7,7 @@ ghost use Rattle.cmd_table.specs.Row.{row, is_served};
 
 use crate::command::Command;
 use crate::name::CommandName;
-use cmd_core::{Lookup, Outcome};
+use cmd_core::{Answer, Lookup, Outcome, Status};
 use std::alloc::{AllocError, Global};
 
 /// What a command that was read answers, and what it changes, where the keyspace is as it is shown.
@@ -55,6 +55,14 @@ pub fn run<L: Lookup>(
         CommandName::HGetAll => cmd_hash::hgetall(alloc, lookup, arguments),
         CommandName::HKeys => cmd_hash::hkeys(alloc, lookup, arguments),
         CommandName::HVals => cmd_hash::hvals(alloc, lookup, arguments),
+        CommandName::Unwatch => Ok(unwatch(alloc)),
         _ => unreachable!(),
     }
+}
+
+/// UNWATCH: `OK`. That the session forgets its watches is not said here.
+fn unwatch(alloc: Global) -> Outcome
+    ensures { outcome_now result ≡ spec.unwatch }
+{
+    Outcome::reads(alloc, Answer::Simple(Status::Ok))
 }

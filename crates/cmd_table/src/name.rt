@@ -1,4 +1,4 @@
-//! The commands by name, and which of them are served.
+//! The commands by name, and which of them are served: those that run on a keyspace.
 ghost use Rattle.std.specs.Prelude.{◌≡◌};
 ghost use Rattle.cmd_table.specs.Row as spec;
 
@@ -88,7 +88,7 @@ pub const COMMANDS: [CommandName; 38] = [
 ];
 
 impl CommandName {
-    /// Whether the command is served. To serve one more, its line is taken out here and in the definition.
+    /// Whether the command runs on a keyspace. Sessions alone answer the others.
     pub fn is_served(self) -> bool
         ensures { result ≡ spec.is_served self }
     {
@@ -97,7 +97,6 @@ impl CommandName {
             CommandName::Exec => false,
             CommandName::Discard => false,
             CommandName::Watch => false,
-            CommandName::Unwatch => false,
             _ => true,
         }
     }

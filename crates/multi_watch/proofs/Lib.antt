@@ -1,4 +1,5 @@
 mod TableLemmas
 mod SessionsLemmas
+pub mod ModifiedLemmas
 mod WorkedCases
 mod RunLemmas

@@ -1,4 +1,5 @@
 pub mod Session
+pub mod Modified
 pub mod Error
 pub mod Verb
 pub mod Admission

@@ -40,12 +40,19 @@ abbrev pub watching : List (List ℕ) → List Watch → List Watch
 watching [] watched = watched
 watching (key ∷ keys) watched = watching keys (if is_watched key watched then watched else watched ++ unmodified key ∷ [])
 
+abbrev pub marked_where : (List ℕ → Bool) → Watch → Watch
+marked_where is_modified watch = record { key = watch.key; is_modified = watch.is_modified || is_modified watch.key }
+
+-- A call has modified the keys that the test tells: the watch of each is marked.
+abbrev pub modified_where : (List ℕ → Bool) → Session → Session
+modified_where is_modified session = with_watched (map (marked_where is_modified) session.watched) session
+
 abbrev pub marked : List ℕ → Watch → Watch
-marked key watch = record { key = watch.key; is_modified = watch.is_modified || same_bytes watch.key key }
+marked key = marked_where (λ own. same_bytes own key)
 
 -- A call has modified the key: its watch is marked, if there is one.
 abbrev pub modified : List ℕ → Session → Session
-modified key session = with_watched (map (marked key) session.watched) session
+modified key = modified_where (λ own. same_bytes own key)
 
 -- some watched key was modified
 abbrev pub has_modified : Session → Bool
