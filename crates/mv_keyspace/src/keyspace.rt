@@ -1,5 +1,6 @@
 //! The keyspace as a sequencer and a standby see it.
-ghost use Rattle.std.specs.Prelude.{◌≡◌, OnOk, OnErr, IfOk, IfErr};
+ghost use Rattle.std.specs.Prelude.{◌≡◌, ◌++◌, List, OnOk, OnErr, IfErr};
+ghost use Rattle.kv_types.specs.declared.place.EntryNo.{EntryNo};
 ghost use Rattle.kv_types.specs.declared.refusal.Refusal.TheVariants.{Memory};
 ghost use Rattle.mv_keyspace.specs.Table.{Table, records, place_all, puts_of, AreEnded, AreFresh, IsLawful};
 
@@ -13,19 +14,21 @@ pub trait Keyspace: Lookup {
     /// Each live record with its value, its entry and the position at which it was put, in the order of records.
     ghost table: { Self → Table };
 
-    /// Makes all changes of a command or of a frame at this position of the list, and returns the entries that they ended, each once.
-    /// Refused with `Memory` where a growth was refused, and then nothing has changed.
+    /// Makes all changes of a command or of a frame at this position of the list, and appends the entries that they ended, each once, to
+    /// those in `ended`. Refused with `Memory` where a growth was refused, and then nothing has changed.
     fn apply(
         &mut self,
         alloc: Global,
         changes: &[PlacedChange],
         position: u64,
-    ) -> Result<Vec<EntryNo>, Refusal>
+        ended: &mut Vec<EntryNo>,
+    ) -> Result<(), Refusal>
         requires lawful { IsLawful (table self.old) }
         requires fresh { AreFresh (table self.old) (puts_of changes.now) }
         ensures table { OnOk result (table self.new ≡ place_all position (table self.old) changes.now) }
-        ensures ended { IfOk result (λ ended. AreEnded position (table self.old) changes.now ended.items) }
+        ensures ended { OnOk result ((more : List EntryNo) × (ended.new.items ≡ ended.old.items ++ more) × AreEnded position (table self.old) changes.now more) }
         ensures err { OnErr result (table self.new ≡ table self.old) }
+        ensures ended_stays { OnErr result (ended.new.items ≡ ended.old.items) }
         ensures cause { IfErr result (λ refusal. refusal ≡ Memory) };
 
     /// What a command reads is the table.

@@ -1,7 +1,8 @@
 //! The keyspace as a list of rows in the order of records.
-ghost use Rattle.std.specs.Prelude.{◌≡◌, ℕ, ◌+◌, ◌<◌, ◌≤◌, ◌==◌, ◌++◌, List, [], length, IsTrue, IfOk, IfErr, vec_len, vec_capacity};
+ghost use Rattle.std.specs.Prelude.{◌≡◌, ℕ, ◌+◌, ◌<◌, ◌≤◌, ◌==◌, ◌++◌, List, length, IsTrue, IfOk, IfErr, vec_len, vec_capacity};
 ghost use Rattle.std.specs.Vec.Iter.{into_iter_items, into_iter_len};
 ghost use Rattle.std.specs.FinMap.Entries.{is_sorted};
+ghost use Rattle.kv_types.specs.declared.place.EntryNo.{EntryNo};
 ghost use Rattle.kv_types.specs.Keyspace.{record_cmp};
 ghost use Rattle.cmd_core.specs.Contents.{keys_of};
 ghost use Rattle.model.specs.declared.group.Put.{Put};
@@ -103,13 +104,14 @@ impl Keyspace for ListKeyspace {
         alloc: Global,
         changes: &[PlacedChange],
         position: u64,
-    ) -> Result<Vec<EntryNo>, Refusal> {
+        ended: &mut Vec<EntryNo>,
+    ) -> Result<(), Refusal> {
         // All that can be refused comes first, so that a refusal changes nothing.
         let staged = stage(alloc, changes, position)?;
         self.rows.reserve(staged.len())?;
-        let mut ended = Vec::with_capacity(alloc, self.rows.len() + staged.len())?;
-        self.keys = play(&mut self.rows, self.keys, changes, staged, &mut ended);
-        Ok(ended)
+        ended.reserve(self.rows.len() + staged.len())?;
+        self.keys = play(&mut self.rows, self.keys, changes, staged, ended);
+        Ok(())
     }
 }
 
@@ -128,7 +130,7 @@ fn stage(alloc: Global, changes: &[PlacedChange], position: u64) -> Result<Vec<R
 }
 
 /// Makes the changes, whose puts have their rows staged, and returns how many keys there are then; there were `keys`.
-/// There is room for everything that the changes add.
+/// The entries that the changes ended come after those in `ended`. There is room for everything that the changes add.
 fn play(
     rows: &mut Vec<Row>,
     keys: u64,
@@ -140,13 +142,12 @@ fn play(
     requires fresh { AreFresh (table_of rows.old.items) (puts_of changes.now) }
     requires staged { (position : ℕ) × (table_of staged.items ≡ rows_of_puts position (puts_of changes.now)) }
     requires counted { keys ≡ length (keys_of (records_of rows.old.items)) }
-    requires none { ended.old.items ≡ [] }
     requires room { vec_len rows.old + vec_len staged ≤ vec_capacity rows.old }
-    requires room_for_ended { vec_len rows.old + vec_len staged ≤ vec_capacity ended.old }
+    requires room_for_ended { vec_len ended.old + (vec_len rows.old + vec_len staged) ≤ vec_capacity ended.old }
     ensures table { (position : ℕ) → table_of staged.items ≡ rows_of_puts position (puts_of changes.now)
         → table_of rows.new.items ≡ place_all position (table_of rows.old.items) changes.now }
     ensures ended { (position : ℕ) → table_of staged.items ≡ rows_of_puts position (puts_of changes.now)
-        → AreEnded position (table_of rows.old.items) changes.now ended.new.items }
+        → (more : List EntryNo) × (ended.new.items ≡ ended.old.items ++ more) × AreEnded position (table_of rows.old.items) changes.now more }
     ensures counted { result ≡ length (keys_of (records_of rows.new.items)) }
 {
     let mut count = keys;

@@ -4,4 +4,4 @@
 mod performing;
 mod places;
 
-pub use performing::perform;
+pub use performing::{empty_part, perform};

@@ -1,7 +1,7 @@
 //! The changes of a command or of a frame, made on the keyspace with places from the heap: all of them, or none.
-ghost use Rattle.std.specs.Prelude.{◌≡◌, ◌⊎◌, OnErr, IfOk, IfErr, IsErrOf};
+ghost use Rattle.std.specs.Prelude.{◌≡◌, ◌⊎◌, [], OnOk, OnErr, IfErr, IsErrOf};
 ghost use Rattle.placing.specs.Left.{IsBeside};
-ghost use Rattle.placing.specs.Performs.{Performs};
+ghost use Rattle.placing.specs.Performs.{AddsTo, IsSamePart};
 ghost use Rattle.placing.specs.Place.{HasRoomFor};
 
 use crate::places::{give_back, place_all};
@@ -11,35 +11,47 @@ use model::Part;
 use mv_keyspace::Keyspace;
 use std::alloc::Global;
 
-/// Makes the changes at this position of the list, and returns them as a part.
+/// A part without changes, at this position of the list. It takes no memory.
+pub fn empty_part(alloc: Global, position: u64) -> Part
+    ensures position { result.position ≡ position }
+    ensures changes { result.changes.items ≡ [] }
+    ensures ended { result.ended.items ≡ [] }
+{
+    Part {
+        position,
+        changes: Vec::new(alloc),
+        ended: Vec::new(alloc),
+    }
+}
+
+/// Makes changes at a part's position of the list, after those that it has, and adds them to it.
 ///
 /// # Errors
 ///
-/// `Full` where the heap has no room for all their puts, `Memory` where a growth was refused. Keyspace and heap are then as they were.
+/// `Full` where the heap has no room for all their puts, `Memory` where a growth was refused. Keyspace, heap and part are then as they were.
 pub fn perform<K: Keyspace>(
     alloc: Global,
     keyspace: &mut K,
     heap: &mut ExtentHeap,
     changes: Vec<Change>,
-    position: u64,
-) -> Result<Part, Refusal>
+    part: &mut Part,
+) -> Result<(), Refusal>
     requires { IsBeside (K.table keyspace.old) heap.old }
-    ensures ok { IfOk result (λ part. Performs (K.table keyspace.old) heap.old position changes.items part (K.table keyspace.new) heap.new) }
+    ensures ok { OnOk result (AddsTo part.old (K.table keyspace.old) heap.old changes.items part.new (K.table keyspace.new) heap.new) }
     ensures beside { IsBeside (K.table keyspace.new) heap.new }
     ensures table_stays { OnErr result (K.table keyspace.new ≡ K.table keyspace.old) }
     ensures heap_stays { OnErr result (heap.new ≡ heap.old) }
+    ensures part_stays { OnErr result (IsSamePart part.old part.new) }
     ensures causes { IfErr result (λ refusal. (refusal ≡ Refusal.Full) ⊎ (refusal ≡ Refusal.Memory)) }
     ensures full_only { IsErrOf result Refusal.Full → ¬ HasRoomFor heap.old changes.items }
 {
-    let changes = place_all(alloc, heap, changes)?;
-    match keyspace.apply(alloc, changes.as_slice(), position) {
-        Ok(ended) => Ok(Part {
-            position,
-            changes,
-            ended,
-        }),
+    let from = part.changes.len();
+    place_all(heap, changes, &mut part.changes)?;
+    let added = part.changes.as_slice().split_at(from).1;
+    match keyspace.apply(alloc, added, part.position, &mut part.ended) {
+        Ok(()) => Ok(()),
         Err(refusal) => {
-            give_back(heap, changes);
+            give_back(heap, &mut part.changes, from);
             Err(refusal)
         }
     }

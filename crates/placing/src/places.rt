@@ -1,10 +1,10 @@
 //! The places of new versions: each put takes an entry and an extent from the heap, or none does.
-ghost use Rattle.std.specs.Prelude.{◌≡◌, ◌+◌, ◌⊎◌, ℕ, List, map, length, OnOk, OnErr, IfOk, IfErr, IsErrOf};
+ghost use Rattle.std.specs.Prelude.{◌≡◌, ◌+◌, ◌≤◌, ◌⊎◌, drop, take, length, vec_len, OnOk, OnErr, IfOk, IfErr, IsErrOf};
 ghost use Rattle.extent_heap.specs.Room.{Room};
 ghost use Rattle.mv_keyspace.specs.Table.{puts_of};
 ghost use Rattle.model.specs.Group.{change_of, put_of, bytes_of_id};
 ghost use Rattle.model.specs.Image.{lines_of_bytes};
-ghost use Rattle.placing.specs.Place.{TakesPlace, TakesPlaces, HasRoomFor};
+ghost use Rattle.placing.specs.Place.{TakesPlace, TakesPlaces, PlacesAfter, HasRoomFor};
 ghost use Rattle.model.specs.declared.group.Put.{Put};
 ghost use Rattle.model.specs.declared.group.PlacedChange.{PlacedChange};
 
@@ -16,30 +16,31 @@ use std::alloc::Global;
 /// How many bytes a line of an image has.
 const LINE_BYTES: usize = 64;
 
-/// The changes, each put with a place taken from the heap, in turn. `Refusal::Full` where the heap has no room for all of them, `Refusal::Memory`
-/// where a growth was refused; then the heap is as it was.
+/// Appends the changes to `placed`, each put with a place taken from the heap, in turn. `Refusal::Full` where the heap has no room for all of them,
+/// `Refusal::Memory` where a growth was refused; then heap and list are as they were.
 pub(crate) fn place_all(
-    alloc: Global,
     heap: &mut ExtentHeap,
     changes: Vec<Change>,
-) -> Result<Vec<PlacedChange>, Refusal>
-    ensures same { IfOk result (λ placed. map change_of placed.items ≡ changes.items) }
-    ensures places { IfOk result (λ placed. TakesPlaces heap.old (puts_of placed.items) heap.new) }
+    placed: &mut Vec<PlacedChange>,
+) -> Result<(), Refusal>
+    ensures ok { OnOk result (PlacesAfter heap.old placed.old.items changes.items placed.new.items heap.new) }
     ensures err { OnErr result (heap.new ≡ heap.old) }
+    ensures placed_stays { OnErr result (placed.new.items ≡ placed.old.items) }
     ensures causes { IfErr result (λ refusal. (refusal ≡ Refusal.Full) ⊎ (refusal ≡ Refusal.Memory)) }
     ensures full_only { IsErrOf result Refusal.Full → ¬ HasRoomFor heap.old changes.items }
 {
-    let mut placed = Vec::with_capacity(alloc, changes.len())?;
+    let from = placed.len();
+    placed.reserve(changes.len())?;
     for change in changes {
         match place(heap, change) {
             Ok(change) => placed.push_reserved(change),
             Err(refusal) => {
-                give_back(heap, placed);
+                give_back(heap, placed, from);
                 return Err(refusal);
             }
         }
     }
-    Ok(placed)
+    Ok(())
 }
 
 /// The change with its place, if it is a put. `Refusal::Full` where the heap has no room for it, `Refusal::Memory` where a growth was refused; then the
@@ -85,12 +86,16 @@ fn place_put(heap: &mut ExtentHeap, id: RecordId, value: Value) -> Result<Put, R
     }
 }
 
-/// Gives the places back, last first. The heap is then as it was before they were taken.
-pub(crate) fn give_back(heap: &mut ExtentHeap, mut placed: Vec<PlacedChange>)
-    requires { (before : Room) × TakesPlaces before (puts_of placed.items) heap.old }
-    ensures { (before : Room) → TakesPlaces before (puts_of placed.items) heap.old → heap.new ≡ before }
+/// Takes the changes behind the first `from` out of the list and gives their places back, last first. The heap is then as it was before they
+/// were taken.
+pub(crate) fn give_back(heap: &mut ExtentHeap, placed: &mut Vec<PlacedChange>, from: usize)
+    requires within { from ≤ vec_len placed.old }
+    requires taken { (before : Room) × TakesPlaces before (puts_of (drop from placed.old.items)) heap.old }
+    ensures heap { (before : Room) → TakesPlaces before (puts_of (drop from placed.old.items)) heap.old → heap.new ≡ before }
+    ensures placed { placed.new.items ≡ take from placed.old.items }
 {
-    while let Some(change) = placed.pop() {
+    while placed.len() > from {
+        let change = placed.pop().unwrap();
         give_place_back(heap, change);
     }
 }

@@ -88,7 +88,9 @@ fn apply<K: Keyspace>(
     requires last { put_of last ≡ [] }
 {
     let changes = [PlacedChange::Put(first), PlacedChange::Put(second), last];
-    keyspace.apply(alloc, &changes, POSITION)
+    let mut ended = Vec::new(alloc);
+    keyspace.apply(alloc, &changes, POSITION, &mut ended)?;
+    Ok(ended)
 }
 
 fn ended_text(alloc: Global, ended: Result<Vec<EntryNo>, Refusal>) -> Result<String, Cause> {

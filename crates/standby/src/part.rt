@@ -9,7 +9,7 @@ use extent_heap::ExtentHeap;
 use kv_types::Refusal;
 use model::Part;
 use mv_keyspace::Keyspace;
-use placing::perform;
+use placing::{empty_part, perform};
 use std::alloc::Global;
 
 /// Makes all changes of the frame, as one part at its end. What it stores shares the bytes of the frame. `Refusal::Full` if the heap has no room
@@ -27,5 +27,7 @@ pub(crate) fn make_part<K: Keyspace>(
     ensures full_only { IsErrOf result Refusal.Full → ¬ HasRoomFor heap.old frame.now.changes.items }
 {
     let changes = frame.changes.clone()?;
-    perform(alloc, keyspace, heap, changes, frame.after)
+    let mut part = empty_part(alloc, frame.after);
+    perform(alloc, keyspace, heap, changes, &mut part)?;
+    Ok(part)
 }
