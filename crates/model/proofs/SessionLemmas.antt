@@ -14,7 +14,7 @@ use Rattle.multi_watch.specs.Modified.{modifies}
 use Rattle.model.specs.declared.call.Call.{Call}
 use Rattle.model.specs.Command.{closes}
 use Rattle.model.specs.State.{State, start_state}
-use Rattle.model.specs.Call.{MayStandAll, MayAnswer, AreAlike, admission_at, memory_reply, list_of_row, replies_in, all_made, changes_for, made, changes_of, is_memory, items_of, session_after_item, session_before_marks, session_after, after_call, state_from, state_after}
+use Rattle.model.specs.Call.{MayStandAll, MayAnswer, AreAlike, admission_at, memory_reply, list_of_row, replies_in, all_made, changes_for, made, changes_of, is_memory, calls_of, items_of, session_after_item, session_before_marks, session_after, after_call, state_from, state_after}
 use Rattle.model.proofs.CallsLemmas.{changes_of-alike}
 
 -- ---- one call
@@ -88,7 +88,7 @@ own-refused s call words is stays known =
 
 first_other : (connection : ℕ) (call : Call) (calls : List Call) → items_of connection (call ∷ calls) ≡ [] → (call.connection ≢ connection) × (items_of connection calls ≡ [])
 first_other connection call calls none =
-    elim (nat_eq call.connection connection) as (λ b. nat_eq call.connection connection ≡ b → map (λ (c : Call). c.item) (cond b (call ∷ _) _) ≡ [] → (call.connection ≢ connection) × (items_of connection calls ≡ [])) [
+    elim (nat_eq call.connection connection) as (λ b. nat_eq call.connection connection ≡ b → map (λ (c : Call). c.item) (cond b (call ∷ calls_of connection calls) (calls_of connection calls)) ≡ [] → (call.connection ≢ connection) × (items_of connection calls ≡ [])) [
       | true ↦ λ e h. cc
       | false ↦ λ e h. (λ same. both (sym e ∙ eq-eqb call.connection connection same), h)
     ] refl none

