@@ -1,9 +1,11 @@
 //! The sessions of all connections.
-ghost use Rattle.std.specs.Prelude.{◌≡◌, ℕ, [], nat_eq, IsTrue, IsSome, None, Some, drop, ◌↔◌, IfOk, IfErr, OnErr};
+ghost use Rattle.std.specs.Prelude.{◌≡◌, ℕ, List, [], nat_eq, true, IsTrue, IsSome, None, Some, drop, ◌↔◌, IfOk, IfErr, OnErr};
+ghost use Rattle.std.specs.List.{list_any};
 ghost use Rattle.std.specs.Option.{option_map};
+ghost use Rattle.cmd_core.specs.Contents.{same_bytes, has_key};
 ghost use Rattle.cmd_core.specs.declared.shape.Keys.TheVariants as shape;
 ghost use Rattle.cmd_core.specs.Shape.{are_short};
-ghost use Rattle.multi_watch.specs.Session.{idle_session, with_watched, modified};
+ghost use Rattle.multi_watch.specs.Session.{idle_session, with_watched, is_watched, modified};
 ghost use Rattle.multi_watch.specs.Admission.{step, session_after_refusal, spoiled_if_open};
 ghost use Rattle.multi_watch.specs.Admission.{after_misuse, after_exec, after_discard, after_watch, after_unwatch, after_other};
 ghost use Rattle.multi_watch.specs.Watchers.{has_number};
@@ -15,6 +17,7 @@ use crate::session::Session;
 use crate::verb::Verb;
 use crate::watchers::Watchers;
 use bytes::Bytes;
+use cmd_core::Lookup;
 use cmd_table::Misuse;
 use kv_types::{Key, Refusal, Reply, Request};
 use slab::Slab;
@@ -90,6 +93,18 @@ impl Sessions {
         ensures slots { (number : ℕ) → slot self.new number ≡ option_map (modified key.now) (slot self.old number) }
     {
         mark_all(&mut self.sessions, self.watchers.of(key), key);
+    }
+
+    /// The keys that some session watches and that the keyspace holds, for a change that clears it. Goes through all watched keys.
+    ///
+    /// # Errors
+    ///
+    /// Only `Memory`.
+    pub fn watched_in<L: Lookup>(&self, alloc: Global, lookup: &L) -> Result<Vec<Key>, Refusal>
+        ensures held { IfOk result (λ keys. (number : ℕ) (own : List ℕ) → is_watched own (session_at self.now number).watched ≡ true → list_any (λ key. same_bytes own key) keys.items ≡ has_key (L.keyspace lookup.now) own) }
+        ensures cause { IfErr result (λ refusal. refusal ≡ Refusal.Memory) }
+    {
+        Ok(self.watchers.held_in(alloc, lookup)?)
     }
 
     /// What is to be done for a request of the session with an open number.

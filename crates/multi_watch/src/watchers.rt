@@ -1,11 +1,13 @@
 //! The sessions that watch each key.
-ghost use Rattle.std.specs.Prelude.{◌≡◌, ◌&&◌, ℕ, false, not, nat_eq, List, IsTrue, OnOk, OnErr};
+ghost use Rattle.std.specs.Prelude.{◌≡◌, ◌&&◌, ℕ, false, not, nat_eq, List, is_some, IsTrue, IfOk, OnOk, OnErr};
+ghost use Rattle.std.specs.List.{list_any};
 ghost use Rattle.multi_watch.specs.Watchers.{watches, has_number, SaysSame, Adds, Removes, AddsAll, RemovesAll, EachWatched};
 ghost use Rattle.std.specs.BTreeMap.{get};
 ghost use Rattle.kv_types.specs.Keyspace.{bytes_cmp};
-ghost use Rattle.cmd_core.specs.Contents.{same_bytes};
+ghost use Rattle.cmd_core.specs.Contents.{same_bytes, has_key};
 
 use crate::watch::Watch;
+use cmd_core::Lookup;
 use kv_types::Key;
 use std::alloc::{AllocError, Global};
 use std::collections::BTreeMap;
@@ -36,6 +38,19 @@ impl Watchers {
             Some(numbers) => numbers.as_slice(),
             None => &[],
         }
+    }
+
+    /// The watched keys that a keyspace holds. Their bytes are shared.
+    pub(crate) fn held_in<L: Lookup>(&self, alloc: Global, lookup: &L) -> Result<Vec<Key>, AllocError>
+        ensures { IfOk result (λ keys. (own : List ℕ) → list_any (λ key. same_bytes own key) keys.items ≡ (is_some (get bytes_cmp self.now.table own) && has_key (L.keyspace lookup.now) own)) }
+    {
+        let mut held = Vec::new(alloc);
+        for key in self.table.keys() {
+            if lookup.has(key.as_slice()) {
+                held.push(key.clone()?)?;
+            }
+        }
+        Ok(held)
     }
 
     /// Adds a session to those that watch a key. Where memory is refused, nothing changes.
