@@ -1,4 +1,5 @@
 mod TableLemmas
+mod HeldLemmas
 mod SessionsLemmas
 pub mod ModifiedLemmas
 mod WorkedCases

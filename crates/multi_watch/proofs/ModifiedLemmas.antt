@@ -117,7 +117,7 @@ or_more : (was a b : Bool) → ((was || a) || b) ≡ (was || (a || b))
 or_more true a b = refl
 or_more false a b = refl
 
-abbrev with_mark : List ℕ → Bool → Watch
+abbrev pub with_mark : List ℕ → Bool → Watch
 with_mark key is_modified = record { key = key; is_modified = is_modified }
 
 marked_where-twice : (p q : List ℕ → Bool) (watched : List Watch) → map (marked_where q) (map (marked_where p) watched) ≡ map (marked_where (λ own. p own || q own)) watched

@@ -5,9 +5,9 @@ use Rattle.std.specs.Option.{option_map}
 use Rattle.std.proofs.lemmas.List.{drop_all}
 use Rattle.std.proofs.Math.Bool.{or-false}
 use Rattle.std.proofs.lemmas.Bool.{eqb-true, or_parts}
-use Rattle.std.proofs.lemmas.Slice.Eq.{bytes_eq-Decides}
 use Rattle.cmd_core.specs.Contents.{same_bytes}
 use Rattle.multi_watch.proofs.TableLemmas.{same_is}
+use Rattle.multi_watch.proofs.ModifiedLemmas.{with_mark}
 use Rattle.multi_watch.specs.declared.watch.Watch.{Watch}
 use Rattle.multi_watch.specs.Session.{Session, is_watched, marked, modified}
 use Rattle.multi_watch.specs.Watchers.{Table, has_number, watches, RemovesAll}
@@ -19,9 +19,6 @@ twice : (was same : Bool) → ((was || same) || same) ≡ (was || same)
 twice true same = refl
 twice false true = refl
 twice false false = refl
-
-abbrev with_mark : List ℕ → Bool → Watch
-with_mark key is_modified = record { key = key; is_modified = is_modified }
 
 marked_again : (key : List ℕ) (watch : Watch) → marked key (marked key watch) ≡ marked key watch
 marked_again key watch = ap (λ b. with_mark watch.key b) (twice watch.is_modified (same_bytes watch.key key))

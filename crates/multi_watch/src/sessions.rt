@@ -102,6 +102,7 @@ impl Sessions {
     /// Only `Memory`.
     pub fn watched_in<L: Lookup>(&self, alloc: Global, lookup: &L) -> Result<Vec<Key>, Refusal>
         ensures held { IfOk result (λ keys. (number : ℕ) (own : List ℕ) → is_watched own (session_at self.now number).watched ≡ true → list_any (λ key. same_bytes own key) keys.items ≡ has_key (L.keyspace lookup.now) own) }
+        ensures watched { IfOk result (λ keys. (own : List ℕ) → list_any (λ key. same_bytes own key) keys.items ≡ true → (number : ℕ) × (is_watched own (session_at self.now number).watched ≡ true)) }
         ensures cause { IfErr result (λ refusal. refusal ≡ Refusal.Memory) }
     {
         Ok(self.watchers.held_in(alloc, lookup)?)

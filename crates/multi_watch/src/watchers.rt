@@ -41,7 +41,11 @@ impl Watchers {
     }
 
     /// The watched keys that a keyspace holds. Their bytes are shared.
-    pub(crate) fn held_in<L: Lookup>(&self, alloc: Global, lookup: &L) -> Result<Vec<Key>, AllocError>
+    pub(crate) fn held_in<L: Lookup>(
+        &self,
+        alloc: Global,
+        lookup: &L,
+    ) -> Result<Vec<Key>, AllocError>
         ensures { IfOk result (λ keys. (own : List ℕ) → list_any (λ key. same_bytes own key) keys.items ≡ (is_some (get bytes_cmp self.now.table own) && has_key (L.keyspace lookup.now) own)) }
     {
         let mut held = Vec::new(alloc);

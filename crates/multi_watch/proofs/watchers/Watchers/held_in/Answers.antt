@@ -1,0 +1,24 @@
+use Rattle.std.proofs.Common.{rules, ◌≡◌, ◌&&◌, [], ◌∷◌, ◌++◌, true, sym, ap, ap₂, ◌∙◌}
+use Rattle.std.specs.Map.Iter.{deref}
+use Rattle.std.proofs.lemmas.Map.Iter.{rest_more}
+use Rattle.cmd_core.specs.Contents.{has_key}
+use Rattle.multi_watch.proofs.HeldLemmas.{any_of, finds, held_next}
+use Rattle.multi_watch.proofs.watchers.Watchers.held_in.Goals as goal
+
+pub loop-key-init : goal.loop-key-init
+loop-key-init g c = λ own.
+    let s = g.L.Lookup.keyspace c.args.lookup.now in
+    let none : c.new-held.result.items ≡ [] = search rules in
+    let all : c.into_iter-key-iterator.result ≡ c.keys-key-items.result = search rules in
+    ap₂ (finds s own) none all ∙ ap (λ b. b && has_key s own) (any_of own c.keys-key-items.result ∙ sym (c.keys-key-items.ensures.has own))
+
+pub loop-key-preserved-in_ok-push : goal.loop-key-preserved-in_ok-push
+loop-key-preserved-in_ok-push g c = λ own.
+    let s = g.L.Lookup.keyspace c.args.lookup.now in
+    let key = c.in-Some.key.now in
+    let held = c.loop-key.held.items in
+    let left = c.next.new.self in
+    let next : c.loop-key.key-iterator ≡ key ∷ left = rest_more deref _ _ _ _ c.in-Some.is c.next.ensures.steps in
+    let more : c.push.new.self.items ≡ held ++ key ∷ [] = search rules in
+    let has : has_key s key ≡ true = search rules in
+    held_next s own key held left c.push.new.self.items c.loop-key.key-iterator has more next ∙ c.loop-key.invariant own
