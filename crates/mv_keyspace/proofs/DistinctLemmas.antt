@@ -11,10 +11,10 @@ use Rattle.mv_keyspace.proofs.TableMembers.{IsSortedTable, found-from_entry, fou
 
 -- ---- lists of numbers
 
-here : (x : ℕ) (xs : List ℕ) → Contains (x ∷ xs) x
+pub here : (x : ℕ) (xs : List ℕ) → Contains (x ∷ xs) x
 here x xs = (0, omega arith, refl)
 
-later : (x y : ℕ) (xs : List ℕ) → Contains xs y → Contains (x ∷ xs) y
+pub later : (x y : ℕ) (xs : List ℕ) → Contains xs y → Contains (x ∷ xs) y
 later x y xs m = (suc m.0, omega (arith, m.1), m.2)
 
 all_other : (x : ℕ) (xs : List ℕ) → ¬ Contains xs x → AllByRecursion (λ y. nat_eq x y ≡ false) xs

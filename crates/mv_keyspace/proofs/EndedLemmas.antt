@@ -149,18 +149,18 @@ fresh_rest (placed.Drop id) changes table fresh = fresh
 fresh_rest (placed.DropKey key) changes table fresh = fresh
 fresh_rest placed.Clear changes table fresh = fresh
 
-or_left : (a b : Bool) → IsTrue (a || b) → IsTrue a ⊎ IsTrue b
+pub or_left : (a b : Bool) → IsTrue (a || b) → IsTrue a ⊎ IsTrue b
 or_left true b t = inl refl
 or_left false b t = inr t
 
-or_right : (a b : Bool) → IsTrue b → IsTrue (a || b)
+pub or_right : (a b : Bool) → IsTrue b → IsTrue (a || b)
 or_right true b t = refl
 or_right false b t = t
 
 itself : (i : ℕ) → IsTrue (nat_eq i i)
 itself i = eq-eqb i i refl
 
-fresh_not : (table : Table) (puts : List Put) (i : ℕ) → AreFresh table puts → Contains (entries_of table) i → IsTrue (is_put_at i puts) → ⊥
+pub fresh_not : (table : Table) (puts : List Put) (i : ℕ) → AreFresh table puts → Contains (entries_of table) i → IsTrue (is_put_at i puts) → ⊥
 fresh_not table [] i fresh m t = cc
 fresh_not table (put ∷ puts) i fresh m t =
     ⊎_elim (λ (h : IsTrue (nat_eq i put.entry.0)). fresh.0 (subst (λ k. Contains (entries_of table) k) (eqb-true i put.entry.0 h) m))
@@ -241,7 +241,7 @@ module _ (position : ℕ) (c : PlacedChange) (changes : List PlacedChange) (tabl
 
 -- ---- the entries after all changes
 
-made_before : (position : ℕ) (table : Table) (changes : List PlacedChange) (i : ℕ) → IsLawful table → AreFresh table (puts_of changes) → Contains (entries_of (place_all position table changes)) i
+pub made_before : (position : ℕ) (table : Table) (changes : List PlacedChange) (i : ℕ) → IsLawful table → AreFresh table (puts_of changes) → Contains (entries_of (place_all position table changes)) i
     → Contains (entries_of table) i ⊎ IsTrue (is_put_at i (puts_of changes))
 made_before position table [] i lawful fresh m = inl m
 made_before position table (c ∷ changes) i lawful fresh m =

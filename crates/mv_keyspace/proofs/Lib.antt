@@ -5,6 +5,7 @@ pub mod DistinctLemmas
 pub mod PartTables
 pub mod ListLemmas
 pub mod EndedLemmas
+pub mod AppendedLemmas
 pub mod PlayingLemmas
 pub mod EndingLemmas
 pub mod KeyCountLemmas

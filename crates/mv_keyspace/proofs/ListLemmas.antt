@@ -1,5 +1,5 @@
 -- Rows that are filtered, and rows inserted among others.
-use Rattle.std.proofs.Common.{◌≡◌, ℕ, suc, ◌+◌, Bool, true, false, cond, List, [], ◌∷◌, ◌++◌, map, length, take, drop, insert, IsTrue, refl, sym, ap, ◌∙◌, length-append, arith}
+use Rattle.std.proofs.Common.{◌≡◌, ℕ, suc, ◌+◌, Bool, true, false, cond, List, [], ◌∷◌, ◌++◌, map, length, take, drop, insert, IsTrue, refl, sym, ap, ap₂, ◌∙◌, length-append, arith}
 use Rattle.std.proofs.lemmas.List.{map-append, take-map, drop-map}
 use Rattle.std.specs.Prelude.{filter}
 use Rattle.std.specs.FinMap.Entries.{where_key, is_sorted}
@@ -62,3 +62,18 @@ length-ended before after gone is =
     let sum = length-append (numbers_of before) (entries_of gone) in
     let whole = ap (λ (xs : List ℕ). length xs) is in
     omega (arith, a, b, g, sum, whole)
+
+-- ---- entries and their numbers
+
+-- numbers that come after those of some entries are the numbers of entries that come after them
+pub more_entries : (before after : List EntryNo) (more : List ℕ) → numbers_of after ≡ numbers_of before ++ more → (rest : List EntryNo) × (after ≡ before ++ rest) × (numbers_of rest ≡ more)
+more_entries [] after more is = (after, refl, is)
+more_entries (entry ∷ before) [] more is = cc
+more_entries (entry ∷ before) (other ∷ after) more is =
+    let same : other.0 ≡ entry.0 = cc in
+    let others : numbers_of after ≡ numbers_of before ++ more = cc in
+    let rest = more_entries before after more others in
+    (rest.0, ap₂ (λ (x : EntryNo) (xs : List EntryNo). x ∷ xs) (same_entry other entry same) rest.1, rest.2)
+  where
+    same_entry : (x y : EntryNo) → x.0 ≡ y.0 → x ≡ y
+    same_entry x y e = λ k. record x { 0 = e k }

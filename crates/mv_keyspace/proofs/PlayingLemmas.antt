@@ -11,26 +11,41 @@ use Rattle.mv_keyspace.specs.Row.{ended_rows, spared_rows, rows_of_puts}
 use Rattle.mv_keyspace.proofs.TableMembers.{IsSortedTable}
 use Rattle.mv_keyspace.proofs.EndedLemmas.{place-made, lawful-place, fresh-place, none-ended, ended-first}
 
--- From `start` on, all changes before `rest` have been made: the table is now `table`, the rows of `rest` are staged, and `ended` were ended so far.
-pub record Playing (position : ℕ) (start : Table) (all : List PlacedChange) (table : Table) (rest : List PlacedChange) (waiting : Table) (ended : List ℕ) : Type 0 where
+-- The numbers after those that were there are exactly the ones that the changes ended.
+pub record NamesMore (position : ℕ) (table : Table) (changes : List PlacedChange) (before after : List ℕ) : Type 0 where
+  pub more : List ℕ
+  pub after_is : after ≡ before ++ more
+  pub ended : AreNumbersEnded position table changes more
+
+-- From `start` on, all changes before `rest` have been made: the table is now `table`, the rows of `rest` are staged, and `ended` were named so far,
+-- of which `before` were there at the start.
+pub record Playing (position : ℕ) (start : Table) (all : List PlacedChange) (before : List ℕ) (table : Table) (rest : List PlacedChange) (waiting : Table) (ended : List ℕ) : Type 0 where
   pub lawful : IsLawful table
   pub fresh : AreFresh table (puts_of rest)
   pub staged : waiting ≡ rows_of_puts position (puts_of rest)
   pub same : place_all position table rest ≡ place_all position start all
-  pub numbers : (more : List ℕ) → AreNumbersEnded position table rest more → AreNumbersEnded position start all (ended ++ more)
+  pub numbers : (more : List ℕ) → AreNumbersEnded position table rest more → NamesMore position start all before (ended ++ more)
 
-pub playing-start : (position : ℕ) (table : Table) (changes : List PlacedChange) (staged : Table) → IsLawful table → AreFresh table (puts_of changes) → staged ≡ rows_of_puts position (puts_of changes) → Playing position table changes table changes staged []
-playing-start position table changes staged lawful fresh is = record { lawful = lawful; fresh = fresh; staged = is; same = refl; numbers = λ more h. h }
+pub playing-start : (position : ℕ) (table : Table) (changes : List PlacedChange) (before : List ℕ) (staged : Table) → IsLawful table → AreFresh table (puts_of changes) → staged ≡ rows_of_puts position (puts_of changes)
+    → Playing position table changes before table changes staged before
+playing-start position table changes before staged lawful fresh is = record {
+  lawful = lawful;
+  fresh = fresh;
+  staged = is;
+  same = refl;
+  numbers = λ more h. record { more = more; after_is = refl; ended = h };
+}
 
-module _ (position : ℕ) (start : Table) (all : List PlacedChange) (table : Table) (c : PlacedChange) (rest : List PlacedChange) (staged : Table) (ended : List ℕ) (playing : Playing position start all table (c ∷ rest) staged ended) where
-  pub playing-place : (left : Table) → left ≡ rows_of_puts position (puts_of rest) → Playing position start all (place position table c) rest left (ended ++ entries_of (ended_rows (change_of c) table))
+module _ (position : ℕ) (start : Table) (all : List PlacedChange) (before : List ℕ) (table : Table) (c : PlacedChange) (rest : List PlacedChange) (staged : Table) (ended : List ℕ)
+    (playing : Playing position start all before table (c ∷ rest) staged ended) where
+  pub playing-place : (left : Table) → left ≡ rows_of_puts position (puts_of rest) → Playing position start all before (place position table c) rest left (ended ++ entries_of (ended_rows (change_of c) table))
   playing-place left is = record {
     lawful = lawful-place position c rest table playing.lawful playing.fresh;
     fresh = fresh-place position c rest table playing.lawful playing.fresh;
     staged = is;
     same = playing.same;
     numbers = λ more h.
-        subst (λ numbers. AreNumbersEnded position start all numbers) (sym (append_assoc ended (entries_of (ended_rows (change_of c) table)) more))
+        subst (λ numbers. NamesMore position start all before numbers) (sym (append_assoc ended (entries_of (ended_rows (change_of c) table)) more))
         (playing.numbers (entries_of (ended_rows (change_of c) table) ++ more) (ended-first position c rest table playing.lawful playing.fresh more h));
   }
 
@@ -55,21 +70,22 @@ module _ (position : ℕ) (put : Put) (later : List Put) (table : Table) (staged
 pub staged-first : (position : ℕ) (put : Put) (later : List Put) → [] ≡ rows_of_puts position (put ∷ later) → ⊥
 staged-first position put later e = cc
 
-pub playing-end : (position : ℕ) (start : Table) (all : List PlacedChange) (table : Table) (staged : Table) (ended : List ℕ) → Playing position start all table [] staged ended → (table ≡ place_all position start all) × AreNumbersEnded position start all ended
-playing-end position start all table staged ended playing = (playing.same, subst (λ numbers. AreNumbersEnded position start all numbers) (append-nil ended) (playing.numbers [] (none-ended position table)))
+pub playing-end : (position : ℕ) (start : Table) (all : List PlacedChange) (before : List ℕ) (table : Table) (staged : Table) (ended : List ℕ) → Playing position start all before table [] staged ended
+    → (table ≡ place_all position start all) × NamesMore position start all before ended
+playing-end position start all before table staged ended playing = (playing.same, subst (λ numbers. NamesMore position start all before numbers) (append-nil ended) (playing.numbers [] (none-ended position table)))
 
 -- ---- the same along the list of all changes
 
-module _ (position : ℕ) (start : Table) (all : List PlacedChange) (table : Table) (n : ℕ) (c : PlacedChange) (waiting : Table) (ended : List ℕ)
-    (playing : Playing position start all table (drop n all) waiting ended) (lt : n < length all) (is : c ≡ get_or all n c) where
-  at_change : Playing position start all table (c ∷ drop (n + 1) all) waiting ended
-  at_change = subst (λ rest. Playing position start all table rest waiting ended) (drop_more all n c lt ∙ ap (λ x. x ∷ drop (n + 1) all) (sym is)) playing
+module _ (position : ℕ) (start : Table) (all : List PlacedChange) (before : List ℕ) (table : Table) (n : ℕ) (c : PlacedChange) (waiting : Table) (ended : List ℕ)
+    (playing : Playing position start all before table (drop n all) waiting ended) (lt : n < length all) (is : c ≡ get_or all n c) where
+  at_change : Playing position start all before table (c ∷ drop (n + 1) all) waiting ended
+  at_change = subst (λ rest. Playing position start all before table rest waiting ended) (drop_more all n c lt ∙ ap (λ x. x ∷ drop (n + 1) all) (sym is)) playing
 
   pub staged-step : waiting ≡ rows_of_puts position (put_of c ++ puts_of (drop (n + 1) all))
   staged-step = at_change.staged
 
   pub change-step : (after left : Table) → after ≡ place position table c → left ≡ rows_of_puts position (puts_of (drop (n + 1) all)) → (named : List ℕ) → named ≡ ended ++ entries_of (ended_rows (change_of c) table)
-      → Playing position start all after (drop (n + 1) all) left named
+      → Playing position start all before after (drop (n + 1) all) left named
   change-step after left is left_is named is_named =
-      subst₂ (λ t e. Playing position start all t (drop (n + 1) all) left e) (sym is) (sym is_named)
-      (playing-place position start all table c (drop (n + 1) all) waiting ended at_change left left_is)
+      subst₂ (λ t e. Playing position start all before t (drop (n + 1) all) left e) (sym is) (sym is_named)
+      (playing-place position start all before table c (drop (n + 1) all) waiting ended at_change left left_is)

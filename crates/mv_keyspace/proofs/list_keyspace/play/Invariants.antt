@@ -9,7 +9,7 @@ use Rattle.mv_keyspace.proofs.list_keyspace.play.Given as goal
 abbrev pub invariant-loop-change : goal.invariant-loop-change
 invariant-loop-change l = record {
   playing : (position : ℕ) → table_of l.fn.staged.items ≡ rows_of_puts position (puts_of l.changes)
-      → Playing position (table_of l.initial.rows.items) l.changes (table_of l.rows.items) (drop l.change-index l.changes) (table_of (into_iter_items l.staged)) (numbers_of l.ended.items);
+      → Playing position (table_of l.initial.rows.items) l.changes (numbers_of l.initial.ended.items) (table_of l.rows.items) (drop l.change-index l.changes) (table_of (into_iter_items l.staged)) (numbers_of l.ended.items);
   counted : l.count ≡ length (keys_of (records_of l.rows.items));
   room : vec_len l.rows + into_iter_len l.staged ≤ vec_capacity l.rows;
   room_for_ended : vec_len l.ended + (vec_len l.rows + into_iter_len l.staged) ≤ vec_capacity l.ended;

@@ -1,4 +1,4 @@
-use Rattle.std.proofs.Common.{ap, ◌∙◌, subst}
+use Rattle.std.proofs.Common.{◌++◌, ap, ◌∙◌, subst}
 use Rattle.mv_keyspace.specs.Table.{AreEnded, place_all}
 use Rattle.mv_keyspace.specs.Row.{table_of}
 use Rattle.mv_keyspace.proofs.ListLemmas.{in_order-placed}
@@ -6,7 +6,11 @@ use Rattle.mv_keyspace.proofs.list_keyspace.ListKeyspaceKeyspace.apply.Goals as 
 
 pub returns-clause-ended : goal.returns-clause-ended
 returns-clause-ended c =
-    subst (λ items. AreEnded c.args.position (table_of items) c.args.changes.now c.play-self.new.ended.items) c.in_ok-reserve.ensures.items (c.play-self.ensures.ended c.args.position c.in_ok-staged.ensures.ok)
+    let names = c.play-self.ensures.ended c.args.position c.in_ok-staged.ensures.ok in (
+      names.0,
+      names.1 ∙ ap (λ ended. ended ++ names.0) c.in_ok-reserve-2.ensures.items,
+      subst (λ items. AreEnded c.args.position (table_of items) c.args.changes.now names.0) c.in_ok-reserve.ensures.items names.2,
+    )
 
 pub invariant_of-self-2 : goal.invariant_of-self-2
 invariant_of-self-2 c =
