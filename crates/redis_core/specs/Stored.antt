@@ -1,0 +1,50 @@
+-- What calls are run on, and what running the requests of a call does to it.
+use Rattle.std.specs.Prelude.{◌≡◌, ◌≢◌, ℕ, ◌+◌, ◌<◌, ◌≤◌, List, [], ◌∷◌, ◌++◌}
+use Rattle.kv_types.specs.declared.reply.Reply.{Reply}
+use Rattle.kv_types.specs.Change.{changes_size}
+use Rattle.multi_watch.specs.Sessions.{Sessions}
+use Rattle.model.specs.declared.call.TheConstants.{MAX_CHANGE_TEXT_BYTES}
+use Rattle.model.specs.declared.image.TheConstants.{COUNTER_LIMIT}
+use Rattle.model.specs.Call.{MayStand, MayStandAll, made, all_made, full_reply}
+use Rattle.model.specs.Command.{outcome_of}
+use Rattle.model.specs.Group.{changes_of_part}
+use Rattle.extent_heap.specs.Room.{Room}
+use Rattle.mv_keyspace.specs.Table.{Table, records}
+use Rattle.placing.specs.Performs.{Performs, AddsTo}
+use Rattle.placing.specs.Place.{HasRoomFor}
+use Rattle.redis_core.specs.Marking.{Marks}
+use Rattle.redis_core.specs.declared.running.Running.{Running}
+
+pub record Stored : Type 0 where
+  -- each live record with its value and its entry
+  pub table : Table
+  -- the lines and entries that are free
+  pub room : Room
+  -- for each seat its session, none where the seat is closed
+  pub sessions : Sessions
+
+-- A request was run as part of a call: it got a reply that may stand, and what it changed was made, marked and added to what the call had changed.
+pub record RunsRequest (old : Stored) (words : List (List ℕ)) (before : Running) (reply : Reply) (after : Running) (new : Stored) : Type 0 where
+  pub stands : (used : ℕ) → used + before.left ≡ MAX_CHANGE_TEXT_BYTES → MayStand used (outcome_of (records old.table) words) reply
+  pub left : after.left + changes_size (made (records old.table) words reply) ≡ before.left
+  -- it was refused for want of room only where there is none
+  pub full_only : reply ≡ full_reply → ¬ HasRoomFor old.room (outcome_of (records old.table) words).changes
+  pub adds : AddsTo before.part old.table old.room (made (records old.table) words reply) after.part new.table new.room
+  pub marks : Marks (records old.table) (made (records old.table) words reply) old.sessions new.sessions
+  -- no change is made at a position above what a counter holds
+  pub counted : made (records old.table) words reply ≢ [] → before.part.position < COUNTER_LIMIT
+
+-- Requests of a call are run, from this start: those before the rest got these replies.
+pub record AreUnderWay (start : Stored) (position : ℕ) (requests : List (List (List ℕ))) (replies : List Reply) (rest : List (List (List ℕ))) (running : Running) (now : Stored)
+    : Type 0 where
+  pub stand : (used : ℕ) (later : List Reply) → used + running.left ≡ MAX_CHANGE_TEXT_BYTES → MayStandAll (records now.table) used rest later
+      → MayStandAll (records start.table) 0 requests (replies ++ later)
+  pub made : (later : List Reply) → all_made (records start.table) requests (replies ++ later) ≡ changes_of_part running.part ++ all_made (records now.table) rest later
+  pub most : running.left ≤ MAX_CHANGE_TEXT_BYTES
+  pub performs : Performs start.table start.room position (changes_of_part running.part) running.part now.table now.room
+  pub marks : Marks (records start.table) (changes_of_part running.part) start.sessions now.sessions
+  pub counted : changes_of_part running.part ≢ [] → position < COUNTER_LIMIT
+
+-- All requests of a call were run, and each got its reply.
+abbrev pub RunsAll : Stored → ℕ → List (List (List ℕ)) → List Reply → Running → Stored → Type 0
+RunsAll start position requests replies = AreUnderWay start position requests replies []

@@ -1,0 +1,23 @@
+//! The errors with which the sequencer refuses a call.
+ghost use Rattle.std.specs.Prelude.{◌≡◌};
+ghost use Rattle.redis_core.specs.Serving as replies;
+
+use bytes::Bytes;
+use kv_types::{Refusal, Reply};
+
+/// The reply that says why a request was refused.
+pub(crate) fn refusal_reply(refusal: Refusal) -> Reply
+    ensures { result ≡ replies.refusal_reply refusal }
+{
+    match refusal {
+        Refusal::Full => error(b"ERR store is full"),
+        _ => error(b"ERR out of memory"),
+    }
+}
+
+/// An error with a constant text, which takes no memory.
+pub(crate) fn error(text: &'static [u8]) -> Reply
+    ensures { result ≡ Reply.Error text.now }
+{
+    Reply::Error(Bytes::from_static(text))
+}
