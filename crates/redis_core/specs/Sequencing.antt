@@ -1,15 +1,18 @@
 -- What a sequencer holds, and when its tables say what an engine will hold once the waiting parts have committed.
-use Rattle.std.specs.Prelude.{◌≡◌, ℕ, Bool, false, List, [], slice_index_or, slice_set, length, ◌≤◌, ◌<◌}
+use Rattle.std.specs.Prelude.{◌≡◌, ℕ, Bool, List, [], Option, length, ◌≤◌, ◌<◌}
 use Rattle.std.specs.List.{flat_map, AllByRecursion}
 use Rattle.model.specs.declared.group.Group.{Group}
 use Rattle.model.specs.declared.group.TheConstants.{MAX_PARTS}
 use Rattle.model.specs.declared.group.Part.{Part}
 use Rattle.model.specs.declared.group.Put.{Put}
-use Rattle.model.specs.State.{State, idle_state}
+use Rattle.model.specs.State.{State}
 use Rattle.model.specs.Group.{Contents, AreAllApart, AreParts, HasItsLines, IsPlaced, IsUnused, last_position, parts_versions, puts_of_part}
 use Rattle.extent_heap.specs.Room.{Room}
+use Rattle.multi_watch.specs.Session.{Session}
+use Rattle.multi_watch.specs.Sessions.{Sessions, session_at, Moves}
 use Rattle.mv_keyspace.specs.Table.{Table, IsTable, records}
 use Rattle.placing.specs.Left.{IsTaken, IsLeftOf}
+use Rattle.redis_core.specs.Seats.{is_closed_at}
 
 pub record Sequencing : Type 0 where
   -- each live record with its value and its entry
@@ -24,19 +27,26 @@ pub record Sequencing : Type 0 where
   pub before : ℕ
   -- what each changing command that is in no group yet did, oldest first
   pub waiting : List Part
-  -- for each seat, whether a protocol fault was answered there
-  pub closed : List Bool
+  -- for each seat its session, none where the seat is closed
+  pub sessions : Sessions
 
--- the state that calls are made at; no session of a seat is kept yet, as all are idle
+-- the state that calls are made at, each by a seat
 abbrev pub state_of : Sequencing → State
-state_of s = idle_state (records s.table)
+state_of s = record { keyspace = records s.table; sessions = session_at s.sessions }
 
+-- no connection is open there
 abbrev pub is_closed : Sequencing → ℕ → Bool
-is_closed s seat = slice_index_or s.closed seat false
+is_closed s seat = is_closed_at s.sessions seat
 
--- this seat is open
-abbrev pub opened : ℕ → Sequencing → Sequencing
-opened seat s = record s { closed = slice_set s.closed seat false }
+-- The seat has this session afterwards, or none, and nothing else moved.
+pub record MovesSeat (old : Sequencing) (seat : ℕ) (now : Option Session) (new : Sequencing) : Type 0 where
+  pub table : new.table ≡ old.table
+  pub room : new.room ≡ old.room
+  pub position : new.position ≡ old.position
+  pub epoch : new.epoch ≡ old.epoch
+  pub before : new.before ≡ old.before
+  pub waiting : new.waiting ≡ old.waiting
+  pub sessions : Moves old.sessions seat now new.sessions
 
 abbrev pub puts_of_parts : List Part → List Put
 puts_of_parts = flat_map puts_of_part
@@ -64,8 +74,8 @@ pub record Underlies (contents : Contents) (table : Table) (room : Room) (positi
   pub table_is : IsTable contents.versions table
 
 -- a new sequencer over these tables
-abbrev pub starts : Table → Room → ℕ → ℕ → List Bool → Sequencing
-starts table room position epoch closed = record { table = table; room = room; position = position; epoch = epoch; before = position; waiting = []; closed = closed }
+abbrev pub starts : Table → Room → ℕ → ℕ → Sessions → Sequencing
+starts table room position epoch sessions = record { table = table; room = room; position = position; epoch = epoch; before = position; waiting = []; sessions = sessions }
 
 -- All parts that wait leave as one group, of the sequencer's epoch.
 pub record HandsOut (old : Sequencing) (group : Group) (new : Sequencing) : Type 0 where

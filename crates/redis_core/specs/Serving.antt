@@ -1,41 +1,53 @@
--- What the sequencer gets from serving an item, before it is made a reply.
-use Rattle.std.specs.Prelude.{◌≡◌, ◌≢◌, ◌≤◌, Result, Ok, Err}
-use Rattle.kv_types.specs.declared.item.Item.{Item}
+-- What the sequencer gets from running the requests of a call, before it is made a reply.
+use Rattle.std.specs.Prelude.{◌≡◌, ◌≢◌, ℕ, if◌then◌else◌, List, [], ◌∷◌, ◌++◌, Some}
 use Rattle.kv_types.specs.declared.refusal.Refusal.{Refusal}
 use Rattle.kv_types.specs.declared.refusal.Refusal.TheVariants as refusal
 use Rattle.kv_types.specs.declared.reply.Reply.{Reply}
-use Rattle.kv_types.specs.Change.{changes_size}
-use Rattle.model.specs.declared.call.TheConstants.{MAX_CHANGE_TEXT_BYTES}
-use Rattle.model.specs.Call.{MayStand, changes_of, full_reply, memory_reply}
-use Rattle.model.specs.Command.{Outcome, outcome_of}
+use Rattle.multi_watch.specs.Admission.{Admission, Run, admit, session_after_refusal, session_after_request}
+use Rattle.multi_watch.specs.Sessions.{session_at}
+use Rattle.model.specs.declared.group.Part.{Part}
+use Rattle.model.specs.Call.{is_memory, MayAnswer, MayStandAll, all_made, changes_for, full_reply, memory_reply}
+use Rattle.model.specs.Command.{outcome_of}
 use Rattle.mv_keyspace.specs.Table.{records}
 use Rattle.placing.specs.Place.{HasRoomFor}
-use Rattle.redis_core.specs.Sequencing.{Sequencing, state_of}
-use Rattle.redis_core.specs.Turn.{Moves, call_of}
+use Rattle.redis_core.specs.Marking.{Marks}
+use Rattle.redis_core.specs.Sequencing.{Sequencing, MovesSeat}
+use Rattle.redis_core.specs.Turn.{Moves}
 
--- what the item asks for
-abbrev pub outcome_at : Sequencing → Item → Outcome
-outcome_at s item = outcome_of (records s.table) item
-
--- The item got a reply of its own, and its changes were made. The seat does not matter.
-pub record Serves (old : Sequencing) (item : Item) (reply : Reply) (new : Sequencing) : Type 0 where
-  pub legal : MayStand (outcome_at old item) reply
-  pub not_full : reply ≢ full_reply
-  pub moves : Moves (changes_of (state_of old) (call_of 0 item reply)) old new
-  pub epoch : new.epoch ≡ old.epoch
-  pub before : new.before ≡ old.before
-  pub closed : new.closed ≡ old.closed
-
--- the changes of the item are not too large, but there was no room for them
-pub record IsTooFull (s : Sequencing) (item : Item) : Type 0 where
-  pub fits : changes_size (outcome_at s item).changes ≤ MAX_CHANGE_TEXT_BYTES
-  pub full : ¬ HasRoomFor s.room (outcome_at s item).changes
-
--- the reply to an item that was refused
+-- the reply to a request that was refused
 abbrev pub refusal_reply : Refusal → Reply
 refusal_reply refusal.Full = full_reply
 refusal_reply _ = memory_reply
 
-abbrev pub reply_of : Result Reply Refusal → Reply
-reply_of (Ok reply) = reply
-reply_of (Err refusal) = refusal_reply refusal
+-- The requests of a call were run and got these replies. What they changed is marked, and waits as one part.
+pub record Runs (old : Sequencing) (requests : List (List (List ℕ))) (replies : List Reply) (new : Sequencing) : Type 0 where
+  pub stand : MayStandAll (records old.table) 0 requests replies
+  pub moves : Moves (all_made (records old.table) requests replies) old new
+  pub marks : Marks (records old.table) (all_made (records old.table) requests replies) old.sessions new.sessions
+  pub epoch : new.epoch ≡ old.epoch
+  pub before : new.before ≡ old.before
+
+-- What was to be done was done, and this is its reply.
+pub record Acts (old : Sequencing) (admission : Admission) (reply : Reply) (new : Sequencing) : Type 0 where
+  pub legal : MayAnswer (records old.table) admission reply
+  pub full_only : (words : List (List ℕ)) → admission ≡ Run words → reply ≡ full_reply → ¬ HasRoomFor old.room (outcome_of (records old.table) words).changes
+  pub moves : Moves (changes_for (records old.table) admission reply) old new
+  pub marks : Marks (records old.table) (changes_for (records old.table) admission reply) old.sessions new.sessions
+  pub epoch : new.epoch ≡ old.epoch
+  pub before : new.before ≡ old.before
+
+-- A request of a seat was answered: by its session, or by what this had done. The session is what the request, or its refusal, leaves.
+pub record AnswersRequest (old : Sequencing) (seat : ℕ) (words : List (List ℕ)) (reply : Reply) (new : Sequencing) : Type 0 where
+  pub between : Sequencing
+  pub session : MovesSeat old seat (Some (if is_memory reply then session_after_refusal (session_at old.sessions seat) words else session_after_request (session_at old.sessions seat) words)) between
+  pub acts : Acts between (admit (session_at old.sessions seat) words) reply new
+
+-- The changes of a call wait as one part, if there are any, and nothing else moved.
+pub record Finishes (old : Sequencing) (part : Part) (new : Sequencing) : Type 0 where
+  pub table : new.table ≡ old.table
+  pub room : new.room ≡ old.room
+  pub sessions : new.sessions ≡ old.sessions
+  pub epoch : new.epoch ≡ old.epoch
+  pub before : new.before ≡ old.before
+  pub none : part.changes.items ≡ [] → (new.position ≡ old.position) × (new.waiting ≡ old.waiting)
+  pub some : part.changes.items ≢ [] → (new.position ≡ part.position) × (new.waiting ≡ old.waiting ++ part ∷ [])

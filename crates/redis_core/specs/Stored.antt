@@ -1,16 +1,20 @@
 -- What calls are run on, and what running the requests of a call does to it.
-use Rattle.std.specs.Prelude.{◌≡◌, ◌≢◌, ℕ, ◌+◌, ◌<◌, ◌≤◌, List, [], ◌∷◌, ◌++◌}
+use Rattle.std.specs.Prelude.{◌≡◌, ◌≢◌, ℕ, ◌+◌, ◌<◌, ◌≤◌, List, [], ◌++◌, Option}
+use Rattle.kv_types.specs.declared.change.Change.{Change}
 use Rattle.kv_types.specs.declared.reply.Reply.{Reply}
 use Rattle.kv_types.specs.Change.{changes_size}
-use Rattle.multi_watch.specs.Sessions.{Sessions}
+use Rattle.multi_watch.specs.Session.{Session}
+use Rattle.multi_watch.specs.Sessions.{Sessions, Moves}
 use Rattle.model.specs.declared.call.TheConstants.{MAX_CHANGE_TEXT_BYTES}
 use Rattle.model.specs.declared.image.TheConstants.{COUNTER_LIMIT}
 use Rattle.model.specs.Call.{MayStand, MayStandAll, made, all_made, full_reply}
 use Rattle.model.specs.Command.{outcome_of}
 use Rattle.model.specs.Group.{changes_of_part}
+use Rattle.model.specs.declared.group.Part.{Part}
 use Rattle.extent_heap.specs.Room.{Room}
 use Rattle.mv_keyspace.specs.Table.{Table, records}
-use Rattle.placing.specs.Performs.{Performs, AddsTo}
+use Rattle.placing.specs.Performs.{Performs, AddsTo, IsSamePart}
+use Rattle.placing.specs.Left.{IsBeside}
 use Rattle.placing.specs.Place.{HasRoomFor}
 use Rattle.redis_core.specs.Marking.{Marks}
 use Rattle.redis_core.specs.declared.running.Running.{Running}
@@ -23,16 +27,36 @@ pub record Stored : Type 0 where
   -- for each seat its session, none where the seat is closed
   pub sessions : Sessions
 
+-- The seat has this session afterwards, or none, and nothing else moved.
+pub record MovesOne (old : Stored) (seat : ℕ) (now : Option Session) (new : Stored) : Type 0 where
+  pub table : new.table ≡ old.table
+  pub room : new.room ≡ old.room
+  pub sessions : Moves old.sessions seat now new.sessions
+
+-- Changes were made, marked, and added to a part.
+pub record Makes (old : Stored) (changes : List Change) (before after : Part) (new : Stored) : Type 0 where
+  pub adds : AddsTo before old.table old.room changes after new.table new.room
+  pub marks : Marks (records old.table) changes old.sessions new.sessions
+  -- no change is made at a position above what a counter holds
+  pub counted : changes ≢ [] → before.position < COUNTER_LIMIT
+
+-- the two say the same
+pub record IsSame (old new : Running) : Type 0 where
+  pub part : IsSamePart old.part new.part
+  pub left : new.left ≡ old.left
+
+-- the changes of a request fit in what is left, but there was no room for them
+pub record IsTooFull (s : Stored) (words : List (List ℕ)) (left : ℕ) : Type 0 where
+  pub fits : changes_size (outcome_of (records s.table) words).changes ≤ left
+  pub full : ¬ HasRoomFor s.room (outcome_of (records s.table) words).changes
+
 -- A request was run as part of a call: it got a reply that may stand, and what it changed was made, marked and added to what the call had changed.
 pub record RunsRequest (old : Stored) (words : List (List ℕ)) (before : Running) (reply : Reply) (after : Running) (new : Stored) : Type 0 where
   pub stands : (used : ℕ) → used + before.left ≡ MAX_CHANGE_TEXT_BYTES → MayStand used (outcome_of (records old.table) words) reply
   pub left : after.left + changes_size (made (records old.table) words reply) ≡ before.left
   -- it was refused for want of room only where there is none
   pub full_only : reply ≡ full_reply → ¬ HasRoomFor old.room (outcome_of (records old.table) words).changes
-  pub adds : AddsTo before.part old.table old.room (made (records old.table) words reply) after.part new.table new.room
-  pub marks : Marks (records old.table) (made (records old.table) words reply) old.sessions new.sessions
-  -- no change is made at a position above what a counter holds
-  pub counted : made (records old.table) words reply ≢ [] → before.part.position < COUNTER_LIMIT
+  pub makes : Makes old (made (records old.table) words reply) before.part after.part new
 
 -- Requests of a call are run, from this start: those before the rest got these replies.
 pub record AreUnderWay (start : Stored) (position : ℕ) (requests : List (List (List ℕ))) (replies : List Reply) (rest : List (List (List ℕ))) (running : Running) (now : Stored)
@@ -41,6 +65,7 @@ pub record AreUnderWay (start : Stored) (position : ℕ) (requests : List (List 
       → MayStandAll (records start.table) 0 requests (replies ++ later)
   pub made : (later : List Reply) → all_made (records start.table) requests (replies ++ later) ≡ changes_of_part running.part ++ all_made (records now.table) rest later
   pub most : running.left ≤ MAX_CHANGE_TEXT_BYTES
+  pub beside : IsBeside start.table start.room
   pub performs : Performs start.table start.room position (changes_of_part running.part) running.part now.table now.room
   pub marks : Marks (records start.table) (changes_of_part running.part) start.sessions now.sessions
   pub counted : changes_of_part running.part ≢ [] → position < COUNTER_LIMIT

@@ -1,16 +1,18 @@
 -- What one turn of the sequencer does.
-use Rattle.std.specs.Prelude.{◌≡◌, ℕ, ◌+◌, List, [], ◌∷◌, ◌++◌, if◌then◌else◌, slice_set}
+use Rattle.std.specs.Prelude.{◌≡◌, ℕ, ◌+◌, nat_eq, List, [], ◌∷◌, ◌++◌, if◌then◌else◌}
 use Rattle.kv_types.specs.declared.change.Change.{Change}
 use Rattle.kv_types.specs.declared.item.Item.{Item}
 use Rattle.kv_types.specs.declared.reply.Reply.{Reply}
 use Rattle.model.specs.declared.call.Call.{Call}
 use Rattle.model.specs.declared.group.Part.{Part}
-use Rattle.model.specs.Call.{MayReply, after_call, changes_of, full_reply, is_changing, outcome_at}
-use Rattle.model.specs.Command.{closes}
+use Rattle.multi_watch.specs.Admission.{Run}
+use Rattle.multi_watch.specs.Sessions.{session_at}
+use Rattle.model.specs.Call.{MayReply, admission_at, after_call, changes_of, full_reply, is_changing}
+use Rattle.model.specs.Command.{closes, outcome_of}
 use Rattle.mv_keyspace.specs.Table.{records}
 use Rattle.placing.specs.Place.{HasRoomFor}
 use Rattle.placing.specs.Performs.{Performs}
-use Rattle.redis_core.specs.Sequencing.{Sequencing, state_of}
+use Rattle.redis_core.specs.Sequencing.{Sequencing, is_closed, state_of}
 use Rattle.redis_core.specs.declared.turn.Turn.{Turn}
 use Rattle.redis_core.specs.declared.turn.Turn.TheVariants.{Served, Idle, Blocked, GroupFull, Ended}
 
@@ -39,14 +41,17 @@ Moves (change ∷ changes) old new = (part : Part) × AddsPart old part (change 
 -- One legal entry of the list: the item with the reply that it got, called at what the sequencer held before it.
 pub record Answers (old : Sequencing) (seat : ℕ) (item : Item) (reply : Reply) (new : Sequencing) : Type 0 where
   pub legal : MayReply (state_of old) (call_of seat item reply)
-  pub full_only : reply ≡ full_reply → ¬ HasRoomFor old.room (outcome_at (state_of old) seat item).changes
+  -- a request that is run by itself is refused for want of room only where there is none
+  pub full_only : (words : List (List ℕ)) → admission_at (state_of old) seat item ≡ Run words → reply ≡ full_reply
+      → ¬ HasRoomFor old.room (outcome_of (records old.table) words).changes
   pub keyspace : records new.table ≡ (after_call (state_of old) (call_of seat item reply)).keyspace
   pub position : new.position ≡ old.position + (if is_changing (state_of old) (call_of seat item reply) then 1 else 0)
   pub moves : Moves (changes_of (state_of old) (call_of seat item reply)) old new
   pub epoch : new.epoch ≡ old.epoch
   pub before : new.before ≡ old.before
+  pub sessions : (other : ℕ) → session_at new.sessions other ≡ (after_call (state_of old) (call_of seat item reply)).sessions other
   -- the seat is closed from now on if the item closes its connection
-  pub closed : new.closed ≡ slice_set old.closed seat (closes item)
+  pub closed : (other : ℕ) → is_closed new other ≡ (if nat_eq seat other then closes item else is_closed old other)
 
 -- a fact that holds where a turn has one particular result
 abbrev pub OnServed : Turn → Type 0 → Type 0

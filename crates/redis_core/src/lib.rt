@@ -1,7 +1,12 @@
 //! The sequencer: it turns what the connections ask into one list of calls, and hands out what changed as groups to commit.
 #![tactic(auto)]
 
+mod error;
+mod marking;
+mod running;
+mod seats;
 mod sequencer;
+mod store;
 mod turn;
 
 pub use sequencer::Sequencer;

@@ -1,27 +1,32 @@
 //! The sequencer: one list of calls for all seats, and the groups of what they changed.
-ghost use Rattle.std.specs.Prelude.{◌≡◌, ◌≢◌, ◌+◌, ◌<◌, ◌≤◌, ◌↔◌, ◌⊎◌, ◌++◌, ◌∷◌, [], ℕ, true, false, length, replicate, Some, None, Ok, Err, IsTrue, IfOk, IfErr, IsErrOf, OnOk, OnErr, Contains};
+ghost use Rattle.std.specs.Prelude.{◌≡◌, ◌≢◌, ◌+◌, ◌<◌, ◌≤◌, ◌↔◌, ◌⊎◌, ◌++◌, ◌∷◌, [], List, true, false, length, vec_capacity, replicate, Some, None, IsTrue, IfOk, IfErr, IsErrOf, OnOk, OnErr};
 ghost use Rattle.kv_types.specs.declared.item.Item.{Item};
-ghost use Rattle.kv_types.specs.declared.reply.Reply.{Reply};
+ghost use Rattle.kv_types.specs.declared.reply.Reply.{Reply, Array};
+ghost use Rattle.kv_types.specs.Fault.{fault_message};
+ghost use Rattle.multi_watch.specs.Session.{idle_session};
+ghost use Rattle.multi_watch.specs.Admission.{act_now};
+ghost use Rattle.multi_watch.specs.Sessions.{HasRoom};
 ghost use Rattle.model.specs.declared.group.Group.{Group};
-ghost use Rattle.model.specs.Command.{closes};
+ghost use Rattle.model.specs.Call.{full_reply, memory_reply};
+ghost use Rattle.model.specs.Command as meaning;
 ghost use Rattle.model.specs.Group.{Contents, IsGroup, after_group};
+ghost use Rattle.mv_keyspace.specs.Table.{records};
 ghost use Rattle.placing.specs.Left.{IsBeside};
 ghost use Rattle.placing.specs.Place.{HasRoomFor};
-ghost use Rattle.redis_core.specs.Sequencing.{IsAheadOf, HandsOut, Underlies, is_closed, opened, starts};
-ghost use Rattle.redis_core.specs.Serving.{Serves, IsTooFull};
-ghost use Rattle.redis_core.specs.Serving as replies;
-ghost use Rattle.redis_core.specs.Turn.{Answers, Moves, OnServed, OnIdle, OnBlocked, OnGroupFull, OnEnded, OnUnserved};
+ghost use Rattle.redis_core.specs.Sequencing.{IsAheadOf, HandsOut, MovesSeat, Underlies, is_closed, starts};
+ghost use Rattle.redis_core.specs.Serving.{Acts, AnswersRequest, Finishes, Runs};
+ghost use Rattle.redis_core.specs.Turn.{Answers, OnServed, OnIdle, OnBlocked, OnGroupFull, OnEnded, OnUnserved};
 
+use crate::error::{error, refusal_reply};
+use crate::seats::Seats;
+use crate::store::Store;
 use crate::turn::Turn;
-use bytes::Bytes;
 use extent_heap::ExtentHeap;
-use kv_types::{Change, Held, Item, Refusal, Reply, changes_fit};
-use model::{
-    COUNTER_LIMIT, Group, MAX_CHANGE_TEXT_BYTES, MAX_PARTS, Outcome, Part, closes, outcome_of,
-};
+use kv_types::{Held, Item, ProtocolFault, Refusal, Reply, Request};
+use model::{COUNTER_LIMIT, Group, MAX_PARTS, Part, closes};
+use multi_watch::Act;
 use mv_keyspace::Keyspace;
 use pipes::{Inlet, MAX_SEATS, Outlet, Seat};
-use placing::perform;
 use std::alloc::Global;
 use std::marker::Model;
 
@@ -31,15 +36,12 @@ use std::marker::Model;
 /// `Sequencing`.
 #[derive(Drop)]
 pub struct Sequencer<K: Keyspace> {
-    keyspace: K,
-    heap: ExtentHeap,
+    store: Store<K>,
     position: u64,
     // Of each group that it hands out.
     epoch: u64,
     before: u64,
     waiting: Vec<Part>,
-    // By the number of the seat.
-    closed: Vec<bool>,
 }
 
 impl<K: Keyspace> Model for Sequencer<K> {
@@ -50,25 +52,25 @@ impl<K: Keyspace> Model for Sequencer<K> {
     ghost Value = { Sequencing };
 
     ghost view = { λ s. record {
-      table = K.table s.keyspace;
-      room = s.heap;
+      table = s.store.table;
+      room = s.store.room;
       position = s.position;
       epoch = s.epoch;
       before = s.before;
       waiting = s.waiting.items;
-      closed = s.closed.items;
+      sessions = s.store.sessions;
     } };
 
-    ghost invariant = { λ s. IsReady (K.table s.keyspace) s.heap s.waiting.items (vec_capacity s.waiting) s.closed.items };
+    ghost invariant = { λ s. IsReady s.position s.waiting.items (vec_capacity s.waiting) };
 }
 
 impl<K: Keyspace + Drop> Sequencer<K> {
-    /// A sequencer over a keyspace at this position of the list, with a heap of what is free beside it, whose groups are of this epoch. No seat is
-    /// closed and nothing waits.
+    /// A sequencer over a keyspace at this position of the list, with a heap of what is free beside it, whose groups are of this epoch. All seats
+    /// are closed and nothing waits.
     ///
     /// # Errors
     ///
-    /// Only `Memory`.
+    /// `Exhausted` where the position is no number of a change, `Memory` where a growth was refused.
     pub fn new(
         alloc: Global,
         keyspace: K,
@@ -77,20 +79,22 @@ impl<K: Keyspace + Drop> Sequencer<K> {
         epoch: u64,
     ) -> Result<Sequencer<K>, Refusal>
         requires { IsBeside (K.table keyspace) heap }
-        ensures ok { IfOk result (λ s. s ≡ starts (K.table keyspace) heap position epoch (replicate MAX_SEATS false)) }
+        ensures ok { IfOk result (λ s. s ≡ starts (K.table keyspace) heap position epoch (replicate MAX_SEATS None)) }
         ensures stands { IfOk result (λ s. (contents : Contents) → Underlies contents (K.table keyspace) heap position epoch → IsAheadOf s contents) }
-        ensures err { IfErr result (λ refusal. refusal ≡ Refusal.Memory) }
+        ensures causes { IfErr result (λ refusal. (refusal ≡ Refusal.Exhausted) ⊎ (refusal ≡ Refusal.Memory)) }
+        ensures exhausted_only { IsErrOf result Refusal.Exhausted ↔ (COUNTER_LIMIT ≤ position) }
     {
+        if position >= COUNTER_LIMIT {
+            return Err(Refusal::Exhausted);
+        }
         let waiting = Vec::with_capacity(alloc, MAX_PARTS)?;
-        let closed = vec![in alloc; false; MAX_SEATS]?;
+        let seats = Seats::new(alloc)?;
         Ok(Sequencer {
-            keyspace,
-            heap,
+            store: Store::new(keyspace, heap, seats),
             position,
             epoch,
             before: position,
             waiting,
-            closed,
         })
     }
 }
@@ -100,7 +104,7 @@ impl<K: Keyspace> Sequencer<K> {
     pub fn keyspace(&self) -> &K
         ensures { K.table result.now ≡ (self.now).table }
     {
-        &self.keyspace
+        self.store.keyspace()
     }
 
     /// Whether a changing command waits for a group.
@@ -110,13 +114,26 @@ impl<K: Keyspace> Sequencer<K> {
         !self.waiting.is_empty()
     }
 
-    /// Opens a seat for the connection that was given it, whatever closed it for the one before.
-    pub fn open_seat(&mut self, seat: &Seat)
-        ensures opened { self.new ≡ opened seat.now self.old }
-        ensures open { is_closed self.new seat.now ≡ false }
+    /// Opens a seat for the connection that was given it, with an idle session, whatever the connection before left there.
+    ///
+    /// # Errors
+    ///
+    /// Only `Memory`. Nothing has changed then.
+    pub fn open_seat(&mut self, alloc: Global, seat: &Seat) -> Result<(), Refusal>
+        ensures ok { OnOk result (MovesSeat self.old seat.now (Some idle_session) self.new) }
+        ensures cause { IfErr result (λ refusal. refusal ≡ Refusal.Memory) }
+        ensures err { OnErr result (self.new ≡ self.old) }
         ensures stands { (contents : Contents) → IsAheadOf self.old contents → IsAheadOf self.new contents }
     {
-        self.closed[seat.number()] = false;
+        self.store.open(alloc, seat)
+    }
+
+    /// Closes the seat of a connection that has left: its queue and its watches are gone. It takes no memory.
+    pub fn close_seat(&mut self, seat: &Seat)
+        ensures closed { MovesSeat self.old seat.now None self.new }
+        ensures stands { (contents : Contents) → IsAheadOf self.old contents → IsAheadOf self.new contents }
+    {
+        self.store.close(seat);
     }
 
     /// Answers one item of a seat, if there is one and there is room for its reply. It never waits.
@@ -146,7 +163,7 @@ impl<K: Keyspace> Sequencer<K> {
         ensures same { O.is_same outlet.old outlet.new }
         ensures stands { (contents : Contents) → IsAheadOf self.old contents → IsAheadOf self.new contents }
     {
-        if self.closed[seat.number()] {
+        if self.store.is_closed(seat) {
             return Turn::Ended;
         }
         if self.waiting.len() == MAX_PARTS {
@@ -158,7 +175,7 @@ impl<K: Keyspace> Sequencer<K> {
         let Some(item) = inlet.take() else {
             return Turn::Idle;
         };
-        let reply = self.answer(alloc, seat, &item);
+        let reply = self.answer(alloc, seat, item);
         let held = Held {
             reply,
             position: self.position,
@@ -205,71 +222,94 @@ impl<K: Keyspace> Sequencer<K> {
         }
     }
 
-    /// Answers an item and makes all its changes. A protocol fault closes the seat.
-    fn answer(&mut self, alloc: Global, seat: &Seat, item: &Item) -> Reply
-        requires { length (self.old).waiting < MAX_PARTS }
-        ensures answers { Answers self.old seat.now item.now result self.new }
+    /// Answers an item and makes all its changes. One that closes its connection closes the seat.
+    fn answer(&mut self, alloc: Global, seat: &Seat, item: Item) -> Reply
+        requires open { is_closed self.old seat.now ≡ false }
+        requires few { length (self.old).waiting < MAX_PARTS }
+        ensures answers { Answers self.old seat.now item result self.new }
         ensures stands { (contents : Contents) → IsAheadOf self.old contents → IsAheadOf self.new contents }
     {
-        let served = self.serve(alloc, item);
-        self.closed[seat.number()] = closes(item);
-        reply_of(served)
+        let is_last = closes(&item);
+        let reply = match item {
+            Item::Request(request) => self.answer_request(alloc, seat, request),
+            Item::Fault(fault) => fault_reply(alloc, fault),
+        };
+        if is_last {
+            self.store.close(seat);
+        }
+        reply
     }
 
-    /// Does what the item asks for. An `Err` changes nothing: `Full` where there is no room for it; any other is answered as out of memory.
-    fn serve(&mut self, alloc: Global, item: &Item) -> Result<Reply, Refusal>
-        requires { length (self.old).waiting < MAX_PARTS }
-        ensures ok { IfOk result (λ reply. Serves self.old item.now reply self.new) }
-        ensures err { OnErr result (self.new ≡ self.old) }
-        ensures full_only { IsErrOf result Refusal.Full → IsTooFull self.old item.now }
+    /// Does what a request asks for: its session has it run, or queued, or answers it.
+    fn answer_request(&mut self, alloc: Global, seat: &Seat, request: Request) -> Reply
+        requires open { is_closed self.old seat.now ≡ false }
+        requires few { length (self.old).waiting < MAX_PARTS }
+        ensures { AnswersRequest self.old seat.now request result self.new }
     {
-        let Outcome { reply, changes } = outcome_of(alloc, &self.keyspace, item)?;
-        if !changes_fit(&changes, MAX_CHANGE_TEXT_BYTES) {
-            return Ok(error(b"ERR change is too large"));
+        match self.store.call(alloc, seat, request) {
+            Ok(act) => self.act(alloc, act),
+            Err(refusal) => refusal_reply(refusal),
         }
-        self.make(alloc, changes)?;
-        Ok(reply)
     }
 
-    /// Makes the changes of one command. If there are any, they then wait for a group as one part.
-    fn make(&mut self, alloc: Global, changes: Vec<Change>) -> Result<(), Refusal>
-        requires { length (self.old).waiting < MAX_PARTS }
-        ensures ok { OnOk result (Moves changes.items self.old self.new) }
-        ensures epoch { (self.new).epoch ≡ (self.old).epoch }
-        ensures before { (self.new).before ≡ (self.old).before }
-        ensures closed { (self.new).closed ≡ (self.old).closed }
-        ensures err { OnErr result (self.new ≡ self.old) }
-        ensures full_only { IsErrOf result Refusal.Full → ¬ HasRoomFor (self.old).room changes.items }
+    fn act(&mut self, alloc: Global, act: Act) -> Reply
+        requires few { length (self.old).waiting < MAX_PARTS }
+        requires room { HasRoom act }
+        ensures { Acts self.old (act_now act) result self.new }
     {
-        if changes.is_empty() {
-            return Ok(());
+        match act {
+            Act::Answer(reply) => reply,
+            Act::Run(request) => self.run(alloc, &request),
+            Act::RunAll { requests, replies } => self.run_all(alloc, &requests, replies),
         }
-        // No list of calls gets this long. One that did would refuse its changes.
-        if self.position >= COUNTER_LIMIT - 1 {
-            return Err(Refusal::Exhausted);
+    }
+
+    /// Runs one request as a call.
+    fn run(&mut self, alloc: Global, request: &Request) -> Reply
+        requires few { length (self.old).waiting < MAX_PARTS }
+        ensures ran { Runs self.old (request.now ∷ []) (result ∷ []) self.new }
+        ensures full_only { result ≡ full_reply → ¬ HasRoomFor (self.old).room (meaning.outcome_of (records (self.old).table) request.now).changes }
+    {
+        let mut running = self.store.begin(alloc, self.position + 1);
+        let reply = self.store.run(alloc, request, &mut running);
+        self.finish(running.part);
+        reply
+    }
+
+    /// Runs the requests of an EXEC as one call, with nothing between them, and returns the array of their replies.
+    fn run_all(&mut self, alloc: Global, requests: &[Request], replies: Vec<Reply>) -> Reply
+        requires few { length (self.old).waiting < MAX_PARTS }
+        requires empty { replies.items ≡ [] }
+        requires room { length requests.now ≤ vec_capacity replies }
+        ensures { (all : List Reply) × (result ≡ Array all) × Runs self.old requests.now all self.new }
+    {
+        let mut running = self.store.begin(alloc, self.position + 1);
+        let replies = self.store.run_all(alloc, requests, replies, &mut running);
+        self.finish(running.part);
+        Reply::Array(replies)
+    }
+
+    /// The changes of a call that is over wait for a group as one part, if there are any.
+    fn finish(&mut self, part: Part)
+        requires few { length (self.old).waiting < MAX_PARTS }
+        requires next { part.position ≡ (self.old).position + 1 }
+        requires counted { part.changes.items ≢ [] → part.position < COUNTER_LIMIT }
+        ensures { Finishes self.old part self.new }
+    {
+        if part.changes.is_empty() {
+            return;
         }
-        let position = self.position + 1;
-        let part = perform(alloc, &mut self.keyspace, &mut self.heap, changes, position)?;
-        self.position = position;
+        self.position = part.position;
         self.waiting.push_reserved(part);
-        Ok(())
     }
 }
 
-/// The item's own reply, or the one that says why the item was refused.
-fn reply_of(served: Result<Reply, Refusal>) -> Reply
-    ensures { result ≡ replies.reply_of served }
+/// The reply to a protocol fault.
+fn fault_reply(alloc: Global, fault: ProtocolFault) -> Reply
+    ensures { (result ≡ memory_reply) ⊎ (result ≡ Reply.Error (fault_message fault)) }
 {
-    match served {
-        Ok(reply) => reply,
-        Err(Refusal::Full) => error(b"ERR store is full"),
+    match fault.message(alloc) {
+        Ok(text) => Reply::Error(text),
         Err(_) => error(b"ERR out of memory"),
     }
-}
-
-/// An error with a constant text, which takes no memory.
-fn error(text: &'static [u8]) -> Reply
-    ensures { result ≡ Reply.Error text.now }
-{
-    Reply::Error(Bytes::from_static(text))
 }
