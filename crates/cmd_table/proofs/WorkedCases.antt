@@ -143,6 +143,15 @@ error_changes_nothing : outcome_of_words s (codes "APPEND" ∷ codes "h" ∷ cod
 unfolding outcome_of_words is_named has_key
 error_changes_nothing = refl
 
+unwatch_answers : outcome_of_words s (codes "UNWATCH" ∷ []) ≡ record { reply = Simple (codes "OK"); changes = [] }
+unfolding outcome_of_words is_named
+unwatch_answers = refl
+
+-- this one is a session's alone
+multi_is_no_command_here : outcome_of_words s (codes "MULTI" ∷ []) ≡ record { reply = Error (codes "ERR unknown command"); changes = [] }
+unfolding outcome_of_words is_named
+multi_is_no_command_here = refl
+
 quit_closes : closes (codes "Quit" ∷ codes "now" ∷ []) ≡ true
 unfolding closes is_named
 quit_closes = refl

@@ -17,7 +17,7 @@ use Rattle.kv_types.proofs.LookUpLemmas.{is_same}
 use Rattle.cmd_core.specs.Contents.{same_bytes, has_key}
 use Rattle.cmd_core.proofs.RecordsLemmas.{has_none, has_more}
 use Rattle.multi_watch.specs.declared.watch.Watch.{Watch}
-use Rattle.multi_watch.specs.Session.{Session, is_watched, with_watched, marked_where, modified_where}
+use Rattle.multi_watch.specs.Session.{Session, is_watched, with_watched, marked_where, modified_where, modified}
 use Rattle.multi_watch.specs.Modified.{names, is_clear, modifies}
 
 -- ---- whether a key is there, after changes that are of other keys
@@ -148,3 +148,11 @@ modified_where-same p q same session = ap (λ watched. with_watched watched sess
 -- tests that agree on the watched keys
 pub modified_where-watched : (p q : List ℕ → Bool) (session : Session) → ((own : List ℕ) → is_watched own session.watched ≡ true → p own ≡ q own) → modified_where p session ≡ modified_where q session
 modified_where-watched p q session same = ap (λ watched. with_watched watched session) (marked_where-watched p q session.watched same)
+
+-- one key more, after those of a list
+pub modified-next : (keys : List (List ℕ)) (key : List ℕ) (session : Session)
+    → modified key (modified_where (λ own. list_any (λ other. same_bytes own other) keys) session) ≡ modified_where (λ own. list_any (λ other. same_bytes own other) (keys ++ key ∷ [])) session
+modified-next keys key session =
+    modified_where-twice (λ own. list_any (λ other. same_bytes own other) keys) (λ own. same_bytes own key) session
+    ∙ modified_where-same (λ own. list_any (λ other. same_bytes own other) keys || same_bytes own key) (λ own. list_any (λ other. same_bytes own other) (keys ++ key ∷ []))
+    (λ own. sym (list_any-append (λ other. same_bytes own other) keys (key ∷ []) ∙ ap (λ b. list_any (λ other. same_bytes own other) keys || b) (or-false (same_bytes own key)))) session

@@ -1,10 +1,15 @@
 -- The worked cases of sessions, from the definitions by evaluation alone.
 use Rattle.std.proofs.Common.{◌≡◌, ℕ, true, false, List, [], ◌∷◌, codes, replicate, refl}
+use Rattle.kv_types.specs.declared.change.Change.TheVariants.{Put, Drop, DropKey, Clear}
+use Rattle.kv_types.specs.declared.record_id.RecordId.TheVariants.{Str, Field}
 use Rattle.kv_types.specs.declared.reply.Reply.{Simple, Error, NullArray}
+use Rattle.kv_types.specs.Keyspace.{Keyspace}
+use Rattle.cmd_core.specs.Contents.{has_key}
 use Rattle.cmd_table.specs.Row.{is_named}
-use Rattle.multi_watch.specs.Session.{Session, idle_session, modified}
+use Rattle.multi_watch.specs.Session.{Session, idle_session, modified, modified_where}
+use Rattle.multi_watch.specs.Modified.{modifies}
 use Rattle.multi_watch.specs.Verb.{verb_of}
-use Rattle.multi_watch.specs.Admission.{Admission, Answer, Run, RunAll, admit, session_after_request, session_after_refusal}
+use Rattle.multi_watch.specs.Admission.{Admission, Answer, Run, RunAll, admit, session_after_request, session_after_refusal, may_grow}
 
 abbrev after : Session → List (List (List ℕ)) → Session
 after session [] = session
@@ -147,3 +152,77 @@ refused_request = refl
 refused_exec : session_after_refusal (after idle_session (multi ∷ get_k ∷ [])) exec ≡ after idle_session (multi ∷ get_k ∷ [])
 unfolding verb_of is_named
 refused_exec = refl
+
+-- ---- which requests may be refused for memory
+
+queued_may_grow : may_grow (after idle_session (multi ∷ [])) get_k ≡ true
+unfolding verb_of is_named
+queued_may_grow = refl
+
+at_once_never : may_grow idle_session get_k ≡ false
+unfolding verb_of is_named
+at_once_never = refl
+
+bad_may_grow : may_grow idle_session bad ≡ true
+unfolding verb_of is_named
+bad_may_grow = refl
+
+unknown_name_never : may_grow idle_session (codes "NOSUCH" ∷ []) ≡ false
+unfolding verb_of is_named
+unknown_name_never = refl
+
+exec_may_grow : may_grow (after idle_session (multi ∷ [])) exec ≡ true
+unfolding verb_of is_named
+exec_may_grow = refl
+
+spoiled_exec_never : may_grow (after idle_session (multi ∷ bad ∷ [])) exec ≡ false
+unfolding verb_of is_named
+spoiled_exec_never = refl
+
+watch_may_grow : may_grow idle_session watch_k ≡ true
+unfolding verb_of is_named
+watch_may_grow = refl
+
+watch_inside_never : may_grow (after idle_session (multi ∷ [])) watch_k ≡ false
+unfolding verb_of is_named
+watch_inside_never = refl
+
+-- ---- which keys changes modify
+
+-- a string k, and a hash h of one field
+abbrev s : Keyspace
+s = (Field (codes "h") (codes "f"), codes "1") ∷ (Str (codes "k"), codes "1") ∷ []
+
+-- also where the record holds the value already
+put_modifies : modifies s (Put (Str (codes "k")) (codes "1") ∷ []) (codes "k") ≡ true
+put_modifies = refl
+
+put_of_another : modifies s (Put (Str (codes "j")) (codes "1") ∷ []) (codes "k") ≡ false
+put_of_another = refl
+
+field_modifies_its_key : modifies s (Drop (Field (codes "h") (codes "f")) ∷ []) (codes "h") ≡ true
+field_modifies_its_key = refl
+
+clear_modifies_what_is_there : modifies s (Clear ∷ []) (codes "k") ≡ true
+unfolding has_key
+clear_modifies_what_is_there = refl
+
+clear_modifies_no_absent_key : modifies s (Clear ∷ []) (codes "j") ≡ false
+unfolding has_key
+clear_modifies_no_absent_key = refl
+
+-- a key that was absent, and that is put and cleared
+put_and_cleared : modifies s (Put (Str (codes "j")) (codes "1") ∷ Clear ∷ []) (codes "j") ≡ true
+put_and_cleared = refl
+
+dropped_and_cleared : modifies s (DropKey (codes "k") ∷ Clear ∷ []) (codes "k") ≡ true
+dropped_and_cleared = refl
+
+clear_stops_exec : admit (modified_where (modifies s (Clear ∷ [])) (after idle_session (watch_k ∷ multi ∷ get_k ∷ []))) exec ≡ Answer NullArray
+unfolding verb_of is_named has_key
+clear_stops_exec = refl
+
+-- where the watched key is absent
+clear_of_an_absent_key : admit (modified_where (modifies [] (Clear ∷ [])) (after idle_session (watch_k ∷ multi ∷ get_k ∷ []))) exec ≡ RunAll (get_k ∷ [])
+unfolding verb_of is_named has_key
+clear_of_an_absent_key = refl

@@ -1,9 +1,10 @@
 -- What a session makes of a request: what is to be done, and the session afterwards (the Redis pages of MULTI, EXEC, DISCARD, WATCH
 -- and UNWATCH; the limit of a transaction, and which errors spoil it, are this project's profile).
-use Rattle.std.specs.Prelude.{ℕ, Bool, true, false, if◌then◌else◌, nat_lt, List, [], ◌∷◌, ◌++◌, length, drop, codes}
+use Rattle.std.specs.Prelude.{ℕ, Bool, true, false, not, ◌&&◌, if◌then◌else◌, nat_lt, List, [], ◌∷◌, ◌++◌, length, drop, codes}
 use Rattle.kv_types.specs.declared.reply.Reply as reply
 use Rattle.kv_types.specs.declared.reply.Reply.{Reply}
 use Rattle.cmd_table.specs.declared.misuse.Misuse.{Misuse}
+use Rattle.cmd_table.specs.declared.misuse.Misuse.TheVariants.{WrongNumberOfWords}
 use Rattle.cmd_table.specs.Misuse.{misuse_text}
 use Rattle.multi_watch.specs.declared.error.SessionError.{SessionError}
 use Rattle.multi_watch.specs.declared.error.SessionError.TheVariants.{NestedMulti, ExecOutside, DiscardOutside, WatchInside, TooLong, Aborted}
@@ -107,6 +108,35 @@ admit session words = (step session words).admission
 
 abbrev pub session_after_request : Session → List (List ℕ) → Session
 session_after_request session words = (step session words).session
+
+-- ---- which requests may be refused for memory
+
+-- a misuse whose text is built, since it shows the name
+abbrev pub builds_text : Misuse → Bool
+builds_text (WrongNumberOfWords command) = true
+builds_text _ = false
+
+-- the transaction, once it is closed, runs
+abbrev pub will_run : Session → Bool
+will_run session = not session.is_spoiled && not (has_modified session)
+
+-- a request is kept, to wait for EXEC
+abbrev pub would_wait : Session → Bool
+would_wait session = session.is_open && has_room session
+
+abbrev pub may_grow_of : Verb → Session → Bool
+may_grow_of (verb.Misused misuse) session = builds_text misuse
+may_grow_of verb.Quit session = false
+may_grow_of verb.Multi session = false
+may_grow_of verb.Exec session = session.is_open && will_run session
+may_grow_of verb.Discard session = false
+may_grow_of verb.Watch session = not session.is_open
+may_grow_of verb.Unwatch session = would_wait session
+may_grow_of verb.Other session = would_wait session
+
+-- Every other request is taken without memory.
+abbrev pub may_grow : Session → List (List ℕ) → Bool
+may_grow session words = may_grow_of (verb_of words) session
 
 -- ---- where memory was refused
 

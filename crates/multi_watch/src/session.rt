@@ -1,12 +1,12 @@
 //! What one connection has set up.
-ghost use Rattle.std.specs.Prelude.{◌≡◌, ◌≤◌, ◌+◌, false, ◌++◌, [], length, IsTrue, IfOk, OnOk, OnErr};
+ghost use Rattle.std.specs.Prelude.{◌≡◌, ◌≤◌, ◌+◌, false, ◌++◌, [], length, IsTrue, IfOk, IsErr, OnOk, OnErr};
 ghost use Rattle.std.specs.List.{list_any};
 ghost use Rattle.std.specs.Vec.{vec_capacity};
 ghost use Rattle.cmd_core.specs.declared.shape.Keys.TheVariants as shape;
 ghost use Rattle.cmd_core.specs.Shape.{are_short};
 ghost use Rattle.multi_watch.specs.Session as spec;
 ghost use Rattle.multi_watch.specs.Session.{idle_session, spoiled, closed, watching, with_watched, is_watched};
-ghost use Rattle.multi_watch.specs.Admission.{act_now, after_multi, after_closing, after_waiting};
+ghost use Rattle.multi_watch.specs.Admission.{act_now, after_multi, after_closing, after_waiting, has_room, will_run};
 ghost use Rattle.multi_watch.specs.Sessions.{HasRoom};
 
 use crate::act::Act;
@@ -82,6 +82,7 @@ impl Session {
     pub(crate) fn wait(&mut self, request: Request) -> Result<Act, AllocError>
         ensures act { IfOk result (λ act. act_now act ≡ (after_waiting request self.old).admission) }
         ensures session { OnOk result (self.new ≡ (after_waiting request self.old).session) }
+        ensures refusable { IsErr result → IsTrue (has_room self.old) }
         ensures room { IfOk result HasRoom }
         ensures err { OnErr result (self.new ≡ spoiled self.old) }
     {
@@ -109,6 +110,7 @@ impl Session {
     pub(crate) fn exec(&mut self, alloc: Global) -> Result<Act, AllocError>
         ensures act { IfOk result (λ act. act_now act ≡ (after_closing self.old).admission) }
         ensures session { OnOk result (self.new ≡ closed self.old) }
+        ensures refusable { IsErr result → IsTrue (will_run self.old) }
         ensures room { IfOk result HasRoom }
         ensures err { OnErr result (self.new ≡ self.old) }
     {

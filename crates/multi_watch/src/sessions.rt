@@ -1,12 +1,12 @@
 //! The sessions of all connections.
-ghost use Rattle.std.specs.Prelude.{◌≡◌, ℕ, List, [], nat_eq, true, IsTrue, IsSome, None, Some, drop, ◌↔◌, IfOk, IfErr, OnErr};
+ghost use Rattle.std.specs.Prelude.{◌≡◌, ℕ, List, [], nat_eq, true, false, ◌&&◌, IsTrue, IsSome, None, Some, drop, ◌↔◌, IfOk, IsErr, IfErr, OnErr};
 ghost use Rattle.std.specs.List.{list_any};
 ghost use Rattle.std.specs.Option.{option_map};
 ghost use Rattle.cmd_core.specs.Contents.{same_bytes, has_key};
 ghost use Rattle.cmd_core.specs.declared.shape.Keys.TheVariants as shape;
 ghost use Rattle.cmd_core.specs.Shape.{are_short};
 ghost use Rattle.multi_watch.specs.Session.{idle_session, with_watched, is_watched, modified};
-ghost use Rattle.multi_watch.specs.Admission.{step, session_after_refusal, spoiled_if_open};
+ghost use Rattle.multi_watch.specs.Admission.{step, session_after_refusal, spoiled_if_open, may_grow, builds_text, will_run, would_wait};
 ghost use Rattle.multi_watch.specs.Admission.{after_misuse, after_exec, after_discard, after_watch, after_unwatch, after_other};
 ghost use Rattle.multi_watch.specs.Watchers.{has_number};
 ghost use Rattle.multi_watch.specs.Sessions.{slot, session_at, Moves, Steps, marked_if};
@@ -112,7 +112,8 @@ impl Sessions {
     ///
     /// # Errors
     ///
-    /// Only `Memory`. The session is as it was then, but a transaction in which the request would have waited is spoiled.
+    /// Only `Memory`, and only at a request that `may_grow` names. The session is as it was then, but a transaction in which the
+    /// request would have waited is spoiled.
     pub fn call(
         &mut self,
         alloc: Global,
@@ -122,6 +123,7 @@ impl Sessions {
         requires opened { IsSome (slot self.old number.0) }
         ensures ok { IfOk result (λ act. Steps self.old number.0 (step (session_at self.old number.0) request) act self.new) }
         ensures cause { IfErr result (λ refusal. refusal ≡ Refusal.Memory) }
+        ensures refusable { IsErr result → IsTrue (may_grow (session_at self.old number.0) request) }
         ensures err { OnErr result (Moves self.old number.0 (Some (session_after_refusal (session_at self.old number.0) request)) self.new) }
     {
         Ok(self.called(alloc, number, request)?)
@@ -135,6 +137,7 @@ impl Sessions {
     ) -> Result<Act, AllocError>
         requires opened { IsSome (slot self.old number.0) }
         ensures ok { IfOk result (λ act. Steps self.old number.0 (step (session_at self.old number.0) request) act self.new) }
+        ensures refusable { IsErr result → IsTrue (may_grow (session_at self.old number.0) request) }
         ensures err { OnErr result (Moves self.old number.0 (Some (session_after_refusal (session_at self.old number.0) request)) self.new) }
     {
         match Verb::of(&request) {
@@ -158,6 +161,7 @@ impl Sessions {
     ) -> Result<Act, AllocError>
         requires opened { IsSome (slot self.old number.0) }
         ensures ok { IfOk result (λ act. Steps self.old number.0 (after_misuse misuse (session_at self.old number.0)) act self.new) }
+        ensures refusable { IsErr result → IsTrue (builds_text misuse) }
         ensures err { OnErr result (self.new ≡ self.old) }
     {
         let text = misuse.text(alloc)?;
@@ -168,6 +172,7 @@ impl Sessions {
     fn exec(&mut self, alloc: Global, number: SessionNo) -> Result<Act, AllocError>
         requires opened { IsSome (slot self.old number.0) }
         ensures ok { IfOk result (λ act. Steps self.old number.0 (after_exec (session_at self.old number.0)) act self.new) }
+        ensures refusable { IsErr result → IsTrue ((session_at self.old number.0).is_open && will_run (session_at self.old number.0)) }
         ensures err { OnErr result (self.new ≡ self.old) }
     {
         let session = &mut self.sessions[number.0];
@@ -198,6 +203,7 @@ impl Sessions {
         requires opened { IsSome (slot self.old number.0) }
         requires short { IsTrue (are_short shape.All keys.now) }
         ensures ok { IfOk result (λ act. Steps self.old number.0 (after_watch keys.now (session_at self.old number.0)) act self.new) }
+        ensures refusable { IsErr result → (session_at self.old number.0).is_open ≡ false }
         ensures err { OnErr result (self.new ≡ self.old) }
     {
         let session = &self.sessions[number.0];
@@ -220,6 +226,7 @@ impl Sessions {
     ) -> Result<Act, AllocError>
         requires opened { IsSome (slot self.old number.0) }
         ensures ok { IfOk result (λ act. Steps self.old number.0 (after_unwatch request (session_at self.old number.0)) act self.new) }
+        ensures refusable { IsErr result → IsTrue (would_wait (session_at self.old number.0)) }
         ensures err { OnErr result (Moves self.old number.0 (Some (spoiled_if_open (session_at self.old number.0))) self.new) }
     {
         let session = &mut self.sessions[number.0];
@@ -234,6 +241,7 @@ impl Sessions {
     fn other(&mut self, number: SessionNo, request: Request) -> Result<Act, AllocError>
         requires opened { IsSome (slot self.old number.0) }
         ensures ok { IfOk result (λ act. Steps self.old number.0 (after_other request (session_at self.old number.0)) act self.new) }
+        ensures refusable { IsErr result → IsTrue (would_wait (session_at self.old number.0)) }
         ensures err { OnErr result (Moves self.old number.0 (Some (spoiled_if_open (session_at self.old number.0))) self.new) }
     {
         let session = &mut self.sessions[number.0];
