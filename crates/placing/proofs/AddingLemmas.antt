@@ -1,5 +1,5 @@
 -- Changes that are added to a part are changes of one part with those that it had.
-use Rattle.std.proofs.Common.{◌≡◌, ℕ, List, [], ◌++◌, map, refl, sym, ap, ap₂, subst, subst₂, ◌∙◌}
+use Rattle.std.proofs.Common.{◌≡◌, ℕ, List, [], ◌++◌, map, refl, sym, ap, subst, subst₂, ◌∙◌}
 use Rattle.std.proofs.lemmas.List.{map-append}
 use Rattle.kv_types.specs.declared.change.Change.{Change}
 use Rattle.kv_types.specs.declared.place.EntryNo.{EntryNo}
@@ -7,7 +7,7 @@ use Rattle.model.specs.declared.group.Part.{Part}
 use Rattle.model.specs.declared.group.PlacedChange.{PlacedChange}
 use Rattle.model.specs.Group.{change_of, changes_of_part}
 use Rattle.extent_heap.specs.Room.{Room}
-use Rattle.mv_keyspace.specs.Table.{Table, place_all, puts_of, AreEnded, AreFresh, AreNumbersEnded}
+use Rattle.mv_keyspace.specs.Table.{Table, place_all, puts_of, AreEnded, AreNumbersEnded}
 use Rattle.mv_keyspace.proofs.EndedLemmas.{none-ended}
 use Rattle.mv_keyspace.proofs.AppendedLemmas.{ended-append, place_all-append, puts_of-append}
 use Rattle.placing.specs.Left.{IsBeside}
