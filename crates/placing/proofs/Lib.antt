@@ -3,3 +3,4 @@ pub mod TakenLemmas
 pub mod BesideLemmas
 pub mod LeftLemmas
 pub mod PartsLemmas
+pub mod AddingLemmas

@@ -1,7 +1,9 @@
 -- Places are taken in turn, and for each put a heap can hand out only one place.
-use Rattle.std.proofs.Common.{◌≡◌, ℕ, ◌+◌, ◌/◌, ◌<◌, ◌==◌, if◌then◌else◌, true, false, List, [], ◌∷◌, ◌++◌, map, length, refl, sym, ap, subst, ◌∙◌, arith}
+use Rattle.std.proofs.Common.{◌≡◌, ℕ, ◌+◌, ◌/◌, ◌<◌, ◌==◌, ◌≤◌, if◌then◌else◌, true, false, List, [], ◌∷◌, ◌++◌, map, length, take, drop, refl, sym, ap, ap₂, subst, ◌∙◌, append_assoc, length-append, arith}
 use Rattle.std.proofs.lemmas.Bool.{eqb-false}
 use Rattle.std.proofs.lemmas.Grind.{flat_map-append}
+use Rattle.std.proofs.lemmas.List.{append-nil, map-append, drop-append-le, take-append-le}
+use Rattle.std.proofs.Math.Seq.{drop-append_seam, take-append_seam}
 use Rattle.kv_types.specs.declared.place.EntryNo.{EntryNo}
 use Rattle.kv_types.specs.declared.record_id.RecordId.{RecordId}
 use Rattle.kv_types.specs.declared.change.Change.{Change}
@@ -14,7 +16,7 @@ use Rattle.model.specs.Group.{change_of, put_of, bytes_of_id, HasItsLines}
 use Rattle.extent_heap.specs.Room.{Room, IsFreeRun, TakesEntry, TakesExtent}
 use Rattle.extent_heap.proofs.Rooms.{TakesEntry-same, TakesExtent-same}
 use Rattle.mv_keyspace.specs.Table.{puts_of}
-use Rattle.placing.specs.Place.{TakesPlace, TakesPlaces, HasRoomFor}
+use Rattle.placing.specs.Place.{TakesPlace, TakesPlaces, PlacesAfter, HasRoomFor}
 
 -- ---- one place
 
@@ -106,6 +108,44 @@ pub more_places : (old : Room) (placed : List PlacedChange) (between : Room) (ne
 more_places old placed between next new prefix one =
     let puts : puts_of (placed ++ next ∷ []) ≡ puts_of placed ++ (put_of next ++ []) = flat_map-append put_of placed (next ∷ []) in
     subst (λ puts. TakesPlaces old puts new) (sym puts) (TakesPlaces-append old (puts_of placed) (put_of next ++ []) between new prefix (TakesPlaces-append between (put_of next) [] new new one refl))
+
+-- ---- changes behind others in a list
+
+pub drop-last : (from : ℕ) (items left : List PlacedChange) (last : PlacedChange) → items ≡ left ++ last ∷ [] → from ≤ length left → drop from items ≡ drop from left ++ last ∷ []
+drop-last from items left last is le = ap (drop from) is ∙ drop-append-le from left (last ∷ []) le
+
+pub take-last : (from : ℕ) (items left : List PlacedChange) (last : PlacedChange) → items ≡ left ++ last ∷ [] → from ≤ length left → take from items ≡ take from left
+take-last from items left last is le = ap (take from) is ∙ take-append-le from left (last ∷ []) le
+
+module _ (room : Room) (before : List PlacedChange) (changes : List Change) (after : List PlacedChange) (left : Room) (is : PlacesAfter room before changes after left) where
+  -- what was added stands behind what was there
+  pub added : (from : ℕ) → from ≡ length before → drop from after ≡ is.placed
+  added from at = ap₂ (λ (n : ℕ) (items : List PlacedChange). drop n items) at is.after_is ∙ drop-append_seam before is.placed
+
+  pub kept : (from : ℕ) → from ≡ length before → take from after ≡ before
+  kept from at = ap₂ (λ (n : ℕ) (items : List PlacedChange). take n items) at is.after_is ∙ take-append_seam before is.placed
+
+  pub length-after : length before ≤ length after
+  length-after =
+      let whole = ap (λ (items : List PlacedChange). length items) is.after_is in
+      let sum = length-append before is.placed in
+      omega (arith, whole, sum)
+
+  pub added_places : (from : ℕ) → from ≡ length before → TakesPlaces room (puts_of (drop from after)) left
+  added_places from at = subst (λ items. TakesPlaces room (puts_of items) left) (sym (added from at)) is.places
+
+  -- one more change has its place after them
+  pub one_more : (items : List PlacedChange) (next : PlacedChange) (new : Room) → items ≡ after ++ next ∷ [] → TakesPlaces left (put_of next) new → PlacesAfter room before (changes ++ change_of next ∷ []) items new
+  one_more items next new items_are takes = record {
+    placed = is.placed ++ next ∷ [];
+    after_is = items_are ∙ ap (λ xs. xs ++ next ∷ []) is.after_is ∙ append_assoc before is.placed (next ∷ []);
+    changes_are = map-append change_of is.placed (next ∷ []) ∙ ap (λ xs. xs ++ change_of next ∷ []) is.changes_are;
+    places = more_places room is.placed left next new is.places takes;
+  }
+
+-- no changes have no places
+pub none_more : (room : Room) (before after : List PlacedChange) → after ≡ before → PlacesAfter room before [] after room
+none_more room before after same = record { placed = []; after_is = same ∙ sym (append-nil before); changes_are = refl; places = refl }
 
 -- where the next change finds no place after those before it, there is no room for all of them
 module _ (next : Change) (rest : List Change) where

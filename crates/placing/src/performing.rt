@@ -47,8 +47,7 @@ pub fn perform<K: Keyspace>(
 {
     let from = part.changes.len();
     place_all(heap, changes, &mut part.changes)?;
-    let added = part.changes.as_slice().split_at(from).1;
-    match keyspace.apply(alloc, added, part.position, &mut part.ended) {
+    match keyspace.apply(alloc, &part.changes[from..], part.position, &mut part.ended) {
         Ok(()) => Ok(()),
         Err(refusal) => {
             give_back(heap, &mut part.changes, from);

@@ -1,31 +1,50 @@
-use Rattle.std.proofs.Common.{◌≡◌, refl, sym, subst}
+use Rattle.std.proofs.Common.{◌≡◌, ◌-◌, length, take, drop, refl, sym, ap, subst, ◌∙◌, arith}
+use Rattle.std.proofs.lemmas.List.{length-drop, take_all}
 use Rattle.mv_keyspace.specs.Table.{AreEnded, AreFresh, place_all, puts_of}
 use Rattle.placing.specs.Left.{IsBeside}
 use Rattle.placing.proofs.BesideLemmas.{beside_lawful, beside_fresh, beside_after}
+use Rattle.placing.proofs.PlacesLemmas.{added}
+use Rattle.placing.proofs.performing.perform.Given.{Over}
 use Rattle.placing.proofs.performing.perform.Goals as goal
+use Rattle.placing.proofs.performing.perform.Goals.{After-deref}
 
 pub apply-requires-clause-lawful : goal.apply-requires-clause-lawful
 apply-requires-clause-lawful g c = beside_lawful (g.K.Keyspace.table c.args.keyspace.now) c.args.heap.now c.requires
 
+-- the changes that the keyspace is given are those that were added
+given : (g : Over) (c : After-deref g) → take (length c.deref.result.now - c.len-from.result) (drop c.len-from.result c.deref.result.now) ≡ c.in_ok-place_all.ensures.ok.placed
+given g c =
+    let rest = length-drop c.len-from.result c.deref.result.now in
+    take_all (length c.deref.result.now - c.len-from.result) (drop c.len-from.result c.deref.result.now) (omega (arith, rest))
+    ∙ ap (drop c.len-from.result) c.deref.ensures.value
+    ∙ added c.args.heap.now c.args.part.now.changes.items c.args.changes.items c.place_all.new.placed.items c.place_all.new.heap c.in_ok-place_all.ensures.ok c.len-from.result
+    (omega (arith, c.len-from.ensures, c.args.part.now.changes.ok.0))
+
 pub apply-requires-clause-fresh : goal.apply-requires-clause-fresh
 apply-requires-clause-fresh g c =
     let table = g.K.Keyspace.table c.args.keyspace.now in
-    subst (λ changes. AreFresh table (puts_of changes)) (sym c.as_slice.ensures.value)
-    (beside_fresh table c.args.heap.now c.requires c.in_ok-changes.changes.items c.place_all.new.heap c.in_ok-changes.ensures.places)
+    let places = c.in_ok-place_all.ensures.ok in
+    subst (λ changes. AreFresh table (puts_of changes)) (sym (given g (goal.at.apply-requires-clause-fresh g c).After-deref))
+    (beside_fresh table c.args.heap.now c.requires places.placed c.place_all.new.heap places.places)
 
 pub returns-in-Ok-clause-ok : goal.returns-in-Ok-clause-ok
 returns-in-Ok-clause-ok g c =
     let table = g.K.Keyspace.table c.args.keyspace.now in
+    let same = given g (goal.at.returns-in-Ok-clause-ok g c).After-deref in
+    let names = c.in-Ok.ensures.ended in
     record {
-      changes_are = c.in_ok-changes.ensures.same;
-      position_is = refl;
-      places = c.in_ok-changes.ensures.places;
-      table_is = subst (λ changes. g.K.Keyspace.table c.apply.new.self ≡ place_all c.args.position table changes) c.as_slice.ensures.value c.in-Ok.ensures.table;
-      ended = subst (λ changes. AreEnded c.args.position table changes c.in-Ok.ended.items) c.as_slice.ensures.value c.in-Ok.ensures.ended;
+      position = refl;
+      places = c.in_ok-place_all.ensures.ok;
+      table_is = c.in-Ok.ensures.table ∙ ap (place_all c.args.part.now.position table) same;
+      more = names.0;
+      ended_are = names.1;
+      ended = subst (λ changes. AreEnded c.args.part.now.position table changes names.0) same names.2;
     }
 
 pub returns-in-Ok-clause-beside : goal.returns-in-Ok-clause-beside
 returns-in-Ok-clause-beside g c =
     let table = g.K.Keyspace.table c.args.keyspace.now in
-    subst (λ after. IsBeside after c.place_all.new.heap) (sym (subst (λ changes. g.K.Keyspace.table c.apply.new.self ≡ place_all c.args.position table changes) c.as_slice.ensures.value c.in-Ok.ensures.table))
-    (beside_after table c.args.heap.now c.requires c.in_ok-changes.changes.items c.place_all.new.heap c.in_ok-changes.ensures.places c.args.position)
+    let same = given g (goal.at.returns-in-Ok-clause-beside g c).After-deref in
+    let places = c.in_ok-place_all.ensures.ok in
+    subst (λ after. IsBeside after c.place_all.new.heap) (sym (c.in-Ok.ensures.table ∙ ap (place_all c.args.part.now.position table) same))
+    (beside_after table c.args.heap.now c.requires places.placed c.place_all.new.heap places.places c.args.part.now.position)
