@@ -1,2 +1,5 @@
 pub mod StandingLemmas
+pub mod RefusalLemmas
+pub mod RunningLemmas
+pub mod StoreLemmas
 pub mod AnswersLemmas

@@ -1,5 +1,5 @@
 -- A sequencer stays ahead of the contents of an engine: where a part begins to wait, and where all leave as a group.
-use Rattle.std.proofs.Common.{◌≡◌, ℕ, ◌+◌, ◌<◌, ◌≤◌, Bool, List, [], ◌∷◌, ◌++◌, length, None, inl, refl, sym, ap, subst, ◌∙◌, arith}
+use Rattle.std.proofs.Common.{◌≡◌, ℕ, ◌+◌, ◌<◌, ◌≤◌, List, [], ◌∷◌, ◌++◌, length, Option, None, inl, refl, sym, ap, subst, ◌∙◌, arith}
 use Rattle.std.specs.List.{AllByRecursion}
 use Rattle.kv_types.specs.declared.change.Change.{Change}
 use Rattle.model.specs.declared.group.Group.{Group}
@@ -17,7 +17,9 @@ use Rattle.placing.specs.Place.{TakesPlaces}
 use Rattle.placing.proofs.TakenLemmas.{All-map, All-append, IsFree, taken_within, places_within, places_free, places_taken, places_fitting, places_apart, AreAllApart-append, not_put_at, AreDistinct-from_apart}
 use Rattle.placing.proofs.LeftLemmas.{placed_of_free, unused_of_free, left_within, after_parts, left-after_parts}
 use Rattle.placing.proofs.PartsLemmas.{parts_versions-append, last_position-append, AreParts-append, puts_of_parts-append}
-use Rattle.redis_core.specs.Sequencing.{Sequencing, puts_of_parts, IsAheadOf, Underlies, HandsOut, starts}
+use Rattle.multi_watch.specs.Session.{Session}
+use Rattle.multi_watch.specs.Sessions.{Sessions}
+use Rattle.redis_core.specs.Sequencing.{Sequencing, puts_of_parts, IsAheadOf, MovesSeat, Underlies, HandsOut, starts}
 use Rattle.redis_core.specs.Turn.{Moves}
 
 -- the entries of new puts hold nothing, also after the parts that wait
@@ -38,9 +40,9 @@ module _ (s : Sequencing) (contents : Contents) (stands : IsAheadOf s contents) 
   new_distinct : AreDistinct (puts_of_part part)
   new_distinct = AreDistinct-from_apart (puts_of_part part) (places_apart s.room (puts_of_part part) room takes)
 
-  pub IsAheadOf-part : (closed : List Bool) → part.position ≡ s.position + 1 → AreEnded part.position s.table part.changes.items part.ended.items
-      → IsAheadOf (record { table = place_all part.position s.table part.changes.items; room = room; position = part.position; epoch = s.epoch; before = s.before; waiting = s.waiting ++ part ∷ []; closed = closed }) contents
-  IsAheadOf-part closed next ended =
+  pub IsAheadOf-part : (sessions : Sessions) → part.position ≡ s.position + 1 → AreEnded part.position s.table part.changes.items part.ended.items
+      → IsAheadOf (record { table = place_all part.position s.table part.changes.items; room = room; position = part.position; epoch = s.epoch; before = s.before; waiting = s.waiting ++ part ∷ []; sessions = sessions }) contents
+  IsAheadOf-part sessions next ended =
       let old = puts_of_parts s.waiting in
       let new = puts_of_part part in
       let puts = puts_of_parts-append s.waiting part in
@@ -63,9 +65,9 @@ module _ (s : Sequencing) (contents : Contents) (stands : IsAheadOf s contents) 
             (IsTable-changes part.position (parts_versions contents.versions s.waiting) s.table part.changes.items new_empty new_distinct stands.table);
       }
 
--- which seats are closed does not matter
-pub IsAheadOf-closed : (s : Sequencing) (closed : List Bool) (contents : Contents) → IsAheadOf s contents → IsAheadOf (record s { closed = closed }) contents
-IsAheadOf-closed s closed contents stands = record {
+-- what sessions there are does not matter
+pub IsAheadOf-sessions : (s : Sequencing) (sessions : Sessions) (contents : Contents) → IsAheadOf s contents → IsAheadOf (record s { sessions = sessions }) contents
+IsAheadOf-sessions s sessions contents stands = record {
   epoch = stands.epoch;
   before = stands.before;
   last = stands.last;
@@ -79,9 +81,16 @@ IsAheadOf-closed s closed contents stands = record {
   table = stands.table;
 }
 
+-- nor does it matter to whom a seat belongs
+pub IsAheadOf-seat : (old : Sequencing) (seat : ℕ) (now : Option Session) (new : Sequencing) → MovesSeat old seat now new → (contents : Contents) → IsAheadOf old contents → IsAheadOf new contents
+IsAheadOf-seat old seat now new moves contents stands =
+    subst (λ s. IsAheadOf s contents)
+    (λ i. record { table = sym moves.table i; room = sym moves.room i; position = sym moves.position i; epoch = sym moves.epoch i; before = sym moves.before i; waiting = sym moves.waiting i; sessions = new.sessions })
+    (IsAheadOf-sessions old new.sessions contents stands)
+
 -- a new sequencer is ahead of the contents that its tables are of
-pub IsAheadOf-starts : (table : Table) (room : Room) (position epoch : ℕ) (closed : List Bool) (contents : Contents) → Underlies contents table room position epoch → IsAheadOf (starts table room position epoch closed) contents
-IsAheadOf-starts table room position epoch closed contents under = record {
+pub IsAheadOf-starts : (table : Table) (room : Room) (position epoch : ℕ) (sessions : Sessions) (contents : Contents) → Underlies contents table room position epoch → IsAheadOf (starts table room position epoch sessions) contents
+IsAheadOf-starts table room position epoch sessions contents under = record {
   epoch = under.epoch_is;
   before = under.position_is;
   last = refl;
@@ -132,12 +141,12 @@ IsAheadOf-group old group new hands contents stands =
 pub IsAheadOf-moves : (changes : List Change) (old new : Sequencing) → Moves changes old new → new.epoch ≡ old.epoch → new.before ≡ old.before → (contents : Contents) → IsAheadOf old contents → IsAheadOf new contents
 IsAheadOf-moves [] old new moves epoch before contents stands =
     subst (λ s. IsAheadOf s contents)
-    (λ i. record { table = sym moves.table i; room = sym moves.room i; position = sym moves.position i; epoch = sym epoch i; before = sym before i; waiting = sym moves.waiting i; closed = new.closed })
-    (IsAheadOf-closed old new.closed contents stands)
+    (λ i. record { table = sym moves.table i; room = sym moves.room i; position = sym moves.position i; epoch = sym epoch i; before = sym before i; waiting = sym moves.waiting i; sessions = new.sessions })
+    (IsAheadOf-sessions old new.sessions contents stands)
 IsAheadOf-moves (change ∷ changes) old new moves epoch before contents stands =
     let part = moves.0 in
     let adds = moves.1 in
     let performs = adds.performs in
     subst (λ s. IsAheadOf s contents)
-    (λ i. record { table = sym performs.table_is i; room = new.room; position = sym adds.position i; epoch = sym epoch i; before = sym before i; waiting = sym adds.waiting i; closed = new.closed })
-    (IsAheadOf-part old contents stands part new.room performs.places new.closed performs.position_is performs.ended)
+    (λ i. record { table = sym performs.table_is i; room = new.room; position = sym adds.position i; epoch = sym epoch i; before = sym before i; waiting = sym adds.waiting i; sessions = new.sessions })
+    (IsAheadOf-part old contents stands part new.room performs.places new.sessions performs.position_is performs.ended)

@@ -22,7 +22,7 @@ use crate::seats::Seats;
 use crate::store::Store;
 use crate::turn::Turn;
 use extent_heap::ExtentHeap;
-use kv_types::{Held, Item, ProtocolFault, Refusal, Reply, Request};
+use kv_types::{Held, Item, Listed, ProtocolFault, Refusal, Reply, Request};
 use model::{COUNTER_LIMIT, Group, MAX_PARTS, Part, closes};
 use multi_watch::Act;
 use mv_keyspace::Keyspace;
@@ -253,6 +253,7 @@ impl<K: Keyspace> Sequencer<K> {
     }
 
     fn act(&mut self, alloc: Global, act: Act) -> Reply
+        requires beside { IsBeside (self.old).table (self.old).room }
         requires few { length (self.old).waiting < MAX_PARTS }
         requires room { HasRoom act }
         ensures { Acts self.old (act_now act) result self.new }
@@ -266,6 +267,7 @@ impl<K: Keyspace> Sequencer<K> {
 
     /// Runs one request as a call.
     fn run(&mut self, alloc: Global, request: &Request) -> Reply
+        requires beside { IsBeside (self.old).table (self.old).room }
         requires few { length (self.old).waiting < MAX_PARTS }
         ensures ran { Runs self.old (request.now ∷ []) (result ∷ []) self.new }
         ensures full_only { result ≡ full_reply → ¬ HasRoomFor (self.old).room (meaning.outcome_of (records (self.old).table) request.now).changes }
@@ -278,6 +280,7 @@ impl<K: Keyspace> Sequencer<K> {
 
     /// Runs the requests of an EXEC as one call, with nothing between them, and returns the array of their replies.
     fn run_all(&mut self, alloc: Global, requests: &[Request], replies: Vec<Reply>) -> Reply
+        requires beside { IsBeside (self.old).table (self.old).room }
         requires few { length (self.old).waiting < MAX_PARTS }
         requires empty { replies.items ≡ [] }
         requires room { length requests.now ≤ vec_capacity replies }
@@ -286,7 +289,7 @@ impl<K: Keyspace> Sequencer<K> {
         let mut running = self.store.begin(alloc, self.position + 1);
         let replies = self.store.run_all(alloc, requests, replies, &mut running);
         self.finish(running.part);
-        Reply::Array(replies)
+        Reply::Array(Listed::from_vec(replies))
     }
 
     /// The changes of a call that is over wait for a group as one part, if there are any.

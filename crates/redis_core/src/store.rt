@@ -102,6 +102,7 @@ impl<K: Keyspace> Store<K> {
         requires opened { is_closed_at (self.old).sessions seat.now ≡ false }
         ensures admission { IfOk result (λ act. act_now act ≡ (step (session_at (self.old).sessions seat.now) request).admission) }
         ensures room { IfOk result HasRoom }
+        ensures beside { IsBeside (self.new).table (self.new).room }
         ensures ok { OnOk result (MovesOne self.old seat.now (Some (step (session_at (self.old).sessions seat.now) request).session) self.new) }
         ensures cause { IfErr result (λ refusal. refusal ≡ Refusal.Memory) }
         ensures err { OnErr result (MovesOne self.old seat.now (Some (session_after_refusal (session_at (self.old).sessions seat.now) request)) self.new) }
@@ -111,6 +112,7 @@ impl<K: Keyspace> Store<K> {
 
     /// What a call has done before its first request is run: nothing. Its changes will be made at this position.
     pub(crate) fn begin(&self, alloc: Global, position: u64) -> Running
+        requires { IsBeside (self.now).table (self.now).room }
         ensures { (requests : List (List (List ℕ))) → AreUnderWay self.now position requests [] requests result self.now }
     {
         Running {
