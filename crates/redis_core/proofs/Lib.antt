@@ -1,2 +1,3 @@
 pub mod StandingLemmas
 pub mod AnswersLemmas
+mod SeatsLemmas

@@ -1,5 +1,5 @@
 //! The keys that a request modified, marked in the sessions that watch them.
-ghost use Rattle.std.specs.Prelude.{◌≡◌, ℕ, List, Option, map, option_items, IfOk, IfErr};
+ghost use Rattle.std.specs.Prelude.{◌≡◌, ℕ, List, Option, map, option_to_list, IfOk, IfErr};
 ghost use Rattle.std.specs.List.{list_any};
 ghost use Rattle.std.specs.Option.{option_copied, option_map};
 ghost use Rattle.cmd_core.specs.Contents.{same_bytes};
@@ -72,7 +72,7 @@ fn mark_keys(seats: &mut Seats, keys: &[Key])
 
 /// The key of a change; none where it clears the keyspace.
 fn changed_key(change: &PlacedChange) -> Option<&Key>
-    ensures { (own : List ℕ) → list_any (λ key. same_bytes own key) (option_items (option_copied result)) ≡ names own (change_of change.now) }
+    ensures { (own : List ℕ) → list_any (λ key. same_bytes own key) (option_to_list (option_copied result)) ≡ names own (change_of change.now) }
 {
     match change {
         PlacedChange::Put(put) => Some(put.id.key()),
