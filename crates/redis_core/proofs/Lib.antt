@@ -1,3 +1,4 @@
 pub mod StandingLemmas
 pub mod AnswersLemmas
 mod SeatsLemmas
+mod MarkingLemmas

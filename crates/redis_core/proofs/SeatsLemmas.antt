@@ -1,5 +1,5 @@
 -- The sessions by seat, when sessions are opened, moved, closed and marked.
-use Rattle.std.proofs.Common.{◌≡◌, subst, subst₂, get_or, ◌≢◌, ℕ, zero, suc, ◌<◌, Bool, true, false, List, [], ◌∷◌, length, map, replicate, set, nat_eq, Option, Some, None, is_some, IsSome, refl, sym, ap, ap₂, ◌∙◌, length-set, get_or-set_same, get_or-set_other, eqb-true, eq-eqb}
+use Rattle.std.proofs.Common.{◌≡◌, subst, subst₂, get_or, ◌≢◌, ℕ, zero, suc, ◌<◌, Bool, true, false, List, ◌∷◌, length, replicate, set, nat_eq, Option, Some, None, is_some, IsSome, refl, sym, ap, ◌∙◌, length-set, get_or-set_same, get_or-set_other, eqb-true, eq-eqb}
 use Rattle.std.specs.Option.{option_map}
 use Rattle.std.proofs.Math.ListN.{get_or-map}
 use Rattle.std.proofs.lemmas.List.{length-replicate, get_or_read}
@@ -42,10 +42,10 @@ all_closed sessions numbers is = ap (by_seat sessions) is ∙ map-none sessions 
 
 pub closed_are_seats : (sessions : Sessions) (numbers : Numbers) → numbers ≡ replicate MAX_SEATS None → AreSeats sessions numbers
 closed_are_seats sessions numbers is = record {
-    complete = ap length is ∙ length-replicate {A = Option SessionNo} MAX_SEATS None;
-    are_open = λ seat number at. absurd (not_some number (none seat ∙ at));
-    are_apart = λ a b x y at_a at_b same. absurd (not_some x (none a ∙ at_a));
-  }
+  complete = ap length is ∙ length-replicate {A = Option SessionNo} MAX_SEATS None;
+  are_open = λ seat number at. absurd (not_some number (none seat ∙ at));
+  are_apart = λ a b x y at_a at_b same. absurd (not_some x (none a ∙ at_a));
+}
   where
     none : (seat : ℕ) → None ≡ number_at numbers seat
     none seat = sym (none_at MAX_SEATS seat) ∙ ap (λ ns. number_at ns seat) (sym is)
@@ -64,10 +64,10 @@ by_number old new (Some number) same = same number refl
 module _ (old new : Sessions) (numbers after : Numbers) (seat : ℕ) (keeps : Keeps old new numbers after seat) where
   seat_moves : (now : Option Session) → session_numbered new (number_at after seat) ≡ now → Moves (by_seat old numbers) seat now (by_seat new after)
   seat_moves now is = record {
-      moved = of_seat new after seat ∙ is;
-      others = λ other apart. of_seat new after other ∙ ap (session_numbered new) (keeps.numbers_stay other apart)
+    moved = of_seat new after seat ∙ is;
+    others = λ other apart. of_seat new after other ∙ ap (session_numbered new) (keeps.numbers_stay other apart)
         ∙ by_number old new (number_at numbers other) (λ number. keeps.sessions_stay other number apart) ∙ sym (of_seat old numbers other);
-    }
+  }
 
   -- the number at the seat, if there is one now, is of an open session and of no other seat
   abbrev IsOwn : SessionNo → Type 0
@@ -94,19 +94,19 @@ module _ (old new : Sessions) (numbers after : Numbers) (seat : ℕ) (keeps : Ke
 
     still_seats : AreSeats new after
     still_seats = record {
-        complete = long ∙ are.complete;
-        are_open = λ a number at. open_still a number at (nat_eq a seat) refl;
-        are_apart = λ a b x y at_a at_b same. apart_still a b x y at_a at_b same (nat_eq a seat) (nat_eq b seat) refl refl;
-      }
+      complete = long ∙ are.complete;
+      are_open = λ a number at. open_still a number at (nat_eq a seat) refl;
+      are_apart = λ a b x y at_a at_b same. apart_still a b x y at_a at_b same (nat_eq a seat) (nat_eq b seat) refl refl;
+    }
 
 module _ (old : Sessions) (numbers : Numbers) (are : AreSeats old numbers) (seat : ℕ) where
   -- the session at an open seat moves
   module _ (new : Sessions) (number : SessionNo) (at : number_at numbers seat ≡ Some number) where
     keeps-moved : (now : Option Session) → Moves old number.0 now new → Keeps old new numbers numbers seat
     keeps-moved now moves = record {
-        numbers_stay = λ other apart. refl;
-        sessions_stay = λ other theirs apart is. moves.others theirs.0 (λ same. apart (are.are_apart other seat theirs number is at same));
-      }
+      numbers_stay = λ other apart. refl;
+      sessions_stay = λ other theirs apart is. moves.others theirs.0 (λ same. apart (are.are_apart other seat theirs number is at same));
+    }
 
     pub moved_seat : (now : Option Session) → Moves old number.0 now new → Moves (by_seat old numbers) seat now (by_seat new numbers)
     moved_seat now moves = seat_moves old new numbers numbers seat (keeps-moved now moves) now (ap (session_numbered new) at ∙ moves.moved)
@@ -141,9 +141,9 @@ module _ (old : Sessions) (numbers : Numbers) (are : AreSeats old numbers) (seat
 
     keeps-closed : Keeps old new numbers (set numbers seat after) seat
     keeps-closed = record {
-        numbers_stay = λ other apart. get_or-set_other numbers seat other after None apart;
-        sessions_stay = λ other theirs apart is. moves.others theirs.0 (λ same. apart (are.are_apart other seat theirs number is at same));
-      }
+      numbers_stay = λ other apart. get_or-set_other numbers seat other after None apart;
+      sessions_stay = λ other theirs apart is. moves.others theirs.0 (λ same. apart (are.are_apart other seat theirs number is at same));
+    }
 
     none_there : number_at (set numbers seat after) seat ≡ None
     none_there = get_or-set_same numbers seat after None within ∙ empty
@@ -182,17 +182,20 @@ module _ (old : Sessions) (numbers : Numbers) (are : AreSeats old numbers) (seat
       fresh_number other at = ap (session_numbered old) (sym at ∙ number_there)
 
       own : (other : SessionNo) → number_at (set numbers seat after) seat ≡ Some other → IsOwn old new numbers (set numbers seat after) seat is.keeps other
-      own other at = (ap is_some (same_number other at ∙ is.is_idle), λ place theirs apart is_theirs same.
-        some_is_not_none (slot old theirs.0) (are.are_open place theirs is_theirs) (ap (slot old) (sym same) ∙ fresh_number other at ∙ fresh))
+      own other at = (
+        ap is_some (same_number other at ∙ is.is_idle),
+        λ place theirs apart is_theirs same.
+            some_is_not_none (slot old theirs.0) (are.are_open place theirs is_theirs) (ap (slot old) (sym same) ∙ fresh_number other at ∙ fresh),
+      )
 
     opens-empty : Opens opened
     opens-empty = record {
-        keeps = record {
-            numbers_stay = λ other apart. get_or-set_other numbers seat other after None apart;
-            sessions_stay = λ other theirs apart is. opened_others other theirs is;
-          };
-        is_idle = opens.moved;
-      }
+      keeps = record {
+        numbers_stay = λ other apart. get_or-set_other numbers seat other after None apart;
+        sessions_stay = λ other theirs apart is. opened_others other theirs is;
+      };
+      is_idle = opens.moved;
+    }
 
     -- the seat was closed before
     pub opened_seat : Moves (by_seat old numbers) seat (Some idle_session) (by_seat opened (set numbers seat after))
@@ -205,12 +208,12 @@ module _ (old : Sessions) (numbers : Numbers) (are : AreSeats old numbers) (seat
     module _ (new : Sessions) (before : SessionNo) (at : number_at numbers seat ≡ Some before) (closes : Moves opened before.0 None new) where
       opens-again : Opens new
       opens-again = record {
-          keeps = record {
-              numbers_stay = λ other apart. get_or-set_other numbers seat other after None apart;
-              sessions_stay = λ other theirs apart is. closes.others theirs.0 (λ same. apart (are.are_apart other seat theirs before is at same)) ∙ opened_others other theirs is;
-            };
-          is_idle = closes.others number.0 (λ same. apart_from_fresh seat before at (sym same)) ∙ opens.moved;
-        }
+        keeps = record {
+          numbers_stay = λ other apart. get_or-set_other numbers seat other after None apart;
+          sessions_stay = λ other theirs apart is. closes.others theirs.0 (λ same. apart (are.are_apart other seat theirs before is at same)) ∙ opened_others other theirs is;
+        };
+        is_idle = closes.others number.0 (λ same. apart_from_fresh seat before at (sym same)) ∙ opens.moved;
+      }
 
       pub reopened_seat : Moves (by_seat old numbers) seat (Some idle_session) (by_seat new (set numbers seat after))
       reopened_seat = opens_seat new opens-again

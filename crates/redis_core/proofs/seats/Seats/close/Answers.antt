@@ -1,8 +1,5 @@
-use Rattle.std.proofs.Common.{◌≡◌, ◌<◌, ◌∙◌, sym, ap, subst, Option, Some, None, rules}
-use Rattle.pipes.specs.declared.limits.TheConstants.{MAX_SEATS}
-use Rattle.multi_watch.specs.declared.sessions.SessionNo.{SessionNo}
-use Rattle.multi_watch.specs.Session.{Session}
-use Rattle.multi_watch.specs.Sessions.{Sessions, Moves}
+use Rattle.std.proofs.Common.{◌≡◌, ◌∙◌, sym, Some, None}
+use Rattle.multi_watch.specs.Sessions.{Moves}
 use Rattle.redis_core.specs.Seats.{number_at, by_seat}
 use Rattle.redis_core.proofs.SeatsLemmas.{closed_seat, closed_seats, read_number, moves_as}
 use Rattle.redis_core.proofs.seats.Seats.close.Goals as goal

@@ -1,4 +1,4 @@
-use Rattle.std.proofs.Common.{◌≡◌, ℕ, sym, subst, rules}
+use Rattle.std.proofs.Common.{◌≡◌, ℕ, subst}
 use Rattle.std.specs.Option.{option_map}
 use Rattle.multi_watch.specs.Session.{modified}
 use Rattle.multi_watch.specs.Sessions.{Sessions, slot}
