@@ -3,3 +3,5 @@ pub mod RefusalLemmas
 pub mod RunningLemmas
 pub mod StoreLemmas
 pub mod AnswersLemmas
+mod SeatsLemmas
+mod MarkingLemmas

@@ -1,5 +1,5 @@
 -- The sessions of the connections that have a seat, by the number of the seat.
-use Rattle.std.specs.Prelude.{◌≡◌, ℕ, Bool, false, not, List, length, map, Option, Some, None, is_some, slice_get, IsSome}
+use Rattle.std.specs.Prelude.{◌≡◌, ℕ, Bool, not, List, length, map, Option, Some, None, is_some, slice_index_or, IsSome}
 use Rattle.pipes.specs.declared.limits.TheConstants.{MAX_SEATS}
 use Rattle.multi_watch.specs.declared.sessions.SessionNo.{SessionNo}
 use Rattle.multi_watch.specs.Session.{Session}
@@ -18,8 +18,12 @@ session_numbered sessions (Some number) = slot sessions number.0
 abbrev pub by_seat : Sessions → List (Option SessionNo) → Sessions
 by_seat sessions numbers = map (session_numbered sessions) numbers
 
--- each seat has a number, which is that of an open session and of no other seat
+-- the number of the session at this seat, and none where the seat is closed
+abbrev pub number_at : List (Option SessionNo) → ℕ → Option SessionNo
+number_at numbers seat = slice_index_or numbers seat None
+
+-- the number at a seat is that of an open session, and no other seat has it
 pub record AreSeats (sessions : Sessions) (numbers : List (Option SessionNo)) : Type 0 where
   pub complete : length numbers ≡ MAX_SEATS
-  pub are_open : (seat : ℕ) (number : SessionNo) → slice_get numbers seat ≡ Some (Some number) → IsSome (slot sessions number.0)
-  pub are_apart : (a b : ℕ) (x y : SessionNo) → slice_get numbers a ≡ Some (Some x) → slice_get numbers b ≡ Some (Some y) → x.0 ≡ y.0 → a ≡ b
+  pub are_open : (seat : ℕ) (number : SessionNo) → number_at numbers seat ≡ Some number → IsSome (slot sessions number.0)
+  pub are_apart : (a b : ℕ) (x y : SessionNo) → number_at numbers a ≡ Some x → number_at numbers b ≡ Some y → x.0 ≡ y.0 → a ≡ b

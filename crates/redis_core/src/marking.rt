@@ -31,17 +31,18 @@ pub(crate) fn cleared_keys<L: Lookup>(
     ensures held { IfOk result (λ keys. AreCleared (L.keyspace lookup.now) changes.now seats.now keys.items) }
     ensures cause { IfErr result (λ refusal. refusal ≡ Refusal.Memory) }
 {
-    if changes.iter().any(is_clearing) {
+    if is_clearing(changes) {
         seats.watched_in(alloc, lookup)
     } else {
         Ok(Vec::new(alloc))
     }
 }
 
-fn is_clearing(change: &Change) -> bool
-    ensures { result ≡ is_clear change.now }
+/// Whether one of these changes clears the keyspace.
+fn is_clearing(changes: &[Change]) -> bool
+    ensures { result ≡ list_any is_clear changes.now }
 {
-    matches!(change, Change::Clear)
+    changes.iter().any(|change| matches!(change, Change::Clear))
 }
 
 /// Marks the keys of changes that were made, and the keys that they cleared away. It takes no memory.
