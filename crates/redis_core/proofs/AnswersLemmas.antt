@@ -1,5 +1,5 @@
 -- An answer is a legal entry of the list, whether its request was run, queued, answered or refused.
-use Rattle.std.proofs.Common.{◌≡◌, ◌≢◌, ℕ, ◌+◌, ◌<◌, ◌≤◌, ◌⊎◌, inl, inr, Bool, true, false, cond, nat_eq, not, is_some, List, [], ◌∷◌, ◌++◌, length, codes, Option, Some, None, IsSome, refl, sym, ap, ap₂, subst, subst₂, ◌∙◌, arith, eq-eqb, ne_eqb, append-nil}
+use Rattle.std.proofs.Common.{◌≡◌, ◌≢◌, ℕ, ◌+◌, ◌<◌, ◌≤◌, ◌⊎◌, inl, inr, Bool, true, false, cond, if◌then◌else◌, nat_eq, not, is_some, List, [], ◌∷◌, ◌++◌, length, codes, Option, Some, None, IsSome, refl, sym, ap, ap₂, subst, subst₂, ◌∙◌, arith, eq-eqb, ne_eqb, append-nil}
 use Rattle.std.specs.Option.{option_map}
 use Rattle.kv_types.specs.declared.change.Change.{Change}
 use Rattle.kv_types.specs.declared.item.Item.{Item}
@@ -25,10 +25,6 @@ moves_none (change ∷ changes) old none = absurd (omega arith)
 pub moves_part : (changes : List Change) (old : Sequencing) (part : _) (new : Sequencing) → length changes ≢ 0 → AddsPart old part changes new → Moves changes old new
 moves_part [] old part new some adds = absurd (some refl)
 moves_part (change ∷ changes) old part new some adds = (part, adds)
-
-moves_closed : (changes : List Change) (old mid : Sequencing) (closed : List Bool) → Moves changes old mid → Moves changes old (record mid { closed = closed })
-moves_closed [] old mid closed moves = record { table = moves.table; room = moves.room; position = moves.position; waiting = moves.waiting }
-moves_closed (change ∷ changes) old mid closed moves = (moves.0, record { performs = moves.1.performs; position = moves.1.position; waiting = moves.1.waiting })
 
 keyspace_moved : (changes : List Change) (old new : Sequencing) → Moves changes old new → records new.table ≡ play_all (records old.table) changes
 keyspace_moved [] old new moves = ap records moves.table

@@ -1,0 +1,29 @@
+use Rattle.std.proofs.Common.{◌≡◌, ◌++◌, ◌<◌, vec_len, length, map, drop, refl, sym, ap, subst, ◌∙◌, eqb-true}
+use Rattle.kv_types.specs.Keyspace.{Keyspace}
+use Rattle.model.specs.Group.{change_of}
+use Rattle.mv_keyspace.specs.Table.{records}
+use Rattle.placing.specs.Performs.{AddsTo}
+use Rattle.redis_core.specs.Marking.{AreCleared, Marks}
+use Rattle.redis_core.specs.Stored.{Stored, Makes}
+use Rattle.redis_core.proofs.RunningLemmas.{makes-empty, changes_after}
+use Rattle.redis_core.proofs.store.Store.make.Goals as goal
+
+pub returns-then-is_empty-clause-ok : goal.returns-then-is_empty-clause-ok
+returns-then-is_empty-clause-ok g c =
+    let none = eqb-true (vec_len c.args.changes) 0 (sym c.is_empty.ensures ∙ c.if-is_empty.true) in
+    makes-empty c.args.self.now c.args.changes.items c.args.running.now.part (sym c.args.changes.ok.0 ∙ none)
+
+pub returns-clause-ok : goal.returns-clause-ok
+returns-clause-ok g c =
+    let changes = c.args.changes.items in
+    let part = c.args.running.now.part in
+    let inside : Stored = record { table = g.K.Keyspace.table c.self.inside.keyspace; room = c.self.inside.heap; sessions = c.self.inside.seats } in
+    let adds = c.in_ok-perform.ensures.ok in
+    let reads = g.met.K.Keyspace.reads c.self.inside.keyspace in
+    let held = subst (λ (s : Keyspace). AreCleared s changes inside.sessions c.in_ok-cleared.cleared.items) reads ?held in
+    let made : Makes inside changes part c.perform.new.part _ = record {
+      adds = adds;
+      marks = c.mark.ensures (records inside.table) changes ?slice ?cleared;
+      counted = λ some. c.if-running-ge-COUNTER_LIMIT.false;
+    } in
+    subst (λ (s : Stored). Makes s changes part c.perform.new.part _) c.self.view_is made
