@@ -1,5 +1,5 @@
 -- The requests of a call, run one after another.
-use Rattle.std.proofs.Common.{◌≡◌, ◌≢◌, ℕ, ◌+◌, ◌-◌, ◌<◌, ◌≤◌, ◌||◌, false, map, length, drop, List, [], ◌∷◌, ◌++◌, Option, Some, None, refl, sym, ap, ap₂, subst, subst₂, ◌∙◌, arith, append-nil, append_assoc, le_refl}
+use Rattle.std.proofs.Common.{◌≡◌, ◌≢◌, ℕ, ◌+◌, ◌-◌, ◌<◌, ◌≤◌, ◌||◌, false, map, length, take, drop, List, [], ◌∷◌, ◌++◌, Option, Some, None, refl, sym, ap, ap₂, subst, subst₂, ◌∙◌, arith, append-nil, append_assoc, le_refl}
 use Rattle.std.specs.Option.{option_map}
 use Rattle.kv_types.specs.declared.change.Change.{Change}
 use Rattle.kv_types.specs.declared.reply.Reply.{Reply}
@@ -55,13 +55,14 @@ keyspace_performed table room position changes part new left performs =
 
 -- what was added to a part is at its end
 pub changes_after : (old : Part) (table : Table) (room : Room) (changes : List Change) (new : Part) (after : Table) (left : Room) → AddsTo old table room changes new after left
-    → map change_of (drop (length old.changes.items) new.changes.items) ≡ changes
+    → map change_of (take (length new.changes.items - length old.changes.items) (drop (length old.changes.items) new.changes.items)) ≡ changes
 changes_after old table room changes new after left adds =
-    ap (λ items. map change_of (drop (length old.changes.items) items)) adds.places.after_is ∙ ap (map change_of) (drop_all old.changes.items adds.places.placed) ∙ adds.places.changes_are
+    ap (λ items. map change_of (take (length items - length old.changes.items) (drop (length old.changes.items) items))) adds.places.after_is
+    ∙ ap (map change_of) (rest_of old.changes.items adds.places.placed) ∙ adds.places.changes_are
   where
-    drop_all : (xs ys : List PlacedChange) → drop (length xs) (xs ++ ys) ≡ ys
-    drop_all [] ys = refl
-    drop_all (x ∷ xs) ys = drop_all xs ys
+    rest_of : (xs ys : List PlacedChange) → take (length (xs ++ ys) - length xs) (drop (length xs) (xs ++ ys)) ≡ ys
+    rest_of [] ys = take-all ys
+    rest_of (x ∷ xs) ys = rest_of xs ys
 
 keyspace_added : (old : Part) (table : Table) (room : Room) (changes : List Change) (new : Part) (after : Table) (left : Room) → AddsTo old table room changes new after left
     → records after ≡ play_all (records table) changes
