@@ -1,8 +1,9 @@
 -- What a session answers by itself is never that memory was refused, and a request that is run at once leaves the session as a refusal would.
 use Rattle.std.proofs.Common.{◌≡◌, ℕ, Bool, true, false, cond, List, [], ◌∷◌, ◌++◌, drop, codes, refl, ap, sym, ◌∙◌}
-use Rattle.kv_types.specs.declared.reply.Reply.{Reply, Simple, NullArray}
+use Rattle.kv_types.specs.declared.reply.Reply.{Reply, Simple, Error, NullArray}
 use Rattle.cmd_table.specs.declared.misuse.Misuse.{Misuse}
 use Rattle.cmd_table.specs.declared.misuse.Misuse.TheVariants.{UnknownName, WrongNumberOfWords, LongKey}
+use Rattle.cmd_table.specs.Misuse.{misuse_text}
 use Rattle.multi_watch.specs.declared.verb.Verb.{Verb}
 use Rattle.multi_watch.specs.declared.verb.Verb.TheVariants as verb
 use Rattle.multi_watch.specs.declared.error.SessionError.{SessionError}
@@ -53,16 +54,16 @@ known_closing session =
     known_if session.is_spoiled _ _ (known_refuses Aborted idle_session) (known_if (has_modified session) _ _ (known_answers NullArray idle_session refl) (known_run_all session))
 
 known_waiting : (words : List (List ℕ)) (session : Session) → Known (after_waiting words session)
-known_waiting words session = known_if (has_room session) _ _ (known_answers (Simple (codes "QUEUED")) _ refl) (known_refuses TooLong (spoiled session))
+known_waiting words session = known_if (has_room session) _ _ (known_answers (Simple (codes "QUEUED")) (record session { queue = session.queue ++ words ∷ [] }) refl) (known_refuses TooLong (spoiled session))
 
 known_step : (verb : Verb) (words : List (List ℕ)) (session : Session) → Known (step_of verb words session)
 known_step (verb.Misused misuse) words session = known_misuse misuse session
 known_step verb.Quit words session = known_runs words session
-known_step verb.Multi words session = known_if session.is_open _ _ (known_refuses NestedMulti session) (known_answers ok_reply _ refl)
+known_step verb.Multi words session = known_if session.is_open _ _ (known_refuses NestedMulti session) (known_answers ok_reply (record { is_open = true; queue = []; is_spoiled = false; watched = session.watched }) refl)
 known_step verb.Exec words session = known_if session.is_open _ _ (known_closing session) (known_refuses ExecOutside session)
 known_step verb.Discard words session = known_if session.is_open _ _ (known_answers ok_reply idle_session refl) (known_refuses DiscardOutside session)
-known_step verb.Watch words session = known_if session.is_open _ _ (known_refuses WatchInside session) (known_answers ok_reply _ refl)
-known_step verb.Unwatch words session = known_if session.is_open _ _ (known_waiting words session) (known_answers ok_reply _ refl)
+known_step verb.Watch words session = known_if session.is_open _ _ (known_refuses WatchInside session) (known_answers ok_reply (with_watched (watching (drop 1 words) session.watched) session) refl)
+known_step verb.Unwatch words session = known_if session.is_open _ _ (known_waiting words session) (known_answers ok_reply (with_watched [] session) refl)
 known_step verb.Other words session = known_if session.is_open _ _ (known_waiting words session) (known_runs words session)
 
 pub answers-known : (session : Session) (words : List (List ℕ)) (reply : Reply) → admit session words ≡ Answer reply → is_memory reply ≡ false
@@ -77,6 +78,9 @@ NeverRuns step = (words : List (List ℕ)) → step.admission ≡ Run words → 
 never_answers : (reply : Reply) (session : Session) → NeverRuns (answers reply session)
 never_answers reply session words e = cc
 
+never_refuses : (error : SessionError) (session : Session) → NeverRuns (refuses error session)
+never_refuses error session words e = cc
+
 never_run_all : (session : Session) → NeverRuns (record { admission = RunAll session.queue; session = idle_session })
 never_run_all session words e = cc
 
@@ -85,7 +89,8 @@ never_if true x y one other = one
 never_if false x y one other = other
 
 never_waiting : (words : List (List ℕ)) (session : Session) → NeverRuns (after_waiting words session)
-never_waiting words session = never_if (has_room session) _ _ (never_answers _ _) (never_answers _ _)
+never_waiting words session =
+    never_if (has_room session) _ _ (never_answers (Simple (codes "QUEUED")) (record session { queue = session.queue ++ words ∷ [] })) (never_refuses TooLong (spoiled session))
 
 -- where a step runs these words at once, the session is as a refusal leaves it
 abbrev Unmoved : Session → Step → Type 0
@@ -96,17 +101,24 @@ never_moved refused step never words e = absurd (never words e)
 
 unmoved_other : (b : Bool) (words : List (List ℕ)) (session : Session) → Unmoved (cond b (spoiled session) session) (cond b (after_waiting words session) (runs words session))
 unmoved_other true words session = never_moved (spoiled session) (after_waiting words session) (never_waiting words session)
-unmoved_other false words session other e = refl
+unmoved_other false words session = λ other e. refl
 
 unmoved_step : (verb : Verb) (words : List (List ℕ)) (session : Session) → Unmoved (refused_of verb session) (step_of verb words session)
-unmoved_step (verb.Misused misuse) words session = never_moved _ _ (never_answers _ _)
-unmoved_step verb.Quit words session other e = refl
-unmoved_step verb.Multi words session = never_moved _ _ (never_if session.is_open _ _ (never_answers _ _) (never_answers _ _))
+unmoved_step (verb.Misused misuse) words session = never_moved session (after_misuse misuse session) (never_answers (Error (misuse_text misuse)) (spoiled session))
+unmoved_step verb.Quit words session = λ other e. refl
+unmoved_step verb.Multi words session = never_moved session (after_multi session) (never_if session.is_open _ _ (never_refuses NestedMulti session) (never_answers ok_reply (record { is_open = true; queue = []; is_spoiled = false; watched = session.watched })))
 unmoved_step verb.Exec words session =
-    never_moved _ _ (never_if session.is_open _ _ (never_if session.is_spoiled _ _ (never_answers _ _) (never_if (has_modified session) _ _ (never_answers _ _) (never_run_all session))) (never_answers _ _))
-unmoved_step verb.Discard words session = never_moved _ _ (never_if session.is_open _ _ (never_answers _ _) (never_answers _ _))
-unmoved_step verb.Watch words session = never_moved _ _ (never_if session.is_open _ _ (never_answers _ _) (never_answers _ _))
-unmoved_step verb.Unwatch words session = never_moved _ _ (never_if session.is_open _ _ (never_waiting words session) (never_answers _ _))
+    never_moved session (after_exec session) (never_if session.is_open _ _
+    (never_if session.is_spoiled _ _ (never_refuses Aborted idle_session) (never_if (has_modified session) _ _ (never_answers NullArray idle_session) (never_run_all session)))
+    (never_refuses ExecOutside session))
+unmoved_step verb.Discard words session =
+    never_moved session (after_discard session) (never_if session.is_open _ _ (never_answers ok_reply idle_session) (never_refuses DiscardOutside session))
+unmoved_step verb.Watch words session =
+    never_moved session (after_watch (drop 1 words) session)
+    (never_if session.is_open _ _ (never_refuses WatchInside session) (never_answers ok_reply (with_watched (watching (drop 1 words) session.watched) session)))
+unmoved_step verb.Unwatch words session =
+    never_moved (cond session.is_open (spoiled session) session) (after_unwatch words session)
+    (never_if session.is_open _ _ (never_waiting words session) (never_answers ok_reply (with_watched [] session)))
 unmoved_step verb.Other words session = unmoved_other session.is_open words session
 
 pub run-unmoved : (session : Session) (words other : List (List ℕ)) → admit session words ≡ Run other → session_after_refusal session words ≡ session_after_request session words

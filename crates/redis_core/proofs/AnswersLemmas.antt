@@ -1,5 +1,5 @@
 -- An answer is a legal entry of the list, whether its request was run, queued, answered or refused.
-use Rattle.std.proofs.Common.{◌≡◌, ◌≢◌, ℕ, ◌+◌, ◌<◌, ◌≤◌, inl, inr, Bool, true, false, cond, if◌then◌else◌, nat_eq, not, is_some, map, List, [], ◌∷◌, ◌++◌, length, codes, Option, Some, None, refl, sym, ap, ap₂, subst, subst₂, ◌∙◌, arith, eq-eqb, ne_eqb, append-nil}
+use Rattle.std.proofs.Common.{◌≡◌, ◌≢◌, ℕ, ◌+◌, ◌<◌, ◌≤◌, ◌⊎◌, inl, inr, Bool, true, false, cond, if◌then◌else◌, nat_eq, not, is_some, map, List, [], ◌∷◌, ◌++◌, length, codes, Option, Some, None, refl, sym, ap, ap₂, subst, subst₂, ◌∙◌, arith, eq-eqb, ne_eqb, append-nil}
 use Rattle.std.proofs.lemmas.Bool.{cases_eq}
 use Rattle.std.specs.Option.{option_map}
 use Rattle.kv_types.specs.declared.change.Change.{Change}
@@ -58,7 +58,6 @@ keyspace_moved (change ∷ changes) old new moves =
 position_moved : (changes : List Change) (old new : Sequencing) → Moves changes old new → new.position ≡ old.position + (if is_nonempty changes then 1 else 0)
 position_moved [] old new moves = omega (arith, moves.position)
 position_moved (change ∷ changes) old new moves = moves.1.position ∙ moves.1.performs.position_is
-
 
 -- ---- a call is over
 
@@ -163,7 +162,7 @@ pub session_left : (session : Session) (words : List (List ℕ)) (reply : Reply)
 session_left session words reply known = by (is_memory reply) refl
   where
     both : (b : Bool) → b ≡ true → b ≡ false → ⊥
-    both b yes no = cc
+    both b one other = cc
 
     by : (b : Bool) → is_memory reply ≡ b → session_after_request session words ≡ cond b (session_after_refusal session words) (session_after_request session words)
     by false e = refl
@@ -224,14 +223,16 @@ moves_like [] old old' new new' from to moves = record {
 }
 moves_like (change ∷ changes) old old' new new' from to moves =
     let part = moves.0 in
-    let cs = change ∷ changes in
-    (part, record {
-      performs = subst₂ (λ table room. Performs old.table old.room (old.position + 1) cs part table room) (sym to.table) (sym to.room)
-          (subst (λ p. Performs old.table old.room (p + 1) cs part new.table new.room) from.position
-          (subst₂ (λ table room. Performs table room (old'.position + 1) cs part new.table new.room) from.table from.room moves.1.performs));
-      position = to.position ∙ moves.1.position;
-      waiting = to.waiting ∙ moves.1.waiting ∙ ap (λ parts. parts ++ part ∷ []) from.waiting;
-    })
+    let cs = change ∷ changes in (
+      part,
+      record {
+        performs = subst₂ (λ table room. Performs old.table old.room (old.position + 1) cs part table room) (sym to.table) (sym to.room)
+            (subst (λ p. Performs old.table old.room (p + 1) cs part new.table new.room) from.position
+            (subst₂ (λ table room. Performs table room (old'.position + 1) cs part new.table new.room) from.table from.room moves.1.performs));
+        position = to.position ∙ moves.1.position;
+        waiting = to.waiting ∙ moves.1.waiting ∙ ap (λ parts. parts ++ part ∷ []) from.waiting;
+      },
+    )
 
 -- ---- sessions by seat
 
@@ -269,7 +270,7 @@ module _ (old : Sequencing) (seat : ℕ) (item : Item) (reply : Reply) (left : S
 
   -- the item does not close its connection
   pub answers-open : closes item ≡ false → item_left ≡ left → new ≡ mid → Answers old seat item reply new
-  answers-open open same is = subst (Answers old seat item reply) (sym is) (record {
+  answers-open stays same is = subst (Answers old seat item reply) (sym is) (record {
     legal = answered.legal;
     full_only = answered.full_only;
     keyspace = keyspace_moved changes old mid answered.moves;
@@ -278,7 +279,7 @@ module _ (old : Sequencing) (seat : ℕ) (item : Item) (reply : Reply) (left : S
     epoch = answered.epoch;
     before = answered.before;
     sessions = λ other. session_mid other ∙ ap (λ own. modified_where marks (cond (nat_eq seat other) own (session_at old.sessions other))) (sym same);
-    closed = λ other. closed_mid other ∙ ap (λ b. cond (nat_eq seat other) b (is_closed old other)) (sym open);
+    closed = λ other. closed_mid other ∙ ap (λ b. cond (nat_eq seat other) b (is_closed old other)) (sym stays);
   })
 
   own_closed : closes item ≡ true → item_left ≡ idle_session
@@ -351,7 +352,7 @@ there (Some session) e = refl
 -- a fault is answered by itself
 pub answered-fault : (old : Sequencing) (seat : ℕ) (fault : ProtocolFault) (reply : Reply) → is_closed old seat ≡ false → (reply ≡ memory_reply) ⊎ (reply ≡ Error (fault_message fault))
     → Answered old seat (Fault fault) reply (session_at old.sessions seat) old
-answered-fault old seat fault reply open may = record {
+answered-fault old seat fault reply seated may = record {
   legal = may;
   full_only = λ words e. cc;
   moves = record { table = refl; room = refl; position = refl; waiting = refl };
@@ -359,7 +360,34 @@ answered-fault old seat fault reply open may = record {
   before = refl;
   slots = λ other.
       marks-none (records old.table) old.sessions other ∙ ap (option_map (modified_where (modifies (records old.table) []))) (elim (cases_eq other seat) [
-        | inl same ↦ ap (slot old.sessions) same ∙ there (slot old.sessions seat) open ∙ sym (ap (λ b. cond b (Some (session_at old.sessions seat)) (slot old.sessions other)) (eq-eqb seat other (sym same)))
+        | inl same ↦ ap (slot old.sessions) same ∙ there (slot old.sessions seat) seated ∙ sym (ap (λ b. cond b (Some (session_at old.sessions seat)) (slot old.sessions other)) (eq-eqb seat other (sym same)))
         | inr differ ↦ sym (ap (λ b. cond b (Some (session_at old.sessions seat)) (slot old.sessions other)) (ne_eqb seat other (λ e. differ (sym e))))
       ]);
 }
+
+-- an item got its reply, before its seat is closed
+pub record Replied (old : Sequencing) (seat : ℕ) (item : Item) (reply : Reply) (mid : Sequencing) : Type 0 where
+  pub left : Session
+  pub answered : Answered old seat item reply left mid
+  pub same : closes item ≡ false → session_after_item (session_at old.sessions seat) item reply ≡ left
+
+pub replied-request : (old : Sequencing) (seat : ℕ) (words : List (List ℕ)) (reply : Reply) (mid : Sequencing) → AnswersRequest old seat words reply mid → Replied old seat (Request words) reply mid
+replied-request old seat words reply mid answers = record {
+  left = left_by (session_at old.sessions seat) words reply;
+  answered = answered-request old seat words reply mid answers;
+  same = λ stays. ap (λ b. cond b idle_session (left_by (session_at old.sessions seat) words reply)) stays;
+}
+
+pub replied-fault : (old : Sequencing) (seat : ℕ) (fault : ProtocolFault) (reply : Reply) → is_closed old seat ≡ false → (reply ≡ memory_reply) ⊎ (reply ≡ Error (fault_message fault))
+    → Replied old seat (Fault fault) reply old
+replied-fault old seat fault reply seated may = record {
+  left = session_at old.sessions seat;
+  answered = answered-fault old seat fault reply seated may;
+  same = λ stays. cc;
+}
+
+pub replied-open : (old : Sequencing) (seat : ℕ) (item : Item) (reply : Reply) (mid : Sequencing) → Replied old seat item reply mid → closes item ≡ false → Answers old seat item reply mid
+replied-open old seat item reply mid replied stays = answers-open old seat item reply replied.left mid replied.answered mid stays (replied.same stays) refl
+
+pub replied-closed : (old : Sequencing) (seat : ℕ) (item : Item) (reply : Reply) (mid new : Sequencing) → Replied old seat item reply mid → closes item ≡ true → MovesSeat mid seat None new → Answers old seat item reply new
+replied-closed old seat item reply mid new replied shut over = answers-closed old seat item reply replied.left mid replied.answered new shut over

@@ -1,5 +1,5 @@
 -- The requests of a call, run one after another.
-use Rattle.std.proofs.Common.{◌≡◌, ◌≢◌, ℕ, ◌+◌, ◌-◌, ◌<◌, ◌≤◌, ◌||◌, false, map, length, take, drop, List, [], ◌∷◌, ◌++◌, Option, Some, None, refl, sym, ap, ap₂, subst, subst₂, ◌∙◌, arith, append-nil, append_assoc, le_refl}
+use Rattle.std.proofs.Common.{◌≡◌, ◌≢◌, ℕ, suc, ◌+◌, ◌-◌, ◌<◌, ◌≤◌, ◌||◌, false, map, length, take, drop, List, [], ◌∷◌, ◌++◌, Option, Some, None, refl, sym, ap, ap₂, subst, subst₂, ◌∙◌, arith, append-nil, append_assoc, take_all}
 use Rattle.std.specs.Option.{option_map}
 use Rattle.kv_types.specs.declared.change.Change.{Change}
 use Rattle.kv_types.specs.declared.reply.Reply.{Reply}
@@ -61,8 +61,10 @@ changes_after old table room changes new after left adds =
     ∙ ap (map change_of) (rest_of old.changes.items adds.places.placed) ∙ adds.places.changes_are
   where
     rest_of : (xs ys : List PlacedChange) → take (length (xs ++ ys) - length xs) (drop (length xs) (xs ++ ys)) ≡ ys
-    rest_of [] ys = take-all ys
-    rest_of (x ∷ xs) ys = rest_of xs ys
+    rest_of [] ys = let all : length ys ≤ length ys - 0 = omega arith in take_all (length ys - 0) ys all
+    rest_of (x ∷ xs) ys =
+        let fewer : suc (length (xs ++ ys)) - suc (length xs) ≡ length (xs ++ ys) - length xs = omega arith in
+        ap (λ n. take n (drop (length xs) (xs ++ ys))) fewer ∙ rest_of xs ys
 
 keyspace_added : (old : Part) (table : Table) (room : Room) (changes : List Change) (new : Part) (after : Table) (left : Room) → AddsTo old table room changes new after left
     → records after ≡ play_all (records table) changes

@@ -1,5 +1,5 @@
 -- What a request that is run may be answered, and what it makes.
-use Rattle.std.proofs.Common.{◌≡◌, ◌≢◌, ℕ, ◌+◌, ◌<◌, ◌≤◌, inl, inr, List, [], ◌++◌, Option, Some, None, IsSome, codes, refl, sym, ap, subst, ◌∙◌, arith, append-nil, add-zero}
+use Rattle.std.proofs.Common.{◌≡◌, ◌≢◌, ℕ, ◌+◌, ◌<◌, ◌≤◌, inl, inr, List, [], ◌++◌, codes, refl, sym, ap, subst, ◌∙◌, arith, append-nil, add-zero}
 use Rattle.kv_types.specs.declared.change.Change.{Change}
 use Rattle.kv_types.specs.declared.refusal.Refusal.{Refusal}
 use Rattle.kv_types.specs.declared.refusal.Refusal.TheVariants as refusal
@@ -17,11 +17,6 @@ use Rattle.redis_core.specs.Serving.{refusal_reply}
 use Rattle.redis_core.specs.Stored.{Stored, IsSame, IsTooFull, Makes, RunsRequest}
 use Rattle.redis_core.proofs.RefusalLemmas.{words_not_full, memory_not_full, large_not_full, writes_where_full}
 use Rattle.redis_core.proofs.RunningLemmas.{makes-none}
-
--- nothing is left
-pub no_rest : (rest : Option ℕ) → ((left : ℕ) → rest ≡ Some left → ⊥) → IsSome rest → ⊥
-no_rest None none is = is
-no_rest (Some left) none is = none left refl
 
 module _ (old : Stored) (words : List (List ℕ)) (before : Running) where
   -- an error changed nothing

@@ -21,10 +21,22 @@ returns-clause-ran g c =
     let words = c.args.request.now in
     let inside = c.self.inside in
     let old : Sequencing = record {
-      table = inside.store.table; room = inside.store.room; position = inside.position; epoch = inside.epoch; before = inside.before; waiting = inside.waiting.items; sessions = inside.store.sessions;
+      table = inside.store.table;
+      room = inside.store.room;
+      position = inside.position;
+      epoch = inside.epoch;
+      before = inside.before;
+      waiting = inside.waiting.items;
+      sessions = inside.store.sessions;
     } in
     let mid : Sequencing = record {
-      table = c.run-reply.new.self.table; room = c.run-reply.new.self.room; position = inside.position; epoch = inside.epoch; before = inside.before; waiting = inside.waiting.items; sessions = c.run-reply.new.self.sessions;
+      table = c.run-reply.new.self.table;
+      room = c.run-reply.new.self.room;
+      position = inside.position;
+      epoch = inside.epoch;
+      before = inside.before;
+      waiting = inside.waiting.items;
+      sessions = c.run-reply.new.self.sessions;
     } in
     let under = underway-more inside.store (inside.position + 1) (words ∷ []) [] words [] c.begin-running.result inside.store c.run-reply.result c.run-reply.new.running c.run-reply.new.self
     (c.begin-running.ensures (words ∷ [])) c.run-reply.ensures in
