@@ -3,7 +3,7 @@ told, so that a server that tells it too early is seen only here."""
 
 import common
 import worked_cases as worked
-from plain_redis import bulk
+from plain_replies import bulk
 from simulation import Runs, Schedule, simulate
 from spelling import spell
 from worked_cases import GET_A, OK, ONE, SET_A, SHORTEST, STORE_IS_FULL, TOO_LARGE, UNKNOWN

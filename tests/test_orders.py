@@ -2,9 +2,11 @@
 outside."""
 
 import draws
+import plain_commands
 import plain_image
 import plain_machine
 import plain_redis
+import plain_replies
 import spelling
 from simulation import NODES, Runs, Schedule, simulate, told_between
 
@@ -118,7 +120,7 @@ class Orders(Runs):
             self.assertGreater(stands[1], 50)
             self.assertGreater(max(frame.changes for frame in trace.frames), 1)
             names = {call.words[0].lower() for call in trace.calls if call.words}
-            self.assertEqual(plain_redis.COMMANDS.keys() - names - {b"quit"}, set())
+            self.assertEqual(plain_commands.COMMANDS.keys() - names - {b"quit"}, set())
         for c, script in enumerate(order.scripts[:order.entered]):
             is_whole = is_finished and c < CONNECTIONS
             self.check_requests(trace, c, script, is_whole)
@@ -132,13 +134,13 @@ class Orders(Runs):
         for call, (position, reply) in zip(trace.calls, trace.plain):
             with self.case("call", place=len(positions)):
                 if call.words:
-                    self.assert_bytes(call.reply, redis.call(call.words))
-                    self.assert_bytes(reply, boundless.call(call.words))
+                    self.assert_bytes(call.reply, redis.call(call.connection, call.words))
+                    self.assert_bytes(reply, boundless.call(call.connection, call.words))
                 self.assertEqual(position, boundless.position)
             positions.append(redis.position)
         self.assertEqual(len(trace.plain), len(trace.calls))
         if lines == AMPLE_LINES:
-            self.assertNotIn(plain_redis.error(plain_redis.NO_ROOM), [call.reply for call in trace.calls])
+            self.assertNotIn(plain_replies.error(plain_replies.NO_ROOM), [call.reply for call in trace.calls])
         return positions
 
     def check_image(self, trace, node, lines):
@@ -149,7 +151,7 @@ class Orders(Runs):
             redis = plain_redis.Redis(plain_image.Room(lines))
             for call in trace.calls:
                 if call.words and redis.position < image.record.position:
-                    redis.call(call.words)
+                    redis.call(call.connection, call.words)
             self.assertEqual(redis.position, image.record.position)
             self.assertEqual(image.map, dict(redis.keyspace.records()))
             self.assertEqual(trace.records[node], sorted(image.map.items()))

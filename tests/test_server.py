@@ -3,6 +3,7 @@
 import draws
 import plain_image
 import plain_redis
+import plain_replies
 import worked_cases as worked
 from common import Cases, run_in_pieces, run_program
 from spelling import spell
@@ -99,7 +100,7 @@ class Limits(Served):
 
     def test_a_value_of_65536_bytes(self):
         data = spell("SET", "a", self.LONGEST) + GET_A
-        output = OK + plain_redis.bulk(self.LONGEST)
+        output = OK + plain_replies.bulk(self.LONGEST)
         self.assert_served(data, output)
         for size in (7, 63, 4_096, 65_536):
             with self.case("in pieces", size=size):
@@ -168,7 +169,7 @@ class Names(Served):
             with self.case("key", key=key):
                 sets = b"".join(spell("SET", word, word) for word in words)
                 others = b"".join(spell("SET", word, "other") for word in words if word != key)
-                output = (2 * len(words) - 1) * OK + plain_redis.bulk(key)
+                output = (2 * len(words) - 1) * OK + plain_replies.bulk(key)
                 self.assert_served(sets + others + spell("GET", key), output)
 
     def test_a_value_is_replaced(self):
@@ -250,5 +251,5 @@ class Large(Served):
         data = b"".join(spell("SET", key, key) for key in keys)
         data += spell("SET", "k0", "new") + spell("SET", "new", "new")
         data += b"".join(spell("GET", key) for key in keys) + spell("GET", "new")
-        output = MOST_VERSIONS * OK + 2 * STORE_IS_FULL + b"".join(map(plain_redis.bulk, keys)) + NULL
+        output = MOST_VERSIONS * OK + 2 * STORE_IS_FULL + b"".join(map(plain_replies.bulk, keys)) + NULL
         self.assert_served(data, output)
