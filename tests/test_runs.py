@@ -122,6 +122,13 @@ class Commands(Runs):
         self.assertEqual(trace.released, [OK])
 
 
+@worked.one_test_for_each(worked.TRANSACTIONS, "check_row")
+class Transactions(Runs):
+    """Rows of "Transactions" in docs/worked-cases.md."""
+
+    check_row = Commands.check_row
+
+
 class Events(Runs):
     """By which events a reply goes out."""
 

@@ -93,6 +93,24 @@ class Commands(Served):
             self.assert_plainly_served(data[:-1])
 
 
+@worked.one_test_for_each(worked.TRANSACTIONS, "check_row")
+class Transactions(Served):
+    """Rows of "Transactions" in docs/worked-cases.md."""
+
+    def check_row(self, *row):
+        session = worked.Session(*row)
+        data, output = session.input(), session.output()
+        with self.case("in one piece"):
+            self.assert_served(data, output)
+        with self.case("in single bytes"):
+            self.assert_written(run_in_pieces("server", [data[at:at + 1] for at in range(len(data))]), output)
+        for cut in range(1, len(data)):
+            with self.case("cut in two", cut=cut):
+                self.assert_written(run_in_pieces("server", [data[:cut], data[cut:]]), output)
+        with self.case("breaking off"):
+            self.assert_plainly_served(data[:-1])
+
+
 class Limits(Served):
     """Rows of "Limits" in docs/worked-cases.md."""
 
@@ -151,7 +169,7 @@ class Names(Served):
 
     def test_unknown_names(self):
         names = [b"", b"SE", b"SET ", b"GET\0", b"\xc7ET", b"SETN", b"QUI", b"PINGS"]
-        names += [b"MULTI", b"EXEC", b"SELECT", b"HELLO", b"KEYS", 65_536 * b"G"]
+        names += [b"MULT", b"EXECS", b"UNWATC", b"SELECT", b"HELLO", b"KEYS", 65_536 * b"G"]
         for name in names:
             with self.case("unknown", name=name):
                 self.assert_served(spell(name) + spell(name, "a", "1"), 2 * UNKNOWN)
