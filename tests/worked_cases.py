@@ -182,7 +182,7 @@ TRANSACTIONS = {
         ["MULTI", "SET a x", "INCR a", "SET b y", "EXEC", "GET b"],
         ["+OK", *3 * ["+QUEUED"], rf"*3\r\n+OK\r\n{NO_INTEGER}\r\n+OK", r"$1\r\ny"], 1,
     ),
-    "nothing_between": Session(["MULTI", "EXEC"], ["+OK", "*0"], 0),
+    "an_empty_transaction": Session(["MULTI", "EXEC"], ["+OK", "*0"], 0),
     "discarded": Session(
         ["MULTI", "SET a 1", "DISCARD", "GET a", "EXEC"], ["+OK", "+QUEUED", "+OK", "$-1", "-ERR EXEC without MULTI"], 0,
     ),
