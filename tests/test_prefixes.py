@@ -1,5 +1,5 @@
-"""Both images after each single event of a history full of transactions: each holds whole calls, in order from the first on, where an
-EXEC of several writes is one call. No client could see it otherwise, and neither could a crash between two events."""
+"""Both images after each single event of a history full of transactions, and after a crash in a commit of it: each holds whole calls, in
+order from the first on, where an EXEC of several writes is one call."""
 
 import draws
 import plain_image
@@ -18,6 +18,7 @@ REQUESTS = 80
 # How much of what each sends is offered before anything else happens, and how many events come then.
 OFFERS = 120
 EVENTS = 300
+CRASHES = 40
 
 # What is written: short values at few keys, so that what a transaction wrote first is often gone when it ends.
 WRITES = ["SET a", "SET b", "APPEND a", "HSET h f", "HSET h g", "SETNX b", "INCRBY n", "DECRBY m", "DEL a h", "DEL b n", "GETDEL a", "HDEL h f",
@@ -118,8 +119,34 @@ class Prefixes(Runs):
         schedule.add(*events)
         self.play(schedule)
 
+    def check_crashes(self, seed):
+        """A fence of a node fails, drawn with what the crash leaves of it then."""
+        events, _ = history(seed)
+        calls = simulate(events).calls
+        whole, positions, _ = keyspaces(calls)
+        drawn, failed = draws.numbers(f"crashes {seed}"), 0
+        for _ in range(CRASHES):
+            # formatting makes the first three fences, and each commit three more
+            node, fence = drawn.choice(NODES), drawn.randint(4, 30)
+            picks = " ".join(str(drawn.randrange(3)) for _ in range(drawn.randint(1, 6)))
+            with self.case("crash", node=node, fence=fence, picks=picks):
+                trace = simulate([f"fail {node} {fence}", *events, f"crash {node} {picks}"], "--images")
+                made, failed = positions[len(trace.calls)], failed + trace.ended.endswith("device fault")
+                for each in NODES:
+                    image = plain_image.read_image(plain_image.Words(LINES, trace.words[each]))
+                    self.assertEqual(image.map, whole[image.record.position])
+                    self.assertLessEqual(image.record.position, made)
+                self.assertEqual(trace.calls, calls[:len(trace.calls)])
+        self.assertGreater(failed, CRASHES // 2)
+
     def test_seed_0(self):
         self.check(0)
 
     def test_seed_1(self):
         self.check(1)
+
+    def test_crashes_of_seed_2(self):
+        self.check_crashes(2)
+
+    def test_crashes_of_seed_3(self):
+        self.check_crashes(3)

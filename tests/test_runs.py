@@ -1,5 +1,5 @@
-"""Whole runs of the pair of nodes: the first path of the worked cases, the events by which a reply goes out, seats, and frames that come
-in any order.
+"""Whole runs of the pair of nodes: the first path of the worked cases, the events by which a reply goes out, seats, and frames
+that come in any order.
 
 Each run is compared with the plain machine too, event by event and both images word by word (simulation.Runs)."""
 
