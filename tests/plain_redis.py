@@ -1,5 +1,5 @@
 """A plain Redis, from docs/commands.md alone: it takes requests one after another, each of a connection with its session (the
-section "Transactions"). Memory never runs out."""
+section "Transactions"). Memory runs out only where `refuse` says so."""
 
 import plain_commands
 import spelling
@@ -115,6 +115,13 @@ class Redis:
         if closes(item):
             self.leave(connection)
         return reply
+
+    def refuse(self, connection, words):
+        """A request is refused memory before anything of it is run: one that would have been queued spoils its transaction, and any
+        other leaves all as it was."""
+        session = self._sessions.setdefault(connection, Session())
+        if plain_commands.is_good(words) and words[0].lower() not in AT_ONCE:
+            session.spoil()
 
     def serve(self, words):
         """What a request is answered and changes that is of no session; its changes are played, and are one part."""
