@@ -16,7 +16,6 @@ ROLES = {"primary": plain_image.PRIMARY, "standby": plain_image.STANDBY}
 STRING = r'"[^"\\]*(?:\\.[^"\\]*)*"'
 EVENT = re.compile(r"event (\d+), line (\d+): (done|not enabled)")
 CALL = re.compile(rf"call (\d+): connection (\d+), (fault|{STRING}(?: {STRING})*) -> ({STRING})")
-PLAIN = re.compile(rf"plain (\d+): position (\d+) -> ({STRING})")
 RELEASED = re.compile(rf"connection (\d+): released ({STRING})")
 FRAME = re.compile(r"frame (\d+): epoch (\d+), from (\d+) to (\d+), changes (\d+)")
 ACKNOWLEDGEMENT = re.compile(r"acknowledgement (\d+): epoch (\d+), position (\d+)")
@@ -140,14 +139,12 @@ class Trace:
         self.event_lines = [int(line) for _, line, _ in events]
         calls = self._all(CALL)
         self.calls = [Call(int(c), words_of(words), common.unquoted(reply)) for _, c, words, reply in calls]
-        plain = self._all(PLAIN)
-        self.plain = [(int(position), common.unquoted(reply)) for _, position, reply in plain]
         released = self._all(RELEASED)
         self.released = [common.unquoted(data) for _, data in released]
         frames, acknowledgements = self._all(FRAME), self._all(ACKNOWLEDGEMENT)
         self.frames = [Frame(*map(int, fields)) for _, *fields in frames]
         self.acknowledgements = [(int(epoch), int(position)) for _, epoch, position in acknowledgements]
-        numbered = {"event": events, "call": calls, "plain": plain, "connection": released}
+        numbered = {"event": events, "call": calls, "connection": released}
         numbered |= {"frame": frames, "acknowledgement": acknowledgements}
         for name, rows in numbered.items():
             if [row[0] for row in rows] != [str(number) for number in range(len(rows))]:

@@ -119,14 +119,12 @@ class TooLarge(common.Cases):
         schedule.feed(0, self.mset(last))
         schedule.feed(0, spell("DBSIZE") + spell("GET", b"\xff"))
         schedule.drain(1, 4, 1)
-        trace = simulate(schedule.events, "--lines", f"{lines},{lines}", "--plain")
+        trace = simulate(schedule.events, "--lines", f"{lines},{lines}")
         held = [b":256\r\n", bulk(last * b"w")] if position else [b":0\r\n", b"$-1\r\n"]
         self.assert_bytes(trace.released[0], b"".join([b":0\r\n", reply, *held]))
         self.assertEqual([call.reply for call in trace.calls[:2]], [b":0\r\n", reply])
         self.assertEqual([node.position for node in trace.nodes.values()], 2 * [position])
         self.assertEqual([frame.changes for frame in trace.frames], position * [256])
-        # the plain Redis beside it has room for all, and the same limit
-        self.assertEqual(trace.plain[1], (0, TOO_LARGE) if reply == TOO_LARGE else (1, OK))
 
     def test_at_the_limit(self):
         self.check(self.REST, self.AMPLE, OK)

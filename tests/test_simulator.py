@@ -10,7 +10,7 @@ FAILED, MISUSED = 1, 2
 MOST_EVENTS = 16_777_216
 ABOVE_U64 = 2**64
 
-USAGE = b"usage: wbl-sim [--lines N,N] [--map] [--images] [--plain] < EVENTS\n"
+USAGE = b"usage: wbl-sim [--lines N,N] [--map] [--images] < EVENTS\n"
 
 FIRST_SET = [
     "enter", "feed 0 SET a 1", "offer 0", "turn 0", "close-group", "commit", "raise-local", "hand", "send", "deliver 0",
@@ -19,7 +19,6 @@ FIRST_SET = [
 
 FIRST_SET_PRINTED = """\
 call 0: connection 0, "SET" "a" "1" -> "+OK\\r\\n"
-plain 0: position 1 -> "+OK\\r\\n"
 connection 0: released "+OK\\r\\n"
 frame 0: epoch 1, from 0 to 1, changes 1
 acknowledgement 0: epoch 1, position 1
@@ -57,7 +56,7 @@ BAD_LINES = [
 BAD_COMMAND_LINES = [
     ["x"], [""], ["--help"], ["--lines"], ["--lines", "4096"], ["--lines", "4096,"], ["--lines", "4096,4096,4096"],
     ["--lines", "4096 4096"], ["--lines", "x,4096"], ["--lines", "04096,4096"], ["--lines", f"{ABOVE_U64},4096"],
-    ["--lines", "-1,4096"], ["--map", "x"], ["--Map"], ["--images=1"], [b"\xff"], ["--plain", ""], ["-"], ["--"],
+    ["--lines", "-1,4096"], ["--map", "x"], ["--Map"], ["--images=1"], [b"\xff"], ["--map", ""], ["--plain"], ["-"], ["--"],
 ]
 
 
@@ -74,17 +73,17 @@ class Printed(Cases):
 
     def test_worked_run_word_for_word(self):
         events = "".join(f"event {number}, line {number + 1}: done\n" for number in range(18))
-        self.assert_written(simulator(["--map", "--plain"], text_of(FIRST_SET)), (events + FIRST_SET_PRINTED).encode())
+        self.assert_written(simulator(["--map"], text_of(FIRST_SET)), (events + FIRST_SET_PRINTED).encode())
 
     def test_nothing_is_printed_that_was_not_asked_for(self):
         trace = simulate(FIRST_SET)
-        self.assertEqual((trace.plain, trace.records), ([], {"primary": [], "standby": []}))
+        self.assertEqual(trace.records, {"primary": [], "standby": []})
         self.assertEqual(trace.words, {"primary": {}, "standby": {}})
         self.assertEqual(len(trace.calls), 1)
 
     def test_options_in_any_order(self):
-        one = simulator(["--lines", "4096,8192", "--map", "--images", "--plain"], text_of(FIRST_SET))
-        other = simulator(["--plain", "--images", "--map", "--lines", "4096,8192"], text_of(FIRST_SET))
+        one = simulator(["--lines", "4096,8192", "--map", "--images"], text_of(FIRST_SET))
+        other = simulator(["--images", "--map", "--lines", "4096,8192"], text_of(FIRST_SET))
         self.assertEqual(one, other)
         words = Trace(one.output.decode()).words
         self.assertEqual((words["primary"][2], words["standby"][2]), (4_096, 8_192))
@@ -113,20 +112,8 @@ class Printed(Cases):
         schedule = Schedule(1)
         schedule.feed(0, b"P")
         schedule.serve(0)
-        finished = simulator(["--plain"], text_of(schedule.events))
+        finished = simulator([], text_of(schedule.events))
         self.assertIn(b"call 0: connection 0, fault -> \"-ERR Protocol error: expected '*'\\r\\n\"\n", finished.output)
-        self.assertIn(b"plain 0: position 0 -> \"-ERR Protocol error: expected '*'\\r\\n\"\n", finished.output)
-
-    def test_plain_redis_beside_a_full_store(self):
-        schedule = Schedule(1)
-        for _ in range(514):
-            schedule.feed(0, SET_A)
-            schedule.serve(0)
-            schedule.commit()
-            schedule.add("send")
-        trace = simulate(schedule.events, "--plain")
-        self.assertEqual(trace.plain, [(number + 1, b"+OK\r\n") for number in range(514)])
-        self.assertEqual({call.reply for call in trace.calls[512:]}, {b"-ERR store is full\r\n"})
 
 
 class Lines(Cases):
