@@ -19,15 +19,23 @@ REQUESTS = 100_000
 LINES = 1_048_576
 RUNS = 3
 
+# Connections that watch keys, how many each, and SETs of a key that none of them watches.
+WATCHERS, WATCHED = 1_000, 100
+SETS = 50_000
+
 
 def server(data):
     """One connection of the server, whose bytes come in pieces of at most 7."""
     return lambda: common.run_program("server", stdin=data)
 
 
-def simulator(*requests):
-    """One connection of the simulator: each request in one piece, and each 64 of them one group."""
-    schedule = Schedule(1)
+def simulator(*requests, watchers=0):
+    """One connection of the simulator: each request in one piece, and each 64 of them one group. The connections behind it watch keys
+    of their own."""
+    schedule = Schedule(1 + watchers)
+    for c in range(1, 1 + watchers):
+        schedule.feed(c, spell("WATCH", *(f"{c} {number}" for number in range(WATCHED))))
+        schedule.serve(c)
     for place in range(0, len(requests), 64):
         schedule.group(0, *requests[place:place + 64])
         schedule.replicate(place // 64)
@@ -47,6 +55,13 @@ def loads():
     yield "a value of 65,536 bytes in pieces of 7 through the server, and back", server(value)
 
 
+def beside_watchers():
+    """By how many connections watch keys, how long the SETs take beside them: what all takes, less what it takes without a SET."""
+    for watchers in (0, WATCHERS):
+        whole, begun = (simulator(*count * [spell("SET", "a", "1")], watchers=watchers) for count in (SETS, 0))
+        yield watchers, least_seconds(whole) - least_seconds(begun)
+
+
 def seconds(run):
     started = time.monotonic()
     finished = run()
@@ -55,9 +70,15 @@ def seconds(run):
     return time.monotonic() - started
 
 
+def least_seconds(run):
+    return min(seconds(run) for _ in range(RUNS))
+
+
 def main():
     for name, run in loads():
-        print(f"{name}: {min(seconds(run) for _ in range(RUNS)):.2f} s")
+        print(f"{name}: {least_seconds(run):.2f} s")
+    for watchers, taken in beside_watchers():
+        print(f"{SETS} SETs of a key that nobody watches, beside {watchers} connections that watch {WATCHED} keys each: {taken:.2f} s")
 
 
 if __name__ == "__main__":

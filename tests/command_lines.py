@@ -1,6 +1,6 @@
 """Lines that ask the probe for requests over its plain keyspace (docs/probe.md), and what it answers to them."""
 
-import plain_redis
+import plain_keyspace
 from probe_client import Probing, drop, drop_key, hexed, put
 
 
@@ -32,13 +32,13 @@ def shown(reply, *changes):
 def spelled(change):
     """A change of the plain Redis, as the probe spells it."""
     match change:
-        case plain_redis.Put(name, value):
+        case plain_keyspace.Put(name, value):
             return put(name, value)
-        case plain_redis.Drop(name):
+        case plain_keyspace.Drop(name):
             return drop(name)
-        case plain_redis.DropKey(key):
+        case plain_keyspace.DropKey(key):
             return drop_key(key)
-        case plain_redis.Clear():
+        case plain_keyspace.Clear():
             return "clear"
 
 

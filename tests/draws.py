@@ -2,6 +2,7 @@
 
 import random
 
+import plain_commands
 import plain_redis
 import spelling
 
@@ -25,12 +26,15 @@ SHAPES = {
     b"incrby": ("kn", ""), b"decrby": ("kn", ""), b"type": ("k", ""), b"dbsize": ("", ""), b"flushdb": ("", "o"),
     b"hset": ("kfv", "fv"), b"hsetnx": ("kfv", ""), b"hget": ("kf", ""), b"hmget": ("kf", "f"), b"hdel": ("kf", "f"),
     b"hlen": ("k", ""), b"hexists": ("kf", ""), b"hstrlen": ("kf", ""), b"hincrby": ("kfn", ""), b"hgetall": ("k", ""),
-    b"hkeys": ("k", ""), b"hvals": ("k", ""), b"watch": ("k", "k"), b"nosuch": ("", "v"),
+    b"hkeys": ("k", ""), b"hvals": ("k", ""), b"multi": ("", ""), b"exec": ("", ""), b"discard": ("", ""),
+    b"watch": ("k", "k"), b"unwatch": ("", ""), b"nosuch": ("", "v"),
 }
-# Those that are drawn less often than others.
-RARE = {b"ping", b"echo", b"quit", b"dbsize", b"flushdb", b"watch", b"nosuch"}
+# Those that are drawn less often than others, and those that begin or end something.
+SESSION = {b"multi", b"exec", b"discard", b"watch", b"unwatch"}
+RARE = {b"ping", b"echo", b"quit", b"dbsize", b"flushdb", b"nosuch", *SESSION}
 NAMES = 4 * sorted(SHAPES.keys() - RARE) + sorted(RARE)
 NAMES_THAT_GO_ON = [name for name in NAMES if name != b"quit"]
+NAMES_INSIDE = [name for name in NAMES_THAT_GO_ON if name not in SESSION - {b"unwatch"}]
 RARE_THAT_GO_ON = sorted(RARE - {b"quit"})
 # A script of so many requests has each rare command at least once.
 LONG_SCRIPT = 100
@@ -59,6 +63,27 @@ def word(draws, kind):
     return draws.choice(OPTIONS)
 
 
+# Requests that are refused before they run.
+REFUSED = [(b"NOSUCH",), (b"GET",), (b"HSET", b"a", b"f"), (b"SET", LONG_KEY, b"1"), (b"WATCH",), (b"UNWATCH", b"a"), (b"EXEC", b"1")]
+
+
+def good_request(draws, names):
+    """A request that is not refused before it runs."""
+    while not plain_commands.is_good(words := request(draws, names)):
+        pass
+    return words
+
+
+def transaction(draws):
+    """The requests of a transaction, perhaps with keys watched before it, perhaps with a bad one among them, and seldom discarded."""
+    watches = [good_request(draws, [b"watch"]) for _ in range(draws.choice([0, 0, 0, 1, 1, 2]))]
+    between = [request(draws, NAMES_INSIDE)] if draws.randrange(6) == 0 else []
+    inside = [good_request(draws, NAMES_INSIDE) for _ in range(draws.choice([0, 1, 2, 3, 4, 6]))]
+    if draws.randrange(6) == 0:
+        inside.insert(draws.randint(0, len(inside)), draws.choice(REFUSED))
+    return [*watches, *between, (b"MULTI",), *inside, (draws.choice([*9 * [b"EXEC"], b"DISCARD"]),)]
+
+
 # Bytes that are at fault wherever a request may begin.
 FAULTS = [b"P", b"*01", b"*1\r\n:", b"*1\r\n$1\r\nab"]
 
@@ -67,11 +92,13 @@ TELLING = b"*$\r\n0123456789-"
 
 
 class Script:
-    """What a connection will send: requests and empty arrays, now and then one to quit, at the end a fault and a request that is
+    """What a connection will send: requests, transactions and empty arrays, now and then one to quit, at the end a fault and a request that is
     never read. `items` are those that are taken."""
 
     def __init__(self, draws, count):
-        requests = [request(draws, NAMES_THAT_GO_ON) for _ in range(count)]
+        requests = []
+        while len(requests) < count:
+            requests += transaction(draws) if draws.randrange(8) == 0 else [request(draws, NAMES_THAT_GO_ON)]
         for name in RARE_THAT_GO_ON if count >= LONG_SCRIPT else []:
             requests.insert(draws.randrange(count), request(draws, [name]))
         if draws.randrange(3) == 0:

@@ -2,6 +2,7 @@
 crate and the constant that it has to be."""
 
 KEY, VALUE = ("kv_types", "MAX_KEY_BYTES"), ("kv_types", "MAX_VALUE_BYTES")
+QUEUED = ("multi_watch", "MAX_QUEUED_REQUESTS")
 WORDS, WORD = ("kv_types", "REQUEST_LIMITS.words"), ("kv_types", "REQUEST_LIMITS.word_bytes")
 CHANGE_TEXT = ("model", "MAX_CHANGE_TEXT_BYTES")
 SEATS, PIPE = ("pipes", "MAX_SEATS"), ("pipes", "PIPE_ITEMS")
@@ -15,7 +16,8 @@ N = r"([\d,^]*\d)"
 LIMITS = [
     ("README.md", rf"\| words of a request \| {N} of at most {N} bytes", WORDS, WORD),
     ("README.md", rf"\| key; value \| {N} bytes; {N} bytes \|", KEY, VALUE),
-    ("README.md", rf"\| change text of one command \| {N} bytes \|", CHANGE_TEXT),
+    ("README.md", rf"\| change text of one command, or of one EXEC \| {N} bytes \|", CHANGE_TEXT),
+    ("README.md", rf"\| requests of a transaction \| {N} \|", QUEUED),
     ("README.md", rf"changing commands in a group \| {N}; as many may wait", OPEN),
     ("README.md", rf"\| connections \| {N} \(", SEATS),
     ("README.md", rf"\| image \| {N} to {N} lines of 64 bytes", LEAST_LINES, MOST_LINES),
@@ -26,11 +28,14 @@ LIMITS = [
     ("docs/protocol.md", rf"bytes in a key or a field \| {N} \|", KEY),
     ("docs/protocol.md", rf"bytes in a value \| {N} \|", VALUE),
     ("docs/protocol.md", rf"one EXEC, in bytes \| {N} \|", CHANGE_TEXT),
+    ("docs/protocol.md", rf"requests queued in a transaction \| {N} \|", QUEUED),
     ("docs/protocol.md", rf"connections at a time \| {N};", SEATS),
     ("docs/commands.md", rf"\| {N} words of at most {N} bytes, else a fault \|", WORDS, WORD),
     ("docs/commands.md", rf"\| up to {N} bytes, else `ERR key", KEY),
     ("docs/commands.md", rf"\| up to {N} bytes; APPEND past that", VALUE),
     ("docs/commands.md", rf"above {N} bytes of change text", CHANGE_TEXT),
+    ("docs/commands.md", rf"requests of a transaction \| any number \| {N} \|", QUEUED),
+    ("docs/commands.md", f"A transaction holds at most {N} requests", QUEUED),
     ("docs/commands.md", rf"10,000, by a setting \| {N} \|", SEATS),
     ("docs/commands.md", rf"a key or field is longer than {N} bytes \(\*profile\*\)", KEY),
     ("docs/commands.md", f"`ERR key or field is longer than {N} bytes`", KEY),

@@ -4,7 +4,7 @@ of formatting and of commits of groups."""
 import dataclasses
 import typing
 
-from plain_redis import Clear, Drop, DropKey, Put
+from plain_keyspace import Clear, Drop, DropKey, Put
 
 # "Layout, version 1": what each part is, in words of 64 bits and lines of 8 words.
 WORDS_OF_LINE = 8

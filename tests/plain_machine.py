@@ -148,7 +148,7 @@ class Machine:
         if len(connection.made) >= PIPE_ITEMS or self.redis.position - self.closed >= OPEN_CHANGES:
             return False
         item = connection.waiting.pop(0)
-        reply = self.redis.call(item)
+        reply = self.redis.call(int(c), item)
         connection.made.append((reply, self.redis.position))
         self.calls.append((int(c), item, reply, self.redis.position))
         return True
@@ -261,4 +261,5 @@ class Machine:
         connection = self._connection(c)
         if connection:
             connection.is_open = False
+            self.redis.leave(int(c))
             return True

@@ -6,8 +6,8 @@ import typing
 
 import common
 import plain_image
+import plain_keyspace
 import plain_machine
-import plain_redis
 import spelling
 
 NODES = ("primary", "standby")
@@ -275,7 +275,7 @@ class Runs(common.Cases):
         wrong = sorted(set(trace.words[node].items()) ^ set(writer.words.items()))
         self.assertEqual(wrong[:5], [], f"words of the {node} that are not as they should be, or should be and are not")
         self.assertEqual(image.record, writer.record)
-        self.assertEqual(image.map, dict(plain_redis.keyspace_after(parts[:image.record.position]).records()))
+        self.assertEqual(image.map, dict(plain_keyspace.keyspace_after(parts[:image.record.position]).records()))
         self.assertEqual(trace.records[node], sorted(image.map.items()))
         record = image.record
         told = NodeLine(record.position, record.number, record.cp, record.cd, record.epoch, node, len(record.gaps))

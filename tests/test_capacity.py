@@ -3,7 +3,7 @@ told, so that a server that tells it too early is seen only here."""
 
 import common
 import worked_cases as worked
-from plain_redis import bulk
+from plain_replies import array, bulk
 from simulation import Runs, Schedule, simulate
 from spelling import spell
 from worked_cases import GET_A, OK, ONE, SET_A, SHORTEST, STORE_IS_FULL, TOO_LARGE, UNKNOWN
@@ -105,7 +105,11 @@ class TooLarge(common.Cases):
 
     def mset(self, last):
         """The request that writes 255 of the longest values, and one of `last` bytes."""
-        values = 255 * [65_536 * b"v"] + [last * b"w"]
+        return self.mset_of_255(last * b"w")
+
+    def mset_of_255(self, *more):
+        """The request that writes 255 of the longest values, and these."""
+        values = [*255 * [65_536 * b"v"], *more]
         return spell("MSET", *(word for number, value in enumerate(values) for word in (bytes([number]), value)))
 
     def check(self, last, lines, reply):
@@ -129,6 +133,24 @@ class TooLarge(common.Cases):
 
     def test_one_byte_above_the_limit(self):
         self.check(self.REST + 1, self.AMPLE, TOO_LARGE)
+
+    def test_summed_over_a_transaction(self):
+        # what was refused adds nothing, and what reads is never refused; a DropKey of a key of one byte takes four bytes
+        puts = [spell("SET", b"\xff", size * b"w") for size in (self.REST + 1, self.REST - 4, 0)]
+        inside = [self.mset_of_255(), puts[0], spell("DBSIZE"), puts[1], puts[2], spell("DEL", b"\0"), spell("DEL", b"\1"), spell("GET", b"\2")]
+        replies = [OK, TOO_LARGE, b":255\r\n", OK, TOO_LARGE, b":1\r\n", TOO_LARGE, bulk(65_536 * b"v")]
+        requests = [spell("MULTI"), *inside, spell("EXEC"), puts[2]]
+        schedule = Schedule(1)
+        schedule.feed(0, b"".join(requests))
+        schedule.drain(1, len(requests), 2)
+        trace = simulate(schedule.events, "--lines", f"{self.AMPLE},{self.AMPLE}")
+        wanted = [OK, *8 * [b"+QUEUED\r\n"], array(replies), OK]
+        for place, (call, reply) in enumerate(zip(trace.calls, wanted)):
+            with self.case("reply", place=place):
+                self.assert_bytes(call.reply, reply)
+        self.assert_bytes(trace.released[0], b"".join(wanted))
+        self.assertEqual([node.position for node in trace.nodes.values()], [2, 2])
+        self.assertEqual([frame.changes for frame in trace.frames], [257, 1])
 
     def test_room_is_looked_at_only_up_to_the_limit(self):
         self.check(self.REST, self.SCARCE, STORE_IS_FULL)

@@ -2,9 +2,11 @@
 outside."""
 
 import draws
+import plain_commands
 import plain_image
 import plain_machine
 import plain_redis
+import plain_replies
 import spelling
 from simulation import NODES, Runs, Schedule, simulate, told_between
 
@@ -16,10 +18,12 @@ CONNECTIONS = 5
 GUESTS = 8
 REQUESTS_OF_A_GUEST = 30
 EVENTS = 10_000
-REQUESTS_OF_EACH = (160, 130, 100, 70, 40)
+REQUESTS_OF_EACH = (240, 200, 150, 100, 60)
 
 # Images that take all that is drawn, and images that the longest values fill.
 AMPLE_LINES, SCARCE_LINES = 65_536, 4_096
+
+NO_ROOM = plain_replies.error(plain_replies.NO_ROOM)
 
 # Pieces of a connection's bytes, and of what is written to it, are shorter than one of these.
 PIECES = [24, 24, 24, 24, 200, 2_000, 20_000]
@@ -47,7 +51,7 @@ class Order:
                 self.deliver_all()
             if self.draws.randrange(events) < 3 * GUESTS:
                 self.come_or_go()
-            self.draws.choice([self.draw_of_connection, self.draw_of_nodes])()
+            self.draws.choice([*3 * [self.draw_of_connection], *2 * [self.draw_of_nodes]])()
 
     def come_or_go(self):
         """A guest enters or leaves; one may leave that is not there yet, or no more."""
@@ -60,7 +64,7 @@ class Order:
     def draw_of_connection(self):
         c, count = self.draws.randrange(self.entered + 1), self.draws.randrange(self.draws.choice(PIECES))
         names = ["feed", "offer", "turn", "hold", "read local", "read remote", "release", "write"]
-        (name,) = self.draws.choices(names, [5, 3, 3, 2, 1, 1, 1, 2])
+        (name,) = self.draws.choices(names, [4, 4, 4, 3, 1, 1, 1, 2])
         if name == "feed":
             self.feed(c, count)
         elif name == "write":
@@ -90,7 +94,7 @@ class Order:
         """What is left of the scripts is fed and served to its end, but not that of the guests."""
         for c in range(CONNECTIONS):
             self.feed(c)
-        self.schedule.drain(CONNECTIONS, max(REQUESTS_OF_EACH) + 1, 1_000)
+        self.schedule.drain(CONNECTIONS, max(len(script.items) for script in self.scripts), 1_000)
         for number in range(self.acknowledgements + 1_000):
             self.schedule.add(f"ack-delivered {number}")
         self.schedule.add("raise-remote")
@@ -108,37 +112,42 @@ class Orders(Runs):
         order.draw(EVENTS)
         if is_finished:
             order.finish()
-        trace = simulate(order.schedule.events, "--map", "--images", "--plain", "--lines", f"{lines},{lines}")
+        trace = simulate(order.schedule.events, "--map", "--images", "--lines", f"{lines},{lines}")
         self.assertEqual(trace.ended, f"after all {len(order.schedule.events)} events")
         positions = self.check_calls(trace, lines)
         stands = [self.check_image(trace, node, lines) for node in NODES]
         with self.case("positions", stands=stands):
             self.assertTrue(stands[1] == stands[0] if is_finished else stands[1] <= stands[0])
-            # the draws lead somewhere, to groups of several changes and to every command, but not always to QUIT
-            self.assertGreater(stands[1], 50)
-            self.assertGreater(max(frame.changes for frame in trace.frames), 1)
-            names = {call.words[0].lower() for call in trace.calls if call.words}
-            self.assertEqual(plain_redis.COMMANDS.keys() - names - {b"quit"}, set())
+            self.check_draws(trace, stands[1])
         for c, script in enumerate(order.scripts[:order.entered]):
             is_whole = is_finished and c < CONNECTIONS
             self.check_requests(trace, c, script, is_whole)
             self.check_released(trace, c, positions, stands[1], is_whole)
         self.check_machine(trace, order.schedule.events, lines)
 
+    def check_draws(self, trace, position):
+        """The draws lead somewhere: to groups of several changes, to every command but not always to QUIT, and to transactions
+        that run, that were spoiled, and that a watched key stops."""
+        self.assertGreater(position, 30)
+        self.assertGreater(max(frame.changes for frame in trace.frames), 1)
+        names = {call.words[0].lower() for call in trace.calls if call.words}
+        self.assertEqual(plain_commands.COMMANDS.keys() - names - {b"quit"}, set())
+        replies = [call.reply for call in trace.calls if call.words and call.words[0].lower() == b"exec"]
+        self.assertGreater(sum(reply[:1] == b"*" and reply != plain_replies.NULL_ARRAY for reply in replies), 8)
+        self.assertGreater(replies.count(plain_replies.NULL_ARRAY), 3)
+        self.assertGreater(replies.count(plain_replies.error(plain_replies.ABORTED)), 2)
+
     def check_calls(self, trace, lines):
-        """Each call is answered as one Redis answers it at that point of the list, whose store has the room of the image; and
-        the simulator's plain Redis, which has room for all, answers as one that has it. Returns the position after each."""
-        redis, boundless, positions = plain_redis.Redis(plain_image.Room(lines)), plain_redis.Redis(), []
-        for call, (position, reply) in zip(trace.calls, trace.plain):
+        """Each call is answered as one Redis answers it at that point of the list, whose store has the room of the image.
+        Returns the position after each."""
+        redis, positions = plain_redis.Redis(plain_image.Room(lines)), []
+        for call in trace.calls:
             with self.case("call", place=len(positions)):
                 if call.words:
-                    self.assert_bytes(call.reply, redis.call(call.words))
-                    self.assert_bytes(reply, boundless.call(call.words))
-                self.assertEqual(position, boundless.position)
+                    self.assert_bytes(call.reply, redis.call(call.connection, call.words))
             positions.append(redis.position)
-        self.assertEqual(len(trace.plain), len(trace.calls))
         if lines == AMPLE_LINES:
-            self.assertNotIn(plain_redis.error(plain_redis.NO_ROOM), [call.reply for call in trace.calls])
+            self.assertFalse(any(NO_ROOM in call.reply for call in trace.calls))
         return positions
 
     def check_image(self, trace, node, lines):
@@ -149,7 +158,7 @@ class Orders(Runs):
             redis = plain_redis.Redis(plain_image.Room(lines))
             for call in trace.calls:
                 if call.words and redis.position < image.record.position:
-                    redis.call(call.words)
+                    redis.call(call.connection, call.words)
             self.assertEqual(redis.position, image.record.position)
             self.assertEqual(image.map, dict(redis.keyspace.records()))
             self.assertEqual(trace.records[node], sorted(image.map.items()))

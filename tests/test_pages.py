@@ -76,7 +76,7 @@ class Names(common.Cases):
                     self.assertTrue(not section or section in pages.sections(linked), section)
 
     def test_words(self):
-        tests = {f"test_{row}" for row in [*worked.FIRST_PATH, *worked.FAULTS, *worked.COMMANDS]}
+        tests = {f"test_{row}" for row in [*worked.FIRST_PATH, *worked.FAULTS, *worked.COMMANDS, *worked.TRANSACTIONS]}
         for page in pages.PAGES:
             known = tests.union(sources.script_names(), sources.crates(), *map(sources.words, scope_of(page)))
             for code in sorted(set(pages.codes(page))):
@@ -124,13 +124,14 @@ class Names(common.Cases):
                     if re.fullmatch(r"`\*[^`]*`", given):
                         self.assertEqual(bytes_of(given), data)
 
-    def test_rows_of_commands(self):
-        rows = pages.rows(CASES, "Commands")
-        self.assertEqual([row[0].replace(" ", "_") for row in rows], list(worked.COMMANDS))
-        for name, requests, replies, position in rows:
-            with self.case("row", name=name):
-                found = worked.Session(pages.CODE.findall(requests), pages.CODE.findall(replies), int(position))
-                self.assertEqual(found, worked.COMMANDS[name.replace(" ", "_")])
+    def test_rows_of_commands_and_of_transactions(self):
+        for heading, table in [("Commands", worked.COMMANDS), ("Transactions", worked.TRANSACTIONS)]:
+            rows = pages.rows(CASES, heading)
+            self.assertEqual([row[0].replace(" ", "_") for row in rows], list(table))
+            for name, requests, replies, position in rows:
+                with self.case("row", name=name):
+                    found = worked.Session(pages.CODE.findall(requests), pages.CODE.findall(replies), int(position))
+                    self.assertEqual(found, table[name.replace(" ", "_")])
 
     def test_commands_that_are_named(self):
         for page in pages.PAGES:

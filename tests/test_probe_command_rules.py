@@ -6,10 +6,13 @@ import re
 import common
 import draws
 import pages
+import plain_commands
+import plain_keyspace
 import plain_redis
+import plain_replies
 from command_lines import Commands, line, shown, shown_effect, write, write_field
 from draws import GREATEST, LEAST, LONG_KEY, LONGEST_KEY
-from plain_redis import OK, array, bulk, error, integer, simple
+from plain_replies import OK, array, bulk, error, integer, simple
 from probe_client import Probing, drop, drop_key, hexed, put, record
 
 PROGRAMS = ["probe"]
@@ -30,8 +33,8 @@ class Refused(Commands):
         cls.words = {}
         for signatures, words, *_ in pages.rows(PAGE, "Table"):
             cls.words |= {signature.split()[0]: words for signature in signatures.split(", ")}
-        names = list(cls.words)
-        cls.names, cls.others = names[:names.index("MULTI")], names[names.index("MULTI"):]
+        cls.others = ["MULTI", "EXEC", "DISCARD", "WATCH"]
+        cls.names = [name for name in cls.words if name not in cls.others]
 
     def takes(self, name, count):
         """Whether the page says that the command has so many words."""
@@ -42,33 +45,34 @@ class Refused(Commands):
         return count >= numbers[0] and ("," not in words or count % 2 == {"odd": 1, "even": 0}[words.split(", ")[1]])
 
     def test_the_plain_redis_has_the_rows_of_the_page(self):
-        self.assertEqual(sorted(plain_redis.COMMANDS), sorted(name.lower().encode() for name in self.names))
-        self.assertEqual((len(self.names), len(self.others)), (33, 5))
+        self.assertEqual(sorted(plain_commands.COMMANDS), sorted(name.lower().encode() for name in self.words))
+        self.assertEqual(sorted(plain_commands.RUNNING), sorted(name.lower().encode() for name in self.names))
+        self.assertEqual((len(self.names), len(self.others)), (34, 4))
 
     def test_numbers_of_words(self):
-        table, empty = [], plain_redis.Keyspace()
+        table, empty = [], plain_keyspace.Keyspace()
         for name in self.names:
             wrong = error(f"ERR wrong number of arguments for '{name.lower()}' command")
             for count in range(1, 11):
                 asked = (name.encode(), *(count - 1) * [b"1"])
-                served = shown_effect(plain_redis.effect(empty, asked))
+                served = shown_effect(plain_commands.effect(empty, asked))
                 self.assertEqual(served == shown(wrong), not self.takes(name, count))
                 table.append((asked, served if self.takes(name, count) else shown(wrong)))
         self.show_answers(table)
 
     def test_names(self):
-        table, empty = [], plain_redis.Keyspace()
+        table, empty = [], plain_keyspace.Keyspace()
         for name in map(str.encode, self.names):
             count = next(count for count in range(1, 5) if self.takes(name.decode(), count))
             arguments = (count - 1) * (b"1",)
-            served = shown_effect(plain_redis.effect(empty, (name, *arguments)))
+            served = shown_effect(plain_commands.effect(empty, (name, *arguments)))
             self.assertNotIn(hexed(b"-ERR"), served)
             table += [((other, *arguments), served) for other in (name.lower(), name.title(), name.title().swapcase())]
             for other in (name[:-1], name + b"X", name + b"\0", b" " + name, name + name):
                 table.append(((other, *arguments), shown(UNKNOWN)))
         self.show_answers(table)
 
-    def test_names_that_are_not_served(self):
+    def test_names_that_need_a_session_and_names_of_no_command(self):
         names = [*self.others, "NOSUCH", "SELECT", "KEYS", "COMMAND", ""]
         self.show_requests(((name.encode(), *count * [b"h"]), UNKNOWN) for name in names for count in range(6))
 
@@ -78,18 +82,19 @@ class Refused(Commands):
         "DEL": "kkk", "EXISTS": "kkk", "MSET": "kvkvkv", "MSETNX": "kvkvkv", "MGET": "kkk", "INCR": "k", "DECR": "k", "INCRBY": "kv",
         "DECRBY": "kv", "TYPE": "k", "DBSIZE": "", "FLUSHDB": "vv", "HSET": "kkvkvkv", "HSETNX": "kkv", "HGET": "kk", "HMGET": "kkk",
         "HDEL": "kkk", "HLEN": "k", "HEXISTS": "kk", "HSTRLEN": "kk", "HINCRBY": "kkv", "HGETALL": "k", "HKEYS": "k", "HVALS": "k",
+        "UNWATCH": "",
     }
 
     def test_keys_of_512_and_of_513_bytes(self):
-        table, empty = [], plain_redis.Keyspace()
+        table, empty = [], plain_keyspace.Keyspace()
         self.assertEqual(list(self.SHAPES), self.names)
         for name, shape in self.SHAPES.items():
             short = [LONGEST_KEY if kind == "k" else b"1" for kind in shape]
             asked = (name.encode(), *short)
-            table.append((asked, shown_effect(plain_redis.effect(empty, asked))))
+            table.append((asked, shown_effect(plain_commands.effect(empty, asked))))
             for place, kind in enumerate(shape):
                 asked = (name.encode(), *short[:place], LONG_KEY, *short[place + 1:])
-                served = shown_effect(plain_redis.effect(empty, asked))
+                served = shown_effect(plain_commands.effect(empty, asked))
                 self.assertEqual(served == shown(TOO_LONG), kind == "k")
                 table.append((asked, shown(TOO_LONG) if kind == "k" else served))
         self.show_answers(table)
@@ -198,9 +203,9 @@ class Drawn(Probing):
     SEEDS, REQUESTS = 2, 6_000
 
     # What the draws have to lead to.
-    ERRORS = {error(text) for text in (plain_redis.OVERFLOW, plain_redis.NO_OPPOSITE, plain_redis.LONG_STRING, plain_redis.NO_INTEGER_OF_A_FIELD)}
+    ERRORS = {error(text) for text in (plain_replies.OVERFLOW, plain_replies.NO_OPPOSITE, plain_replies.LONG_STRING, plain_replies.NO_INTEGER_OF_A_FIELD)}
     ERRORS |= {UNKNOWN, TOO_LONG, SYNTAX, NO_INTEGER, WRONG_TYPE}
-    CHANGES = {plain_redis.Put, plain_redis.Drop, plain_redis.DropKey, plain_redis.Clear}
+    CHANGES = {plain_keyspace.Put, plain_keyspace.Drop, plain_keyspace.DropKey, plain_keyspace.Clear}
 
     def test_against_the_plain_redis(self):
         for seed in range(self.SEEDS):
@@ -228,5 +233,5 @@ class Drawn(Probing):
     def draw_field(self, drawn, redis):
         """A line that makes a hash, or one more field of it, also where the key holds a string."""
         name, value = (drawn.choice(draws.KEYS), drawn.choice(draws.FIELDS)), drawn.choice(draws.VALUES)
-        redis.keyspace.play(plain_redis.Put(name, value))
+        redis.keyspace.play(plain_keyspace.Put(name, value))
         return f"keyspace play {put(name, value)}", "done"

@@ -3,7 +3,7 @@ plain keyspace."""
 
 from command_lines import Commands, write
 from draws import GREATEST, LEAST
-from plain_redis import NULL_BULK, OK, array, bulk, error, integer, simple
+from plain_replies import NULL_BULK, OK, array, bulk, error, integer, simple
 from probe_client import drop_key, put
 
 PROGRAMS = ["probe"]

@@ -2,7 +2,7 @@
 
 from command_lines import Commands, write_field
 from draws import GREATEST, LEAST, LONGEST_KEY
-from plain_redis import NULL_BULK, array, bulk, error, integer, simple
+from plain_replies import NULL_BULK, array, bulk, error, integer, simple
 from probe_client import drop, put
 
 PROGRAMS = ["probe"]

@@ -3,6 +3,7 @@
 import draws
 import plain_image
 import plain_redis
+import plain_replies
 import worked_cases as worked
 from common import Cases, run_in_pieces, run_program
 from spelling import spell
@@ -92,6 +93,24 @@ class Commands(Served):
             self.assert_plainly_served(data[:-1])
 
 
+@worked.one_test_for_each(worked.TRANSACTIONS, "check_row")
+class Transactions(Served):
+    """Rows of "Transactions" in docs/worked-cases.md."""
+
+    def check_row(self, *row):
+        session = worked.Session(*row)
+        data, output = session.input(), session.output()
+        with self.case("in one piece"):
+            self.assert_served(data, output)
+        with self.case("in single bytes"):
+            self.assert_written(run_in_pieces("server", [data[at:at + 1] for at in range(len(data))]), output)
+        for cut in range(1, len(data)):
+            with self.case("cut in two", cut=cut):
+                self.assert_written(run_in_pieces("server", [data[:cut], data[cut:]]), output)
+        with self.case("breaking off"):
+            self.assert_plainly_served(data[:-1])
+
+
 class Limits(Served):
     """Rows of "Limits" in docs/worked-cases.md."""
 
@@ -99,7 +118,7 @@ class Limits(Served):
 
     def test_a_value_of_65536_bytes(self):
         data = spell("SET", "a", self.LONGEST) + GET_A
-        output = OK + plain_redis.bulk(self.LONGEST)
+        output = OK + plain_replies.bulk(self.LONGEST)
         self.assert_served(data, output)
         for size in (7, 63, 4_096, 65_536):
             with self.case("in pieces", size=size):
@@ -150,7 +169,7 @@ class Names(Served):
 
     def test_unknown_names(self):
         names = [b"", b"SE", b"SET ", b"GET\0", b"\xc7ET", b"SETN", b"QUI", b"PINGS"]
-        names += [b"MULTI", b"EXEC", b"SELECT", b"HELLO", b"KEYS", 65_536 * b"G"]
+        names += [b"MULT", b"EXECS", b"UNWATC", b"SELECT", b"HELLO", b"KEYS", 65_536 * b"G"]
         for name in names:
             with self.case("unknown", name=name):
                 self.assert_served(spell(name) + spell(name, "a", "1"), 2 * UNKNOWN)
@@ -168,7 +187,7 @@ class Names(Served):
             with self.case("key", key=key):
                 sets = b"".join(spell("SET", word, word) for word in words)
                 others = b"".join(spell("SET", word, "other") for word in words if word != key)
-                output = (2 * len(words) - 1) * OK + plain_redis.bulk(key)
+                output = (2 * len(words) - 1) * OK + plain_replies.bulk(key)
                 self.assert_served(sets + others + spell("GET", key), output)
 
     def test_a_value_is_replaced(self):
@@ -250,5 +269,5 @@ class Large(Served):
         data = b"".join(spell("SET", key, key) for key in keys)
         data += spell("SET", "k0", "new") + spell("SET", "new", "new")
         data += b"".join(spell("GET", key) for key in keys) + spell("GET", "new")
-        output = MOST_VERSIONS * OK + 2 * STORE_IS_FULL + b"".join(map(plain_redis.bulk, keys)) + NULL
+        output = MOST_VERSIONS * OK + 2 * STORE_IS_FULL + b"".join(map(plain_replies.bulk, keys)) + NULL
         self.assert_served(data, output)

@@ -174,6 +174,57 @@ COMMANDS = {
     ),
 }
 
+ABORTED = "-EXECABORT Transaction discarded because of previous errors."
+
+# Rows of "Transactions" of one connection.
+TRANSACTIONS = {
+    "an_error_among_others": Session(
+        ["MULTI", "SET a x", "INCR a", "SET b y", "EXEC", "GET b"],
+        ["+OK", *3 * ["+QUEUED"], rf"*3\r\n+OK\r\n{NO_INTEGER}\r\n+OK", r"$1\r\ny"], 1,
+    ),
+    "an_empty_transaction": Session(["MULTI", "EXEC"], ["+OK", "*0"], 0),
+    "discarded": Session(
+        ["MULTI", "SET a 1", "DISCARD", "GET a", "EXEC"], ["+OK", "+QUEUED", "+OK", "$-1", "-ERR EXEC without MULTI"], 0,
+    ),
+    "an_own_write_of_a_watched_key": Session(
+        ["SET k v", "WATCH k", "SET k v", "MULTI", "GET k", "EXEC"], [*4 * ["+OK"], "+QUEUED", "*-1"], 2,
+    ),
+    "nothing_removed_of_a_watched_key": Session(
+        ["WATCH k", "DEL k", "MULTI", "GET k", "EXEC"], ["+OK", ":0", "+OK", "+QUEUED", r"*1\r\n$-1"], 0,
+    ),
+    "unwatched": Session(
+        ["WATCH k", "SET k v", "UNWATCH", "MULTI", "GET k", "UNWATCH", "EXEC"],
+        [*4 * ["+OK"], *2 * ["+QUEUED"], r"*2\r\n$1\r\nv\r\n+OK"], 1,
+    ),
+    "watches_end_with_a_transaction": Session(
+        ["WATCH k", "MULTI", "EXEC", "SET k v", "WATCH k", "MULTI", "DISCARD", "DEL k", "MULTI", "GET k", "EXEC"],
+        ["+OK", "+OK", "*0", *4 * ["+OK"], ":1", "+OK", "+QUEUED", r"*1\r\n$-1"], 2,
+    ),
+    "a_refused_request_spoils": Session(
+        ["MULTI", "SET a 1", "GET", "SET b 2", "EXEC", "EXISTS a b"],
+        ["+OK", "+QUEUED", "-ERR wrong number of arguments for 'get' command", "+QUEUED", ABORTED, ":0"], 0,
+    ),
+    "what_neither_ends_nor_spoils": Session(
+        ["EXEC", "DISCARD", "MULTI", "MULTI", "WATCH k", "PING", "EXEC"],
+        [
+            "-ERR EXEC without MULTI", "-ERR DISCARD without MULTI", "+OK", "-ERR MULTI calls can not be nested",
+            "-ERR WATCH inside MULTI is not allowed", "+QUEUED", r"*1\r\n+PONG",
+        ], 0,
+    ),
+    "quit_in_a_transaction": Session(["MULTI", "SET a 1", "QUIT", "EXEC"], ["+OK", "+QUEUED", "+OK"], 0),
+    "every_kind_of_reply": Session(
+        [
+            "MULTI", "MSET a 1 b 2", "MGET a z b", "STRLEN z", "GET z", 'ECHO ""', "HSET h f 1", "GET h", "HGETALL z", "FLUSHDB",
+            "SET c 3", "EXEC", "DBSIZE",
+        ],
+        [
+            "+OK", *10 * ["+QUEUED"],
+            r"*10\r\n+OK\r\n*3\r\n$1\r\n1\r\n$-1\r\n$1\r\n2\r\n:0\r\n$-1\r\n$0\r\n\r\n:1\r\n" + WRONG_TYPE + r"\r\n*0\r\n+OK\r\n+OK",
+            ":1",
+        ], 1,
+    ),
+}
+
 
 def one_test_for_each(table, method):
     """Gives a class the test `test_NAME` for each row of the table: it calls this method of the class with the row's

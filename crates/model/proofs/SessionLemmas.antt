@@ -51,7 +51,7 @@ session_after-others s t a b c d alike differ differ' same =
 
 -- ---- one's own session after its item
 
-item-closed : (session : Session) (item : Item) (reply : Reply) → closes item ≡ true → session_after_item session item reply ≡ idle_session
+pub item-closed : (session : Session) (item : Item) (reply : Reply) → closes item ≡ true → session_after_item session item reply ≡ idle_session
 item-closed session (Request words) reply e =
     ap (λ b. cond b idle_session (cond (is_memory reply) (session_after_refusal session words) (session_after_request session words))) e
 item-closed session (Fault fault) reply e = refl

@@ -167,9 +167,26 @@ exec_call = asks 0 (codes "EXEC" ∷ []) (Array exec_replies)
 
 worked_transaction_legal : IsLegal (worked_queue ++ exec_call ∷ [])
 unfolding outcome_of_words closes verb_of is_named has_key int_of digits
-worked_transaction_legal =
-    (inr refl, (inr refl, (inr refl, (inr refl, (inr (exec_replies, refl,
-    (inr (inr (inl (lit≤ tt, refl))), (inr (inr (inl (lit≤ tt, refl))), (inr (inr (inl (lit≤ tt, refl))), tt)))), tt)))))
+worked_transaction_legal = (
+  inr refl,
+  (
+    inr refl,
+    (
+      inr refl,
+      (
+        inr refl,
+        (
+          inr (
+            exec_replies,
+            refl,
+            (inr (inr (inl (lit≤ tt, refl))), (inr (inr (inl (lit≤ tt, refl))), (inr (inr (inl (lit≤ tt, refl))), tt))),
+          ),
+          tt,
+        ),
+      ),
+    ),
+  ),
+)
 
 worked_transaction_changes : changes_of (state_after worked_queue) exec_call ≡ Put (Str (codes "a")) (codes "x") ∷ Put (Str (codes "b")) (codes "y") ∷ []
 unfolding outcome_of_words closes verb_of is_named has_key int_of digits

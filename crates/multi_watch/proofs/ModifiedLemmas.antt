@@ -1,5 +1,5 @@
 -- Which keys changes modify, made in parts, and marking in parts.
-use Rattle.std.proofs.Common.{◌≡◌, ℕ, Bool, true, false, cond, not, ◌&&◌, ◌||◌, List, [], ◌∷◌, ◌++◌, map, refl, sym, ap, ap₂, ◌∙◌}
+use Rattle.std.proofs.Common.{◌≡◌, ◌≢◌, ℕ, Bool, true, false, cond, not, ◌&&◌, ◌||◌, List, [], ◌∷◌, ◌++◌, map, Some, None, refl, sym, ap, ap₂, ◌∙◌}
 use Rattle.std.specs.List.{list_any}
 use Rattle.std.specs.FinMap.Entries.{where_key, by_order}
 use Rattle.std.specs.declared.cmp.Ordering.{Ordering}
@@ -11,9 +11,9 @@ use Rattle.kv_types.specs.declared.record_id.RecordId.{RecordId}
 use Rattle.kv_types.specs.declared.record_id.RecordId.TheVariants.{Str, Field}
 use Rattle.kv_types.specs.declared.change.Change.{Change}
 use Rattle.kv_types.specs.declared.change.Change.TheVariants.{Put, Drop, DropKey, Clear}
-use Rattle.kv_types.specs.Keyspace.{Keyspace, key_of, record_cmp, with_record, without_record, without_key, play, play_all}
+use Rattle.kv_types.specs.Keyspace.{Keyspace, key_of, record_cmp, value_at, with_record, without_record, without_key, play, play_all}
 use Rattle.kv_types.proofs.OrderLemmas.{same_record, same_key, key_itself}
-use Rattle.kv_types.proofs.LookUpLemmas.{is_same}
+use Rattle.kv_types.proofs.LookUpLemmas.{is_same, is_other, is_same_key_at, looked_up-play}
 use Rattle.cmd_core.specs.Contents.{same_bytes, has_key}
 use Rattle.cmd_core.proofs.RecordsLemmas.{has_none, has_more}
 use Rattle.multi_watch.specs.declared.watch.Watch.{Watch}
@@ -27,6 +27,9 @@ turned a b apart = false_from_ne_true (same_bytes b a) (λ e.
     let is : same_bytes a b ≡ true = ap (λ k. same_bytes a k) (same_key b a e) ∙ key_itself a in
     let both : true ≡ false = sym is ∙ apart in
     cc)
+
+apart_from : (a b : List ℕ) → same_bytes a b ≡ false → a ≢ b
+apart_from a b apart same = let both : true ≡ false = sym (is_same_key_at a b same) ∙ apart in cc
 
 not_false : (b : Bool) → not b ≡ false → b ≡ true
 not_false true e = refl
@@ -110,6 +113,33 @@ pub modifies-append : (s : Keyspace) (first more : List Change) (own : List ℕ)
 modifies-append s first more own =
     ap₂ (λ named cleared. named || (cleared && has_key s own)) (list_any-append (names own) first more) (list_any-append is_clear first more)
     ∙ in_parts (list_any (names own) first) (list_any (names own) more) (list_any is_clear first) (list_any is_clear more) (has_key s own) (has_key (play_all s first) own) (has-play_all own s first)
+
+-- ---- what a key that is not modified holds
+
+absent : (s : Keyspace) (id : RecordId) → has_key s (key_of id) ≡ false → value_at s id ≡ None
+absent [] id none = refl
+absent (e ∷ s) id none =
+    let parts = or_parts (same_bytes (key_of e.0) (key_of id)) (has_key s (key_of id)) (sym (has_more e s (key_of id)) ∙ none) in
+    let other : is_same id e.0 ≡ false = is_other id e.0 (λ same. apart_from (key_of e.0) (key_of id) parts.0 (sym (ap key_of same))) in
+    ap (λ b. cond b (Some e.1) (value_at s id)) other ∙ absent s id parts.1
+
+module _ (s : Keyspace) (id : RecordId) where
+  stays-play : (change : Change) → names (key_of id) change ≡ false → (is_clear change && has_key s (key_of id)) ≡ false → value_at (play s change) id ≡ value_at s id
+  stays-play (Put (Str key) value) other kept = (looked_up-play s (Put (Str key) value)).others id (apart_from (key_of id) key other)
+  stays-play (Put (Field key field) value) other kept =
+      (looked_up-play s (Put (Field key field) value)).others id ((λ same. apart_from (key_of id) key other (ap key_of same)), (λ same. apart_from (key_of id) key other (ap key_of same)))
+  stays-play (Drop that) other kept = (looked_up-play s (Drop that)).others id (λ same. apart_from (key_of id) (key_of that) other (ap key_of same))
+  stays-play (DropKey key) other kept = (looked_up-play s (DropKey key)).others id (apart_from (key_of id) key other)
+  stays-play Clear other kept = sym (absent s id kept)
+
+pub stays-play_all : (s : Keyspace) (changes : List Change) (id : RecordId) → modifies s changes (key_of id) ≡ false → value_at (play_all s changes) id ≡ value_at s id
+stays-play_all s [] id kept = refl
+stays-play_all s (change ∷ changes) id kept =
+    let own = key_of id in
+    let parts = or_parts (modifies s (change ∷ []) own) (modifies (play s change) changes own) (sym (modifies-append s (change ∷ []) changes own) ∙ kept) in
+    let here = or_parts (names own change || false) ((is_clear change || false) && has_key s own) parts.0 in
+    stays-play_all (play s change) changes id parts.1
+    ∙ stays-play s id change (sym (or-false (names own change)) ∙ here.0) (ap (λ b. b && has_key s own) (sym (or-false (is_clear change))) ∙ here.1)
 
 -- ---- marking in parts
 

@@ -13,7 +13,7 @@ mod watchers;
 
 pub use act::Act;
 pub use error::SessionError;
-pub use laws::a_modified_key_stops_exec;
+pub use laws::{a_key_that_is_not_modified_stays, a_modified_key_stops_exec};
 pub use limits::MAX_QUEUED_REQUESTS;
 pub use sessions::{SessionNo, Sessions};
 pub use verb::Verb;

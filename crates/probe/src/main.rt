@@ -14,7 +14,6 @@ mod integers;
 mod keyspace;
 mod pipe;
 mod probe;
-mod redis;
 mod replies;
 mod run;
 mod seats;

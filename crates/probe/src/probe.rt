@@ -6,7 +6,6 @@ use crate::heap::HeapProbe;
 use crate::image::ImageProbe;
 use crate::keyspace::KeyspaceProbe;
 use crate::pipe::PipeProbe;
-use crate::redis::RedisProbe;
 use crate::seats::LobbyProbe;
 use crate::table::TableProbe;
 use crate::{frames, integers, keyspace, replies, texts};
@@ -16,7 +15,6 @@ use std::alloc::Global;
 #[derive(Default, Drop)]
 pub struct Probe {
     keyspace: KeyspaceProbe,
-    redis: RedisProbe,
     image: ImageProbe,
     device: DeviceProbe,
     heap: HeapProbe,
@@ -34,7 +32,6 @@ impl Probe {
         };
         match *subject {
             "keyspace" => self.keyspace.answer(alloc, words),
-            "redis" => self.redis.answer(alloc, words),
             "image" => self.image.answer(alloc, words),
             "device" => self.device.answer(alloc, words),
             "heap" => self.heap.answer(alloc, words),

@@ -1,20 +1,42 @@
 -- An answer is a legal entry of the list, whether its request was run, queued, answered or refused.
-use Rattle.std.proofs.Common.{◌≡◌, ◌≢◌, ℕ, ◌+◌, ◌<◌, ◌≤◌, ◌⊎◌, inl, inr, Bool, true, false, cond, nat_eq, not, is_some, List, [], ◌∷◌, ◌++◌, length, codes, Option, Some, None, IsSome, refl, sym, ap, ap₂, subst, subst₂, ◌∙◌, arith, eq-eqb, ne_eqb, append-nil}
+use Rattle.std.proofs.Common.{◌≡◌, ◌≢◌, ℕ, ◌+◌, ◌<◌, ◌≤◌, ◌⊎◌, inl, inr, Bool, true, false, cond, if◌then◌else◌, nat_eq, not, is_some, map, List, [], ◌∷◌, ◌++◌, length, codes, Option, Some, None, refl, sym, ap, ap₂, subst, subst₂, ◌∙◌, arith, eq-eqb, ne_eqb, append-nil}
+use Rattle.std.proofs.lemmas.Bool.{cases_eq}
 use Rattle.std.specs.Option.{option_map}
 use Rattle.kv_types.specs.declared.change.Change.{Change}
 use Rattle.kv_types.specs.declared.item.Item.{Item}
 use Rattle.kv_types.specs.declared.item.Item.TheVariants.{Request, Fault}
-use Rattle.kv_types.specs.declared.reply.Reply.{Reply, Simple, Error, NullArray, Array}
+use Rattle.kv_types.specs.declared.item.ProtocolFault.{ProtocolFault}
+use Rattle.kv_types.specs.declared.reply.Reply.{Reply, Error, Array}
+use Rattle.kv_types.specs.Fault.{fault_message}
 use Rattle.kv_types.specs.Keyspace.{Keyspace, play_all}
+use Rattle.cmd_table.specs.Request.{closes as request_closes}
 use Rattle.multi_watch.specs.Session.{Session, idle_session, modified_where}
+use Rattle.multi_watch.specs.Admission.{Admission, Answer, Run, RunAll, admit, session_after_request, session_after_refusal}
 use Rattle.multi_watch.specs.Modified.{modifies}
-use Rattle.multi_watch.specs.Sessions.{Sessions, slot, session_of, session_at}
+use Rattle.multi_watch.specs.Sessions.{Sessions, Moves as MovesSession, slot, session_of, session_at}
+use Rattle.model.specs.declared.call.TheConstants.{MAX_CHANGE_TEXT_BYTES}
+use Rattle.model.specs.declared.image.TheConstants.{COUNTER_LIMIT}
 use Rattle.model.specs.declared.group.Part.{Part}
-use Rattle.model.specs.Call.{is_nonempty}
-use Rattle.mv_keyspace.specs.Table.{records}
+use Rattle.model.specs.declared.group.PlacedChange.{PlacedChange}
+use Rattle.model.specs.Call.{admission_at, MayAnswer, MayStandAll, all_made, made, changes_for, changes_of, full_reply, memory_reply, replies_in, is_memory, is_nonempty, session_after_item, session_before_marks, session_after}
+use Rattle.model.specs.Command.{closes, outcome_of}
+use Rattle.model.specs.Group.{change_of, changes_of_part}
+use Rattle.model.proofs.CallsLemmas.{changes_for-error}
+use Rattle.model.proofs.SessionLemmas.{item-closed, replies_in-Array}
+use Rattle.mv_keyspace.specs.Table.{place_all, puts_of, records}
 use Rattle.mv_keyspace.proofs.TableLemmas.{records-place_all}
-use Rattle.redis_core.specs.Sequencing.{Sequencing}
-use Rattle.redis_core.specs.Turn.{AddsPart, Moves}
+use Rattle.placing.specs.Performs.{Performs}
+use Rattle.placing.specs.Place.{HasRoomFor, TakesPlaces}
+use Rattle.redis_core.specs.declared.running.Running.{Running}
+use Rattle.redis_core.specs.Marking.{Marks}
+use Rattle.redis_core.specs.Seats.{is_closed_at}
+use Rattle.redis_core.specs.Sequencing.{Sequencing, MovesSeat, is_closed, state_of}
+use Rattle.redis_core.specs.Serving.{Runs, Acts, AnswersRequest, Finishes, RefusesMemory}
+use Rattle.redis_core.specs.Stored.{Stored, AreUnderWay}
+use Rattle.redis_core.specs.Turn.{AddsPart, Answers, Moves, call_of}
+use Rattle.redis_core.proofs.RefusalLemmas.{memory_not_full}
+use Rattle.redis_core.proofs.AdmissionLemmas.{answers-known, run-unmoved, run-words}
+use Rattle.redis_core.proofs.RunningLemmas.{marks-none, ran-stand, ran-made}
 
 -- ---- what moves
 
@@ -25,10 +47,6 @@ moves_none (change ∷ changes) old none = absurd (omega arith)
 pub moves_part : (changes : List Change) (old : Sequencing) (part : _) (new : Sequencing) → length changes ≢ 0 → AddsPart old part changes new → Moves changes old new
 moves_part [] old part new some adds = absurd (some refl)
 moves_part (change ∷ changes) old part new some adds = (part, adds)
-
-moves_closed : (changes : List Change) (old mid : Sequencing) (closed : List Bool) → Moves changes old mid → Moves changes old (record mid { closed = closed })
-moves_closed [] old mid closed moves = record { table = moves.table; room = moves.room; position = moves.position; waiting = moves.waiting }
-moves_closed (change ∷ changes) old mid closed moves = (moves.0, record { performs = moves.1.performs; position = moves.1.position; waiting = moves.1.waiting })
 
 keyspace_moved : (changes : List Change) (old new : Sequencing) → Moves changes old new → records new.table ≡ play_all (records old.table) changes
 keyspace_moved [] old new moves = ap records moves.table
@@ -41,3 +59,335 @@ position_moved : (changes : List Change) (old new : Sequencing) → Moves change
 position_moved [] old new moves = omega (arith, moves.position)
 position_moved (change ∷ changes) old new moves = moves.1.position ∙ moves.1.performs.position_is
 
+-- ---- a call is over
+
+abbrev pub stored : Sequencing → Stored
+stored s = record { table = s.table; room = s.room; sessions = s.sessions }
+
+-- where a part has changes, they are some
+pub some_changes : (part : Part) → part.changes.items ≢ [] → changes_of_part part ≢ []
+some_changes part some = λ none. some (no_items part.changes.items none)
+  where
+    no_items : (items : List PlacedChange) → map change_of items ≡ [] → items ≡ []
+    no_items [] none = refl
+    no_items (item ∷ items) none = cc
+
+module _ (old mid new : Sequencing) (requests : List (List (List ℕ))) (replies : List Reply) (running : Running)
+    (under : AreUnderWay (stored old) (old.position + 1) requests replies [] running (stored mid))
+    (position : mid.position ≡ old.position) (waiting : mid.waiting ≡ old.waiting) (epoch : mid.epoch ≡ old.epoch) (before : mid.before ≡ old.before) (over : Finishes mid running.part new) where
+  moved_by : (items : List PlacedChange) → running.part.changes.items ≡ items → Moves (changes_of_part running.part) old new
+  moved_by [] e =
+      let over_none = over.none e in
+      let table : new.table ≡ old.table = over.table ∙ under.performs.table_is ∙ ap (place_all running.part.position old.table) e in
+      let room : new.room ≡ old.room = over.room ∙ subst (λ items. TakesPlaces old.room (puts_of items) mid.room) e under.performs.places in
+      subst (λ (cs : List Change). Moves cs old new) (sym (ap (map change_of) e)) (record { table = table; room = room; position = over_none.0 ∙ position; waiting = over_none.1 ∙ waiting })
+  moved_by (item ∷ items) e =
+      let over_some = over.some (λ none. not_none item items (sym e ∙ none)) in
+      moves_part (changes_of_part running.part) old running.part new (λ none. no_length item items (sym (ap (λ xs. length (map change_of xs)) e) ∙ none)) (record {
+        performs = subst₂ (λ table room. Performs old.table old.room (old.position + 1) (changes_of_part running.part) running.part table room) (sym over.table) (sym over.room) under.performs;
+        position = over_some.0;
+        waiting = over_some.1 ∙ ap (λ parts. parts ++ running.part ∷ []) waiting;
+      })
+    where
+      not_none : (item : PlacedChange) (items : List PlacedChange) → item ∷ items ≡ [] → ⊥
+      not_none item items h = cc
+
+      no_length : (item : PlacedChange) (items : List PlacedChange) → length (map change_of (item ∷ items)) ≡ 0 → ⊥
+      no_length item items h = omega (arith, h)
+
+  -- its requests were run, and what they changed waits
+  pub runs-finished : Runs old requests replies new
+  runs-finished =
+      let same = ran-made (stored old) (old.position + 1) requests replies running (stored mid) under in
+      record {
+        stand = ran-stand (stored old) (old.position + 1) requests replies running (stored mid) under;
+        moves = subst (λ (cs : List Change). Moves cs old new) (sym same) (moved_by running.part.changes.items refl);
+        marks = subst₂ (λ (cs : List Change) (sessions : Sessions). Marks (records old.table) cs old.sessions sessions) (sym same) (sym over.sessions) under.marks;
+        epoch = over.epoch ∙ epoch;
+        before = over.before ∙ before;
+      }
+
+-- ---- what was to be done was done
+
+pub acts-answer : (old : Sequencing) (reply : Reply) → Acts old (Answer reply) reply old
+acts-answer old reply = record {
+  legal = inr refl;
+  full_only = λ words e. cc;
+  moves = record { table = refl; room = refl; position = refl; waiting = refl };
+  marks = marks-none (records old.table) old.sessions;
+  epoch = refl;
+  before = refl;
+}
+
+pub acts-run : (old : Sequencing) (words : List (List ℕ)) (reply : Reply) (new : Sequencing) → Runs old (words ∷ []) (reply ∷ []) new
+    → (reply ≡ full_reply → ¬ HasRoomFor old.room (outcome_of (records old.table) words).changes) → Acts old (Run words) reply new
+acts-run old words reply new runs full_only =
+    let same : all_made (records old.table) (words ∷ []) (reply ∷ []) ≡ made (records old.table) words reply = append-nil (made (records old.table) words reply) in
+    record {
+      legal = runs.stand.0;
+      full_only = λ other e full. subst (λ w. ¬ HasRoomFor old.room (outcome_of (records old.table) w).changes) (run-words words other e) (full_only full);
+      moves = subst (λ (cs : List Change). Moves cs old new) same runs.moves;
+      marks = subst (λ (cs : List Change). Marks (records old.table) cs old.sessions new.sessions) same runs.marks;
+      epoch = runs.epoch;
+      before = runs.before;
+    }
+
+pub acts-run_all : (old : Sequencing) (requests : List (List (List ℕ))) (replies : List Reply) (reply : Reply) (new : Sequencing) → reply ≡ Array replies → Runs old requests replies new
+    → Acts old (RunAll requests) reply new
+acts-run_all old requests replies reply new is runs =
+    let same : all_made (records old.table) requests replies ≡ all_made (records old.table) requests (replies_in reply) =
+    ap (all_made (records old.table) requests) (sym (ap replies_in is ∙ replies_in-Array replies)) in
+    record {
+      legal = inr (replies, is, runs.stand);
+      full_only = λ words e. cc;
+      moves = subst (λ (cs : List Change). Moves cs old new) same runs.moves;
+      marks = subst (λ (cs : List Change). Marks (records old.table) cs old.sessions new.sessions) same runs.marks;
+      epoch = runs.epoch;
+      before = runs.before;
+    }
+
+pub array-known : (admission : Admission) (replies : List Reply) (reply : Reply) → reply ≡ Array replies → RefusesMemory admission reply
+array-known admission replies reply is e = absurd (no_array (sym (ap is_memory is) ∙ e))
+  where
+    no_array : is_memory (Array replies) ≡ true → ⊥
+    no_array h = cc
+
+-- ---- a request was answered
+
+abbrev left_by : Session → List (List ℕ) → Reply → Session
+left_by session words reply = if is_memory reply then session_after_refusal session words else session_after_request session words
+
+-- the session that is left, where the reply says that memory was refused or does not
+pub session_left : (session : Session) (words : List (List ℕ)) (reply : Reply) → RefusesMemory (admit session words) reply → session_after_request session words ≡ left_by session words reply
+session_left session words reply known = by (is_memory reply) refl
+  where
+    both : (b : Bool) → b ≡ true → b ≡ false → ⊥
+    both b one other = cc
+
+    by : (b : Bool) → is_memory reply ≡ b → session_after_request session words ≡ cond b (session_after_refusal session words) (session_after_request session words)
+    by false e = refl
+    by true e = elim (known e) [
+      | inl answered ↦ absurd (both (is_memory reply) e (answers-known session words reply answered))
+      | inr ran ↦ sym (run-unmoved session words ran.0 ran.1)
+    ]
+
+-- memory was refused for the session's step
+may_refuse : (s : Keyspace) (admission : Admission) → MayAnswer s admission memory_reply
+may_refuse s (Answer proper) = inl refl
+may_refuse s (Run words) = inl refl
+may_refuse s (RunAll requests) = inl refl
+
+pub acts-refused : (old : Sequencing) (admission : Admission) → Acts old admission memory_reply old
+acts-refused old admission =
+    let none = changes_for-error (records old.table) admission (codes "ERR out of memory") in
+    record {
+      legal = may_refuse (records old.table) admission;
+      full_only = λ words e full. absurd (memory_not_full full);
+      moves = subst (λ (cs : List Change). Moves cs old old) (sym none) (record { table = refl; room = refl; position = refl; waiting = refl });
+      marks = subst (λ (cs : List Change). Marks (records old.table) cs old.sessions old.sessions) (sym none) (marks-none (records old.table) old.sessions);
+      epoch = refl;
+      before = refl;
+    }
+
+-- ---- an item was answered
+
+-- what was answered, before its seat is closed, where the connection's own session is this afterwards
+pub record Answered (old : Sequencing) (seat : ℕ) (item : Item) (reply : Reply) (left : Session) (mid : Sequencing) : Type 0 where
+  pub legal : MayAnswer (records old.table) (admission_at (state_of old) seat item) reply
+  pub full_only : (words : List (List ℕ)) → admission_at (state_of old) seat item ≡ Run words → reply ≡ full_reply → ¬ HasRoomFor old.room (outcome_of (records old.table) words).changes
+  pub moves : Moves (changes_of (state_of old) (call_of seat item reply)) old mid
+  pub epoch : mid.epoch ≡ old.epoch
+  pub before : mid.before ≡ old.before
+  pub slots : (other : ℕ) → slot mid.sessions other
+      ≡ option_map (modified_where (modifies (records old.table) (changes_of (state_of old) (call_of seat item reply)))) (cond (nat_eq seat other) (Some left) (slot old.sessions other))
+
+-- the parts that calls move are the same
+record LikeParts (a b : Sequencing) : Type 0 where
+  table : a.table ≡ b.table
+  room : a.room ≡ b.room
+  position : a.position ≡ b.position
+  waiting : a.waiting ≡ b.waiting
+
+like : (a : Sequencing) → LikeParts a a
+like a = record { table = refl; room = refl; position = refl; waiting = refl }
+
+seat-like : (old : Sequencing) (seat : ℕ) (now : Option Session) (new : Sequencing) → MovesSeat old seat now new → LikeParts new old
+seat-like old seat now new moves = record { table = moves.table; room = moves.room; position = moves.position; waiting = moves.waiting }
+
+moves_like : (changes : List Change) (old old' new new' : Sequencing) → LikeParts old' old → LikeParts new' new → Moves changes old' new → Moves changes old new'
+moves_like [] old old' new new' from to moves = record {
+  table = to.table ∙ moves.table ∙ from.table;
+  room = to.room ∙ moves.room ∙ from.room;
+  position = to.position ∙ moves.position ∙ from.position;
+  waiting = to.waiting ∙ moves.waiting ∙ from.waiting;
+}
+moves_like (change ∷ changes) old old' new new' from to moves =
+    let part = moves.0 in
+    let cs = change ∷ changes in (
+      part,
+      record {
+        performs = subst₂ (λ table room. Performs old.table old.room (old.position + 1) cs part table room) (sym to.table) (sym to.room)
+            (subst (λ p. Performs old.table old.room (p + 1) cs part new.table new.room) from.position
+            (subst₂ (λ table room. Performs table room (old'.position + 1) cs part new.table new.room) from.table from.room moves.1.performs));
+        position = to.position ∙ moves.1.position;
+        waiting = to.waiting ∙ moves.1.waiting ∙ ap (λ parts. parts ++ part ∷ []) from.waiting;
+      },
+    )
+
+-- ---- sessions by seat
+
+marked_session : (p : List ℕ → Bool) (o : Option Session) → session_of (option_map (modified_where p) o) ≡ modified_where p (session_of o)
+marked_session p None = refl
+marked_session p (Some session) = refl
+
+marked_there : (p : List ℕ → Bool) (o : Option Session) → not (is_some (option_map (modified_where p) o)) ≡ not (is_some o)
+marked_there p None = refl
+marked_there p (Some session) = refl
+
+cond_of : {A B : Type 0} (f : A → B) (b : Bool) (x y : A) → f (cond b x y) ≡ cond b (f x) (f y)
+cond_of f true x y = refl
+cond_of f false x y = refl
+
+module _ (old : Sequencing) (seat : ℕ) (item : Item) (reply : Reply) (left : Session) (mid : Sequencing) (answered : Answered old seat item reply left mid) (new : Sequencing) where
+  abbrev changes : List Change
+  changes = changes_of (state_of old) (call_of seat item reply)
+
+  abbrev marks : List ℕ → Bool
+  marks = modifies (records old.table) changes
+
+  abbrev item_left : Session
+  item_left = session_after_item (session_at old.sessions seat) item reply
+
+  session_mid : (other : ℕ) → session_at mid.sessions other ≡ modified_where marks (cond (nat_eq seat other) left (session_at old.sessions other))
+  session_mid other =
+      ap session_of (answered.slots other) ∙ marked_session marks (cond (nat_eq seat other) (Some left) (slot old.sessions other))
+      ∙ ap (modified_where marks) (cond_of session_of (nat_eq seat other) (Some left) (slot old.sessions other))
+
+  closed_mid : (other : ℕ) → is_closed mid other ≡ cond (nat_eq seat other) false (is_closed old other)
+  closed_mid other =
+      ap (λ o. not (is_some o)) (answered.slots other) ∙ marked_there marks (cond (nat_eq seat other) (Some left) (slot old.sessions other))
+      ∙ cond_of (λ (o : Option Session). not (is_some o)) (nat_eq seat other) (Some left) (slot old.sessions other)
+
+  -- the item does not close its connection
+  pub answers-open : closes item ≡ false → item_left ≡ left → new ≡ mid → Answers old seat item reply new
+  answers-open stays same is = subst (Answers old seat item reply) (sym is) (record {
+    legal = answered.legal;
+    full_only = answered.full_only;
+    keyspace = keyspace_moved changes old mid answered.moves;
+    position = position_moved changes old mid answered.moves;
+    moves = answered.moves;
+    epoch = answered.epoch;
+    before = answered.before;
+    sessions = λ other. session_mid other ∙ ap (λ own. modified_where marks (cond (nat_eq seat other) own (session_at old.sessions other))) (sym same);
+    closed = λ other. closed_mid other ∙ ap (λ b. cond (nat_eq seat other) b (is_closed old other)) (sym stays);
+  })
+
+  own_closed : closes item ≡ true → item_left ≡ idle_session
+  own_closed shut = item-closed (session_at old.sessions seat) item reply shut
+
+  -- it does, and the seat is closed
+  pub answers-closed : closes item ≡ true → MovesSeat mid seat None new → Answers old seat item reply new
+  answers-closed shut over =
+      let moves = moves_like changes old old mid new (like old) (seat-like mid seat None new over) answered.moves in
+      record {
+        legal = answered.legal;
+        full_only = answered.full_only;
+        keyspace = keyspace_moved changes old new moves;
+        position = position_moved changes old new moves;
+        moves = moves;
+        epoch = over.epoch ∙ answered.epoch;
+        before = over.before ∙ answered.before;
+        sessions = λ other. elim (cases_eq other seat) [
+          | inl same ↦
+              let here : nat_eq seat other ≡ true = eq-eqb seat other (sym same) in
+              ap session_of (ap (slot new.sessions) same ∙ over.sessions.moved)
+              ∙ sym (ap (λ b. modified_where marks (cond b item_left (session_at old.sessions other))) here ∙ ap (modified_where marks) (own_closed shut))
+          | inr differ ↦
+              let there : nat_eq seat other ≡ false = ne_eqb seat other (λ e. differ (sym e)) in
+              ap session_of (over.sessions.others other differ) ∙ session_mid other ∙ ap (λ b. modified_where marks (cond b left (session_at old.sessions other))) there
+              ∙ sym (ap (λ b. modified_where marks (cond b item_left (session_at old.sessions other))) there)
+        ];
+        closed = λ other. elim (cases_eq other seat) [
+          | inl same ↦
+              ap (λ o. not (is_some o)) (ap (slot new.sessions) same ∙ over.sessions.moved)
+              ∙ sym (ap (λ b. cond b (closes item) (is_closed old other)) (eq-eqb seat other (sym same)) ∙ shut)
+          | inr differ ↦
+              let there : nat_eq seat other ≡ false = ne_eqb seat other (λ e. differ (sym e)) in
+              ap (λ o. not (is_some o)) (over.sessions.others other differ) ∙ closed_mid other ∙ ap (λ b. cond b false (is_closed old other)) there
+              ∙ sym (ap (λ b. cond b (closes item) (is_closed old other)) there)
+        ];
+      }
+
+-- ---- requests and faults
+
+slot_moved : (old new : Sessions) (seat other : ℕ) (now : Option Session) → MovesSession old seat now new → slot new other ≡ cond (nat_eq seat other) now (slot old other)
+slot_moved old new seat other now moves = elim (cases_eq other seat) [
+  | inl same ↦ ap (slot new) same ∙ moves.moved ∙ sym (ap (λ b. cond b now (slot old other)) (eq-eqb seat other (sym same)))
+  | inr differ ↦ moves.others other differ ∙ sym (ap (λ b. cond b now (slot old other)) (ne_eqb seat other (λ e. differ (sym e))))
+]
+
+pub answered-request : (old : Sequencing) (seat : ℕ) (words : List (List ℕ)) (reply : Reply) (mid : Sequencing) → AnswersRequest old seat words reply mid
+    → Answered old seat (Request words) reply (left_by (session_at old.sessions seat) words reply) mid
+answered-request old seat words reply mid answers =
+    let between = answers.between in
+    let seated = answers.session in
+    let admission = admit (session_at old.sessions seat) words in
+    let keyspace = ap records seated.table in
+    record {
+      legal = subst (λ (s : Keyspace). MayAnswer s admission reply) keyspace answers.acts.legal;
+      full_only = λ run e full. subst₂ (λ (s : Keyspace) room. ¬ HasRoomFor room (outcome_of s run).changes) keyspace seated.room (answers.acts.full_only run e full);
+      moves = moves_like (changes_for (records old.table) admission reply) old between mid mid (seat-like old seat _ between seated) (like mid)
+          (subst (λ (s : Keyspace). Moves (changes_for s admission reply) between mid) keyspace answers.acts.moves);
+      epoch = answers.acts.epoch ∙ seated.epoch;
+      before = answers.acts.before ∙ seated.before;
+      slots = λ other.
+          subst (λ (s : Keyspace). slot mid.sessions other ≡ option_map (modified_where (modifies s (changes_for s admission reply))) (slot between.sessions other)) keyspace (answers.acts.marks other)
+          ∙ ap (option_map (modified_where (modifies (records old.table) (changes_for (records old.table) admission reply)))) (slot_moved old.sessions between.sessions seat other _ seated.sessions);
+    }
+
+there : (o : Option Session) → not (is_some o) ≡ false → o ≡ Some (session_of o)
+there None e = cc
+there (Some session) e = refl
+
+-- a fault is answered by itself
+pub answered-fault : (old : Sequencing) (seat : ℕ) (fault : ProtocolFault) (reply : Reply) → is_closed old seat ≡ false → (reply ≡ memory_reply) ⊎ (reply ≡ Error (fault_message fault))
+    → Answered old seat (Fault fault) reply (session_at old.sessions seat) old
+answered-fault old seat fault reply seated may = record {
+  legal = may;
+  full_only = λ words e. cc;
+  moves = record { table = refl; room = refl; position = refl; waiting = refl };
+  epoch = refl;
+  before = refl;
+  slots = λ other.
+      marks-none (records old.table) old.sessions other ∙ ap (option_map (modified_where (modifies (records old.table) []))) (elim (cases_eq other seat) [
+        | inl same ↦ ap (slot old.sessions) same ∙ there (slot old.sessions seat) seated ∙ sym (ap (λ b. cond b (Some (session_at old.sessions seat)) (slot old.sessions other)) (eq-eqb seat other (sym same)))
+        | inr differ ↦ sym (ap (λ b. cond b (Some (session_at old.sessions seat)) (slot old.sessions other)) (ne_eqb seat other (λ e. differ (sym e))))
+      ]);
+}
+
+-- an item got its reply, before its seat is closed
+pub record Replied (old : Sequencing) (seat : ℕ) (item : Item) (reply : Reply) (mid : Sequencing) : Type 0 where
+  pub left : Session
+  pub answered : Answered old seat item reply left mid
+  pub same : closes item ≡ false → session_after_item (session_at old.sessions seat) item reply ≡ left
+
+pub replied-request : (old : Sequencing) (seat : ℕ) (words : List (List ℕ)) (reply : Reply) (mid : Sequencing) → AnswersRequest old seat words reply mid → Replied old seat (Request words) reply mid
+replied-request old seat words reply mid answers = record {
+  left = left_by (session_at old.sessions seat) words reply;
+  answered = answered-request old seat words reply mid answers;
+  same = λ stays. ap (λ b. cond b idle_session (left_by (session_at old.sessions seat) words reply)) stays;
+}
+
+pub replied-fault : (old : Sequencing) (seat : ℕ) (fault : ProtocolFault) (reply : Reply) → is_closed old seat ≡ false → (reply ≡ memory_reply) ⊎ (reply ≡ Error (fault_message fault))
+    → Replied old seat (Fault fault) reply old
+replied-fault old seat fault reply seated may = record {
+  left = session_at old.sessions seat;
+  answered = answered-fault old seat fault reply seated may;
+  same = λ stays. cc;
+}
+
+pub replied-open : (old : Sequencing) (seat : ℕ) (item : Item) (reply : Reply) (mid : Sequencing) → Replied old seat item reply mid → closes item ≡ false → Answers old seat item reply mid
+replied-open old seat item reply mid replied stays = answers-open old seat item reply replied.left mid replied.answered mid stays (replied.same stays) refl
+
+pub replied-closed : (old : Sequencing) (seat : ℕ) (item : Item) (reply : Reply) (mid new : Sequencing) → Replied old seat item reply mid → closes item ≡ true → MovesSeat mid seat None new → Answers old seat item reply new
+replied-closed old seat item reply mid new replied shut over = answers-closed old seat item reply replied.left mid replied.answered new shut over

@@ -2,6 +2,7 @@ pub mod StandingLemmas
 pub mod RefusalLemmas
 pub mod RunningLemmas
 pub mod StoreLemmas
+mod AdmissionLemmas
 pub mod AnswersLemmas
 mod SeatsLemmas
 mod MarkingLemmas

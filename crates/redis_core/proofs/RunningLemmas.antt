@@ -1,5 +1,5 @@
 -- The requests of a call, run one after another.
-use Rattle.std.proofs.Common.{◌≡◌, ◌≢◌, ℕ, ◌+◌, ◌-◌, ◌<◌, ◌≤◌, ◌||◌, false, map, List, [], ◌∷◌, ◌++◌, Option, Some, None, refl, sym, ap, ap₂, subst, subst₂, ◌∙◌, arith, append-nil, append_assoc, le_refl}
+use Rattle.std.proofs.Common.{◌≡◌, ◌≢◌, ℕ, suc, ◌+◌, ◌-◌, ◌<◌, ◌≤◌, ◌||◌, false, map, length, take, drop, List, [], ◌∷◌, ◌++◌, Option, Some, None, refl, sym, ap, ap₂, subst, subst₂, ◌∙◌, arith, append-nil, append_assoc, take_all}
 use Rattle.std.specs.Option.{option_map}
 use Rattle.kv_types.specs.declared.change.Change.{Change}
 use Rattle.kv_types.specs.declared.reply.Reply.{Reply}
@@ -12,6 +12,7 @@ use Rattle.multi_watch.proofs.ModifiedLemmas.{modifies-none, modifies-append, mo
 use Rattle.model.specs.declared.call.TheConstants.{MAX_CHANGE_TEXT_BYTES}
 use Rattle.model.specs.declared.image.TheConstants.{COUNTER_LIMIT}
 use Rattle.model.specs.declared.group.Part.{Part}
+use Rattle.model.specs.declared.group.PlacedChange.{PlacedChange}
 use Rattle.model.specs.Call.{MayStandAll, all_made, made}
 use Rattle.model.specs.Group.{change_of, changes_of_part}
 use Rattle.extent_heap.specs.Room.{Room}
@@ -52,6 +53,19 @@ pub keyspace_performed : (table : Table) (room : Room) (position : ℕ) (changes
 keyspace_performed table room position changes part new left performs =
     ap records performs.table_is ∙ records-place_all part.position table part.changes.items ∙ ap (play_all (records table)) performs.changes_are
 
+-- what was added to a part is at its end
+pub changes_after : (old : Part) (table : Table) (room : Room) (changes : List Change) (new : Part) (after : Table) (left : Room) → AddsTo old table room changes new after left
+    → map change_of (take (length new.changes.items - length old.changes.items) (drop (length old.changes.items) new.changes.items)) ≡ changes
+changes_after old table room changes new after left adds =
+    ap (λ items. map change_of (take (length items - length old.changes.items) (drop (length old.changes.items) items))) adds.places.after_is
+    ∙ ap (map change_of) (rest_of old.changes.items adds.places.placed) ∙ adds.places.changes_are
+  where
+    rest_of : (xs ys : List PlacedChange) → take (length (xs ++ ys) - length xs) (drop (length xs) (xs ++ ys)) ≡ ys
+    rest_of [] ys = let all : length ys ≤ length ys - 0 = omega arith in take_all (length ys - 0) ys all
+    rest_of (x ∷ xs) ys =
+        let fewer : suc (length (xs ++ ys)) - suc (length xs) ≡ length (xs ++ ys) - length xs = omega arith in
+        ap (λ n. take n (drop (length xs) (xs ++ ys))) fewer ∙ rest_of xs ys
+
 keyspace_added : (old : Part) (table : Table) (room : Room) (changes : List Change) (new : Part) (after : Table) (left : Room) → AddsTo old table room changes new after left
     → records after ≡ play_all (records table) changes
 keyspace_added old table room changes new after left adds =
@@ -75,6 +89,10 @@ makes-none s old new same = record {
   marks = marks-none (records s.table) s.sessions;
   counted = λ some. absurd (some refl);
 }
+
+pub makes-empty : (s : Stored) (changes : List Change) (part : Part) → length changes ≡ 0 → Makes s changes part part s
+makes-empty s [] part none = makes-none s part part (record { position = refl; changes = refl; ended = refl })
+makes-empty s (change ∷ changes) part none = absurd (omega (arith, none))
 
 pub same-running : (running : Running) → IsSame running running
 same-running running = record { part = record { position = refl; changes = refl; ended = refl }; left = refl }

@@ -9,7 +9,7 @@ use Rattle.multi_watch.specs.declared.act.Act.{Act}
 use Rattle.multi_watch.specs.Admission.{Step}
 use Rattle.multi_watch.specs.Session.{Session, idle_session, is_watched, modified}
 use Rattle.multi_watch.specs.Sessions.{Sessions, slot, session_of, session_at, Moves, Steps}
-use Rattle.redis_core.specs.Seats.{session_numbered, by_seat, number_at, AreSeats}
+use Rattle.redis_core.specs.Seats.{session_numbered, by_seat, number_at, IsHeld, AreSeats}
 
 abbrev Numbers : Type 0
 Numbers = List (Option SessionNo)
@@ -26,6 +26,13 @@ not_some number e = let both : false ≡ true = ap is_some e in cc
 apart_from : (a b : ℕ) → nat_eq a b ≡ false → a ≢ b
 apart_from a b is e = let same : nat_eq a b ≡ true = eq-eqb a b e in cc
 
+abbrev number_or_0 : Option SessionNo → ℕ
+number_or_0 None = 0
+number_or_0 (Some number) = number.0
+
+same_numbers : (a b : SessionNo) → ◌≡◌ {A = Option SessionNo} (Some a) (Some b) → a.0 ≡ b.0
+same_numbers a b e = ap number_or_0 e
+
 -- ---- no seat is open
 
 none_at : (n seat : ℕ) → number_at (replicate n None) seat ≡ None
@@ -40,11 +47,12 @@ map-none sessions (suc n) = ap (λ rest. None ∷ rest) (map-none sessions n)
 pub all_closed : (sessions : Sessions) (numbers : Numbers) → numbers ≡ replicate MAX_SEATS None → by_seat sessions numbers ≡ replicate MAX_SEATS None
 all_closed sessions numbers is = ap (by_seat sessions) is ∙ map-none sessions MAX_SEATS
 
-pub closed_are_seats : (sessions : Sessions) (numbers : Numbers) → numbers ≡ replicate MAX_SEATS None → AreSeats sessions numbers
-closed_are_seats sessions numbers is = record {
+pub closed_are_seats : (sessions : Sessions) (numbers : Numbers) → numbers ≡ replicate MAX_SEATS None → ((n : ℕ) → slot sessions n ≡ None) → AreSeats sessions numbers
+closed_are_seats sessions numbers is none_open = record {
   complete = ap length is ∙ length-replicate {A = Option SessionNo} MAX_SEATS None;
   are_open = λ seat number at. absurd (not_some number (none seat ∙ at));
   are_apart = λ a b x y at_a at_b same. absurd (not_some x (none a ∙ at_a));
+  are_held = λ n lives. absurd (some_is_not_none (slot sessions n) lives (none_open n));
 }
   where
     none : (seat : ℕ) → None ≡ number_at numbers seat
@@ -69,11 +77,18 @@ module _ (old new : Sessions) (numbers after : Numbers) (seat : ℕ) (keeps : Ke
         ∙ by_number old new (number_at numbers other) (λ number. keeps.sessions_stay other number apart) ∙ sym (of_seat old numbers other);
   }
 
+  -- a number of another seat stays there
+  held_elsewhere : (n : ℕ) → IsHeld numbers n → ((theirs : SessionNo) → number_at numbers seat ≡ Some theirs → theirs.0 ≢ n) → IsHeld after n
+  held_elsewhere n held apart = by_seat_held (nat_eq held.0 seat) refl where
+    by_seat_held : (b : Bool) → nat_eq held.0 seat ≡ b → IsHeld after n
+    by_seat_held true is = absurd (apart held.1 (ap (number_at numbers) (sym (eqb-true held.0 seat is)) ∙ held.2) held.3)
+    by_seat_held false is = (held.0, held.1, keeps.numbers_stay held.0 (apart_from held.0 seat is) ∙ held.2, held.3)
+
   -- the number at the seat, if there is one now, is of an open session and of no other seat
   abbrev IsOwn : SessionNo → Type 0
   IsOwn number = IsSome (slot new number.0) × ((other : ℕ) (theirs : SessionNo) → other ≢ seat → number_at numbers other ≡ Some theirs → number.0 ≢ theirs.0)
 
-  module _ (are : AreSeats old numbers) (long : length after ≡ length numbers) (own : (number : SessionNo) → number_at after seat ≡ Some number → IsOwn number) where
+  module _ (are : AreSeats old numbers) (long : length after ≡ length numbers) (own : (number : SessionNo) → number_at after seat ≡ Some number → IsOwn number) (held : (n : ℕ) → IsSome (slot new n) → IsHeld after n) where
     at_own : (a : ℕ) (number : SessionNo) → number_at after a ≡ Some number → nat_eq a seat ≡ true → IsOwn number
     at_own a number at is = own number (ap (number_at after) (sym (eqb-true a seat is)) ∙ at)
 
@@ -97,6 +112,7 @@ module _ (old new : Sessions) (numbers after : Numbers) (seat : ℕ) (keeps : Ke
       complete = long ∙ are.complete;
       are_open = λ a number at. open_still a number at (nat_eq a seat) refl;
       are_apart = λ a b x y at_a at_b same. apart_still a b x y at_a at_b same (nat_eq a seat) (nat_eq b seat) refl refl;
+      are_held = held;
     }
 
 module _ (old : Sessions) (numbers : Numbers) (are : AreSeats old numbers) (seat : ℕ) where
@@ -112,12 +128,16 @@ module _ (old : Sessions) (numbers : Numbers) (are : AreSeats old numbers) (seat
     moved_seat now moves = seat_moves old new numbers numbers seat (keeps-moved now moves) now (ap (session_numbered new) at ∙ moves.moved)
 
     pub moved_seats : (now : Session) → Moves old number.0 (Some now) new → AreSeats new numbers
-    moved_seats now moves = still_seats old new numbers numbers seat (keeps-moved (Some now) moves) are refl own where
+    moved_seats now moves = still_seats old new numbers numbers seat (keeps-moved (Some now) moves) are refl own (λ n lives. held n lives (nat_eq n number.0) refl) where
       same_number : (other : SessionNo) → number_at numbers seat ≡ Some other → slot new other.0 ≡ slot new number.0
       same_number other is = ap (session_numbered new) (sym is ∙ at)
 
       own : (other : SessionNo) → number_at numbers seat ≡ Some other → IsOwn old new numbers numbers seat (keeps-moved (Some now) moves) other
       own other is = (ap is_some (same_number other is ∙ moves.moved), λ place theirs apart is_theirs same. apart (are.are_apart place seat theirs other is_theirs is (sym same)))
+
+      held : (n : ℕ) → IsSome (slot new n) → (b : Bool) → nat_eq n number.0 ≡ b → IsHeld numbers n
+      held n lives true is = (seat, number, at, sym (eqb-true n number.0 is))
+      held n lives false is = are.are_held n (ap is_some (sym (moves.others n (apart_from n number.0 is))) ∙ lives)
 
     session_of_seat : session_at (by_seat old numbers) seat ≡ session_at old number.0
     session_of_seat = ap session_of (of_seat old numbers seat ∙ ap (session_numbered old) at)
@@ -152,7 +172,31 @@ module _ (old : Sessions) (numbers : Numbers) (are : AreSeats old numbers) (seat
     closed_seat = seat_moves old new numbers (set numbers seat after) seat keeps-closed None (ap (session_numbered new) none_there)
 
     pub closed_seats : AreSeats new (set numbers seat after)
-    closed_seats = still_seats old new numbers (set numbers seat after) seat keeps-closed are (length-set numbers seat after) (λ other is. absurd (not_some other (sym none_there ∙ is)))
+    closed_seats =
+        still_seats old new numbers (set numbers seat after) seat keeps-closed are (length-set numbers seat after) (λ other is. absurd (not_some other (sym none_there ∙ is)))
+        (λ n lives. held n lives (nat_eq n number.0) refl)
+      where
+        held : (n : ℕ) → IsSome (slot new n) → (b : Bool) → nat_eq n number.0 ≡ b → IsHeld (set numbers seat after) n
+        held n lives true is = absurd (some_is_not_none (slot new n) lives (ap (slot new) (eqb-true n number.0 is) ∙ moves.moved))
+        held n lives false is =
+            let apart : n ≢ number.0 = apart_from n number.0 is in
+            held_elsewhere old new numbers (set numbers seat after) seat keeps-closed n (are.are_held n (ap is_some (sym (moves.others n apart)) ∙ lives))
+            (λ theirs is_theirs same. apart (sym same ∙ same_numbers theirs number (sym is_theirs ∙ at)))
+
+  -- the seat was closed already
+  pub closed_seats_still : number_at numbers seat ≡ None → (after : Option SessionNo) → after ≡ None → seat < MAX_SEATS → AreSeats old (set numbers seat after)
+  closed_seats_still before after empty inside =
+      still_seats old old numbers (set numbers seat after) seat keeps are (length-set numbers seat after) (λ other is. absurd (not_some other (sym none_there ∙ is)))
+      (λ n lives. held_elsewhere old old numbers (set numbers seat after) seat keeps n (are.are_held n lives) (λ theirs is_theirs same. not_some theirs (sym before ∙ is_theirs)))
+    where
+      keeps : Keeps old old numbers (set numbers seat after) seat
+      keeps = record {
+        numbers_stay = λ other apart. get_or-set_other numbers seat other after None apart;
+        sessions_stay = λ other theirs apart is. refl;
+      }
+
+      none_there : number_at (set numbers seat after) seat ≡ None
+      none_there = get_or-set_same numbers seat after None (subst (λ n. seat < n) (sym are.complete) inside) ∙ empty
 
   -- a session is opened under a number of its own, and the one that was there before is closed
   module _ (opened : Sessions) (number : SessionNo) (fresh : slot old number.0 ≡ None) (opens : Moves old number.0 (Some idle_session) opened) (after : Option SessionNo) (there : after ≡ Some number) (inside : seat < MAX_SEATS) where
@@ -169,12 +213,13 @@ module _ (old : Sessions) (numbers : Numbers) (are : AreSeats old numbers) (seat
     record Opens (new : Sessions) : Type 0 where
       pub keeps : Keeps old new numbers (set numbers seat after) seat
       pub is_idle : slot new number.0 ≡ Some idle_session
+      pub others_held : (n : ℕ) → n ≢ number.0 → IsSome (slot new n) → IsSome (slot old n) × ((theirs : SessionNo) → number_at numbers seat ≡ Some theirs → theirs.0 ≢ n)
 
     opens_seat : (new : Sessions) → Opens new → Moves (by_seat old numbers) seat (Some idle_session) (by_seat new (set numbers seat after))
     opens_seat new is = seat_moves old new numbers (set numbers seat after) seat is.keeps (Some idle_session) (ap (session_numbered new) number_there ∙ is.is_idle)
 
     opens_seats : (new : Sessions) → Opens new → AreSeats new (set numbers seat after)
-    opens_seats new is = still_seats old new numbers (set numbers seat after) seat is.keeps are (length-set numbers seat after) own where
+    opens_seats new is = still_seats old new numbers (set numbers seat after) seat is.keeps are (length-set numbers seat after) own (λ n lives. held n lives (nat_eq n number.0) refl) where
       same_number : (other : SessionNo) → number_at (set numbers seat after) seat ≡ Some other → slot new other.0 ≡ slot new number.0
       same_number other at = ap (session_numbered new) (sym at ∙ number_there)
 
@@ -188,21 +233,29 @@ module _ (old : Sessions) (numbers : Numbers) (are : AreSeats old numbers) (seat
             some_is_not_none (slot old theirs.0) (are.are_open place theirs is_theirs) (ap (slot old) (sym same) ∙ fresh_number other at ∙ fresh),
       )
 
-    opens-empty : Opens opened
-    opens-empty = record {
-      keeps = record {
-        numbers_stay = λ other apart. get_or-set_other numbers seat other after None apart;
-        sessions_stay = λ other theirs apart is. opened_others other theirs is;
-      };
-      is_idle = opens.moved;
-    }
+      held : (n : ℕ) → IsSome (slot new n) → (b : Bool) → nat_eq n number.0 ≡ b → IsHeld (set numbers seat after) n
+      held n lives true same = (seat, number, number_there, sym (eqb-true n number.0 same))
+      held n lives false same =
+          let before = is.others_held n (apart_from n number.0 same) lives in
+          held_elsewhere old new numbers (set numbers seat after) seat is.keeps n (are.are_held n before.0) before.1
 
     -- the seat was closed before
-    pub opened_seat : Moves (by_seat old numbers) seat (Some idle_session) (by_seat opened (set numbers seat after))
-    opened_seat = opens_seat opened opens-empty
+    module _ (empty : number_at numbers seat ≡ None) where
+      opens-empty : Opens opened
+      opens-empty = record {
+        keeps = record {
+          numbers_stay = λ other apart. get_or-set_other numbers seat other after None apart;
+          sessions_stay = λ other theirs apart is. opened_others other theirs is;
+        };
+        is_idle = opens.moved;
+        others_held = λ n apart lives. (ap is_some (sym (opens.others n apart)) ∙ lives, λ theirs is_theirs same. not_some theirs (sym empty ∙ is_theirs));
+      }
 
-    pub opened_seats : AreSeats opened (set numbers seat after)
-    opened_seats = opens_seats opened opens-empty
+      pub opened_seat : Moves (by_seat old numbers) seat (Some idle_session) (by_seat opened (set numbers seat after))
+      opened_seat = opens_seat opened opens-empty
+
+      pub opened_seats : AreSeats opened (set numbers seat after)
+      opened_seats = opens_seats opened opens-empty
 
     -- the seat was open before
     module _ (new : Sessions) (before : SessionNo) (at : number_at numbers seat ≡ Some before) (closes : Moves opened before.0 None new) where
@@ -213,7 +266,14 @@ module _ (old : Sessions) (numbers : Numbers) (are : AreSeats old numbers) (seat
           sessions_stay = λ other theirs apart is. closes.others theirs.0 (λ same. apart (are.are_apart other seat theirs before is at same)) ∙ opened_others other theirs is;
         };
         is_idle = closes.others number.0 (λ same. apart_from_fresh seat before at (sym same)) ∙ opens.moved;
+        others_held = λ n apart lives. held n apart lives (nat_eq n before.0) refl;
       }
+        where
+          held : (n : ℕ) → n ≢ number.0 → IsSome (slot new n) → (b : Bool) → nat_eq n before.0 ≡ b → IsSome (slot old n) × ((theirs : SessionNo) → number_at numbers seat ≡ Some theirs → theirs.0 ≢ n)
+          held n apart lives true is = absurd (some_is_not_none (slot new n) lives (ap (slot new) (eqb-true n before.0 is) ∙ closes.moved))
+          held n apart lives false is =
+              let other : n ≢ before.0 = apart_from n before.0 is in
+              (ap is_some (sym (closes.others n other ∙ opens.others n apart)) ∙ lives, λ theirs is_theirs same. other (sym same ∙ same_numbers theirs before (sym is_theirs ∙ at)))
 
       pub reopened_seat : Moves (by_seat old numbers) seat (Some idle_session) (by_seat new (set numbers seat after))
       reopened_seat = opens_seat new opens-again
@@ -233,6 +293,21 @@ pub modified_seat : (old new : Sessions) (numbers : Numbers) (key : List ℕ) �
 modified_seat old new numbers key all seat =
     of_seat new numbers seat ∙ modified_numbered old new key all (number_at numbers seat) ∙ ap (option_map (modified key)) (sym (of_seat old numbers seat))
 
+some_still : (key : List ℕ) (o : Option Session) → is_some (option_map (modified key) o) ≡ is_some o
+some_still key None = refl
+some_still key (Some session) = refl
+
+pub modified_seats : (old new : Sessions) (numbers : Numbers) (key : List ℕ) → AreSeats old numbers → ((number : ℕ) → slot new number ≡ option_map (modified key) (slot old number)) → AreSeats new numbers
+modified_seats old new numbers key are all = record {
+  complete = are.complete;
+  are_open = λ seat number at. lives_still number.0 ∙ are.are_open seat number at;
+  are_apart = are.are_apart;
+  are_held = λ n lives. are.are_held n (sym (lives_still n) ∙ lives);
+}
+  where
+    lives_still : (n : ℕ) → is_some (slot new n) ≡ is_some (slot old n)
+    lives_still n = ap is_some (all n) ∙ some_still key (slot old n)
+
 watched_numbered : (sessions : Sessions) (own : List ℕ) (o : Option SessionNo) → is_watched own (session_of (session_numbered sessions o)).watched ≡ true
     → (number : ℕ) × (is_watched own (session_at sessions number).watched ≡ true)
 watched_numbered sessions own None is = let both : false ≡ true = is in absurd cc
@@ -243,6 +318,17 @@ pub watched_seat : (sessions : Sessions) (numbers : Numbers) (seat : ℕ) (own :
     → (number : ℕ) × (is_watched own (session_at sessions number).watched ≡ true)
 watched_seat sessions numbers seat own is =
     watched_numbered sessions own (number_at numbers seat) (ap (λ o. is_watched own (session_of o).watched) (sym (of_seat sessions numbers seat)) ∙ is)
+
+lives_if : (own : List ℕ) (o : Option Session) → is_watched own (session_of o).watched ≡ true → IsSome o
+lives_if own None is = let both : false ≡ true = is in absurd cc
+lives_if own (Some session) is = refl
+
+-- and the other way round
+pub seat_watches : (sessions : Sessions) (numbers : Numbers) → AreSeats sessions numbers → (own : List ℕ) (n : ℕ) → is_watched own (session_at sessions n).watched ≡ true
+    → (seat : ℕ) × (is_watched own (session_at (by_seat sessions numbers) seat).watched ≡ true)
+seat_watches sessions numbers are own n is =
+    let held : IsHeld numbers n = are.are_held n (lives_if own (slot sessions n) is) in
+    (held.0, ap (λ o. is_watched own (session_of o).watched) (of_seat sessions numbers held.0 ∙ ap (session_numbered sessions) held.2 ∙ ap (slot sessions) held.3) ∙ is)
 
 -- ---- what the code reads, and where it goes
 

@@ -22,8 +22,13 @@ by_seat sessions numbers = map (session_numbered sessions) numbers
 abbrev pub number_at : List (Option SessionNo) → ℕ → Option SessionNo
 number_at numbers seat = slice_index_or numbers seat None
 
--- the number at a seat is that of an open session, and no other seat has it
+-- some seat has this number
+abbrev pub IsHeld : List (Option SessionNo) → ℕ → Type 0
+IsHeld numbers n = (seat : ℕ) × (number : SessionNo) × (number_at numbers seat ≡ Some number) × (number.0 ≡ n)
+
+-- The number at a seat is that of an open session, and no other seat has it. No session is open but at a seat.
 pub record AreSeats (sessions : Sessions) (numbers : List (Option SessionNo)) : Type 0 where
   pub complete : length numbers ≡ MAX_SEATS
   pub are_open : (seat : ℕ) (number : SessionNo) → number_at numbers seat ≡ Some number → IsSome (slot sessions number.0)
   pub are_apart : (a b : ℕ) (x y : SessionNo) → number_at numbers a ≡ Some x → number_at numbers b ≡ Some y → x.0 ≡ y.0 → a ≡ b
+  pub are_held : (n : ℕ) → IsSome (slot sessions n) → IsHeld numbers n

@@ -1,9 +1,9 @@
 -- What the sequencer gets from running the requests of a call, before it is made a reply.
-use Rattle.std.specs.Prelude.{◌≡◌, ◌≢◌, ℕ, if◌then◌else◌, List, [], ◌∷◌, ◌++◌, Some}
+use Rattle.std.specs.Prelude.{◌≡◌, ◌≢◌, ℕ, ◌⊎◌, true, if◌then◌else◌, List, [], ◌∷◌, ◌++◌, Some}
 use Rattle.kv_types.specs.declared.refusal.Refusal.{Refusal}
 use Rattle.kv_types.specs.declared.refusal.Refusal.TheVariants as refusal
 use Rattle.kv_types.specs.declared.reply.Reply.{Reply}
-use Rattle.multi_watch.specs.Admission.{Admission, Run, admit, session_after_refusal, session_after_request}
+use Rattle.multi_watch.specs.Admission.{Admission, Answer, Run, admit, session_after_refusal, session_after_request}
 use Rattle.multi_watch.specs.Sessions.{session_at}
 use Rattle.model.specs.declared.group.Part.{Part}
 use Rattle.model.specs.Call.{is_memory, MayAnswer, MayStandAll, all_made, changes_for, full_reply, memory_reply}
@@ -35,6 +35,10 @@ pub record Acts (old : Sequencing) (admission : Admission) (reply : Reply) (new 
   pub marks : Marks (records old.table) (changes_for (records old.table) admission reply) old.sessions new.sessions
   pub epoch : new.epoch ≡ old.epoch
   pub before : new.before ≡ old.before
+
+-- That memory was refused is answered only where the session answers it, or where one request was run.
+abbrev pub RefusesMemory : Admission → Reply → Type 0
+RefusesMemory admission reply = is_memory reply ≡ true → (admission ≡ Answer reply) ⊎ ((words : List (List ℕ)) × (admission ≡ Run words))
 
 -- A request of a seat was answered: by its session, or by what this had done. The session is what the request, or its refusal, leaves.
 pub record AnswersRequest (old : Sequencing) (seat : ℕ) (words : List (List ℕ)) (reply : Reply) (new : Sequencing) : Type 0 where

@@ -21,7 +21,10 @@ pub(crate) fn left_after(left: usize, changes: &[Change]) -> Option<usize>
 {
     let mut rest = left;
     for change in changes {
-        rest = rest.checked_sub(change.text_size())?;
+        match rest.checked_sub(change.text_size()) {
+            Some(less) => rest = less,
+            None => return None,
+        }
     }
     Some(rest)
 }

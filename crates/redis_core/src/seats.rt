@@ -127,6 +127,8 @@ impl Seats {
     ) -> Result<Vec<Key>, Refusal>
         ensures held { IfOk result (λ keys. (seat : ℕ) (own : List ℕ) → is_watched own (session_at self.now seat).watched ≡ true
             → list_any (λ key. same_bytes own key) keys.items ≡ has_key (L.keyspace lookup.now) own) }
+        ensures watched { IfOk result (λ keys. (own : List ℕ) → list_any (λ key. same_bytes own key) keys.items ≡ true
+            → (seat : ℕ) × (is_watched own (session_at self.now seat).watched ≡ true)) }
         ensures cause { IfErr result (λ refusal. refusal ≡ Refusal.Memory) }
     {
         self.sessions.watched_in(alloc, lookup)

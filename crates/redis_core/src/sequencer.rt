@@ -14,7 +14,7 @@ ghost use Rattle.mv_keyspace.specs.Table.{records};
 ghost use Rattle.placing.specs.Left.{IsBeside};
 ghost use Rattle.placing.specs.Place.{HasRoomFor};
 ghost use Rattle.redis_core.specs.Sequencing.{IsAheadOf, HandsOut, MovesSeat, Underlies, is_closed, starts};
-ghost use Rattle.redis_core.specs.Serving.{Acts, AnswersRequest, Finishes, Runs};
+ghost use Rattle.redis_core.specs.Serving.{Acts, AnswersRequest, Finishes, RefusesMemory, Runs};
 ghost use Rattle.redis_core.specs.Turn.{Answers, OnServed, OnIdle, OnBlocked, OnGroupFull, OnEnded, OnUnserved};
 
 use crate::error::{error, refusal_reply};
@@ -256,7 +256,8 @@ impl<K: Keyspace> Sequencer<K> {
         requires beside { IsBeside (self.old).table (self.old).room }
         requires few { length (self.old).waiting < MAX_PARTS }
         requires room { HasRoom act }
-        ensures { Acts self.old (act_now act) result self.new }
+        ensures acts { Acts self.old (act_now act) result self.new }
+        ensures memory { RefusesMemory (act_now act) result }
     {
         match act {
             Act::Answer(reply) => reply,

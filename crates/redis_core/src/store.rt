@@ -194,7 +194,13 @@ impl<K: Keyspace> Store<K> {
         }
         let cleared = cleared_keys(alloc, &self.keyspace, &self.seats, &changes)?;
         let from = running.part.changes.len();
-        perform(alloc, &mut self.keyspace, &mut self.heap, changes, &mut running.part)?;
+        perform(
+            alloc,
+            &mut self.keyspace,
+            &mut self.heap,
+            changes,
+            &mut running.part,
+        )?;
         mark(&mut self.seats, &running.part.changes[from..], &cleared);
         Ok(())
     }

@@ -19,8 +19,6 @@ pub struct Options {
     pub map: bool,
     /// Whether the words of each image are printed.
     pub images: bool,
-    /// Whether the answers of the plain Redis are printed.
-    pub plain: bool,
 }
 
 /// Reads the command line. `Usage` if it is not understood.
@@ -31,7 +29,6 @@ pub fn read_options(rt: &(impl Env + Alloc)) -> Result<Options, SimulatorError> 
         standby_lines: USUAL_LINES,
         map: false,
         images: false,
-        plain: false,
     };
     let mut awaits_lines = false;
     for word in words.skip(1) {
@@ -63,7 +60,6 @@ fn take_switch(options: &mut Options, word: &str) -> Result<(), SimulatorError> 
     match word.as_bytes() {
         b"--map" => options.map = true,
         b"--images" => options.images = true,
-        b"--plain" => options.plain = true,
         _ => return Err(SimulatorError::Usage),
     }
     Ok(())

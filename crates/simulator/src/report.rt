@@ -5,7 +5,7 @@ use crate::options::Options;
 use crate::quoted::Quoted;
 use crate::script::Script;
 use kv_types::{Item, Refusal, Reply};
-use model::{Call, Redis};
+use model::Call;
 use pmem::SimPmem;
 use resp_codec::write_reply;
 use standby::{Ack, Frame};
@@ -14,7 +14,7 @@ use std::io;
 use std::io::Write;
 use world::{EarlyEnd, Trace};
 
-/// Prints the events, the calls, the plain answers, the released bytes, the frames, the acknowledgements, what both nodes hold and how the run ended.
+/// Prints the events, the calls, the released bytes, the frames, the acknowledgements, what both nodes hold and how the run ended.
 pub fn report<W: Write>(
     alloc: Global,
     out: &mut W,
@@ -25,9 +25,6 @@ pub fn report<W: Write>(
     let lines = script.schedule.lines();
     write_events(out, lines, trace.done.as_slice())?;
     write_calls(alloc, out, trace.calls.as_slice())?;
-    if options.plain {
-        write_plain(alloc, out, trace.calls.as_slice())?;
-    }
     for (number, bytes) in trace.released.iter().enumerate() {
         let quoted = Quoted(bytes.as_slice());
         writeln!(out, "connection {number}: released {quoted}")?;
@@ -71,21 +68,6 @@ fn write_item<W: Write>(out: &mut W, item: &Item) -> io::Result<()> {
         }
         Item::Fault(_) => write!(out, " fault"),
     }
-}
-
-/// What the plain Redis answers to the items of the calls, one after another, and its position after each.
-fn write_plain<W: Write>(alloc: Global, out: &mut W, calls: &[Call]) -> Result<(), SimulatorError> {
-    let mut redis = Redis::new(alloc);
-    for (number, call) in calls.iter().enumerate() {
-        redis.call(alloc, call.connection, call.item.clone()?)?;
-        if let Some(answered) = redis.calls().last() {
-            let position = redis.position();
-            let text = text_of(alloc, &answered.reply)?;
-            let reply = Quoted(text.as_slice());
-            writeln!(out, "plain {number}: position {position} -> {reply}")?;
-        }
-    }
-    Ok(())
 }
 
 /// The frames of the link, one for each group that was sent.
