@@ -8,6 +8,7 @@ use Rattle.kv_types.specs.declared.reply.Held.{Held}
 use Rattle.kv_types.specs.Reading.{items_at}
 use Rattle.cmd_table.specs.Request.{outcome_of_words, closes}
 use Rattle.cmd_table.specs.Row.{is_named}
+use Rattle.multi_watch.specs.Verb.{verb_of}
 use Rattle.model.specs.declared.call.Call.{Call}
 use Rattle.model.specs.Call.{MayReply, state_after}
 use Rattle.machine.specs.declared.event.Event.TheVariants.{Feed, Offer, Turn, Apply}
@@ -151,15 +152,15 @@ unfolding items_at closes is_named
 offers = step-does refl refl
 
 may_reply : MayReply (state_after []) call
-unfolding outcome_of_words closes is_named
+unfolding outcome_of_words verb_of closes is_named
 may_reply = inr (inr (inl (omega arith, refl)))
 
 turns : Step (idle (inbound set_request 1 (item ∷ []))) (Turn 0) true called_once
-unfolding outcome_of_words closes is_named
+unfolding outcome_of_words verb_of closes is_named
 turns = step-does refl (record { call = call; connection = refl; first = refl; reply = may_reply; now = refl })
 
 applies : Step (waits 1 0 handed_on (link [] (group ∷ []) 0 0) (far (frame ∷ []) 0 (frame ∷ []) (0 ∷ []))) Apply true (waits 1 0 handed_on (link [] (group ∷ []) 0 0) took_it)
-unfolding outcome_of_words closes is_named
+unfolding outcome_of_words verb_of closes is_named
 applies =
     step-does refl (record {
       frame = frame;
@@ -171,7 +172,7 @@ applies =
     })
 
 worked_run : Run start worked_events worked_done worked_worlds
-unfolding outcome_of_words closes is_named
+unfolding outcome_of_words verb_of closes is_named
 worked_run = (
   step-does refl refl,
   (

@@ -1,8 +1,8 @@
 -- An engine over the list of calls: what its contents say of images, and how they stay and move with the list.
-use Rattle.std.proofs.Common.{◌≡◌, ◌⊎◌, ℕ, ◌+◌, ◌-◌, ◌≤◌, Bool, List, ◌++◌, inl, inr, refl, sym, ap, subst, ◌∙◌, arith}
+use Rattle.std.proofs.Common.{◌≡◌, ℕ, ◌+◌, ◌-◌, ◌≤◌, Bool, List, ◌++◌, inl, inr, refl, sym, ap, subst, ◌∙◌, arith}
 use Rattle.kv_types.specs.Keyspace.{play_all}
 use Rattle.pmem.specs.Device.{State}
-use Rattle.pmem.proofs.Leaving.{none_leaves, LeavesOnly-weaken}
+use Rattle.pmem.proofs.Leaving.{none_leaves}
 use Rattle.model.specs.declared.call.Call.{Call}
 use Rattle.model.specs.declared.group.Group.{Group}
 use Rattle.model.specs.Call.{keyspace_after, cut_at, position_of}

@@ -1,6 +1,8 @@
 -- New images, and the tables and heaps with which they begin.
-use Rattle.std.proofs.Common.{◌≡◌, ℕ, ◌<◌, ◌⊎◌, Bool, false, List, [], ◌∷◌, replicate, refl, sym, ap, subst, arith, inl, inr}
+use Rattle.std.proofs.Common.{◌≡◌, ℕ, ◌<◌, ◌≤◌, ◌⊎◌, Bool, false, List, [], ◌∷◌, refl, sym, ap, subst, arith, inl, inr}
+use Rattle.multi_watch.specs.Sessions.{Sessions}
 use Rattle.model.specs.Image.{entries_of_lines}
+use Rattle.model.specs.declared.image.TheConstants.{COUNTER_LIMIT}
 use Rattle.model.specs.Group.{Contents}
 use Rattle.model.specs.declared.group.Group.{Group}
 use Rattle.model.specs.declared.record.Role.{Role}
@@ -20,22 +22,22 @@ use Rattle.standby.proofs.NewLemmas.{HasAll, new-table, left-new, new-consistent
 use Rattle.machine.specs.Event.{start}
 use Rattle.machine.proofs.RunLemmas.{sound-start}
 use Rattle.kv_types.specs.declared.refusal.Refusal.{Refusal}
-use Rattle.kv_types.specs.declared.refusal.Refusal.TheVariants.{Fault, WrongSize}
+use Rattle.kv_types.specs.declared.refusal.Refusal.TheVariants.{Exhausted, Fault, Memory, WrongSize}
 use Rattle.world.specs.Cause.{IsWrongSize, UnformedBy}
 use Rattle.group_commit.specs.declared.stage.Stage.{Stage}
 use Rattle.group_commit.specs.declared.stage.Stage.TheVariants.{Ready}
 use Rattle.world.specs.Committing.{FormattingOnly, EngineStands, Leads, StageRefines}
 use Rattle.world.specs.GroupSpan.{AreGroupsOf}
 use Rattle.world.specs.Link.{AreFramesSent, LinkRefines}
-use Rattle.world.specs.Session.{ConnectionsRefine, SessionsRefine, SequencerRefines, ClosedByCalls, seats_of}
+use Rattle.world.specs.Session.{ConnectionsRefine, SessionsRefine, SequencerRefines, SeatsFollow, seats_of}
 use Rattle.world.specs.declared.connection.Connection.{Connection}
 use Rattle.world.specs.Standby.{Node, StandbyStands, ArrivalsRefine}
 use Rattle.world.specs.Pair.{Pair, PairRefines}
 
 -- ---- the sequencer
 
-pub sequencer-starts : (n : ℕ) (s : Sequencing) (table : Table) (room : Room) → table ≡ [] → s ≡ starts table room 0 FIRST_EPOCH (replicate n false) → SequencerRefines [] 0 s
-sequencer-starts n s table room empty same =
+pub sequencer-starts : (sessions : Sessions) (s : Sequencing) (table : Table) (room : Room) → table ≡ [] → s ≡ starts table room 0 FIRST_EPOCH sessions → SequencerRefines [] 0 s
+sequencer-starts sessions s table room empty same =
     subst (SequencerRefines [] 0) (sym same)
     (record {
       table = ap records empty;
@@ -44,6 +46,11 @@ sequencer-starts n s table room empty same =
       waiting = tt;
       count = refl;
     })
+
+-- a sequencer at position 0 was refused only when out of memory
+pub only-memory : (refusal : Refusal) → (refusal ≡ Exhausted) ⊎ (refusal ≡ Memory) → (refusal ≡ Exhausted → COUNTER_LIMIT ≤ 0) → refusal ≡ Memory
+only-memory refusal (inl exhausted) limit = absurd (omega (arith, limit exhausted))
+only-memory refusal (inr memory) limit = memory
 
 -- ---- new contents
 
@@ -95,9 +102,9 @@ new-own lines lines' role contents same new =
       is_free = new.is_free;
     })
 
--- where there is no connection, no seat was closed by a call
-none-seated : (codes : List Connection) → ConnectionsRefine [] codes [] → (s : Sequencing) → ClosedByCalls [] (seats_of codes) s
-none-seated [] stand s = record { by_call = λ c seat has shut. cc }
+-- where there is no connection, no seat has anything to follow
+none-seated : (codes : List Connection) → ConnectionsRefine [] codes [] → (s : Sequencing) → SeatsFollow [] (seats_of codes) s
+none-seated [] stand s = record { by_call = λ c seat has shut. cc; session = λ c seat has. cc }
 none-seated (code ∷ codes) stand s = absurd stand
 
 pub pair-starts : (first second : Holder) (pair : Pair) → SessionsRefine pair.sessions [] [] → SequencerRefines [] 0 pair.sequencer
@@ -110,7 +117,7 @@ pair-starts first second pair sessions sequencer none ready mark engine ahead li
       parts = record {
         sessions = sessions;
         sequencer = sequencer;
-        by_calls = none-seated pair.sessions.connections.items sessions.connections_stand pair.sequencer;
+        follow = none-seated pair.sessions.connections.items sessions.connections_stand pair.sequencer;
         committing = record {
           groups = subst (λ (groups : List Group). AreGroupsOf [] groups []) (sym none) tt;
           stage_is = subst (λ (stage : Stage). StageRefines [] stage start.primary.committer.stage) (sym ready) tt;

@@ -1,8 +1,7 @@
 -- Groups of the list stay groups of it while it grows.
-use Rattle.std.proofs.Common.{◌≡◌, ℕ, ◌+◌, ◌-◌, ◌≤◌, List, [], ◌∷◌, ◌++◌, length, suc, refl, sym, ap, ◌∙◌, arith}
+use Rattle.std.proofs.Common.{◌≡◌, ◌-◌, List, [], ◌∷◌, ◌++◌, length, suc, refl, sym, ap, ◌∙◌, arith}
 use Rattle.model.specs.declared.call.Call.{Call}
 use Rattle.model.specs.declared.group.Group.{Group}
-use Rattle.model.specs.Call.{position_of}
 use Rattle.model.specs.Position.{changes_since}
 use Rattle.model.proofs.CallsLemmas.{position_of_grows}
 use Rattle.model.proofs.PositionsLemmas.{changes_since-append}

@@ -19,7 +19,7 @@ use Rattle.world.specs.Committing.{Committing, EngineStands, Leads, NearOnly, Co
 use Rattle.world.specs.Session.{SequencerRefines, seats_of}
 use Rattle.world.specs.Pair.{Pair, PartsRefine, PairRefines, Steps, Does}
 use Rattle.world.proofs.EngineLemmas.{Stands-engine, moves-same}
-use Rattle.world.proofs.SequencerLemmas.{Leads-push, by_calls-handed, closes-nothing, closes-one, may-close}
+use Rattle.world.proofs.SequencerLemmas.{Leads-push, follow-handed, closes-nothing, closes-one, may-close}
 use Rattle.world.proofs.PairLemmas.{cut-same, goes-map, goes-steps, none-added, tells, untouched}
 
 -- ---- a group closed
@@ -39,7 +39,7 @@ close-steps first second old waiting sequencer w stands can closes =
     (λ moved. record {
       sessions = parts.sessions;
       sequencer = moved.1;
-      by_calls = by_calls-handed w.primary.calls (seats_of old.sessions.connections.items) old.sequencer sequencer closes.0 closes.2 parts.by_calls;
+      follow = follow-handed w.primary.calls (seats_of old.sessions.connections.items) old.sequencer sequencer closes.0 closes.2 parts.follow;
       committing = moved.0;
       engine = parts.engine;
       leads = Leads-push old.contents old.committing.waiting.items waiting.items closes.0 old.sequencer sequencer parts.leads closes.1 closes.2.epoch closes.3;
@@ -139,7 +139,7 @@ shown-parts first second old committing w committer parts waiting committing_sta
     record {
       sessions = parts.sessions;
       sequencer = subst (λ n. SequencerRefines w.primary.calls n old.sequencer) (sym closed) parts.sequencer;
-      by_calls = parts.by_calls;
+      follow = parts.follow;
       committing = committing_stands;
       engine = subst (λ p. EngineStands first w.primary.calls p old.device old.contents old.is_faulted) (sym position) parts.engine;
       leads = subst (λ (waits : Waiting Group). Leads old.contents waits.items old.sequencer) (sym waiting) parts.leads;

@@ -10,18 +10,18 @@ use Rattle.model.specs.Standing.{Holder}
 use Rattle.redis_core.specs.Sequencing.{Sequencing, IsAheadOf}
 use Rattle.machine.specs.declared.event.Event.{Event}
 use Rattle.machine.specs.declared.event.Event.TheVariants as events
-use Rattle.machine.specs.Event.{Connection, World, Happens, Step, Turns, new_connection, may_happen, called, with_connections}
+use Rattle.machine.specs.Event.{Connection, World, Happens, Step, Turns, changed_at, left, new_connection, may_happen, called, with_connections}
 use Rattle.machine.specs.Sound.{Sound}
 use Rattle.machine.proofs.GroupLemmas.{chain-le}
 use Rattle.machine.proofs.SoundEvents.{sound-step, enabled-is}
 use Rattle.world.specs.Going.{Goes}
 use Rattle.world.specs.Cause.{Stretch, EndsBy, asks_memory}
 use Rattle.world.specs.Committing.{Rests, next_primary, next_standby}
-use Rattle.world.specs.Session.{SessionsRefine, SequencerRefines, ClosedByCalls, KeepsSeats, AddsOne, TakesTurn, TellsTheSame, bytes_of, seats_of}
+use Rattle.world.specs.Session.{SessionsRefine, SequencerRefines, SeatsFollow, KeepsSeats, AddsOne, TakesTurn, TellsTheSame, bytes_of, seats_of}
 use Rattle.world.specs.Pair.{Pair, PartsRefine, PairRefines, IsCut, MovesBoth, Steps, Does}
 use Rattle.world.specs.declared.sessions.Sessions.{Sessions}
 use Rattle.world.proofs.SessionLemmas.{length-connections, released-told}
-use Rattle.world.proofs.SeatLemmas.{by_calls-kept}
+use Rattle.world.proofs.SeatLemmas.{follow-kept}
 use Rattle.world.proofs.EngineLemmas.{Stands-engine, moves-same, rests-same, EngineStands-grows}
 use Rattle.world.proofs.CommittingLemmas.{CommittingRefines-grows}
 use Rattle.world.proofs.FrameLemmas.{AreFramesSent-grows}
@@ -127,7 +127,7 @@ sessions-parts first second old sessions connections w parts keeps stand =
     record {
       sessions = stand;
       sequencer = parts.sequencer;
-      by_calls = by_calls-kept w.primary.calls old.sessions.connections.items sessions.connections.items old.sequencer keeps parts.by_calls;
+      follow = follow-kept w.primary.calls old.sessions.connections.items sessions.connections.items old.sequencer keeps parts.follow;
       committing = parts.committing;
       engine = parts.engine;
       leads = parts.leads;
@@ -205,14 +205,14 @@ with_turn sessions sequencer pair = record pair { sessions = sessions; sequencer
 
 called-parts : (first second : Holder) (old : Pair) (sessions : Sessions) (sequencer : Sequencing) (w : World) (c : ℕ) (call : Call) → PairRefines first second old w
     → SessionsRefine sessions (called c call w).primary.connections (w.primary.calls ++ call ∷ []) → SequencerRefines (w.primary.calls ++ call ∷ []) w.primary.committer.closed sequencer
-    → ClosedByCalls (w.primary.calls ++ call ∷ []) (seats_of sessions.connections.items) sequencer → ((contents : Contents) → IsAheadOf old.sequencer contents → IsAheadOf sequencer contents)
+    → SeatsFollow (w.primary.calls ++ call ∷ []) (seats_of sessions.connections.items) sequencer → ((contents : Contents) → IsAheadOf old.sequencer contents → IsAheadOf sequencer contents)
     → PartsRefine first second (with_turn sessions sequencer old) (called c call w)
-called-parts first second old sessions sequencer w c call stands sessions_stand sequencer_stands by_calls goes_on =
+called-parts first second old sessions sequencer w c call stands sessions_stand sequencer_stands follow goes_on =
     let parts = stands.parts in
     record {
       sessions = sessions_stand;
       sequencer = sequencer_stands;
-      by_calls = by_calls;
+      follow = follow;
       committing = CommittingRefines-grows w.primary.calls (call ∷ []) old.committing w.primary.committer parts.committing;
       engine = EngineStands-grows first w.primary.calls (call ∷ []) w.primary.committer.position old.device old.contents old.is_faulted (primary-within w stands.sound) parts.engine;
       leads = record { groups_are = parts.leads.groups_are; epochs = parts.leads.epochs; stands = goes_on _ parts.leads.stands };
@@ -235,7 +235,7 @@ turn-steps first second old sessions sequencer w c true stands takes keeps goes_
     called-parts first second old sessions sequencer w c turns.call stands
     (subst (λ (x : World). SessionsRefine sessions x.primary.connections x.primary.calls) turns.now moved.2)
     (subst (λ (x : World). SequencerRefines x.primary.calls x.primary.committer.closed sequencer) turns.now moved.3)
-    (subst (λ (x : World). ClosedByCalls x.primary.calls (seats_of sessions.connections.items) sequencer) turns.now moved.4) goes_on in
+    (subst (λ (x : World). SeatsFollow x.primary.calls (seats_of sessions.connections.items) sequencer) turns.now moved.4) goes_on in
     let step : Step w (events.Turn c) true w' = record { done = takes.done ∙ sym (enabled-is w (events.Turn c) stands.sound); happens = λ did. subst (Turns w c) turns.now turns; stands = λ did. absurd (true≢false did) } in
     record {
       world = w';
@@ -253,8 +253,8 @@ turn-steps first second old sessions sequencer w c false stands takes keeps goes
     record {
       sessions = stayed.0;
       sequencer = subst (SequencerRefines w.primary.calls w.primary.committer.closed) (sym stayed.1) before.sequencer;
-      by_calls = subst (ClosedByCalls w.primary.calls (seats_of sessions.connections.items)) (sym stayed.1)
-          (by_calls-kept w.primary.calls old.sessions.connections.items sessions.connections.items old.sequencer keeps before.by_calls);
+      follow = subst (SeatsFollow w.primary.calls (seats_of sessions.connections.items)) (sym stayed.1)
+          (follow-kept w.primary.calls old.sessions.connections.items sessions.connections.items old.sequencer keeps before.follow);
       committing = before.committing;
       engine = before.engine;
       leads = record { groups_are = before.leads.groups_are; epochs = before.leads.epochs; stands = goes_on _ before.leads.stands };
@@ -273,27 +273,27 @@ turn-steps first second old sessions sequencer w c false stands takes keeps goes
 
 pub turn-does : (old : Pair) (sessions : Sessions) (sequencer : Sequencing) (c : ℕ) (did : Bool)
     → ((w : World) → Sound w → SessionsRefine old.sessions w.primary.connections w.primary.calls → SequencerRefines w.primary.calls w.primary.committer.closed old.sequencer
-    → ClosedByCalls w.primary.calls (seats_of old.sessions.connections.items) old.sequencer → TakesTurn w c did sessions old.sequencer sequencer)
+    → SeatsFollow w.primary.calls (seats_of old.sessions.connections.items) old.sequencer → TakesTurn w c did sessions old.sequencer sequencer)
     → KeepsSeats old.sessions.connections.items sessions.connections.items
     → ((contents : Contents) → IsAheadOf old.sequencer contents → IsAheadOf sequencer contents)
     → AddsOne old.sessions.calls sessions.calls → Does old (events.Turn c) (Ok did) (with_turn sessions sequencer old)
 turn-does old sessions sequencer c did takes keeps goes_on calls =
     record {
-      steps = λ first second w stands. turn-steps first second old sessions sequencer w c did stands (takes w stands.sound stands.parts.sessions stands.parts.sequencer stands.parts.by_calls) keeps goes_on;
+      steps = λ first second w stands. turn-steps first second old sessions sequencer w c did stands (takes w stands.sound stands.parts.sessions stands.parts.sequencer stands.parts.follow) keeps goes_on;
       cut = tt;
       calls = calls;
     }
 
--- ---- a connection enters
+-- ---- a connection enters or leaves
 
-enter-parts : (first second : Holder) (old : Pair) (sessions : Sessions) (sequencer : Sequencing) (connections : List Connection) (w : World) → PartsRefine first second old w
-    → SessionsRefine sessions connections w.primary.calls → SequencerRefines w.primary.calls w.primary.committer.closed sequencer → ClosedByCalls w.primary.calls (seats_of sessions.connections.items) sequencer
+seats-parts : (first second : Holder) (old : Pair) (sessions : Sessions) (sequencer : Sequencing) (connections : List Connection) (w : World) → PartsRefine first second old w
+    → SessionsRefine sessions connections w.primary.calls → SequencerRefines w.primary.calls w.primary.committer.closed sequencer → SeatsFollow w.primary.calls (seats_of sessions.connections.items) sequencer
     → ((contents : Contents) → IsAheadOf old.sequencer contents → IsAheadOf sequencer contents) → PartsRefine first second (with_turn sessions sequencer old) (with_connections connections w)
-enter-parts first second old sessions sequencer connections w parts stand sequencer_stands by_calls goes_on =
+seats-parts first second old sessions sequencer connections w parts stand sequencer_stands follow goes_on =
     record {
       sessions = stand;
       sequencer = sequencer_stands;
-      by_calls = by_calls;
+      follow = follow;
       committing = parts.committing;
       engine = parts.engine;
       leads = record { groups_are = parts.leads.groups_are; epochs = parts.leads.epochs; stands = goes_on _ parts.leads.stands };
@@ -304,33 +304,58 @@ enter-parts first second old sessions sequencer connections w parts stand sequen
       standby = parts.standby;
     }
 
+-- what was done to the seats, of each world that they stood for
+abbrev pub SeatsGo : Sessions → Sequencing → Sessions → Sequencing → Type 0
+SeatsGo old s new s' =
+    (w : World) → Sound w → SessionsRefine old w.primary.connections w.primary.calls → SeatsFollow w.primary.calls (seats_of old.connections.items) s
+    → SeatsFollow w.primary.calls (seats_of new.connections.items) s'
+
+seats-steps : (event : Event) (change : World → List Connection) → ((w : World) → Happens w event (with_connections (change w) w))
+    → (old : Pair) (sessions : Sessions) (sequencer : Sequencing) (did : Bool) → SessionsGo event change did old.sessions sessions → SeatsGo old.sessions old.sequencer sessions sequencer
+    → ((calls : List Call) (closed : ℕ) → SequencerRefines calls closed old.sequencer → SequencerRefines calls closed sequencer)
+    → ((contents : Contents) → IsAheadOf old.sequencer contents → IsAheadOf sequencer contents)
+    → (first second : Holder) (w : World) → PairRefines first second old w → Steps first second w event did old (with_turn sessions sequencer old)
+seats-steps event change happens old sessions sequencer did go follows sequencer_stands goes_on first second w stands =
+    let parts = stands.parts in
+    let follow = follows w stands.sound parts.sessions parts.follow in
+    let table = sequencer_stands w.primary.calls w.primary.committer.closed parts.sequencer in
+    goes-steps first second w (with_connections (change w) w) event did old (with_turn sessions sequencer old) refl refl stands.sound (happens w)
+    (goes-map (go w parts.sessions)
+    (λ stand. seats-parts first second old sessions sequencer (change w) w parts stand table follow goes_on)
+    (λ stand. seats-parts first second old sessions sequencer w.primary.connections w parts stand table follow goes_on))
+
 pub enter-does : (old : Pair) (sessions : Sessions) (sequencer : Sequencing) (result : Result Bool Refusal)
     → IfOk result (λ did. SessionsGo events.Enter (λ w. w.primary.connections ++ new_connection ∷ []) did old.sessions sessions)
-    → IfOk result (λ did. (w : World) → SessionsRefine old.sessions w.primary.connections w.primary.calls → ClosedByCalls w.primary.calls (seats_of old.sessions.connections.items) old.sequencer
-    → ClosedByCalls w.primary.calls (seats_of sessions.connections.items) sequencer)
+    → IfOk result (λ did. SeatsGo old.sessions old.sequencer sessions sequencer)
     → ((calls : List Call) (closed : ℕ) → SequencerRefines calls closed old.sequencer → SequencerRefines calls closed sequencer)
     → ((contents : Contents) → IsAheadOf old.sequencer contents → IsAheadOf sequencer contents)
     → OnErr result (TellsTheSame old.sessions sessions) → IfErr result (λ refusal. refusal ≡ Memory)
     → OnErr result ((w : World) → SessionsRefine old.sessions w.primary.connections w.primary.calls → may_happen w events.Enter ≡ true)
     → sessions.calls ≡ old.sessions.calls → Does old events.Enter result (with_turn sessions sequencer old)
-enter-does old sessions sequencer (Ok did) go by_calls sequencer_stands goes_on same memory enabled calls =
+enter-does old sessions sequencer (Ok did) go follows sequencer_stands goes_on same memory enabled calls =
     record {
-      steps = λ first second w stands.
-          let parts = stands.parts in
-          let seated = by_calls w parts.sessions parts.by_calls in
-          let table = sequencer_stands w.primary.calls w.primary.committer.closed parts.sequencer in
-          let connections = w.primary.connections ++ new_connection ∷ [] in
-          goes-steps first second w (with_connections connections w) events.Enter did old (with_turn sessions sequencer old) refl refl stands.sound refl
-          (goes-map (go w parts.sessions)
-          (λ stand. enter-parts first second old sessions sequencer connections w parts stand table seated goes_on)
-          (λ stand. enter-parts first second old sessions sequencer w.primary.connections w parts stand table seated goes_on));
+      steps = seats-steps events.Enter (λ w. w.primary.connections ++ new_connection ∷ []) (λ w. refl) old sessions sequencer did go follows sequencer_stands goes_on;
       cut = tt;
       calls = none-added _ _ calls;
     }
-enter-does old sessions sequencer (Err refusal) go by_calls sequencer_stands goes_on same memory enabled calls =
+enter-does old sessions sequencer (Err refusal) go follows sequencer_stands goes_on same memory enabled calls =
     record {
       steps = tt;
       cut = λ first second w stands.
           cut-same first second events.Enter refusal old (with_turn sessions sequencer old) w refl memory refl refl same (enabled w stands.parts.sessions) stands;
+      calls = none-added _ _ calls;
+    }
+
+pub leave-does : (old : Pair) (sessions : Sessions) (sequencer : Sequencing) (c : ℕ) (did : Bool)
+    → SessionsGo (events.Leave c) (λ w. changed_at c left w.primary.connections) did old.sessions sessions
+    → ((w : World) → SessionsRefine old.sessions w.primary.connections w.primary.calls → SeatsFollow w.primary.calls (seats_of old.sessions.connections.items) old.sequencer
+    → SeatsFollow w.primary.calls (seats_of sessions.connections.items) sequencer)
+    → ((calls : List Call) (closed : ℕ) → SequencerRefines calls closed old.sequencer → SequencerRefines calls closed sequencer)
+    → ((contents : Contents) → IsAheadOf old.sequencer contents → IsAheadOf sequencer contents)
+    → sessions.calls ≡ old.sessions.calls → Does old (events.Leave c) (Ok did) (with_turn sessions sequencer old)
+leave-does old sessions sequencer c did go follows sequencer_stands goes_on calls =
+    record {
+      steps = seats-steps (events.Leave c) (λ w. changed_at c left w.primary.connections) (λ w. refl) old sessions sequencer did go (λ w sound stand follow. follows w stand follow) sequencer_stands goes_on;
+      cut = tt;
       calls = none-added _ _ calls;
     }

@@ -55,7 +55,7 @@ hand-does old committing waiting did go same =
           record {
             sessions = shown.sessions;
             sequencer = shown.sequencer;
-            by_calls = shown.by_calls;
+            follow = shown.follow;
             committing = shown.committing;
             engine = shown.engine;
             leads = shown.leads;
@@ -70,7 +70,7 @@ hand-does old committing waiting did go same =
           record {
             sessions = shown.sessions;
             sequencer = shown.sequencer;
-            by_calls = shown.by_calls;
+            follow = shown.follow;
             committing = shown.committing;
             engine = shown.engine;
             leads = shown.leads;
@@ -110,7 +110,7 @@ link-parts first second old waiting link remote frames w machine passed parts sa
     record {
       sessions = parts.sessions;
       sequencer = parts.sequencer;
-      by_calls = parts.by_calls;
+      follow = parts.follow;
       committing = parts.committing;
       engine = parts.engine;
       leads = parts.leads;

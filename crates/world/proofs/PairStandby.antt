@@ -38,7 +38,7 @@ arrivals-parts first second old arrivals w machine told parts position arrivals_
     record {
       sessions = parts.sessions;
       sequencer = parts.sequencer;
-      by_calls = parts.by_calls;
+      follow = parts.follow;
       committing = parts.committing;
       engine = parts.engine;
       leads = parts.leads;
@@ -152,7 +152,7 @@ apply-steps first second old arrivals node w true stands applies =
         parts = record {
           sessions = parts.sessions;
           sequencer = parts.sequencer;
-          by_calls = parts.by_calls;
+          follow = parts.follow;
           committing = parts.committing;
           engine = parts.engine;
           leads = parts.leads;
@@ -175,7 +175,7 @@ apply-steps first second old arrivals node w false stands applies =
     record {
       sessions = before.sessions;
       sequencer = before.sequencer;
-      by_calls = before.by_calls;
+      follow = before.follow;
       committing = before.committing;
       engine = before.engine;
       leads = before.leads;

@@ -95,7 +95,7 @@ module _ {E : Type 0} (device : E → State) (contents : E → Contents) (is_fau
           record {
             sessions = parts.sessions;
             sequencer = subst (λ n. SequencerRefines w.primary.calls n sequencer) (sym closed) parts.sequencer;
-            by_calls = parts.by_calls;
+            follow = parts.follow;
             committing = stand.0;
             engine = stand.1;
             leads = record {

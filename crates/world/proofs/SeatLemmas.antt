@@ -1,13 +1,19 @@
 -- Seats are given and given back.
-use Rattle.std.proofs.Common.{◌≡◌, ◌≢◌, ℕ, zero, suc, ◌+◌, ◌<◌, ◌≤◌, ◌++◌, true, false, cond, nat_lt, List, [], ◌∷◌, length, Option, Some, None, All, inl, inr, ◌⊎◌, slice_get, slice_index_or, slice_set, refl, sym, ap, subst, ◌∙◌, arith}
+use Rattle.std.proofs.Common.{◌≡◌, ◌≢◌, ℕ, zero, suc, ◌+◌, ◌<◌, ◌≤◌, ◌++◌, Bool, true, false, not, cond, nat_lt, List, [], ◌∷◌, length, take, Option, Some, None, is_some, All, inl, inr, ◌⊎◌, slice_get, slice_index_or, slice_set, refl, sym, ap, subst, ◌∙◌, arith, append-nil}
 use Rattle.std.proofs.lemmas.Bool.{lt-ltb, le-ltb, both_ways}
-use Rattle.std.proofs.lemmas.List.{map-append, get_or-set_other}
+use Rattle.std.proofs.lemmas.List.{length-map, map-append}
 use Rattle.std.proofs.lemmas.List.Elements.{All-head, All-tail}
 use Rattle.lobby.specs.Book.{Book, Status, Moves, free, taken}
+use Rattle.multi_watch.specs.Session.{Session, idle_session}
+use Rattle.multi_watch.specs.Sessions.{session_of, slot}
 use Rattle.model.specs.declared.call.Call.{Call}
+use Rattle.model.specs.Call.{items_of}
+use Rattle.model.proofs.SessionLemmas.{session_of_new}
 use Rattle.machine.specs.declared.event.TheConstants.{SEATS}
-use Rattle.machine.specs.Event.{Connection as MachineConnection, World, new_connection, count_open, is_open, get_connection, changed_at, left}
-use Rattle.redis_core.specs.Sequencing.{Sequencing, is_closed, opened}
+use Rattle.machine.specs.Event.{Connection as MachineConnection, World, asked, new_connection, count_open, is_open, get_connection, changed_at, left}
+use Rattle.machine.specs.Sound.{Sound}
+use Rattle.machine.proofs.ConnectionLemmas.{get-past}
+use Rattle.redis_core.specs.Sequencing.{Sequencing, MovesSeat, is_closed}
 use Rattle.world.specs.declared.inbound.Inbound.{Inbound}
 use Rattle.world.specs.declared.outbound.Outbound.{Outbound}
 use Rattle.world.specs.declared.connection.Client.{Client}
@@ -17,8 +23,9 @@ use Rattle.world.specs.declared.sessions.Sessions.{Sessions}
 use Rattle.world.specs.Going.{Goes}
 use Rattle.world.specs.Inbound.{InboundRefines}
 use Rattle.world.specs.Outbound.{OutboundRefines}
-use Rattle.world.specs.Session.{ConnectionRefines, ConnectionsRefine, HasSeat, KeepsSeats, SeatsRefine, SessionsRefine, ClosedByCalls, bytes_of, count_seated, count_taken, seat_of, seats_of}
-use Rattle.world.proofs.SessionLemmas.{ConnectionsRefine-changed, connection-stands}
+use Rattle.world.specs.Session.{ConnectionRefines, ConnectionsRefine, HasSeat, KeepsSeats, SeatsRefine, SessionsRefine, SeatsFollow, bytes_of, count_seated, count_taken, seat_of, seats_of}
+use Rattle.world.proofs.SessionLemmas.{ConnectionsRefine-changed, connection-stands, length-connections}
+use Rattle.world.proofs.SequencerLemmas.{follow-same}
 
 -- ---- the statuses
 
@@ -201,18 +208,43 @@ seated-goes w old new seat inbound outbound stand moves inbound_stands outbound_
       stays = λ not_did. cc;
     }
 
--- and the sequencer finds it open
-pub seated-by_calls : (calls : List Call) (old new : Sessions) (client : Client) (s : Sequencing) → SeatsRefine old.lobby.statuses (seats_of old.connections.items) → Moves old.lobby client.seat free taken new.lobby
-    → new.connections.items ≡ old.connections.items ++ Open client ∷ [] → is_closed (opened client.seat s) client.seat ≡ false
-    → ClosedByCalls calls (seats_of old.connections.items) s → ClosedByCalls calls (seats_of new.connections.items) (opened client.seat s)
-seated-by_calls calls old new client s stand moves connections is_one by_calls =
-    subst (λ (seats : List (Option ℕ)). ClosedByCalls calls seats (opened client.seat s)) (sym (ap seats_of connections ∙ seats-pushed old.connections.items client)) (record {
-      by_call = λ c other has shut. elim (has-pushed (seats_of old.connections.items) client.seat c other has) [
-        | inl before ↦ by_calls.by_call c other before (sym (get_or-set_other s.closed client.seat other false false
-            (λ same. free-not_taken (slice_get old.lobby.statuses client.seat) moves.was (stand.are_taken c client.seat (subst (HasSeat (seats_of old.connections.items) c) same before)))) ∙ shut)
-        | inr own ↦ absurd (both_ways (is_closed (opened client.seat s) client.seat) is_one (ap (is_closed (opened client.seat s)) (sym own.1) ∙ shut))
+-- a connection that has not entered yet has made no call
+none-called : (w : World) (c : ℕ) → Sound w → length w.primary.connections ≤ c → items_of c w.primary.calls ≡ []
+none-called w c sound past =
+    sym (append-nil (items_of c w.primary.calls))
+    ∙ subst (λ (machine : MachineConnection). items_of c w.primary.calls ++ machine.inbound.waiting ≡ take machine.inbound.offered (asked machine.inbound.fed)) (get-past w.primary.connections c past) (sound.inbound c).order
+
+-- and the sequencer finds its seat open, with an idle session, as it is before the first call of a connection
+pub seated-follow : (w : World) (old new : Sessions) (client : Client) (s s' : Sequencing) → Sound w → SessionsRefine old w.primary.connections w.primary.calls → Moves old.lobby client.seat free taken new.lobby
+    → new.connections.items ≡ old.connections.items ++ Open client ∷ [] → MovesSeat s client.seat (Some idle_session) s'
+    → SeatsFollow w.primary.calls (seats_of old.connections.items) s → SeatsFollow w.primary.calls (seats_of new.connections.items) s'
+seated-follow w old new client s s' sound stand moves connections opens follow =
+    subst (λ (seats : List (Option ℕ)). SeatsFollow w.primary.calls seats s') (sym (ap seats_of connections ∙ seats-pushed old.connections.items client)) (record {
+      by_call = λ c other has shut. elim (has-pushed seats client.seat c other has) [
+        | inl before ↦ follow.by_call c other before (ap is_shut (sym (kept c other before)) ∙ shut)
+        | inr own ↦ absurd (both_ways (is_closed s' other) (ap is_shut (moved other own.1)) shut)
+      ];
+      session = λ c other has. elim (has-pushed seats client.seat c other has) [
+        | inl before ↦ ap session_of (kept c other before) ∙ follow.session c other before
+        | inr own ↦ ap session_of (moved other own.1) ∙ sym (session_of_new w.primary.calls c (none-called w c sound (omega (arith, own.0, length-map old.connections.items seat_of, entered))))
       ];
     })
+  where
+    seats : List (Option ℕ)
+    seats = seats_of old.connections.items
+
+    is_shut : Option Session → Bool
+    is_shut session = not (is_some session)
+
+    entered : length old.connections.items ≡ length w.primary.connections
+    entered = length-connections w.primary.calls old.connections.items w.primary.connections stand.connections_stand
+
+    moved : (other : ℕ) → other ≡ client.seat → slot s'.sessions other ≡ Some idle_session
+    moved other same = ap (slot s'.sessions) same ∙ opens.sessions.moved
+
+    kept : (c other : ℕ) → HasSeat seats c other → slot s'.sessions other ≡ slot s.sessions other
+    kept c other has =
+        opens.sessions.others other (λ same. free-not_taken (slice_get old.lobby.statuses client.seat) moves.was (stand.seats.are_taken c client.seat (subst (HasSeat seats c) same has)))
 
 -- all seats are taken
 pub full-goes : (w : World) (old new : Sessions) {Moved : Type 0} → SessionsRefine old w.primary.connections w.primary.calls → All (λ status. status ≡ taken) old.lobby.statuses
@@ -300,8 +332,47 @@ left-goes w old new c seat code code' stand within is own none same moves connec
       stays = λ not_did. cc;
     }
 
--- ---- closed seats
+-- the connection at this index has no other seat
+has-own : (codes : List Connection) (c seat : ℕ) (code : Connection) → code ≡ slice_index_or codes c code → HasSeat (seats_of codes) c seat → seat_of code ≡ Some seat
+has-own [] c seat code is has = cc
+has-own (first ∷ codes) zero seat code is has = ap seat_of is ∙ some-same (seat_of first) (Some seat) has
+  where
+    some-same : (a b : Option ℕ) → Some a ≡ Some b → a ≡ b
+    some-same a b e = cc
+has-own (first ∷ codes) (suc c) seat code is has = has-own codes c seat code is has
+
+pub none-seated : (codes : List Connection) (c seat : ℕ) (code : Connection) → code ≡ slice_index_or codes c code → seat_of code ≡ None → HasSeat (seats_of codes) c seat → ⊥
+none-seated codes c seat code is none has = let own : seat_of code ≡ Some seat = has-own codes c seat code is has in cc
+
+-- nor has one that there is not
+pub none-seated_past : (codes : List Connection) (c seat : ℕ) → length codes ≤ c → HasSeat (seats_of codes) c seat → ⊥
+none-seated_past [] c seat past has = cc
+none-seated_past (code ∷ codes) zero seat past has = absurd (omega arith)
+none-seated_past (code ∷ codes) (suc c) seat past has = none-seated_past codes c seat (omega arith) has
+
+-- its seat is the one that it gave back
+pub closes-own : (codes : List Connection) (c own : ℕ) (code : Connection) (s s' : Sequencing) → code ≡ slice_index_or codes c code → seat_of code ≡ Some own → MovesSeat s own None s'
+    → (seat : ℕ) → HasSeat (seats_of codes) c seat → MovesSeat s seat None s'
+closes-own codes c own code s s' is has moves seat seated =
+    let its : seat_of code ≡ Some seat = has-own codes c seat code is seated in
+    let same : own ≡ seat = cc in
+    subst (λ n. MovesSeat s n None s') same moves
+
+-- the seats of the other connections are others, so they follow as before
+pub left-follow : (w : World) (old : Sessions) (c seat : ℕ) (code code' : Connection) (s s' : Sequencing) → SessionsRefine old w.primary.connections w.primary.calls → c < length old.connections.items
+    → code ≡ slice_index_or old.connections.items c code → seat_of code ≡ Some seat → seat_of code' ≡ None → MovesSeat s seat None s'
+    → SeatsFollow w.primary.calls (seats_of old.connections.items) s → SeatsFollow w.primary.calls (seats_of (slice_set old.connections.items c code')) s'
+left-follow w old c seat code code' s s' stand within is own none closes follow =
+    let codes = old.connections.items in
+    follow-same w.primary.calls (seats_of codes) (seats_of (slice_set codes c code')) s s' (λ d other has.
+    let before = has-cleared (seats_of codes) c d other (subst (λ (seats : List (Option ℕ)). HasSeat seats d other) (seats-cleared codes c code' none) has) in
+    (
+      before.0,
+      closes.sessions.others other (λ same. before.1 (stand.seats.are_apart d c seat (subst (HasSeat (seats_of codes) d) same before.0) (has-at codes c seat code within is own))),
+    )) follow
+
+-- ---- no seat is given
 
 -- they stay what they are while no connection gets another seat
-pub by_calls-kept : (calls : List Call) (old new : List Connection) (s : Sequencing) → KeepsSeats old new → ClosedByCalls calls (seats_of old) s → ClosedByCalls calls (seats_of new) s
-by_calls-kept calls old new s keeps by_calls = record { by_call = λ c seat has shut. by_calls.by_call c seat (keeps c seat has) shut }
+pub follow-kept : (calls : List Call) (old new : List Connection) (s : Sequencing) → KeepsSeats old new → SeatsFollow calls (seats_of old) s → SeatsFollow calls (seats_of new) s
+follow-kept calls old new s keeps follow = follow-same calls (seats_of old) (seats_of new) s s (λ c seat has. (keeps c seat has, refl)) follow

@@ -1,7 +1,6 @@
 -- The sequencer still refines the list of calls after each step.
-use Rattle.std.proofs.Common.{◌≡◌, ◌≢◌, ℕ, zero, suc, ◌+◌, ◌-◌, ◌<◌, ◌≤◌, ◌++◌, ◌||◌, Bool, true, false, cond, nat_lt, List, [], ◌∷◌, length, take, slice_index_or, slice_set, Option, Result, Err, IfErr, IsErrOf, ◌⊎◌, refl, sym, ap, ap₂, subst, ◌∙◌, arith, add-zero, length-append, inl, inr, get_or-set_same, get_or-set_other, le_refl}
-use Rattle.std.proofs.lemmas.Bool.{and_from, cases_eq, cases_lt, false_from_ne_true, lt-ltb, ltb-true, or_left, or_right}
-use Rattle.std.proofs.lemmas.List.{set_past}
+use Rattle.std.proofs.Common.{◌≡◌, ◌≢◌, ℕ, zero, suc, ◌+◌, ◌-◌, ◌<◌, ◌≤◌, ◌++◌, ◌||◌, true, false, not, cond, nat_lt, List, [], ◌∷◌, length, take, Option, is_some, Result, Err, IfErr, IsErrOf, ◌⊎◌, refl, sym, ap, ap₂, subst, ◌∙◌, arith, add-zero, length-append, inl, inr, eq-eqb, ne_eqb, le_refl}
+use Rattle.std.proofs.lemmas.Bool.{and_from, cases_eq, false_from_ne_true, lt-ltb, ltb-true, or_right}
 use Rattle.std.proofs.lemmas.List.Folds.{list_any-append}
 use Rattle.std.specs.List.{flat_map, list_any}
 use Rattle.kv_types.specs.declared.change.Change.{Change}
@@ -10,17 +9,22 @@ use Rattle.kv_types.specs.declared.reply.Reply.{Reply}
 use Rattle.kv_types.specs.Keyspace.{play_all}
 use Rattle.kv_types.specs.declared.refusal.Refusal.{Refusal}
 use Rattle.kv_types.specs.declared.refusal.Refusal.TheVariants.{Memory, PipeFull}
+use Rattle.multi_watch.specs.Session.{Session}
+use Rattle.multi_watch.specs.Sessions.{session_at, session_of, slot}
 use Rattle.model.specs.declared.call.Call.{Call}
 use Rattle.model.specs.declared.group.Group.{Group}
 use Rattle.model.specs.declared.group.Part.{Part}
-use Rattle.model.specs.Call.{AreAlike, changes_of, is_changing, is_nonempty, items_of, position_of, state_after, up_to_closing}
+use Rattle.model.specs.State.{State}
+use Rattle.model.specs.Call.{AreAlike, changes_of, is_changing, is_nonempty, items_of, position_of, session_after, state_after, up_to_closing}
 use Rattle.model.specs.Command.{closes}
 use Rattle.model.specs.Group.{Contents, IsGroup, after_group, changes_of_part, last_position}
 use Rattle.model.specs.Position.{changes_at, changes_since}
-use Rattle.model.proofs.CallsLemmas.{changes_of-alike, keyspace_after-push, position_of-push, sessions_idle}
+use Rattle.model.proofs.CallsLemmas.{changes_of-alike, keyspace_after-push, position_of-push, state_after-push}
 use Rattle.model.proofs.PositionsLemmas.{changes_at-append, changes_at-push}
 use Rattle.model.proofs.ServesLemmas.{items_of-push_own, items_of-push_other}
-use Rattle.redis_core.specs.Sequencing.{HandsOut, Sequencing, IsAheadOf, is_closed, opened, state_of}
+use Rattle.model.proofs.SessionLemmas.{session_after-alike, session_after-others}
+use Rattle.mv_keyspace.specs.Table.{records}
+use Rattle.redis_core.specs.Sequencing.{HandsOut, Sequencing, IsAheadOf, MovesSeat, is_closed, state_of}
 use Rattle.redis_core.specs.Turn.{Answers, Moves, call_of}
 use Rattle.machine.specs.declared.event.Event.TheVariants.{CloseGroup}
 use Rattle.machine.specs.declared.event.TheConstants.{PIPE_ITEMS}
@@ -32,7 +36,7 @@ use Rattle.group_commit.specs.Group.{after_groups}
 use Rattle.world.specs.Committing.{AreOfEpoch, Committing, CommittingRefines, Leads, StageRefines}
 use Rattle.world.specs.Going.{Goes}
 use Rattle.world.specs.GroupSpan.{AreGroupsOf, IsGroupOf}
-use Rattle.world.specs.Session.{AreOpen, ClosedByCalls, HasSeat, SequencerRefines}
+use Rattle.world.specs.Session.{AreOpen, SeatsFollow, HasSeat, SequencerRefines}
 use Rattle.world.proofs.GroupSpanLemmas.{length-groups}
 
 -- ---- the parts that wait
@@ -106,54 +110,83 @@ open-before (suc n) (item ∷ items) (x ∷ xs) ys y e =
     no_more (suc n) (x ∷ xs) ys y h = cc
 
 -- a call of this connection closed it: one of those before, or the last
-closed-own : (closed : List Bool) (calls : List Call) (call : Call) (seat : ℕ) → (slice_index_or closed seat false ≡ true → list_any closes (items_of call.connection calls) ≡ true)
-    → slice_index_or (slice_set closed seat (closes call.item)) seat false ≡ true → list_any closes (items_of call.connection (calls ++ call ∷ [])) ≡ true
-closed-own closed calls call seat stands shut =
+closed-own : (calls : List Call) (call : Call) → closes call.item ≡ true → list_any closes (items_of call.connection (calls ++ call ∷ [])) ≡ true
+closed-own calls call shut =
     let before = items_of call.connection calls in
-    let own : list_any closes (items_of call.connection (calls ++ call ∷ [])) ≡ (list_any closes before || list_any closes (call.item ∷ [])) =
-    ap (list_any closes) (items_of-push_own call.connection calls call refl) ∙ list_any-append closes before (call.item ∷ []) in
-    own ∙ elim (cases_lt seat (length closed)) [
-      | inl lt ↦ or_right (list_any closes before) (list_any closes (call.item ∷ [])) (ap (λ b. b || false) (sym (get_or-set_same closed seat (closes call.item) false lt) ∙ shut))
-      | inr past ↦ or_left (list_any closes before) (list_any closes (call.item ∷ [])) (stands (ap (λ (xs : List Bool). slice_index_or xs seat false) (sym (set_past closed seat (closes call.item) past)) ∙ shut))
-    ]
+    ap (list_any closes) (items_of-push_own call.connection calls call refl) ∙ list_any-append closes before (call.item ∷ [])
+    ∙ or_right (list_any closes before) (list_any closes (call.item ∷ [])) (ap (λ b. b || false) shut)
 
--- no two connections have one seat, so a call closes at most its own
-pub by_calls-answered : (calls : List Call) (seats : List (Option ℕ)) (old new : Sequencing) (c seat : ℕ) (item : Item) (reply : Reply) → HasSeat seats c seat
-    → ((c d seat : ℕ) → HasSeat seats c seat → HasSeat seats d seat → c ≡ d) → ClosedByCalls calls seats old → Answers old seat item reply new → ClosedByCalls (calls ++ call_of c item reply ∷ []) seats new
-by_calls-answered calls seats old new c seat item reply own apart by_calls answers = record { by_call = by_call }
+-- ---- seats
+
+-- they follow while each seat of a connection was its own before, and what is there stays
+pub follow-same : (calls : List Call) (before after : List (Option ℕ)) (old new : Sequencing)
+    → ((c seat : ℕ) → HasSeat after c seat → HasSeat before c seat × (slot new.sessions seat ≡ slot old.sessions seat)) → SeatsFollow calls before old → SeatsFollow calls after new
+follow-same calls before after old new same follow =
+    record {
+      by_call = λ c seat has shut. let own = same c seat has in follow.by_call c seat own.0 (ap (λ (s : Option Session). not (is_some s)) (sym own.1) ∙ shut);
+      session = λ c seat has. let own = same c seat has in ap session_of own.1 ∙ follow.session c seat own.0;
+    }
+
+-- what the sequencer answers at a seat is a call of its connection, made at the state after the list
+pub alike-state : (calls : List Call) (closed : ℕ) (s : Sequencing) (c seat : ℕ) (item : Item) (reply : Reply) → SequencerRefines calls closed s → session_at s.sessions seat ≡ (state_after calls).sessions c
+    → AreAlike (state_of s) (call_of seat item reply) (state_after calls) (call_of c item reply)
+alike-state calls closed s c seat item reply stands session = record { keyspace = stands.table; session = session; item = refl; reply = refl }
+
+-- No two connections have one seat, so a call closes at most its own, and the session there is that of its connection.
+pub follow-answered : (calls : List Call) (closed : ℕ) (seats : List (Option ℕ)) (old new : Sequencing) (c seat : ℕ) (item : Item) (reply : Reply) → HasSeat seats c seat
+    → ((c d seat : ℕ) → HasSeat seats c seat → HasSeat seats d seat → c ≡ d) → SequencerRefines calls closed old → SeatsFollow calls seats old → Answers old seat item reply new
+    → SeatsFollow (calls ++ call_of c item reply ∷ []) seats new
+follow-answered calls closed seats old new c seat item reply own apart stands follow answers = record { by_call = by_call; session = by_session }
   where
     call : Call
     call = call_of c item reply
 
+    alike : AreAlike (state_of old) (call_of seat item reply) (state_after calls) call
+    alike = alike-state calls closed old c seat item reply stands (follow.session c seat own)
+
     one_seat : (other : ℕ) → HasSeat seats c other → other ≡ seat
     one_seat other has = cc
 
+    apart_seats : (d other : ℕ) → HasSeat seats d other → c ≢ d → seat ≢ other
+    apart_seats d other has differ = λ same. differ (apart c d other (subst (HasSeat seats c) same own) has)
+
+    shut_before : (other : ℕ) → seat ≢ other → is_closed new other ≡ is_closed old other
+    shut_before other differ = answers.closed other ∙ ap (λ b. cond b (closes item) (is_closed old other)) (ne_eqb seat other differ)
+
+    shut_now : is_closed new seat ≡ closes item
+    shut_now = answers.closed seat ∙ ap (λ b. cond b (closes item) (is_closed old seat)) (eq-eqb seat seat refl)
+
     by_call : (d other : ℕ) → HasSeat seats d other → is_closed new other ≡ true → list_any closes (items_of d (calls ++ call ∷ [])) ≡ true
     by_call d other has shut =
-        let now : slice_index_or (slice_set old.closed seat (closes item)) other false ≡ true = ap (λ (xs : List Bool). slice_index_or xs other false) (sym answers.closed) ∙ shut in
-        elim (cases_eq d c) [
+        elim (cases_eq c d) [
           | inl same ↦
-              let at : other ≡ seat = one_seat other (subst (λ e. HasSeat seats e other) same has) in
-              ap (λ e. list_any closes (items_of e (calls ++ call ∷ []))) same
-              ∙ closed-own old.closed calls call seat (by_calls.by_call c seat own) (ap (λ n. slice_index_or (slice_set old.closed seat (closes item)) n false) (sym at) ∙ now)
+              let at : other ≡ seat = one_seat other (subst (λ e. HasSeat seats e other) (sym same) has) in
+              ap (λ e. list_any closes (items_of e (calls ++ call ∷ []))) (sym same) ∙ closed-own calls call (sym shut_now ∙ ap (is_closed new) (sym at) ∙ shut)
           | inr differ ↦
-              let apart_seats : other ≢ seat = λ same. differ (apart d c seat (subst (HasSeat seats d) same has) own) in
-              ap (list_any closes) (items_of-push_other d calls call (λ e. differ (sym e)))
-              ∙ by_calls.by_call d other has (sym (get_or-set_other old.closed seat other (closes item) false apart_seats) ∙ now)
+              ap (list_any closes) (items_of-push_other d calls call differ) ∙ follow.by_call d other has (sym (shut_before other (apart_seats d other has differ)) ∙ shut)
         ]
+
+    moved : (d other : ℕ) → HasSeat seats d other → session_after (state_of old) (call_of seat item reply) other ≡ session_after (state_after calls) call d
+    moved d other has =
+        elim (cases_eq c d) [
+          | inl same ↦
+              let at : other ≡ seat = one_seat other (subst (λ e. HasSeat seats e other) (sym same) has) in
+              ap (session_after (state_of old) (call_of seat item reply)) at ∙ session_after-alike (state_of old) (state_after calls) (call_of seat item reply) call alike
+              ∙ ap (session_after (state_after calls) call) same
+          | inr differ ↦ session_after-others (state_of old) (state_after calls) (call_of seat item reply) call other d alike (apart_seats d other has differ) differ (follow.session d other has)
+        ]
+
+    by_session : (d other : ℕ) → HasSeat seats d other → session_at new.sessions other ≡ (state_after (calls ++ call ∷ [])).sessions d
+    by_session d other has = answers.sessions other ∙ moved d other has ∙ sym (ap (λ (s : State). s.sessions d) (state_after-push calls call))
 
 -- ---- a turn
 
--- what the sequencer answers at a seat is a call of its connection, made at the state after the list
-pub alike-state : (calls : List Call) (closed : ℕ) (s : Sequencing) (c seat : ℕ) (item : Item) (reply : Reply) → SequencerRefines calls closed s → AreAlike (state_of s) (call_of seat item reply) (state_after calls) (call_of c item reply)
-alike-state calls closed s c seat item reply stands = record { keyspace = stands.table; session = sym (sessions_idle calls c); item = refl; reply = refl }
-
-pub sequencer-answered : (calls : List Call) (closed : ℕ) (old new : Sequencing) (c seat : ℕ) (item : Item) (reply : Reply) → SequencerRefines calls closed old → Answers old seat item reply new
-    → SequencerRefines (calls ++ call_of c item reply ∷ []) closed new
-sequencer-answered calls closed old new c seat item reply stands answers =
+pub sequencer-answered : (calls : List Call) (closed : ℕ) (old new : Sequencing) (c seat : ℕ) (item : Item) (reply : Reply) → SequencerRefines calls closed old
+    → session_at old.sessions seat ≡ (state_after calls).sessions c → Answers old seat item reply new → SequencerRefines (calls ++ call_of c item reply ∷ []) closed new
+sequencer-answered calls closed old new c seat item reply stands session answers =
     let call = call_of c item reply in
     let changes : changes_of (state_of old) (call_of seat item reply) ≡ changes_of (state_after calls) call =
-    changes_of-alike (state_of old) (state_after calls) (call_of seat item reply) call (alike-state calls closed old c seat item reply stands) in
+    changes_of-alike (state_of old) (state_after calls) (call_of seat item reply) call (alike-state calls closed old c seat item reply stands session) in
     let waits = waits-by calls call closed old new (changes_of (state_after calls) call) refl stands.position
     (subst (λ (made : List Change). Moves made old new) changes answers.moves) (record { are = stands.waiting; count = stands.count }) in
     record {
@@ -164,10 +197,17 @@ sequencer-answered calls closed old new c seat item reply stands answers =
       count = waits.count;
     }
 
--- ---- a seat is opened
+-- ---- a seat is opened or closed
 
-pub sequencer-opened : (calls : List Call) (closed seat : ℕ) (s : Sequencing) → SequencerRefines calls closed s → SequencerRefines calls closed (opened seat s)
-sequencer-opened calls closed seat s stands = record { table = stands.table; position = stands.position; before = stands.before; waiting = stands.waiting; count = stands.count }
+pub sequencer-moved : (calls : List Call) (closed seat : ℕ) (now : Option Session) (old new : Sequencing) → MovesSeat old seat now new → SequencerRefines calls closed old → SequencerRefines calls closed new
+sequencer-moved calls closed seat now old new moves stands =
+    record {
+      table = ap records moves.table ∙ stands.table;
+      position = moves.position ∙ stands.position;
+      before = moves.before ∙ stands.before;
+      waiting = subst (AreOpen calls closed) (sym moves.waiting) stands.waiting;
+      count = ap (λ (parts : List Part). closed + length parts) moves.waiting ∙ stands.count;
+    }
 
 -- ---- a group is closed
 
@@ -194,8 +234,9 @@ sequencer-handed calls closed old new group stands hands =
       count = add-zero (position_of calls);
     })
 
-pub by_calls-handed : (calls : List Call) (seats : List (Option ℕ)) (old new : Sequencing) (group : Group) → HandsOut old group new → ClosedByCalls calls seats old → ClosedByCalls calls seats new
-by_calls-handed calls seats old new group hands by_calls = subst (ClosedByCalls calls seats) (sym hands.after) (record { by_call = by_calls.by_call })
+pub follow-handed : (calls : List Call) (seats : List (Option ℕ)) (old new : Sequencing) (group : Group) → HandsOut old group new → SeatsFollow calls seats old → SeatsFollow calls seats new
+follow-handed calls seats old new group hands follow =
+    follow-same calls seats seats old new (λ c seat has. (has, ap (λ (s : Sequencing). slot s.sessions seat) hands.after)) follow
 
 -- and they are the group of all positions after those that were closed
 pub IsGroupOf-handed : (calls : List Call) (closed : ℕ) (old new : Sequencing) (group : Group) → SequencerRefines calls closed old → HandsOut old group new

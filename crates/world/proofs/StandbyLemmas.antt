@@ -15,7 +15,6 @@ use Rattle.model.specs.Image.{Image, IsMapOf, entries_of_lines}
 use Rattle.model.specs.Group.{Contents}
 use Rattle.model.specs.Standing.{Holder, StandsAt}
 use Rattle.model.proofs.CallsLemmas.{keyspace_after-cut_at-append}
-use Rattle.model.proofs.PositionsLemmas.{keyspace_after-cut_at-since}
 use Rattle.mv_keyspace.specs.Table.{records}
 use Rattle.mv_keyspace.proofs.PartTables.{map-from_table}
 use Rattle.wbl_engine.specs.Contents.{IsDurable, Keeps}

@@ -7,6 +7,7 @@ use Rattle.kv_types.specs.declared.reply.Held.{Held}
 use Rattle.kv_types.specs.declared.limits.TheConstants.{REQUEST_LIMITS}
 use Rattle.kv_types.specs.Reading.{items_at}
 use Rattle.lobby.specs.Book.{Book}
+use Rattle.multi_watch.specs.Sessions.{session_at}
 use Rattle.model.specs.declared.call.Call.{Call}
 use Rattle.model.specs.declared.group.TheConstants.{MAX_PARTS}
 use Rattle.model.specs.Call.{is_nonempty, items_of, position_of, state_after}
@@ -29,10 +30,10 @@ use Rattle.world.specs.declared.sessions.Sessions.{Sessions}
 use Rattle.world.specs.Inbound.{HasParsed, InboundRefines}
 use Rattle.world.specs.Outbound.{IsMade, AreMade, GateRefines, OutboundRefines}
 use Rattle.world.specs.Running.{Runs}
-use Rattle.world.specs.Session.{ClientRefines, ConnectionRefines, ConnectionsRefine, HasSeat, SeatsRefine, SessionsRefine, ClosedByCalls, SequencerRefines, TakesTurn, seat_of, seats_of}
+use Rattle.world.specs.Session.{ClientRefines, ConnectionRefines, ConnectionsRefine, HasSeat, SeatsRefine, SessionsRefine, SeatsFollow, SequencerRefines, TakesTurn, seat_of, seats_of}
 use Rattle.world.proofs.SessionLemmas.{AreMade-grows, ConnectionsRefine-grows, ConnectionsRefine-replaced, connection-stands, none-open, over-goes, over-shut, same-seats, with_connection}
 use Rattle.world.proofs.SeatLemmas.{has-at}
-use Rattle.world.proofs.SequencerLemmas.{alike-state, by_calls-answered, open-before, sequencer-answered}
+use Rattle.world.proofs.SequencerLemmas.{alike-state, follow-answered, open-before, sequencer-answered}
 
 -- ---- the list of calls grows
 
@@ -137,10 +138,10 @@ length-made calls [] (held ∷ helds) are = absurd are
 length-made calls (made ∷ mades) [] are = absurd are
 length-made calls (made ∷ mades) (held ∷ helds) are = ap suc (length-made calls mades helds are.1)
 
-open-while-waiting : (w : World) (c seat : ℕ) (seats : List (Option ℕ)) (s : Sequencing) → Sound w → ClosedByCalls w.primary.calls seats s → HasSeat seats c seat → is_nonempty (connection_of w c).inbound.waiting ≡ true → is_closed s seat ≡ false
-open-while-waiting w c seat seats s sound by_calls own waits =
+open-while-waiting : (w : World) (c seat : ℕ) (seats : List (Option ℕ)) (s : Sequencing) → Sound w → SeatsFollow w.primary.calls seats s → HasSeat seats c seat → is_nonempty (connection_of w c).inbound.waiting ≡ true → is_closed s seat ≡ false
+open-while-waiting w c seat seats s sound follow own waits =
     let inbound = (connection_of w c).inbound in
-    false_from_ne_true (is_closed s seat) (λ closed. both_ways (list_any closes (items_of c w.primary.calls)) (none inbound.waiting waits (sound.inbound c).order) (by_calls.by_call c seat own closed))
+    false_from_ne_true (is_closed s seat) (λ closed. both_ways (list_any closes (items_of c w.primary.calls)) (none inbound.waiting waits (sound.inbound c).order) (follow.by_call c seat own closed))
   where
     none : (waiting : List Item) → is_nonempty waiting ≡ true → items_of c w.primary.calls ++ waiting ≡ take (connection_of w c).inbound.offered (asked (connection_of w c).inbound.fed) → list_any closes (items_of c w.primary.calls) ≡ false
     none [] some order = cc
@@ -150,17 +151,17 @@ is_nonempty-some : {X : Type 0} (xs : List X) → is_nonempty xs ≡ true → xs
 is_nonempty-some [] e = λ h. cc
 is_nonempty-some (x ∷ xs) e = λ h. cc
 
-enabled-runs : (w : World) (c : ℕ) (code : Client) (seats : List (Option ℕ)) (s : Sequencing) → Sound w → SequencerRefines w.primary.calls w.primary.committer.closed s → ClosedByCalls w.primary.calls seats s → HasSeat seats c code.seat
+enabled-runs : (w : World) (c : ℕ) (code : Client) (seats : List (Option ℕ)) (s : Sequencing) → Sound w → SequencerRefines w.primary.calls w.primary.committer.closed s → SeatsFollow w.primary.calls seats s → HasSeat seats c code.seat
     → ClientRefines w.primary.calls code (connection_of w c)
     → may_happen w (Turn c) ≡ true → MayRun code s
-enabled-runs w c code seats s sound stands by_calls own connection e =
+enabled-runs w c code seats s sound stands follow own connection e =
     let machine = connection_of w c in
     let parts = four (is_open w c) (is_nonempty machine.inbound.waiting) (has_room machine.outbound.made) (nat_lt (open_changes w) OPEN_CHANGES) e in
     record {
       waits = λ h. is_nonempty-some machine.inbound.waiting parts.1 (sym connection.inbound.waits ∙ h);
       room = omega (arith, ltb-true (length machine.outbound.made) PIPE_ITEMS parts.2, length-made w.primary.calls code.outbound.made.items machine.outbound.made connection.outbound.made);
       few = omega (arith, ltb-true (open_changes w) OPEN_CHANGES parts.3, stands.count);
-      is_open = open-while-waiting w c code.seat seats s sound by_calls own parts.1;
+      is_open = open-while-waiting w c code.seat seats s sound follow own parts.1;
     }
 
 enabled-open : (w : World) (c : ℕ) → may_happen w (Turn c) ≡ true → is_open w c ≡ true
@@ -250,10 +251,10 @@ turn-seated old new c code code' is rest stand =
 -- the sequencer ran nothing
 pub no-turn-unserved : (w : World) (c : ℕ) (old new : Sessions) (code code' : Client) (s s' : Sequencing) → c < length old.connections.items → Open code ≡ slice_index_or old.connections.items c (Open code)
     → (MayRun code s → ⊥) → Sound w → SessionsRefine old w.primary.connections w.primary.calls → SequencerRefines w.primary.calls w.primary.committer.closed s
-    → ClosedByCalls w.primary.calls (seats_of old.connections.items) s → LeavesRest old new c code code'
+    → SeatsFollow w.primary.calls (seats_of old.connections.items) s → LeavesRest old new c code code'
     → code'.inbound.asked.items ≡ code.inbound.asked.items → code'.inbound.waiting.items ≡ code.inbound.waiting.items → code'.outbound.made.items ≡ code.outbound.made.items
     → new.calls.items ≡ old.calls.items → new.replies.items ≡ [] → s' ≡ s → TakesTurn w c false new s s'
-no-turn-unserved w c old new code code' s s' lt is never sound stands sequencer by_calls rest asked_same waiting_same made_same calls_same replies same =
+no-turn-unserved w c old new code code' s s' lt is never sound stands sequencer follow rest asked_same waiting_same made_same calls_same replies same =
     let here : ClientRefines w.primary.calls code (connection_of w c) = client-stands w c old code stands lt is in
     let own = has-at old.connections.items c code.seat (Open code) lt is refl in
     let machine = connection_of w c in
@@ -268,7 +269,7 @@ no-turn-unserved w c old new code code' s s' lt is never sound stands sequencer 
         remote = ap (λ seen. seen.remote) rest.seen ∙ here.outbound.remote;
       };
     } in
-    no-turn w c new s s' (λ e. never (enabled-runs w c code (seats_of old.connections.items) s sound sequencer by_calls own here e)) (record {
+    no-turn w c new s s' (λ e. never (enabled-runs w c code (seats_of old.connections.items) s sound sequencer follow own here e)) (record {
       seats = turn-seated old new c code code' is rest stands.seats;
       connections_stand = subst (λ (codes : List Connection). ConnectionsRefine w.primary.calls codes w.primary.connections) (sym rest.connections)
           (ConnectionsRefine-replaced w.primary.calls c old.connections.items w.primary.connections (Open code') stands.connections_stand at);
@@ -281,18 +282,19 @@ no-turn-unserved w c old new code code' s s' lt is never sound stands sequencer 
 -- the sequencer ran the first item that waits
 pub turn-taken : (w : World) (c : ℕ) (old new : Sessions) (code code' : Client) (s s' : Sequencing) (held : Held) → c < length old.connections.items → Open code ≡ slice_index_or old.connections.items c (Open code)
     → length code.outbound.made.items < PIPE_ITEMS → Sound w → SessionsRefine old w.primary.connections w.primary.calls → SequencerRefines w.primary.calls w.primary.committer.closed s
-    → ClosedByCalls w.primary.calls (seats_of old.connections.items) s → LeavesRest old new c code code'
+    → SeatsFollow w.primary.calls (seats_of old.connections.items) s → LeavesRest old new c code code'
     → (runs : Runs s code.seat code.inbound.waiting.items held code'.inbound.waiting.items s')
     → code'.inbound.asked.items ≡ drop 1 code.inbound.asked.items → code'.outbound.made.items ≡ code.outbound.made.items ++ record { call = length old.calls.items; position = held.position } ∷ []
     → new.calls.items ≡ old.calls.items ++ call_of c runs.item held.reply ∷ [] → new.replies.items ≡ [] → TakesTurn w c true new s s'
-turn-taken w c old new code code' s s' held lt is room sound stands sequencer by_calls rest runs asked_now made_now calls_now replies =
+turn-taken w c old new code code' s s' held lt is room sound stands sequencer follow rest runs asked_now made_now calls_now replies =
     let machine = connection_of w c in
     let here : ClientRefines w.primary.calls code machine = client-stands w c old code stands lt is in
     let own = has-at old.connections.items c code.seat (Open code) lt is refl in
     let call = call_of c runs.item held.reply in
     let calls' = w.primary.calls ++ call ∷ [] in
     let answers : Answers s code.seat runs.item held.reply s' = runs.answers in
-    let after : SequencerRefines calls' w.primary.committer.closed s' = sequencer-answered w.primary.calls w.primary.committer.closed s s' c code.seat runs.item held.reply sequencer answers in
+    let session : session_at s.sessions code.seat ≡ (state_after w.primary.calls).sessions c = follow.session c code.seat own in
+    let after : SequencerRefines calls' w.primary.committer.closed s' = sequencer-answered w.primary.calls w.primary.committer.closed s s' c code.seat runs.item held.reply sequencer session answers in
     let asks = first-asked code.inbound machine.inbound runs.item code'.inbound.waiting.items here.inbound runs.first in
     let reply : Held = record { reply = held.reply; position = position_of calls' } in
     let at : ClientRefines calls' code' (with_outbound (with_made reply) (with_inbound taken_first machine)) = record {
@@ -313,7 +315,7 @@ turn-taken w c old new code code' s s' held lt is room sound stands sequencer by
           connection = refl;
           first = ap (take 1) waits;
           reply = MayReply-alike (state_of s) (state_after w.primary.calls) (call_of code.seat runs.item held.reply) call
-              (alike-state w.primary.calls w.primary.committer.closed s c code.seat runs.item held.reply sequencer) answers.legal;
+              (alike-state w.primary.calls w.primary.committer.closed s c code.seat runs.item held.reply sequencer session) answers.legal;
           now = refl;
         },
         record {
@@ -325,8 +327,8 @@ turn-taken w c old new code code' s s' held lt is room sound stands sequencer by
           no_reply = replies;
         },
         after,
-        subst (λ (seats : List (Option ℕ)). ClosedByCalls calls' seats s') (sym (turn-seats old new c code code' is rest))
-            (by_calls-answered w.primary.calls (seats_of old.connections.items) s s' c code.seat runs.item held.reply own stands.seats.are_apart by_calls answers),
+        subst (λ (seats : List (Option ℕ)). SeatsFollow calls' seats s') (sym (turn-seats old new c code code' is rest))
+            (follow-answered w.primary.calls w.primary.committer.closed (seats_of old.connections.items) s s' c code.seat runs.item held.reply own stands.seats.are_apart sequencer follow answers),
       );
       stays = λ did. cc;
     }

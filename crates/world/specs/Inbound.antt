@@ -1,6 +1,5 @@
 -- How a connection's inbound half refines the machine's.
 use Rattle.std.specs.Prelude.{◌≡◌, ℕ, ◌+◌, ◌≤◌, Bool, true, false, not, ◌&&◌, nat_lt, List, [], ◌++◌, length, take, drop, Option}
-use Rattle.kv_types.specs.declared.item.Item.{Item}
 use Rattle.kv_types.specs.declared.limits.TheConstants.{REQUEST_LIMITS}
 use Rattle.kv_types.specs.Reading.{items_at}
 use Rattle.machine.specs.Event.{Inbound as Machine, asked, is_closed_by, fed_with, offered_next, has_room}

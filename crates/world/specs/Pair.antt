@@ -16,7 +16,7 @@ use Rattle.machine.specs.Sound.{Sound}
 use Rattle.world.specs.Cause.{EndsBy}
 use Rattle.world.specs.Committing.{Committing, EngineStands, Leads, Moves, CommittingRefines, next_primary, next_standby}
 use Rattle.world.specs.Link.{AreFramesSent, LinkRefines}
-use Rattle.world.specs.Session.{SessionsRefine, SequencerRefines, ClosedByCalls, AddsOne, released_of, seats_of}
+use Rattle.world.specs.Session.{SessionsRefine, SequencerRefines, SeatsFollow, AddsOne, released_of, seats_of}
 use Rattle.world.specs.Standby.{Node, StandbyStands, ArrivalsRefine}
 use Rattle.world.specs.declared.arrivals.Arrivals.{Arrivals}
 use Rattle.world.specs.declared.sessions.Sessions.{Sessions}
@@ -45,7 +45,7 @@ pub record Pair : Type 0 where
 pub record PartsRefine (first second : Holder) (pair : Pair) (w : World) : Type 0 where
   pub sessions : SessionsRefine pair.sessions w.primary.connections w.primary.calls
   pub sequencer : SequencerRefines w.primary.calls w.primary.committer.closed pair.sequencer
-  pub by_calls : ClosedByCalls w.primary.calls (seats_of pair.sessions.connections.items) pair.sequencer
+  pub follow : SeatsFollow w.primary.calls (seats_of pair.sessions.connections.items) pair.sequencer
   pub committing : CommittingRefines w.primary.calls pair.committing w.primary.committer
   pub engine : EngineStands first w.primary.calls w.primary.committer.position pair.device pair.contents pair.is_faulted
   pub leads : Leads pair.contents pair.committing.waiting.items pair.sequencer

@@ -4,9 +4,10 @@ use Rattle.std.specs.Global.{Global}
 use Rattle.std.specs.List.{list_any}
 use Rattle.pipes.specs.declared.limits.TheConstants.{MAX_SEATS}
 use Rattle.lobby.specs.Book.{Status, free, taken}
+use Rattle.multi_watch.specs.Sessions.{session_at}
 use Rattle.model.specs.declared.call.Call.{Call}
 use Rattle.model.specs.declared.group.Part.{Part}
-use Rattle.model.specs.Call.{items_of, keyspace_after, position_of}
+use Rattle.model.specs.Call.{items_of, keyspace_after, position_of, state_after}
 use Rattle.model.specs.Command.{closes}
 use Rattle.model.specs.Group.{changes_of_part}
 use Rattle.model.specs.Position.{changes_at}
@@ -123,13 +124,16 @@ pub record SequencerRefines (calls : List Call) (closed : ℕ) (s : Sequencing) 
   pub waiting : AreOpen calls closed s.waiting
   pub count : closed + length s.waiting ≡ position_of calls
 
--- Where the seat of an open connection is closed, a call of this connection closed it, and none of one that had the seat before.
-pub record ClosedByCalls (calls : List Call) (seats : List (Option ℕ)) (s : Sequencing) : Type 0 where
+-- Each seat of an open connection follows the calls of this connection, whatever one that had the seat before left there.
+pub record SeatsFollow (calls : List Call) (seats : List (Option ℕ)) (s : Sequencing) : Type 0 where
+  -- where it is closed, one of them closed it
   pub by_call : (c seat : ℕ) → HasSeat seats c seat → is_closed s seat ≡ true → list_any closes (items_of c calls) ≡ true
+  -- it has the session that the list leaves to the connection
+  pub session : (c seat : ℕ) → HasSeat seats c seat → session_at s.sessions seat ≡ (state_after calls).sessions c
 
 -- the outcome of a turn: the sequencer ran the first waiting item, or nothing changed
 pub record TakesTurn (w : World) (c : ℕ) (did : Bool) (sessions : Sessions) (old new : Sequencing) : Type 0 where
   pub done : did ≡ may_happen w (Turn c)
   pub goes : did ≡ true → (w' : World) × Turns w c w' × SessionsRefine sessions w'.primary.connections w'.primary.calls × SequencerRefines w'.primary.calls w'.primary.committer.closed new
-      × ClosedByCalls w'.primary.calls (seats_of sessions.connections.items) new
+      × SeatsFollow w'.primary.calls (seats_of sessions.connections.items) new
   pub stays : did ≡ false → SessionsRefine sessions w.primary.connections w.primary.calls × (new ≡ old)

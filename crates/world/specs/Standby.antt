@@ -1,5 +1,5 @@
 -- How the standby, and what waits for it, refine the machine's.
-use Rattle.std.specs.Prelude.{◌≡◌, ℕ, Bool, true, false, List, [], ◌∷◌, take, map}
+use Rattle.std.specs.Prelude.{◌≡◌, ℕ, Bool, true, false, List, map}
 use Rattle.pmem.specs.Device.{State}
 use Rattle.extent_heap.specs.Room.{Room}
 use Rattle.model.specs.declared.call.Call.{Call}

@@ -246,6 +246,6 @@ impl<E: Durable, K: Keyspace> Pair<E, K> {
     fn leave(&mut self, c: u64) -> Result<bool, Refusal>
         ensures { Does (⟦<Pair<E, K> as Stepper>⟧.parts self.old) (events.Leave c) result (⟦<Pair<E, K> as Stepper>⟧.parts self.new) }
     {
-        Ok(self.sessions.leave(self.alloc, c))
+        Ok(self.sessions.leave(self.alloc, c, &mut self.sequencer))
     }
 }

@@ -1,5 +1,5 @@
 //! The connections, and the one list of calls that the sequencer makes of their items.
-ghost use Rattle.std.specs.Prelude.{◌≡◌, ◌≢◌, ℕ, ◌+◌, ◌<◌, ◌≤◌, ◌∷◌, ◌++◌, [], true, false, List, length, IfOk, IfErr, IfNone, IfSome, IsSome, OnErr, vec_len, vec_capacity};
+ghost use Rattle.std.specs.Prelude.{◌≡◌, ◌≢◌, ℕ, ◌+◌, ◌<◌, ◌≤◌, ◌∷◌, ◌++◌, [], true, false, List, length, None, IfOk, IfErr, IfNone, IfSome, IsSome, OnErr, vec_len, vec_capacity};
 ghost use Rattle.kv_types.specs.declared.item.Item.{Item};
 ghost use Rattle.model.specs.declared.call.Call.{Call};
 ghost use Rattle.model.specs.Group.{Contents};
@@ -7,11 +7,11 @@ ghost use Rattle.model.specs.declared.group.TheConstants.{MAX_PARTS};
 ghost use Rattle.machine.specs.declared.event.Event.TheVariants.{Enter, Feed, Offer, Hold, Read, Release, Write, Leave};
 ghost use Rattle.machine.specs.Event.{World, may_happen, new_connection, changed_at, with_inbound, with_outbound, fed_with, offered_next, held_first, having_read, having_released, written, left};
 ghost use Rattle.machine.specs.Sound.{Sound};
-ghost use Rattle.redis_core.specs.Sequencing.{IsAheadOf, is_closed};
+ghost use Rattle.redis_core.specs.Sequencing.{IsAheadOf, MovesSeat, is_closed};
 ghost use Rattle.redis_core.specs.Turn.{call_of};
 ghost use Rattle.world.specs.Going.{Goes};
 ghost use Rattle.world.specs.Running.{Runs};
-ghost use Rattle.world.specs.Session.{SessionsRefine, SequencerRefines, ClosedByCalls, KeepsSeats, AddsOne, TakesTurn, TellsTheSame, seats_of};
+ghost use Rattle.world.specs.Session.{SessionsRefine, SequencerRefines, SeatsFollow, HasSeat, KeepsSeats, AddsOne, TakesTurn, TellsTheSame, seats_of};
 
 use crate::connection::{Client, Connection};
 use crate::inbound::Inbound;
@@ -61,9 +61,9 @@ impl Sessions {
     ) -> Result<bool, Refusal>
         ensures goes { IfOk result (λ did. (w : World) → SessionsRefine self.old w.primary.connections w.primary.calls
             → Goes (may_happen w Enter) did (SessionsRefine self.new (w.primary.connections ++ new_connection ∷ []) w.primary.calls) (SessionsRefine self.new w.primary.connections w.primary.calls)) }
-        // The sequencer finds the seat open, whatever closed it for the connection before.
-        ensures by_calls { IfOk result (λ did. (w : World) → SessionsRefine self.old w.primary.connections w.primary.calls
-            → ClosedByCalls w.primary.calls (seats_of self.old.connections.items) sequencer.old → ClosedByCalls w.primary.calls (seats_of self.new.connections.items) sequencer.new) }
+        // The sequencer finds the seat open and its session idle, whatever the connection before left there.
+        ensures follow { IfOk result (λ did. (w : World) → Sound w → SessionsRefine self.old w.primary.connections w.primary.calls
+            → SeatsFollow w.primary.calls (seats_of self.old.connections.items) sequencer.old → SeatsFollow w.primary.calls (seats_of self.new.connections.items) sequencer.new) }
         ensures sequencer { (calls : List Call) (closed : ℕ) → SequencerRefines calls closed sequencer.old → SequencerRefines calls closed sequencer.new }
         ensures stands { (contents : Contents) → IsAheadOf sequencer.old contents → IsAheadOf sequencer.new contents }
         ensures told { OnErr result (TellsTheSame self.old self.new) }
@@ -75,7 +75,7 @@ impl Sessions {
         let Ok(seat) = self.lobby.enter() else {
             return Ok(false);
         };
-        sequencer.open_seat(&seat);
+        sequencer.open_seat(alloc, &seat)?;
         self.connections.reserve(1)?;
         self.connections.push_reserved(Connection::Open(Client {
             seat,
@@ -209,13 +209,24 @@ impl Sessions {
         }
     }
 
-    /// Ends a connection: what waits at it is dropped, and its seat is free again. Its calls stay, and so does what was written to it. Returns whether it
-    /// was open.
-    pub(crate) fn leave(&mut self, alloc: Global, c: u64) -> bool
+    /// Ends a connection: what waits at it is dropped, and its seat is free again, closed in the sequencer, which keeps no queue and no watch of it. Its
+    /// calls stay, and so does what was written to it. Returns whether it was open.
+    pub(crate) fn leave<K: Keyspace>(
+        &mut self,
+        alloc: Global,
+        c: u64,
+        sequencer: &mut Sequencer<K>,
+    ) -> bool
         ensures goes { (w : World) → SessionsRefine self.old w.primary.connections w.primary.calls
             → Goes (may_happen w (Leave c)) result
             (SessionsRefine self.new (changed_at c left w.primary.connections) w.primary.calls)
             (SessionsRefine self.new w.primary.connections w.primary.calls) }
+        ensures closed { (seat : ℕ) → HasSeat (seats_of self.old.connections.items) c seat → MovesSeat sequencer.old seat None sequencer.new }
+        ensures stays { result ≡ false → sequencer.new ≡ sequencer.old }
+        ensures follow { (w : World) → SessionsRefine self.old w.primary.connections w.primary.calls
+            → SeatsFollow w.primary.calls (seats_of self.old.connections.items) sequencer.old → SeatsFollow w.primary.calls (seats_of self.new.connections.items) sequencer.new }
+        ensures sequencer { (calls : List Call) (closed : ℕ) → SequencerRefines calls closed sequencer.old → SequencerRefines calls closed sequencer.new }
+        ensures stands { (contents : Contents) → IsAheadOf sequencer.old contents → IsAheadOf sequencer.new contents }
         ensures seats { KeepsSeats self.old.connections.items self.new.connections.items }
         ensures calls { self.new.calls ≡ self.old.calls }
     {
@@ -225,6 +236,7 @@ impl Sessions {
         let Some(seat) = connection.leave(alloc) else {
             return false;
         };
+        sequencer.close_seat(&seat);
         self.lobby.leave(seat);
         true
     }
@@ -240,7 +252,7 @@ impl Sessions {
         requires { vec_len self.old.calls < vec_capacity self.old.calls }
         ensures turns { (w : World) → Sound w → SessionsRefine self.old w.primary.connections w.primary.calls
             → SequencerRefines w.primary.calls w.primary.committer.closed sequencer.old
-            → ClosedByCalls w.primary.calls (seats_of self.old.connections.items) sequencer.old
+            → SeatsFollow w.primary.calls (seats_of self.old.connections.items) sequencer.old
             → TakesTurn w c result self.new sequencer.old sequencer.new }
         ensures stands { (contents : Contents) → IsAheadOf sequencer.old contents → IsAheadOf sequencer.new contents }
         ensures seats { KeepsSeats self.old.connections.items self.new.connections.items }

@@ -1,6 +1,4 @@
-use Rattle.std.proofs.Common.{◌≡◌, ℕ, ◌++◌, Bool, true, List, length, take, drop, refl, sym, ap, ap₂, ◌∙◌}
-use Rattle.model.specs.declared.call.Call.{Call}
-use Rattle.machine.specs.Event.{Outbound as Machine}
+use Rattle.std.proofs.Common.{◌++◌, take, drop, sym, ap₂, ◌∙◌}
 use Rattle.reply_gate.specs.Gate.{covered_bytes, is_first_covered, uncovered_rest}
 use Rattle.world.proofs.OutboundLemmas.{first_covered, gate-lets_out}
 use Rattle.world.proofs.outbound.Outbound.release.Goals as goal

@@ -1,11 +1,12 @@
-use Rattle.std.proofs.Common.{refl, sym, ◌∙◌}
+use Rattle.std.proofs.Common.{None, refl, sym, ◌∙◌}
 use Rattle.world.specs.declared.sessions.Sessions.{Sessions}
 use Rattle.world.proofs.SessionLemmas.{none-goes, over-goes, with_connection}
-use Rattle.world.proofs.SeatLemmas.{left-goes, left-keeps, own-taken}
+use Rattle.world.proofs.SequencerLemmas.{sequencer-moved}
+use Rattle.world.proofs.SeatLemmas.{closes-own, follow-kept, left-follow, left-goes, left-keeps, none-seated, none-seated_past, own-taken}
 use Rattle.world.proofs.sessions.Sessions.leave.Goals as goal
 
 pub returns-clause-goes : goal.returns-clause-goes
-returns-clause-goes c = λ w stand.
+returns-clause-goes g c = λ w stand.
     let old = c.args.self.now in
     let code = c.in-Some.connection.now in
     let seat = c.in-Some-leave.seat in
@@ -16,15 +17,40 @@ returns-clause-goes c = λ w stand.
     (c.leave-2.ensures.moves (own-taken w old c.args.c seat code stand within c.in-Some.ensures.value own)) refl refl refl
 
 pub returns-clause-seats : goal.returns-clause-seats
-returns-clause-seats c = left-keeps c.args.self.now.connections.items c.args.c c.leave.new.self c.leave.ensures.over
+returns-clause-seats g c = left-keeps c.args.self.now.connections.items c.args.c c.leave.new.self c.leave.ensures.over
 
 pub returns-in_default-clause-goes : goal.returns-in_default-clause-goes
-returns-in_default-clause-goes c = λ w stand. none-goes (λ b. b) w c.args.self.now c.args.c c.in_default.ensures.item.3 refl stand
+returns-in_default-clause-goes g c = λ w stand. none-goes (λ b. b) w c.args.self.now c.args.c c.in_default.ensures.item.3 refl stand
 
 pub returns-in_default-leave-clause-goes : goal.returns-in_default-leave-clause-goes
-returns-in_default-leave-clause-goes c = λ w stand.
+returns-in_default-leave-clause-goes g c = λ w stand.
     over-goes (λ b. b) w c.args.self.now c.args.c c.in-Some.connection.now c.leave.new.self c.in-Some.ensures.item.3.0 c.in-Some.ensures.value
     (sym c.leave.ensures.seat ∙ c.in_default-leave.is) c.leave.ensures.over c.leave.ensures.bytes refl stand
 
 pub returns-in_default-leave-clause-seats : goal.returns-in_default-leave-clause-seats
-returns-in_default-leave-clause-seats c = left-keeps c.args.self.now.connections.items c.args.c c.leave.new.self c.leave.ensures.over
+returns-in_default-leave-clause-seats g c = left-keeps c.args.self.now.connections.items c.args.c c.leave.new.self c.leave.ensures.over
+
+pub returns-clause-closed : goal.returns-clause-closed
+returns-clause-closed g c =
+    let old = c.args.self.now in
+    closes-own old.connections.items c.args.c c.in-Some-leave.seat c.in-Some.connection.now c.args.sequencer.now c.close_seat.new.self c.in-Some.ensures.value
+    (sym c.leave.ensures.seat ∙ c.in-Some-leave.is) c.close_seat.ensures.closed
+
+pub returns-clause-follow : goal.returns-clause-follow
+returns-clause-follow g c = λ w stand follow.
+    left-follow w c.args.self.now c.args.c c.in-Some-leave.seat c.in-Some.connection.now c.leave.new.self c.args.sequencer.now c.close_seat.new.self stand c.in-Some.ensures.item.3.0
+    c.in-Some.ensures.value (sym c.leave.ensures.seat ∙ c.in-Some-leave.is) c.leave.ensures.over c.close_seat.ensures.closed follow
+
+pub returns-clause-sequencer : goal.returns-clause-sequencer
+returns-clause-sequencer g c = λ calls closed stands. sequencer-moved calls closed c.in-Some-leave.seat None c.args.sequencer.now c.close_seat.new.self c.close_seat.ensures.closed stands
+
+pub returns-in_default-clause-closed : goal.returns-in_default-clause-closed
+returns-in_default-clause-closed g c = λ seat seated. absurd (none-seated_past c.args.self.now.connections.items c.args.c seat c.in_default.ensures.item.3 seated)
+
+pub returns-in_default-leave-clause-closed : goal.returns-in_default-leave-clause-closed
+returns-in_default-leave-clause-closed g c = λ seat seated.
+    absurd (none-seated c.args.self.now.connections.items c.args.c seat c.in-Some.connection.now c.in-Some.ensures.value (sym c.leave.ensures.seat ∙ c.in_default-leave.is) seated)
+
+pub returns-in_default-leave-clause-follow : goal.returns-in_default-leave-clause-follow
+returns-in_default-leave-clause-follow g c = λ w stand follow.
+    follow-kept w.primary.calls c.args.self.now.connections.items _ c.args.sequencer.now (left-keeps c.args.self.now.connections.items c.args.c c.leave.new.self c.leave.ensures.over) follow
