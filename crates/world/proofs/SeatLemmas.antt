@@ -365,8 +365,7 @@ pub left-follow : (w : World) (old : Sessions) (c seat : ℕ) (code code' : Conn
 left-follow w old c seat code code' s s' stand within is own none closes follow =
     let codes = old.connections.items in
     follow-same w.primary.calls (seats_of codes) (seats_of (slice_set codes c code')) s s' (λ d other has.
-    let before = has-cleared (seats_of codes) c d other (subst (λ (seats : List (Option ℕ)). HasSeat seats d other) (seats-cleared codes c code' none) has) in
-    (
+    let before = has-cleared (seats_of codes) c d other (subst (λ (seats : List (Option ℕ)). HasSeat seats d other) (seats-cleared codes c code' none) has) in (
       before.0,
       closes.sessions.others other (λ same. before.1 (stand.seats.are_apart d c seat (subst (HasSeat (seats_of codes) d) same before.0) (has-at codes c seat code within is own))),
     )) follow

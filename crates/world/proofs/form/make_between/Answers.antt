@@ -4,7 +4,6 @@ use Rattle.kv_types.specs.declared.refusal.Refusal.{Refusal}
 use Rattle.kv_types.specs.declared.refusal.Refusal.TheVariants.{Memory}
 use Rattle.pipes.specs.declared.limits.TheConstants.{MAX_SEATS}
 use Rattle.placing.proofs.BesideLemmas.{beside-empty}
-use Rattle.standby.proofs.NewLemmas.{HasAll}
 use Rattle.world.proofs.FormLemmas.{only-memory, sequencer-starts, underlies-new}
 use Rattle.world.proofs.form.make_between.Goals as goal
 
