@@ -9,8 +9,8 @@ use Rattle.multi_watch.specs.declared.verb.Verb.TheVariants as verb
 use Rattle.multi_watch.specs.declared.error.SessionError.{SessionError}
 use Rattle.multi_watch.specs.declared.error.SessionError.TheVariants.{NestedMulti, ExecOutside, DiscardOutside, WatchInside, TooLong, Aborted}
 use Rattle.multi_watch.specs.Session.{Session, idle_session, spoiled, has_modified, with_watched, watching}
-use Rattle.multi_watch.specs.Admission.{Admission, Answer, Run, RunAll, Step, admit, answers, refuses, runs, ok_reply, step_of, after_misuse, after_multi, after_closing, after_exec, after_discard, after_watch}
-use Rattle.multi_watch.specs.Admission.{after_waiting, after_unwatch, after_other, has_room, refused_of, session_after_request, session_after_refusal}
+use Rattle.multi_watch.specs.Admission.{Answer, Run, RunAll, Step, admit, answers, refuses, runs, ok_reply, step_of, after_misuse, after_multi, after_closing, after_exec, after_discard, after_watch}
+use Rattle.multi_watch.specs.Admission.{after_waiting, after_unwatch, has_room, refused_of, session_after_request, session_after_refusal}
 use Rattle.multi_watch.specs.Verb.{verb_of}
 use Rattle.model.specs.Call.{is_memory}
 

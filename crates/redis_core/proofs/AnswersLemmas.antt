@@ -1,5 +1,5 @@
 -- An answer is a legal entry of the list, whether its request was run, queued, answered or refused.
-use Rattle.std.proofs.Common.{◌≡◌, ◌≢◌, ℕ, ◌+◌, ◌<◌, ◌≤◌, ◌⊎◌, inl, inr, Bool, true, false, cond, if◌then◌else◌, nat_eq, not, is_some, map, List, [], ◌∷◌, ◌++◌, length, codes, Option, Some, None, refl, sym, ap, ap₂, subst, subst₂, ◌∙◌, arith, eq-eqb, ne_eqb, append-nil}
+use Rattle.std.proofs.Common.{◌≡◌, ◌≢◌, ℕ, ◌+◌, ◌⊎◌, inl, inr, Bool, true, false, cond, if◌then◌else◌, nat_eq, not, is_some, map, List, [], ◌∷◌, ◌++◌, length, codes, Option, Some, None, refl, sym, ap, subst, subst₂, ◌∙◌, arith, eq-eqb, ne_eqb, append-nil}
 use Rattle.std.proofs.lemmas.Bool.{cases_eq}
 use Rattle.std.specs.Option.{option_map}
 use Rattle.kv_types.specs.declared.change.Change.{Change}
@@ -9,16 +9,13 @@ use Rattle.kv_types.specs.declared.item.ProtocolFault.{ProtocolFault}
 use Rattle.kv_types.specs.declared.reply.Reply.{Reply, Error, Array}
 use Rattle.kv_types.specs.Fault.{fault_message}
 use Rattle.kv_types.specs.Keyspace.{Keyspace, play_all}
-use Rattle.cmd_table.specs.Request.{closes as request_closes}
 use Rattle.multi_watch.specs.Session.{Session, idle_session, modified_where}
 use Rattle.multi_watch.specs.Admission.{Admission, Answer, Run, RunAll, admit, session_after_request, session_after_refusal}
 use Rattle.multi_watch.specs.Modified.{modifies}
 use Rattle.multi_watch.specs.Sessions.{Sessions, Moves as MovesSession, slot, session_of, session_at}
-use Rattle.model.specs.declared.call.TheConstants.{MAX_CHANGE_TEXT_BYTES}
-use Rattle.model.specs.declared.image.TheConstants.{COUNTER_LIMIT}
 use Rattle.model.specs.declared.group.Part.{Part}
 use Rattle.model.specs.declared.group.PlacedChange.{PlacedChange}
-use Rattle.model.specs.Call.{admission_at, MayAnswer, MayStandAll, all_made, made, changes_for, changes_of, full_reply, memory_reply, replies_in, is_memory, is_nonempty, session_after_item, session_before_marks, session_after}
+use Rattle.model.specs.Call.{admission_at, MayAnswer, all_made, made, changes_for, changes_of, full_reply, memory_reply, replies_in, is_memory, is_nonempty, session_after_item}
 use Rattle.model.specs.Command.{closes, outcome_of}
 use Rattle.model.specs.Group.{change_of, changes_of_part}
 use Rattle.model.proofs.CallsLemmas.{changes_for-error}
@@ -29,7 +26,6 @@ use Rattle.placing.specs.Performs.{Performs}
 use Rattle.placing.specs.Place.{HasRoomFor, TakesPlaces}
 use Rattle.redis_core.specs.declared.running.Running.{Running}
 use Rattle.redis_core.specs.Marking.{Marks}
-use Rattle.redis_core.specs.Seats.{is_closed_at}
 use Rattle.redis_core.specs.Sequencing.{Sequencing, MovesSeat, is_closed, state_of}
 use Rattle.redis_core.specs.Serving.{Runs, Acts, AnswersRequest, Finishes, RefusesMemory}
 use Rattle.redis_core.specs.Stored.{Stored, AreUnderWay}

@@ -1,5 +1,5 @@
 -- What a request that is run may be answered, and what it makes.
-use Rattle.std.proofs.Common.{◌≡◌, ◌≢◌, ℕ, ◌+◌, ◌<◌, ◌≤◌, inl, inr, List, [], ◌++◌, codes, refl, sym, ap, subst, ◌∙◌, arith, append-nil, add-zero}
+use Rattle.std.proofs.Common.{◌≡◌, ℕ, ◌+◌, ◌≤◌, inl, inr, List, codes, refl, sym, ap, subst, ◌∙◌, arith, add-zero}
 use Rattle.kv_types.specs.declared.change.Change.{Change}
 use Rattle.kv_types.specs.declared.refusal.Refusal.{Refusal}
 use Rattle.kv_types.specs.declared.refusal.Refusal.TheVariants as refusal
@@ -10,7 +10,6 @@ use Rattle.model.specs.Call.{MayStand, full_reply, memory_reply, too_large_reply
 use Rattle.model.specs.Command.{outcome_of}
 use Rattle.model.proofs.RequestLemmas.{made-own}
 use Rattle.mv_keyspace.specs.Table.{records}
-use Rattle.placing.specs.Performs.{IsSamePart}
 use Rattle.placing.specs.Place.{HasRoomFor}
 use Rattle.redis_core.specs.declared.running.Running.{Running}
 use Rattle.redis_core.specs.Serving.{refusal_reply}

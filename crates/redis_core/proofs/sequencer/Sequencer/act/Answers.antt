@@ -1,7 +1,7 @@
-use Rattle.std.proofs.Common.{◌∷◌, [], ℕ, List, sym, ap, subst}
+use Rattle.std.proofs.Common.{ℕ, List, sym, ap, subst}
 use Rattle.multi_watch.specs.Admission.{Admission, act_now}
-use Rattle.redis_core.specs.Serving.{Acts, RefusesMemory, Runs}
-use Rattle.redis_core.proofs.AnswersLemmas.{acts-answer, acts-run_all, array-known}
+use Rattle.redis_core.specs.Serving.{Acts, Runs}
+use Rattle.redis_core.proofs.AnswersLemmas.{acts-answer, acts-run_all}
 use Rattle.redis_core.proofs.sequencer.Sequencer.act.Goals as goal
 
 pub returns-in-Answer-clause-acts : goal.returns-in-Answer-clause-acts

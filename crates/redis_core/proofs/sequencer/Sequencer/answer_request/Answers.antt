@@ -1,4 +1,4 @@
-use Rattle.std.proofs.Common.{refl, sym, ap, subst, ◌∙◌}
+use Rattle.std.proofs.Common.{refl, sym, ap, subst}
 use Rattle.multi_watch.specs.Admission.{admit}
 use Rattle.multi_watch.specs.Sessions.{session_at}
 use Rattle.redis_core.specs.Sequencing.{Sequencing}

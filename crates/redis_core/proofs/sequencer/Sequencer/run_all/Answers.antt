@@ -1,4 +1,4 @@
-use Rattle.std.proofs.Common.{◌≡◌, ◌+◌, ◌<◌, ℕ, List, refl, ap, subst, arith}
+use Rattle.std.proofs.Common.{◌+◌, refl, ap, subst, arith}
 use Rattle.kv_types.specs.declared.reply.Reply.{Array}
 use Rattle.redis_core.specs.Sequencing.{Sequencing}
 use Rattle.redis_core.specs.Serving.{Runs}

@@ -1,4 +1,4 @@
-use Rattle.std.proofs.Common.{◌≡◌, ◌-◌, vec_len, length, map, take, drop, refl, sym, subst, subst₂, ◌∙◌, eqb-true}
+use Rattle.std.proofs.Common.{◌≡◌, ◌-◌, vec_len, length, map, take, drop, sym, subst, subst₂, ◌∙◌, eqb-true}
 use Rattle.kv_types.specs.Keyspace.{Keyspace}
 use Rattle.model.specs.Group.{change_of}
 use Rattle.mv_keyspace.specs.Table.{records}
