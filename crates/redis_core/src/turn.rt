@@ -11,6 +11,6 @@ pub enum Turn {
     Blocked,
     /// As many changing commands wait for a group as a group may hold.
     GroupFull,
-    /// A protocol fault was answered at this seat: its connection is over.
+    /// No connection is open at this seat: a protocol fault or a request to quit was answered there, or it has left.
     Ended,
 }
