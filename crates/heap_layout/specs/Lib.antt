@@ -3,3 +3,4 @@ pub mod Entry
 pub mod Shape
 pub mod Put
 pub mod Version
+pub mod Versions

@@ -11,7 +11,7 @@ use Rattle.model.specs.Group.{IsGroup, next_record, after_group}
 use Rattle.wbl_engine.specs.AtRest.{contents_of, IsSound, IsAtRest}
 use Rattle.wbl_engine.specs.Contents.{Same}
 use Rattle.heap_layout.specs.Put.{IsStorable}
-use Rattle.wbl_engine.specs.Record.{IsRecorded, IsRecordFault, IsSucceeded, IsEitherRecord}
+use Rattle.wbl_record.specs.Record.{IsRecorded, IsRecordFault, IsSucceeded, IsEitherRecord}
 use Rattle.wbl_engine.specs.Stage.{puts_of_parts, parts_pairs, parts_lines}
 use Rattle.wbl_engine.proofs.Committing.{IsBeforeOrAfter, stage_moments, commit_moments, stage_succeeded}
 use Rattle.wbl_engine.proofs.Ending.{commit_rest, commit_same, fault_same, recorded_made, stage_made, contents_moved}

@@ -13,13 +13,13 @@ use Rattle.model.specs.Group.{Versions, IsGroup, next_record, after_group, parts
 use Rattle.wbl_engine.specs.AtRest.{contents_of, IsAtRest, Matters}
 use Rattle.wbl_engine.specs.Contents.{Keeps}
 use Rattle.heap_layout.specs.Put.{IsStorable}
-use Rattle.wbl_engine.specs.Record.{IsRecordWord, IsSucceeded, IsEitherRecord}
+use Rattle.wbl_record.specs.Record.{IsRecordWord, IsSucceeded, IsEitherRecord}
 use Rattle.wbl_engine.specs.Stage.{puts_of_parts, parts_pairs, parts_lines}
 use Rattle.wbl_engine.proofs.AfterStage.{after_fits, stage_certain}
 use Rattle.wbl_engine.proofs.Beginning.{rest_fits, group_staging}
-use Rattle.wbl_engine.proofs.Mixing.{IsMixed, mixed}
+use Rattle.wbl_record.proofs.Mixing.{IsMixed, mixed}
 use Rattle.wbl_engine.proofs.PartSteps.{Fits}
-use Rattle.wbl_engine.proofs.RecordWords.{HasRecord-same}
+use Rattle.wbl_record.proofs.RecordWords.{HasRecord-same}
 use Rattle.wbl_engine.proofs.StageImages.{HasSuperblock-same, keeps_old, stage_keeps}
 use Rattle.wbl_engine.proofs.Staged.{IsStaging, IsStagedOver, staging_before, staged_same, staged_begins, staged_ends}
 

@@ -15,7 +15,7 @@ use Rattle.model.specs.Group.{Contents, Versions, IsGroup, IsPlaced, is_put_at, 
 use Rattle.wbl_engine.specs.AtRest.{contents_of, IsSound, IsWhole, IsInPlace, IsAtRest, Matters}
 use Rattle.wbl_engine.specs.Contents.{Same}
 use Rattle.heap_layout.specs.Put.{IsStorable, entry_words}
-use Rattle.wbl_engine.specs.Record.{IsRecordWord, IsRecorded}
+use Rattle.wbl_record.specs.Record.{IsRecordWord, IsRecorded}
 use Rattle.wbl_engine.specs.Stage.{puts_of_parts, parts_pairs, parts_lines}
 use Rattle.wbl_engine.proofs.AfterStage.{after_fits, stage_certain, kept_word}
 use Rattle.wbl_engine.proofs.Beginning.{versions-within, versions-beyond, group_staging}

@@ -16,9 +16,9 @@ use Rattle.wbl_engine.specs.Contents.{Keeps, IsNew}
 use Rattle.wbl_engine.specs.Formatting.{first_record, superblock_words, new_contents, new_pairs, IsFormatting}
 use Rattle.wbl_engine.proofs.Beginning.{versions-within, versions-beyond}
 use Rattle.wbl_engine.proofs.CountLemmas.{counts-zero}
-use Rattle.wbl_engine.proofs.Mixing.{image_of-is}
+use Rattle.wbl_record.proofs.Mixing.{image_of-is}
 use Rattle.wbl_engine.proofs.NewImage.{magic_outside, new_covered, new_super, new_first, new_entry}
-use Rattle.wbl_engine.proofs.RecordLemmas.{record_is}
+use Rattle.wbl_record.proofs.RecordLemmas.{record_is}
 
 abbrev pub magic_pairs : ℕ → List (ℕ × ℕ)
 magic_pairs x = (0, x) ∷ []

@@ -9,16 +9,12 @@ pub mod EndsWithin
 pub mod FormatLemmas
 pub mod FormatRuns
 pub mod GroupSteps
-pub mod Mixing
 pub mod NewImage
 pub mod PartEffects
 pub mod PartSteps
 pub mod PartWords
 pub mod PutPairs
 pub mod ReadBack
-pub mod RecordLemmas
-pub mod RecordWords
-pub mod Results
 pub mod StageImages
 pub mod Staged
 pub mod StagingLemmas

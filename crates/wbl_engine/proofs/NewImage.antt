@@ -6,7 +6,7 @@ use Rattle.pmem.proofs.Staging.{IsStored-append, IsStored-append_left, IsStored-
 use Rattle.model.specs.declared.record.Role.{Role}
 use Rattle.model.specs.Image.{Image, entry_word, entries_of_lines, record_words}
 use Rattle.wbl_engine.specs.Formatting.{first_record, superblock_words, run_pairs, new_pairs}
-use Rattle.wbl_engine.proofs.RecordWords.{length-record_words}
+use Rattle.wbl_record.proofs.RecordWords.{length-record_words}
 
 abbrev pub zeros : ℕ → List ℕ
 zeros n = replicate n 0

@@ -11,8 +11,8 @@ use Rattle.model.specs.Group.{Contents, Versions}
 use Rattle.wbl_engine.specs.AtRest.{contents_of, IsSound, IsWhole, IsAtRest, Matters}
 use Rattle.wbl_engine.specs.Contents.{Keeps}
 use Rattle.wbl_engine.proofs.Beginning.{versions-within}
-use Rattle.wbl_engine.proofs.Mixing.{IsMixed, mixed}
-use Rattle.wbl_engine.proofs.RecordWords.{HasRecord-same}
+use Rattle.wbl_record.proofs.Mixing.{IsMixed, mixed}
+use Rattle.wbl_record.proofs.RecordWords.{HasRecord-same}
 use Rattle.wbl_engine.proofs.Staged.{IsStaging, IsStagedOver, staging_before, staged_same, staged_begins, staged_ends}
 
 pub HasSuperblock-same : (lines : ℕ) (base image : Image) → ((word : ℕ) → word < root_word → image word ≡ base word) → HasSuperblock lines base

@@ -4,12 +4,14 @@ use Rattle.std.specs.List.{list_any}
 use Rattle.std.proofs.Props.{props}
 use Rattle.pmem.specs.Device.{State, Only}
 use Rattle.pmem.specs.Crash.{IsImage, image_of}
-use Rattle.model.specs.declared.image.TheConstants.{MIN_LINES, MAX_LINES, COUNTER_LIMIT, STAMP_WINDOW}
-use Rattle.model.specs.declared.layout.TheConstants.{LAYOUT, LINE_BYTES}
+use Rattle.model.specs.declared.image.TheConstants.{MIN_LINES, MAX_LINES}
+use Rattle.model.specs.declared.layout.TheConstants.{LAYOUT}
 use Rattle.model.specs.declared.record.Record.{Record}
 use Rattle.model.specs.Layout.{first_word}
-use Rattle.model.specs.Image.{Image, HasSuperblock, HasWords, HasRecord, root_word, entries_of_lines, first_extent_line, entry_word, entry_bytes, version_at, counts, is_in_gap}
+use Rattle.model.specs.Image.{Image, HasSuperblock, HasWords, HasRecord, root_word, entries_of_lines, first_extent_line, entry_word, version_at, counts}
 use Rattle.model.specs.Group.{Contents}
+use Rattle.heap_layout.specs.Entry.{IsEntry}
+use Rattle.wbl_record.specs.Current.{IsLawful}
 
 -- what an engine with this record holds over this device. A begin above the record's last stamp belongs to no version: a failed commit left it.
 abbrev pub contents_of : Record → State → Contents
@@ -23,28 +25,13 @@ contents_of r d =
           && (image_of d.words (entry_word i 0) == 0 || nat_lt r.cp (image_of d.words (entry_word i 0)));
     }
 
--- the record obeys its rules
-pub record IsSound (r : Record) : Type 0 where
-  pub limit : r.cd ≡ r.cp + 1 + STAMP_WINDOW
-  pub number : r.number < COUNTER_LIMIT
-  pub position : r.position < COUNTER_LIMIT
-  pub epoch : r.epoch < COUNTER_LIMIT
-  pub room : r.cd < COUNTER_LIMIT
-  -- no gap contains a future stamp
-  pub no_gap : (stamp : ℕ) → r.cp < stamp → list_any (is_in_gap stamp) r.gaps.items ≡ false
-
--- the extent of entry i lies after the directory and has room for its bytes
-pub record IsInPlace (lines : ℕ) (image : Image) (i : ℕ) : Type 0 where
-  pub above : first_extent_line lines ≤ image (entry_word i 3)
-  pub within : image (entry_word i 3) + image (entry_word i 4) ≤ lines
-  pub enough : entry_bytes image i ≤ LINE_BYTES * image (entry_word i 4)
-
--- the directory has no stamp that was not given out, and each version whose begin counts has its lines
+-- the directory has no stamp that was not given out, and each version whose begin counts obeys the rules of entries
 pub record IsWhole (r : Record) (lines : ℕ) (image : Image) : Type 0 where
   pub superblock : HasSuperblock lines image
   pub begins : (i : ℕ) → i < entries_of_lines lines → image (entry_word i 0) ≤ r.cp
   pub ends : (i : ℕ) → i < entries_of_lines lines → image (entry_word i 1) ≤ r.cp
-  pub in_place : (i : ℕ) → i < entries_of_lines lines → IsTrue (counts r (image (entry_word i 0))) → IsInPlace lines image i
+  pub entries : (i : ℕ) → i < entries_of_lines lines → IsTrue (counts r (image (entry_word i 0))) → IsEntry lines image i
+  pub positions : (i : ℕ) → i < entries_of_lines lines → IsTrue (counts r (image (entry_word i 0))) → image (entry_word i 2) ≤ r.position
 
 -- the word belongs to the extent that entry i names
 pub record IsInExtent (image : Image) (i word : ℕ) : Type 0 where
@@ -62,7 +49,7 @@ Matters r lines image word =
 pub record IsAtRest (r : Record) (d : State) : Type 0 where
   pub many : MIN_LINES ≤ d.lines
   pub few : d.lines ≤ MAX_LINES
-  pub sound : IsSound r
+  pub lawful : IsLawful r
   pub whole : IsWhole r d.lines (image_of d.words)
   pub recorded : (image : Image) → IsImage d.words image → HasRecord r image
   pub certain : (word : ℕ) → Matters r d.lines (image_of d.words) word → Only (d.words word) (image_of d.words word)

@@ -7,17 +7,17 @@ use Rattle.model.specs.declared.image.TheConstants.{COUNTER_LIMIT, STAMP_WINDOW}
 use Rattle.model.specs.declared.record.Record.{Record}
 use Rattle.model.specs.declared.record.TheConstants.{FIRST_EPOCH}
 use Rattle.model.specs.declared.record.Role.{Role}
-use Rattle.model.specs.Image.{Image, HasSuperblock, HasRecord, entries_of_lines, entry_word, version_at}
+use Rattle.model.specs.Image.{Image, HasSuperblock, HasRecord, entries_of_lines, version_at}
 use Rattle.model.specs.Group.{Contents, next_record}
+use Rattle.heap_layout.specs.Version.{IsUnder}
 
--- The image holds these contents: its record is the current one, and each entry holds the version that it should. Every stamp in it is below
--- the limit of the record.
+-- The image holds these contents: its record is the current one, each entry holds the version that it should, and breaks no rule under the
+-- record: every stamp in it is below the record's limit.
 pub record Keeps (contents : Contents) (image : Image) : Type 0 where
   pub superblock : HasSuperblock contents.lines image
   pub has_record : HasRecord contents.current image
   pub versions : (i : ℕ) → i < entries_of_lines contents.lines → version_at contents.current image i ≡ contents.versions i
-  pub begins : (i : ℕ) → i < entries_of_lines contents.lines → image (entry_word i 0) < contents.current.cd
-  pub ends : (i : ℕ) → i < entries_of_lines contents.lines → image (entry_word i 1) < contents.current.cd
+  pub entries : (i : ℕ) → i < entries_of_lines contents.lines → IsUnder contents.current contents.lines image i
 
 -- every crash now leaves an image that holds the contents
 abbrev pub IsDurable : State → Contents → Type 0

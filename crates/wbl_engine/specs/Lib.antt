@@ -1,5 +1,6 @@
 pub mod AtRest
 pub mod Contents
 pub mod Formatting
-pub mod Record
+pub mod Freeing
+pub mod Lawful
 pub mod Stage

@@ -5,10 +5,10 @@ ghost use Rattle.model.specs.Group.{IsGroup, next_record, after_group};
 ghost use Rattle.wbl_engine.specs.AtRest.{IsAtRest, IsSound, contents_of};
 ghost use Rattle.wbl_engine.specs.Contents.{Keeps, Same};
 
-use crate::record::write_next;
 use crate::staging::stage_parts;
 use model::{Group, Record};
 use pmem::{Fault, Pmem};
+use wbl_record::write_next;
 
 /// Stores a group and the record after it. At any moment a crash leaves the contents before the group or those after it.
 pub fn commit_group<P: Pmem>(

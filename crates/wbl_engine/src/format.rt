@@ -6,10 +6,10 @@ ghost use Rattle.model.specs.Image.{entries_of_lines, first_extent_line};
 ghost use Rattle.wbl_engine.specs.AtRest.{IsAtRest};
 ghost use Rattle.wbl_engine.specs.Formatting.{first_record, new_pairs, IsFormatting};
 
-use crate::record::words_of;
 use arrayvec::ArrayVec;
 use model::{FIRST_EPOCH, LAYOUT, LINE_WORDS, MAGIC, Record, Role, STAMP_WINDOW};
 use pmem::{Fault, Pmem, flush_lines, persist, store_words};
+use wbl_record::words_of;
 
 /// How many words a record slot has.
 const SLOT_WORDS: u64 = LINE_WORDS * LAYOUT.slot_lines;

@@ -6,7 +6,6 @@ mod committed;
 mod durable;
 mod engine;
 mod format;
-mod record;
 mod staging;
 mod successor;
 
@@ -14,4 +13,3 @@ pub use committed::Committed;
 pub use durable::Durable;
 pub use engine::WblEngine;
 pub use model::{Gap, Record, Role};
-pub use record::write_next;

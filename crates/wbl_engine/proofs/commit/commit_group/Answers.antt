@@ -4,7 +4,7 @@ use Rattle.model.specs.declared.group.Part.{Part}
 use Rattle.wbl_engine.specs.Stage.{AreEndsWithin}
 use Rattle.wbl_engine.proofs.CommitSteps.{committing, group_staged, group_failed, first_fault, first_fault_moments, later_fault, done_rest, done_same, done_moments}
 use Rattle.wbl_engine.proofs.EndsWithin.{ends_within}
-use Rattle.wbl_engine.proofs.Results.{on_err_from}
+use Rattle.wbl_record.proofs.Results.{on_err_from}
 use Rattle.wbl_engine.proofs.commit.commit_group.Goals as goal
 
 pub stage_parts-requires-clause-ends : goal.stage_parts-requires-clause-ends

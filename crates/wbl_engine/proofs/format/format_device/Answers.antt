@@ -5,7 +5,7 @@ use Rattle.model.specs.declared.record.Record.{Record}
 use Rattle.model.specs.Image.{magic_number}
 use Rattle.wbl_engine.specs.AtRest.{IsAtRest}
 use Rattle.wbl_engine.proofs.FormatLemmas.{magic_pairs, first_moments, second_moments, third_moments, second_staged, second_failed, format_rest}
-use Rattle.wbl_engine.proofs.Results.{on_both}
+use Rattle.wbl_record.proofs.Results.{on_both}
 use Rattle.wbl_engine.proofs.format.format_device.Goals as goal
 
 pub returns-in_err-persist-clause-moments : goal.returns-in_err-persist-clause-moments

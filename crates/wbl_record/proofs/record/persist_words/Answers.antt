@@ -2,7 +2,7 @@ use Rattle.std.proofs.Common.{◌*◌}
 use Rattle.std.proofs.lemmas.Result.{on_ok_weaker, on_err_weaker}
 use Rattle.pmem.specs.Runs.{pairs_from, lines_from}
 use Rattle.pmem.proofs.Chaining.{Runs-flushes, stage_ok, stage_err}
-use Rattle.wbl_engine.proofs.record.persist_words.Goals as goal
+use Rattle.wbl_record.proofs.record.persist_words.Goals as goal
 
 pub returns-clause-ok : goal.returns-clause-ok
 returns-clause-ok g c =

@@ -5,7 +5,7 @@ ghost use Rattle.pmem.specs.Runs.{LeavesOnly, Staged, StageFailed, pairs_from, l
 ghost use Rattle.model.specs.declared.record.Record.{Record};
 ghost use Rattle.model.specs.Layout.{first_word};
 ghost use Rattle.model.specs.Image.{record_words, role_number};
-ghost use Rattle.wbl_engine.specs.Record.{IsRecorded, IsRecordFault, IsSucceeded, IsEitherRecord};
+ghost use Rattle.wbl_record.specs.Record.{IsRecorded, IsRecordFault, IsSucceeded, IsEitherRecord};
 
 use arrayvec::ArrayVec;
 use model::{Gap, LAYOUT, LINE_WORDS, MAX_GAPS, Record, Role};

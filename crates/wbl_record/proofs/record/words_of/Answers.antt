@@ -1,5 +1,5 @@
-use Rattle.wbl_engine.proofs.RecordWords.{record_words-written}
-use Rattle.wbl_engine.proofs.record.words_of.Goals as goal
+use Rattle.wbl_record.proofs.RecordWords.{record_words-written}
+use Rattle.wbl_record.proofs.record.words_of.Goals as goal
 
 pub returns : goal.returns
 returns c =

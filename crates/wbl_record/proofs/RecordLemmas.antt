@@ -11,9 +11,9 @@ use Rattle.model.specs.declared.record.Record.{Record}
 use Rattle.model.specs.declared.layout.TheConstants.{LAYOUT}
 use Rattle.model.specs.Layout.{first_word}
 use Rattle.model.specs.Image.{Image, HasRecord, root_word, record_word, record_words, slot_line}
-use Rattle.wbl_engine.specs.Record.{IsRecordWord, body_pairs, body_lines, root_pairs, IsRecorded, IsRecordFault, IsSucceeded, IsEitherRecord}
-use Rattle.wbl_engine.proofs.Mixing.{IsMixed, mixed}
-use Rattle.wbl_engine.proofs.RecordWords.{length-record_words, HasWords-at, HasRecord-same}
+use Rattle.wbl_record.specs.Record.{IsRecordWord, body_pairs, body_lines, root_pairs, IsRecorded, IsRecordFault, IsSucceeded, IsEitherRecord}
+use Rattle.wbl_record.proofs.Mixing.{IsMixed, mixed}
+use Rattle.wbl_record.proofs.RecordWords.{length-record_words, HasWords-at, HasRecord-same}
 
 -- a word that is not of the record is touched by neither step
 body_outside : (next : Record) (word : ℕ) → (IsRecordWord next.number word → ⊥) → IsOutside (body_pairs next) word

@@ -1,9 +1,9 @@
 use Rattle.std.proofs.lemmas.Result.{on_ok_weaker, on_err_weaker}
 use Rattle.pmem.specs.Runs.{LeavesOnly, IsPartlyStored}
-use Rattle.wbl_engine.specs.Record.{root_pairs}
-use Rattle.wbl_engine.proofs.RecordLemmas.{staged_body, failed_body, recorded, body_fault, root_fault, body_moments, root_moments}
-use Rattle.wbl_engine.proofs.Results.{on_err_from, on_both}
-use Rattle.wbl_engine.proofs.record.write_next.Goals as goal
+use Rattle.wbl_record.specs.Record.{root_pairs}
+use Rattle.wbl_record.proofs.RecordLemmas.{staged_body, failed_body, recorded, body_fault, root_fault, body_moments, root_moments}
+use Rattle.wbl_record.proofs.Results.{on_err_from, on_both}
+use Rattle.wbl_record.proofs.record.write_next.Goals as goal
 
 pub returns-in_err-persist_words-clause-err : goal.returns-in_err-persist_words-clause-err
 returns-in_err-persist_words-clause-err g c =

@@ -1,0 +1,4 @@
+pub mod Mixing
+pub mod RecordLemmas
+pub mod RecordWords
+pub mod Results
