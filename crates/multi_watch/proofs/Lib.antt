@@ -1,6 +1,7 @@
 mod TableLemmas
 mod HeldLemmas
 mod SessionsLemmas
+mod WatchesLemmas
 pub mod ModifiedLemmas
 mod WorkedCases
 mod RunLemmas

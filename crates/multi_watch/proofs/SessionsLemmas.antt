@@ -6,11 +6,11 @@ use Rattle.std.proofs.lemmas.List.{drop_all}
 use Rattle.std.proofs.Math.Bool.{or-false}
 use Rattle.std.proofs.lemmas.Bool.{eqb-true, or_parts}
 use Rattle.cmd_core.specs.Contents.{same_bytes}
-use Rattle.multi_watch.proofs.TableLemmas.{same_is}
-use Rattle.multi_watch.proofs.ModifiedLemmas.{with_mark}
+pub use Rattle.multi_watch.proofs.TableLemmas.{same_is}
+pub use Rattle.multi_watch.proofs.ModifiedLemmas.{with_mark}
 use Rattle.multi_watch.specs.declared.watch.Watch.{Watch}
 use Rattle.multi_watch.specs.Session.{Session, is_watched, marked, modified}
-use Rattle.multi_watch.specs.Watchers.{Table, has_number, watches, RemovesAll}
+use Rattle.multi_watch.specs.Watchers.{Table, has_number, watches, AddsAll, RemovesAll}
 use Rattle.multi_watch.specs.Sessions.{Sessions, slot, session_of, session_at, marked_if, Agree}
 
 -- ---- a key is marked
@@ -23,14 +23,14 @@ twice false false = refl
 marked_again : (key : List ℕ) (watch : Watch) → marked key (marked key watch) ≡ marked key watch
 marked_again key watch = ap (λ b. with_mark watch.key b) (twice watch.is_modified (same_bytes watch.key key))
 
-marked_other : (key : List ℕ) (watch : Watch) → same_bytes watch.key key ≡ false → marked key watch ≡ watch
+pub marked_other : (key : List ℕ) (watch : Watch) → same_bytes watch.key key ≡ false → marked key watch ≡ watch
 marked_other key watch is = ap (λ b. with_mark watch.key (watch.is_modified || b)) is ∙ ap (λ b. with_mark watch.key b) (or-false watch.is_modified)
 
 marked_twice : (key : List ℕ) (watched : List Watch) → map (marked key) (map (marked key) watched) ≡ map (marked key) watched
 marked_twice key [] = refl
 marked_twice key (watch ∷ watched) = ap₂ (λ w ws. w ∷ ws) (marked_again key watch) (marked_twice key watched)
 
-not_marked : (key : List ℕ) (watched : List Watch) → is_watched key watched ≡ false → map (marked key) watched ≡ watched
+pub not_marked : (key : List ℕ) (watched : List Watch) → is_watched key watched ≡ false → map (marked key) watched ≡ watched
 not_marked key [] is = refl
 not_marked key (watch ∷ watched) is =
     let apart = or_parts (same_bytes watch.key key) (is_watched key watched) is in
@@ -107,6 +107,17 @@ nothing_removed false fresh own apart = refl
 nothing_removed true true true apart = sym (apart refl refl)
 nothing_removed true true false apart = refl
 nothing_removed true false own apart = refl
+
+undone : (was fresh own : Bool) → ((was || (fresh && own)) && not (fresh && own)) ≡ (was && not (fresh && own))
+undone true fresh own = refl
+undone false true true = refl
+undone false true false = refl
+undone false false own = refl
+
+-- What was added is removed.
+pub removed_again : (table with_them new : Table) (fresh : List Watch) (number : ℕ) → AddsAll table fresh number with_them → RemovesAll with_them fresh number new → RemovesAll table fresh number new
+removed_again table with_them new fresh number adds removes key n =
+    removes key n ∙ ap (λ b. b && not (is_watched key fresh && nat_eq number n)) (adds key n) ∙ undone (watches table key n) (is_watched key fresh) (nat_eq number n)
 
 -- Where none of the removed keys was watched, the table agrees as it did.
 pub agrees_without : (table new : Table) (sessions : Sessions) (fresh : List Watch) (number : ℕ) → Agree table sessions

@@ -1,22 +1,18 @@
 -- What a change of the table at one key says of every key.
-use Rattle.std.proofs.Common.{◌≡◌, ◌≢◌, ℕ, zero, suc, ◌+◌, ◌<◌, ◌≤◌, Bool, true, false, not, cond, ◌&&◌, ◌||◌, List, [], ◌∷◌, ◌++◌, length, drop, drop-cons, get_or, Option, Some, None, Result, Ok, Err, OnOk, OnErr, nat_eq, refl, sym, ap, ◌∙◌, arith}
+use Rattle.std.proofs.Common.{◌≡◌, ◌≢◌, ℕ, ◌≤◌, Bool, true, false, not, cond, ◌&&◌, ◌||◌, List, [], ◌∷◌, ◌++◌, length, Option, Some, None, Result, Ok, Err, OnOk, OnErr, nat_eq, refl, sym, ap, subst, ◌∙◌, arith}
 use Rattle.std.specs.List.{filter}
 use Rattle.std.specs.Global.{Vec}
-use Rattle.std.specs.Ordering.{is_eq}
-use Rattle.std.specs.BTreeMap.{get, is_at}
-use Rattle.std.specs.Map.{lookup}
-use Rattle.std.proofs.lemmas.List.{drop_all}
+use Rattle.std.specs.Map.{lookup, IsKeyTest, AreApart, KeepsOthers}
+use Rattle.std.specs.Cmp.Lexicographic.{nat_list_eq_equiv}
 use Rattle.std.proofs.lemmas.List.Folds.{list_any-append}
-use Rattle.std.proofs.lemmas.Map.Text.{is_eq-slice_cmp}
 use Rattle.std.proofs.lemmas.Map.Views.{any-filter_same}
 use Rattle.std.proofs.Math.Bool.{or-false, and-true, and-false, and_comm}
-use Rattle.std.proofs.lemmas.Bool.{eqb-true, or_right}
+use Rattle.std.proofs.lemmas.Bool.{eqb-true}
 use Rattle.std.proofs.lemmas.Slice.Eq.{bytes_eq-Decides}
-use Rattle.kv_types.specs.Keyspace.{bytes_cmp}
+use Rattle.kv_types.specs.declared.limits.TheConstants.{MAX_KEY_BYTES}
 use Rattle.cmd_core.specs.Contents.{same_bytes}
-use Rattle.multi_watch.specs.declared.watch.Watch.{Watch}
-use Rattle.multi_watch.specs.Session.{is_watched}
-use Rattle.multi_watch.specs.Watchers.{Table, numbers_of, has_number, watches, SaysSame, Adds, Removes, EachWatched}
+use Rattle.multi_watch.specs.Watches.{is_key_in}
+use Rattle.multi_watch.specs.Watchers.{Table, numbers_of, numbers_at, has_number, watches, SaysSame, Adds, Removes, EachWatched}
 
 pub same_is : (x y : List ℕ) → same_bytes x y ≡ true → x ≡ y
 same_is x y same = (bytes_eq-Decides x y).0 same
@@ -26,13 +22,31 @@ pushed n number numbers = list_any-append (λ other. nat_eq other n) numbers (nu
 
 -- the table has this at the key, and elsewhere what it had
 abbrev pub Becomes : Table → List ℕ → Option (Vec ℕ) → Table → Type 0
-Becomes old key slot new = (q : List ℕ) → get bytes_cmp new q ≡ cond (is_eq (bytes_cmp key q)) slot (get bytes_cmp old q)
+Becomes old key slot new = (q : List ℕ) → numbers_at new q ≡ cond (same_bytes key q) slot (numbers_at old q)
+
+other_keys : (test : Vec ℕ → Bool) (old new : Table) → KeepsOthers (λ x y. same_bytes x.items y.items) test old new
+    → (other : Vec ℕ → Bool) → IsKeyTest (λ x y. same_bytes x.items y.items) other → AreApart test other → lookup other new ≡ lookup other old
+unfolding KeepsOthers
+other_keys test old new keeps = keeps
+
+apart : (key q own : List ℕ) → same_bytes key q ≡ false → same_bytes key own ≡ true → same_bytes q own ≡ false
+apart key q own differ is = nat_list_eq_equiv.symm q own ∙ sym (nat_list_eq_equiv.congr key own q is) ∙ differ
+
+-- what a change of the table at the bytes of a key says
+pub becomes_at : (old new : Table) (key : List ℕ) (slot : Option (Vec ℕ)) → numbers_at new key ≡ slot
+    → KeepsOthers (λ x y. same_bytes x.items y.items) (λ own. same_bytes key own.items) old new → Becomes old key slot new
+becomes_at old new key slot here keeps q = by_same (same_bytes key q) refl where
+  by_same : (same : Bool) → same_bytes key q ≡ same → numbers_at new q ≡ cond same slot (numbers_at old q)
+  by_same true is = ap (numbers_at new) (sym (same_is key q is)) ∙ here
+  by_same false is =
+      other_keys (λ own. same_bytes key own.items) old new keeps (λ own. same_bytes q own.items)
+      (λ x y. nat_list_eq_equiv.congr q x.items y.items) (λ own. apart key q own.items is)
 
 module _ (old new : Table) (key : List ℕ) (slot : Option (Vec ℕ)) (becomes : Becomes old key slot new) where
   -- a key is the changed one, or has what it had
   at_key : (q : List ℕ) (n : ℕ) (same : Bool) → same_bytes key q ≡ same → watches new q n ≡ cond same (has_number n (numbers_of slot)) (watches old q n)
-  at_key q n true is = ap (λ o. has_number n (numbers_of o)) (becomes q ∙ ap (λ b. cond b slot (get bytes_cmp old q)) (is_eq-slice_cmp key q ∙ is))
-  at_key q n false is = ap (λ o. has_number n (numbers_of o)) (becomes q ∙ ap (λ b. cond b slot (get bytes_cmp old q)) (is_eq-slice_cmp key q ∙ is))
+  at_key q n true is = ap (λ o. has_number n (numbers_of o)) (becomes q ∙ ap (λ b. cond b slot (numbers_at old q)) is)
+  at_key q n false is = ap (λ o. has_number n (numbers_of o)) (becomes q ∙ ap (λ b. cond b slot (numbers_at old q)) is)
 
   old_at : (q : List ℕ) (n : ℕ) → same_bytes key q ≡ true → watches old key n ≡ watches old q n
   old_at q n is = ap (λ k. watches old k n) (same_is key q is)
@@ -63,38 +77,37 @@ one_more (first ∷ numbers) number is = let p = is in cc
 
 module _ (old new : Table) (key : List ℕ) (watched : EachWatched old) where
   -- the key has some sessions, and the others have what they had
-  pub still_watched : (now : Vec ℕ) → now.items ≢ [] → Becomes old key (Some now) new → EachWatched new
-  still_watched now some becomes q numbers is = by_same (same_bytes key q) refl where
-    by_same : (same : Bool) → same_bytes key q ≡ same → numbers.items ≢ []
-    by_same true same none =
-        let here : Some now ≡ Some numbers = sym (becomes q ∙ ap (λ b. cond b (Some now) (get bytes_cmp old q)) (is_eq-slice_cmp key q ∙ same)) ∙ is in
-        some (ap (λ o. numbers_of o) here ∙ none)
-    by_same false same none =
-        watched q numbers (sym (becomes q ∙ ap (λ b. cond b (Some now) (get bytes_cmp old q)) (is_eq-slice_cmp key q ∙ same)) ∙ is) none
+  pub still_watched : (now : Vec ℕ) → now.items ≢ [] → length key ≤ MAX_KEY_BYTES → Becomes old key (Some now) new → EachWatched new
+  still_watched now some short becomes q numbers is = by_same (same_bytes key q) refl where
+    by_same : (same : Bool) → same_bytes key q ≡ same → (numbers.items ≢ []) × (length q ≤ MAX_KEY_BYTES)
+    by_same true same =
+        let here : Some now ≡ Some numbers = sym (becomes q ∙ ap (λ b. cond b (Some now) (numbers_at old q)) same) ∙ is in
+        ((λ none. some (ap (λ o. numbers_of o) here ∙ none)), subst (λ k. length k ≤ MAX_KEY_BYTES) (same_is key q same) short)
+    by_same false same = watched q numbers (sym (becomes q ∙ ap (λ b. cond b (Some now) (numbers_at old q)) same) ∙ is)
 
   -- the key is gone, and the others have what they had
-  pub watched_without : (left : Table) → ((other : List ℕ) → same_bytes key other ≡ false → get bytes_cmp left other ≡ get bytes_cmp old other)
+  pub watched_without : (left : Table) → ((other : List ℕ) → same_bytes key other ≡ false → numbers_at left other ≡ numbers_at old other)
       → Becomes left key None new → EachWatched new
   watched_without left others becomes q numbers is = by_same (same_bytes key q) refl where
-    by_same : (same : Bool) → same_bytes key q ≡ same → numbers.items ≢ []
-    by_same true same none =
-        let gone : None ≡ Some numbers = sym (becomes q ∙ ap (λ b. cond b None (get bytes_cmp left q)) (is_eq-slice_cmp key q ∙ same)) ∙ is in
+    by_same : (same : Bool) → same_bytes key q ≡ same → (numbers.items ≢ []) × (length q ≤ MAX_KEY_BYTES)
+    by_same true same =
+        let gone : None ≡ Some numbers = sym (becomes q ∙ ap (λ b. cond b None (numbers_at left q)) same) ∙ is in
         let p = gone in cc
-    by_same false same none =
-        watched q numbers (sym (others q same) ∙ sym (becomes q ∙ ap (λ b. cond b None (get bytes_cmp left q)) (is_eq-slice_cmp key q ∙ same)) ∙ is) none
+    by_same false same =
+        watched q numbers (sym (others q same) ∙ sym (becomes q ∙ ap (λ b. cond b None (numbers_at left q)) same) ∙ is)
 
 -- a key has what it had where it is not the changed one
 pub others_stay : (old new : Table) (key : List ℕ) (slot : Option (Vec ℕ)) → Becomes old key slot new
-    → (other : List ℕ) → same_bytes key other ≡ false → get bytes_cmp new other ≡ get bytes_cmp old other
-others_stay old new key slot becomes other apart = becomes other ∙ ap (λ b. cond b slot (get bytes_cmp old other)) (is_eq-slice_cmp key other ∙ apart)
+    → (other : List ℕ) → same_bytes key other ≡ false → numbers_at new other ≡ numbers_at old other
+others_stay old new key slot becomes other apart = becomes other ∙ ap (λ b. cond b slot (numbers_at old other)) apart
 
 -- a list that grew, or stayed as it was
 pub some_still : (grew : Bool) (numbers : List ℕ) (number : ℕ) → numbers ≢ [] → cond grew (numbers ++ number ∷ []) numbers ≢ []
 some_still true numbers number some = one_more numbers number
 some_still false numbers number some = some
 
-pub watched_as_before : (old new : Table) → new.entries ≡ old.entries → EachWatched old → EachWatched new
-watched_as_before old new same watched key numbers is = watched key numbers (ap (λ entries. lookup (is_at (bytes_cmp key)) entries) (sym same) ∙ is)
+pub watched_as_before : (old new : Table) → new ≡ old → EachWatched old → EachWatched new
+watched_as_before old new same watched key numbers is = watched key numbers (ap (λ table. numbers_at table key) (sym same) ∙ is)
 
 pub either_way : {X E P Q G : Type 0} (result : Result X E) → OnOk result P → OnErr result Q → (P → G) → (Q → G) → G
 either_way (Ok x) done failed if_done if_failed = if_done done
@@ -112,17 +125,6 @@ filtered n number numbers =
 
 -- ---- one key after another
 
--- the keys from the next on
-pub next_watched : (watched : List Watch) (i : ℕ) (watch : Watch) → i < length watched → watch ≡ get_or watched i watch
-    → (key : List ℕ) → is_watched key (drop i watched) ≡ (same_bytes watch.key key || is_watched key (drop (i + 1) watched))
-next_watched watched i watch within is key =
-    let cons = drop-cons watched i watch within in
-    let e : suc i ≡ i + 1 = omega arith in
-    ap (is_watched key) (cons ∙ ap (λ w. w ∷ drop (suc i) watched) (sym is) ∙ ap (λ n. watch ∷ drop n watched) e)
-
-none_left : (watched : List Watch) (i : ℕ) → length watched ≤ i → (key : List ℕ) → is_watched key (drop i watched) ≡ false
-none_left watched i past key = ap (is_watched key) (drop_all i watched past)
-
 -- one is removed here, and the rest below
 remove_in_turn : (was here later own : Bool) → ((was && not (here && own)) && not (later && own)) ≡ (was && not ((here || later) && own))
 remove_in_turn false here later own = refl
@@ -132,18 +134,18 @@ remove_in_turn true false later own = refl
 remove_in_turn true true true false = refl
 remove_in_turn true true false false = refl
 
-pub removed_next : (watched : List Watch) (i : ℕ) (watch : Watch) → i < length watched → watch ≡ get_or watched i watch
-    → (key : List ℕ) (n number : ℕ) (was now : Bool) → now ≡ (was && not (same_bytes watch.key key && nat_eq number n))
-    → (now && not (is_watched key (drop (i + 1) watched) && nat_eq number n)) ≡ (was && not (is_watched key (drop i watched) && nat_eq number n))
-removed_next watched i watch within is key n number was now after =
-    ap (λ b. b && not (is_watched key (drop (i + 1) watched) && nat_eq number n)) after
-    ∙ remove_in_turn was (same_bytes watch.key key) (is_watched key (drop (i + 1) watched)) (nat_eq number n)
-    ∙ ap (λ b. was && not (b && nat_eq number n)) (sym (next_watched watched i watch within is key))
+pub removed_next : (left : List (Vec ℕ)) (first : Vec ℕ) (before : List (Vec ℕ)) → before ≡ first ∷ left
+    → (key : List ℕ) (n number : ℕ) (was now : Bool) → now ≡ (was && not (same_bytes first.items key && nat_eq number n))
+    → (now && not (is_key_in key left && nat_eq number n)) ≡ (was && not (is_key_in key before && nat_eq number n))
+removed_next left first before is key n number was now after =
+    ap (λ b. b && not (is_key_in key left && nat_eq number n)) after
+    ∙ remove_in_turn was (same_bytes first.items key) (is_key_in key left) (nat_eq number n)
+    ∙ ap (λ keys. was && not (is_key_in key keys && nat_eq number n)) (sym is)
 
-pub removed_last : (watched : List Watch) (i : ℕ) (key : List ℕ) (n number : ℕ) (now : Bool) → length watched ≤ i
-    → now ≡ (now && not (is_watched key (drop i watched) && nat_eq number n))
-removed_last watched i key n number now past =
-    sym (and-true now) ∙ ap (λ b. now && not (b && nat_eq number n)) (sym (none_left watched i past key))
+pub removed_last : (left : List (Vec ℕ)) (key : List ℕ) (n number : ℕ) (now : Bool) → left ≡ []
+    → now ≡ (now && not (is_key_in key left && nat_eq number n))
+removed_last left key n number now none =
+    sym (and-true now) ∙ ap (λ keys. now && not (is_key_in key keys && nat_eq number n)) (sym none)
 
 add_in_turn : (was here later own : Bool) → ((was || (here && own)) || (later && own)) ≡ (was || ((here || later) && own))
 add_in_turn true here later own = refl
@@ -153,33 +155,22 @@ add_in_turn false false later own = refl
 add_in_turn false true true false = refl
 add_in_turn false true false false = refl
 
-pub added_next : (watched : List Watch) (i : ℕ) (watch : Watch) → i < length watched → watch ≡ get_or watched i watch
-    → (key : List ℕ) (n number : ℕ) (was now : Bool) → now ≡ (was || (same_bytes watch.key key && nat_eq number n))
-    → (now || (is_watched key (drop (i + 1) watched) && nat_eq number n)) ≡ (was || (is_watched key (drop i watched) && nat_eq number n))
-added_next watched i watch within is key n number was now after =
-    ap (λ b. b || (is_watched key (drop (i + 1) watched) && nat_eq number n)) after
-    ∙ add_in_turn was (same_bytes watch.key key) (is_watched key (drop (i + 1) watched)) (nat_eq number n)
-    ∙ ap (λ b. was || (b && nat_eq number n)) (sym (next_watched watched i watch within is key))
+pub added_next : (left : List (Vec ℕ)) (first : Vec ℕ) (before : List (Vec ℕ)) → before ≡ first ∷ left
+    → (key : List ℕ) (n number : ℕ) (was now : Bool) → now ≡ (was || (same_bytes first.items key && nat_eq number n))
+    → (now || (is_key_in key left && nat_eq number n)) ≡ (was || (is_key_in key before && nat_eq number n))
+added_next left first before is key n number was now after =
+    ap (λ b. b || (is_key_in key left && nat_eq number n)) after
+    ∙ add_in_turn was (same_bytes first.items key) (is_key_in key left) (nat_eq number n)
+    ∙ ap (λ keys. was || (is_key_in key keys && nat_eq number n)) (sym is)
 
-pub added_last : (watched : List Watch) (i : ℕ) (key : List ℕ) (n number : ℕ) (now : Bool) → length watched ≤ i
-    → now ≡ (now || (is_watched key (drop i watched) && nat_eq number n))
-added_last watched i key n number now past =
-    sym (or-false now) ∙ ap (λ b. now || (b && nat_eq number n)) (sym (none_left watched i past key))
+pub added_last : (left : List (Vec ℕ)) (key : List ℕ) (n number : ℕ) (now : Bool) → left ≡ []
+    → now ≡ (now || (is_key_in key left && nat_eq number n))
+added_last left key n number now none =
+    sym (or-false now) ∙ ap (λ keys. now || (is_key_in key keys && nat_eq number n)) (sym none)
 
--- What was added before the rest is removed with the whole. Each of the rest is one of the whole.
-drop_watched : (watched : List Watch) (i : ℕ) (key : List ℕ) → is_watched key (drop i watched) ≡ true → is_watched key watched ≡ true
-drop_watched [] zero key is = is
-drop_watched [] (suc i) key is = is
-drop_watched (watch ∷ watched) zero key is = is
-drop_watched (watch ∷ watched) (suc i) key is = or_right (same_bytes watch.key key) _ (drop_watched watched i key is)
-
-undo : (old now whole rest own : Bool) → (rest ≡ true → whole ≡ true) → (now || (rest && own)) ≡ (old || (whole && own)) → (now && not (whole && own)) ≡ (old && not (whole && own))
+-- What was added before the rest is removed with the whole, of which each of the rest is one.
+pub undo : (old now whole rest own : Bool) → (rest ≡ true → whole ≡ true) → (now || (rest && own)) ≡ (old || (whole && own)) → (now && not (whole && own)) ≡ (old && not (whole && own))
 undo old now true rest true within same = and-false now ∙ sym (and-false old)
 undo old now true rest false within same = and-true now ∙ sym (or-false now) ∙ ap (λ b. now || b) (sym (and-false rest)) ∙ same ∙ or-false old ∙ sym (and-true old)
 undo old now false true own within same = let p = within refl in cc
 undo old now false false own within same = and-true now ∙ sym (or-false now) ∙ same ∙ or-false old ∙ sym (and-true old)
-
-pub undone : (watched : List Watch) (i : ℕ) (key : List ℕ) (n number : ℕ) (old now : Bool)
-    → (now || (is_watched key (drop i watched) && nat_eq number n)) ≡ (old || (is_watched key watched && nat_eq number n))
-    → (now && not (is_watched key watched && nat_eq number n)) ≡ (old && not (is_watched key watched && nat_eq number n))
-undone watched i key n number old now = undo old now (is_watched key watched) (is_watched key (drop i watched)) (nat_eq number n) (drop_watched watched i key)

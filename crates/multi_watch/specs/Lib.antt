@@ -3,6 +3,7 @@ pub mod Modified
 pub mod Error
 pub mod Verb
 pub mod Admission
+pub mod Watches
 pub mod Watchers
 pub mod Sessions
 pub mod Run

@@ -1,16 +1,16 @@
 -- Which sessions watch which keys, as the table has it.
-use Rattle.std.specs.Prelude.{◌≡◌, ◌≢◌, ℕ, Bool, ◌&&◌, ◌||◌, not, nat_eq, List, [], Option, Some, None}
+use Rattle.std.specs.Prelude.{◌≡◌, ◌≢◌, ◌≤◌, ℕ, Bool, ◌&&◌, ◌||◌, not, nat_eq, List, [], length, Option, Some, None}
 use Rattle.std.specs.List.{list_any}
 use Rattle.std.specs.Global.{Vec}
-use Rattle.std.specs.BTreeMap.{BTreeMap, get}
-use Rattle.kv_types.specs.Keyspace.{bytes_cmp}
+use Rattle.std.specs.Map.{lookup}
+use Rattle.kv_types.specs.declared.limits.TheConstants.{MAX_KEY_BYTES}
 use Rattle.cmd_core.specs.Contents.{same_bytes}
 use Rattle.multi_watch.specs.declared.watch.Watch.{Watch}
 use Rattle.multi_watch.specs.Session.{is_watched}
 
--- for each key the numbers of the sessions that watch it
+-- the entries of the table, in any order: for the bytes of each key the numbers of the sessions that watch it
 abbrev pub Table : Type 0
-Table = BTreeMap (List ℕ) (Vec ℕ)
+Table = List (Vec ℕ × Vec ℕ)
 
 abbrev pub numbers_of : Option (Vec ℕ) → List ℕ
 numbers_of None = []
@@ -19,13 +19,17 @@ numbers_of (Some numbers) = numbers.items
 abbrev pub has_number : ℕ → List ℕ → Bool
 has_number number numbers = list_any (λ other. nat_eq other number) numbers
 
+-- what the table has at a key
+abbrev pub numbers_at : Table → List ℕ → Option (Vec ℕ)
+numbers_at table key = lookup (λ own. same_bytes key own.items) table
+
 -- the session of this number watches the key
 abbrev pub watches : Table → List ℕ → ℕ → Bool
-watches table key number = has_number number (numbers_of (get bytes_cmp table key))
+watches table key number = has_number number (numbers_of (numbers_at table key))
 
--- each key of the table is watched by some session
+-- each key of the table is watched by some session, and is as short as a key
 abbrev pub EachWatched : Table → Type 0
-EachWatched table = (key : List ℕ) (numbers : Vec ℕ) → get bytes_cmp table key ≡ Some numbers → numbers.items ≢ []
+EachWatched table = (key : List ℕ) (numbers : Vec ℕ) → numbers_at table key ≡ Some numbers → (numbers.items ≢ []) × (length key ≤ MAX_KEY_BYTES)
 
 -- the table says the same
 abbrev pub SaysSame : Table → Table → Type 0

@@ -10,6 +10,7 @@ mod sessions;
 mod verb;
 mod watch;
 mod watchers;
+mod watches;
 
 pub use act::Act;
 pub use error::SessionError;

@@ -1,7 +1,6 @@
 //! What one connection has set up.
-ghost use Rattle.std.specs.Prelude.{◌≡◌, ◌≤◌, ◌+◌, false, ◌++◌, [], length, IsTrue, IfOk, IsErr, OnOk, OnErr};
+ghost use Rattle.std.specs.Prelude.{◌≡◌, false, ◌++◌, [], IsTrue, IfOk, IsErr, OnOk, OnErr};
 ghost use Rattle.std.specs.List.{list_any};
-ghost use Rattle.std.specs.Vec.{vec_capacity};
 ghost use Rattle.cmd_core.specs.declared.shape.Keys.TheVariants as shape;
 ghost use Rattle.cmd_core.specs.Shape.{are_short};
 ghost use Rattle.multi_watch.specs.Session as spec;
@@ -12,10 +11,11 @@ ghost use Rattle.multi_watch.specs.Sessions.{HasRoom};
 use crate::act::Act;
 use crate::error::SessionError;
 use crate::limits::MAX_QUEUED_REQUESTS;
-use crate::watch::{Watch, append_reserved, has_modified, is_in, mark_all, watch_of};
+use crate::watches::Watches;
 use bytes::Bytes;
 use kv_types::{Key, Reply, Request};
 use std::alloc::{AllocError, Global};
+use std::hash::RandomState;
 use std::marker::Model;
 use std::mem;
 
@@ -25,7 +25,7 @@ pub(crate) struct Session {
     is_open: bool,
     queue: Vec<Request>,
     is_spoiled: bool,
-    watched: Vec<Watch>,
+    watched: Watches,
 }
 
 impl Model for Session {
@@ -33,19 +33,19 @@ impl Model for Session {
 
     ghost Value = { spec.Session };
 
-    ghost view = { λ s. record { is_open = s.is_open; queue = s.queue.items; is_spoiled = s.is_spoiled; watched = s.watched.items } };
+    ghost view = { λ s. record { is_open = s.is_open; queue = s.queue.items; is_spoiled = s.is_spoiled; watched = s.watched } };
 }
 
 impl Session {
     /// No transaction is open and no key is watched. It takes no memory.
-    pub(crate) fn new(alloc: Global) -> Session
+    pub(crate) fn new(alloc: Global, hash_builder: RandomState) -> Session
         ensures { result ≡ idle_session }
     {
         Session {
             is_open: false,
             queue: Vec::new(alloc),
             is_spoiled: false,
-            watched: Vec::new(alloc),
+            watched: Watches::new(alloc, hash_builder),
         }
     }
 
@@ -57,10 +57,10 @@ impl Session {
     }
 
     /// The watched keys.
-    pub(crate) fn watched(&self) -> &[Watch]
+    pub(crate) fn watched(&self) -> &Watches
         ensures { result.now ≡ self.now.watched }
     {
-        self.watched.as_slice()
+        &self.watched
     }
 
     /// MULTI. It takes no memory.
@@ -118,7 +118,7 @@ impl Session {
             self.discard(alloc);
             return Ok(SessionError::Aborted.answer());
         }
-        if has_modified(&self.watched) {
+        if self.watched.has_modified() {
             self.discard(alloc);
             return Ok(Act::Answer(Reply::NullArray));
         }
@@ -138,51 +138,48 @@ impl Session {
     }
 
     /// Forgets the watched keys, and returns them. It takes no memory.
-    pub(crate) fn forget(&mut self, alloc: Global) -> Vec<Watch>
-        ensures watched { result.items ≡ self.old.watched }
+    pub(crate) fn forget(&mut self, alloc: Global) -> Watches
+        ensures watched { result ≡ self.old.watched }
         ensures session { self.new ≡ with_watched [] self.old }
     {
-        mem::replace(&mut self.watched, Vec::new(alloc))
+        let none = self.no_watches(alloc);
+        mem::replace(&mut self.watched, none)
+    }
+
+    fn no_watches(&self, alloc: Global) -> Watches
+        ensures { result ≡ [] }
+    {
+        Watches::new(alloc, self.watched.hash_builder())
     }
 
     /// The watches that are to be added, so that these keys are watched.
-    pub(crate) fn fresh(&self, alloc: Global, keys: &[Bytes]) -> Result<Vec<Watch>, AllocError>
+    pub(crate) fn fresh(&self, alloc: Global, keys: &[Bytes]) -> Result<Watches, AllocError>
         requires short { IsTrue (are_short shape.All keys.now) }
-        ensures watching { IfOk result (λ fresh. self.now.watched ++ fresh.items ≡ watching keys.now self.now.watched) }
-        ensures apart { IfOk result (λ fresh. list_any (λ watch. is_watched watch.key self.now.watched) fresh.items ≡ false) }
+        ensures watching { IfOk result (λ fresh. self.now.watched ++ fresh ≡ watching keys.now self.now.watched) }
+        ensures apart { IfOk result (λ fresh. list_any (λ watch. is_watched watch.key self.now.watched) fresh ≡ false) }
     {
-        let mut fresh = Vec::new(alloc);
+        let mut fresh = self.no_watches(alloc);
         for key in keys {
-            if !is_in(&self.watched, key) && !is_in(&fresh, key) {
-                fresh.push(watch_of(key)?)?;
+            if !self.watched.has(key) && !fresh.has(key) {
+                fresh.add(alloc, key)?;
             }
         }
         Ok(fresh)
     }
 
-    /// An empty list with room for the watched keys and these.
-    pub(crate) fn room_for(&self, alloc: Global, fresh: &[Watch]) -> Result<Vec<Watch>, AllocError>
-        ensures empty { IfOk result (λ room. room.items ≡ []) }
-        ensures room { IfOk result (λ room. length self.now.watched + length fresh.now ≤ vec_capacity room) }
+    /// Watches more keys, none of which is watched yet. Where memory is refused, nothing changes.
+    pub(crate) fn watch(&mut self, fresh: &mut Watches) -> Result<(), AllocError>
+        requires apart { list_any (λ watch. is_watched watch.key self.old.watched) fresh.old ≡ false }
+        ensures ok { OnOk result (self.new ≡ with_watched (self.old.watched ++ fresh.old) self.old) }
+        ensures err { OnErr result ((self.new ≡ self.old) × (fresh.new ≡ fresh.old)) }
     {
-        Vec::with_capacity(alloc, self.watched.len() + fresh.len())
-    }
-
-    /// Watches more keys, in the room that was made for them. It takes no memory.
-    pub(crate) fn watch(&mut self, fresh: Vec<Watch>, room: Vec<Watch>)
-        requires empty { room.items ≡ [] }
-        requires room { length self.old.watched + length fresh.items ≤ vec_capacity room }
-        ensures { self.new ≡ with_watched (self.old.watched ++ fresh.items) self.old }
-    {
-        let old = mem::replace(&mut self.watched, room);
-        append_reserved(&mut self.watched, old);
-        append_reserved(&mut self.watched, fresh);
+        self.watched.append(fresh)
     }
 
     /// A call has modified a key. It takes no memory.
     pub(crate) fn mark(&mut self, key: &Key)
         ensures { self.new ≡ spec.modified key.now self.old }
     {
-        mark_all(&mut self.watched, key);
+        self.watched.mark(key.as_slice());
     }
 }

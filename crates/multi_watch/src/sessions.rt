@@ -22,6 +22,7 @@ use cmd_table::Misuse;
 use kv_types::{Key, Refusal, Reply, Request};
 use slab::Slab;
 use std::alloc::{AllocError, Global};
+use std::hash::RandomState;
 use std::marker::Model;
 
 /// The number of an open session. A number that was closed may be given out again.
@@ -33,6 +34,7 @@ pub struct SessionNo(pub usize);
 pub struct Sessions {
     sessions: Slab<Session>,
     watchers: Watchers,
+    hash_builder: RandomState,
 }
 
 impl Model for Sessions {
@@ -42,17 +44,18 @@ impl Model for Sessions {
 
     ghost view = { λ s. s.sessions.slots };
 
-    ghost invariant = { λ s. spec.Agree s.watchers.table s.sessions.slots };
+    ghost invariant = { λ s. spec.Agree s.watchers.table.entries s.sessions.slots };
 }
 
 impl Sessions {
-    /// No session is open. It takes no memory.
-    pub fn new(alloc: Global) -> Sessions
+    /// No session is open. Watched keys are hashed with `hash_builder`, on which nothing that is promised depends. It takes no memory.
+    pub fn new(alloc: Global, hash_builder: RandomState) -> Sessions
         ensures { (number : ℕ) → slot result number ≡ None }
     {
         Sessions {
             sessions: Slab::new(alloc),
-            watchers: Watchers::new(alloc),
+            watchers: Watchers::new(alloc, hash_builder),
+            hash_builder,
         }
     }
 
@@ -74,7 +77,8 @@ impl Sessions {
         ensures cause { IfErr result (λ refusal. refusal ≡ Refusal.Memory) }
         ensures err { OnErr result (self.new ≡ self.old) }
     {
-        Ok(SessionNo(self.sessions.insert(Session::new(alloc))?))
+        let session = Session::new(alloc, self.hash_builder);
+        Ok(SessionNo(self.sessions.insert(session)?))
     }
 
     /// Closes a session: its queue and its watches are gone. A number that is not open changes nothing. It takes no memory.
@@ -86,8 +90,8 @@ impl Sessions {
         }
     }
 
-    /// A call has modified a key: it is marked in each session that watches it. Goes through the watches of those sessions, and of no
-    /// others; a key that nobody watches costs one look-up. It takes no memory.
+    /// A call has modified a key: it is marked in each session that watches it. It is looked up once, and once more in each of those
+    /// sessions. It takes no memory.
     pub fn modified(&mut self, key: &Key)
         ensures sessions { (number : ℕ) → session_at self.new number ≡ modified key.now (session_at self.old number) }
         ensures slots { (number : ℕ) → slot self.new number ≡ option_map (modified key.now) (slot self.old number) }
@@ -210,10 +214,12 @@ impl Sessions {
         if session.is_open() {
             return Ok(SessionError::WatchInside.answer());
         }
-        let fresh = session.fresh(alloc, keys)?;
-        let room = session.room_for(alloc, &fresh)?;
+        let mut fresh = session.fresh(alloc, keys)?;
         self.watchers.add_all(alloc, &fresh, number.0)?;
-        self.sessions[number.0].watch(fresh, room);
+        if let Err(refused) = self.sessions[number.0].watch(&mut fresh) {
+            self.watchers.remove_all(&fresh, number.0);
+            return Err(refused);
+        }
         Ok(Act::ok())
     }
 

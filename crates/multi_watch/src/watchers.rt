@@ -1,79 +1,84 @@
 //! The sessions that watch each key.
-ghost use Rattle.std.specs.Prelude.{◌≡◌, ◌&&◌, ℕ, false, not, nat_eq, List, is_some, IsTrue, IfOk, OnOk, OnErr};
+ghost use Rattle.std.specs.Prelude.{◌≡◌, ◌≤◌, ◌&&◌, ℕ, false, not, nat_eq, List, length, is_some, IsTrue, IfOk, OnOk, OnErr};
 ghost use Rattle.std.specs.List.{list_any};
-ghost use Rattle.multi_watch.specs.Watchers.{watches, has_number, SaysSame, Adds, Removes, AddsAll, RemovesAll, EachWatched};
-ghost use Rattle.std.specs.BTreeMap.{get};
-ghost use Rattle.kv_types.specs.Keyspace.{bytes_cmp};
+ghost use Rattle.multi_watch.specs.Watchers.{watches, numbers_at, has_number, SaysSame, Adds, Removes, AddsAll, RemovesAll, EachWatched};
+ghost use Rattle.kv_types.specs.declared.limits.TheConstants.{MAX_KEY_BYTES};
 ghost use Rattle.cmd_core.specs.Contents.{same_bytes, has_key};
 
-use crate::watch::Watch;
+use crate::watches::Watches;
+use bytes::Bytes;
 use cmd_core::Lookup;
 use kv_types::Key;
 use std::alloc::{AllocError, Global};
-use std::collections::BTreeMap;
+use std::collections::HashMap;
+use std::hash::RandomState;
+
+// For the bytes of each key, copied, the numbers of the sessions that watch it.
+type Table = HashMap<Vec<u8>, Vec<usize>, RandomState>;
 
 /// For each key that is watched, the numbers of the sessions that watch it.
 #[derive(Drop)]
 pub(crate) struct Watchers {
-    table: BTreeMap<Key, Vec<usize>>,
+    table: Table,
     // A key that nobody watches takes no room.
-    ghost each_watched: { EachWatched table },
+    ghost each_watched: { EachWatched table.entries },
 }
 
 impl Watchers {
     /// No key is watched. It takes no memory.
-    pub(crate) fn new(alloc: Global) -> Watchers
-        ensures { (key : List ℕ) (number : ℕ) → watches result.table key number ≡ false }
+    pub(crate) fn new(alloc: Global, hash_builder: RandomState) -> Watchers
+        ensures { (key : List ℕ) (number : ℕ) → watches result.table.entries key number ≡ false }
     {
         Watchers {
-            table: BTreeMap::new(alloc),
+            table: HashMap::with_hasher(alloc, hash_builder),
         }
     }
 
     /// The sessions that watch a key.
     pub(crate) fn of(&self, key: &Key) -> &[usize]
-        ensures { (number : ℕ) → has_number number result.now ≡ watches self.now.table key.now number }
+        ensures { (number : ℕ) → has_number number result.now ≡ watches self.now.table.entries key.now number }
     {
-        match self.table.get(key) {
+        match self.table.get(key.as_slice()) {
             Some(numbers) => numbers.as_slice(),
             None => &[],
         }
     }
 
-    /// The watched keys that a keyspace holds. Their bytes are shared.
+    /// The watched keys that a keyspace holds.
     pub(crate) fn held_in<L: Lookup>(
         &self,
         alloc: Global,
         lookup: &L,
     ) -> Result<Vec<Key>, AllocError>
-        ensures { IfOk result (λ keys. (own : List ℕ) → list_any (λ key. same_bytes own key) keys.items ≡ (is_some (get bytes_cmp self.now.table own) && has_key (L.keyspace lookup.now) own)) }
+        ensures { IfOk result (λ keys. (own : List ℕ) → list_any (λ key. same_bytes own key) keys.items ≡ (is_some (numbers_at self.now.table.entries own) && has_key (L.keyspace lookup.now) own)) }
     {
         let mut held = Vec::new(alloc);
         for key in self.table.keys() {
             if lookup.has(key.as_slice()) {
-                held.push(key.clone()?)?;
+                held.push(key_of(alloc, key)?)?;
             }
         }
         Ok(held)
     }
 
     /// Adds a session to those that watch a key. Where memory is refused, nothing changes.
-    pub(crate) fn add(&mut self, alloc: Global, key: &Key, number: usize) -> Result<(), AllocError>
-        ensures ok { OnOk result (Adds self.old.table key.now number self.new.table) }
-        ensures err { OnErr result (SaysSame self.old.table self.new.table) }
+    pub(crate) fn add(&mut self, alloc: Global, key: &[u8], number: usize) -> Result<(), AllocError>
+        requires { length key.now ≤ MAX_KEY_BYTES }
+        ensures ok { OnOk result (Adds self.old.table.entries key.now number self.new.table.entries) }
+        ensures err { OnErr result (SaysSame self.old.table.entries self.new.table.entries) }
     {
         if let Some(numbers) = self.table.get_mut(key) {
             numbers.push(number)?;
             return Ok(());
         }
         let numbers = vec![in alloc; number]?;
-        self.table.insert(key.clone()?, numbers)?;
+        self.table.insert(key.to_vec(alloc)?, numbers)?;
         Ok(())
     }
 
     /// Removes a session from those that watch a key. It takes no memory.
-    pub(crate) fn remove(&mut self, key: &Key, number: usize)
-        ensures { Removes self.old.table key.now number self.new.table }
+    pub(crate) fn remove(&mut self, key: &[u8], number: usize)
+        ensures { Removes self.old.table.entries key.now number self.new.table.entries }
     {
         remove_from(&mut self.table, key, number);
     }
@@ -82,14 +87,14 @@ impl Watchers {
     pub(crate) fn add_all(
         &mut self,
         alloc: Global,
-        watched: &[Watch],
+        watched: &Watches,
         number: usize,
     ) -> Result<(), AllocError>
-        ensures ok { OnOk result (AddsAll self.old.table watched.now number self.new.table) }
-        ensures err { OnErr result (RemovesAll self.old.table watched.now number self.new.table) }
+        ensures ok { OnOk result (AddsAll self.old.table.entries watched.now number self.new.table.entries) }
+        ensures err { OnErr result (RemovesAll self.old.table.entries watched.now number self.new.table.entries) }
     {
-        for watch in watched {
-            if let Err(refused) = self.add(alloc, &watch.key, number) {
+        for key in watched.keys() {
+            if let Err(refused) = self.add(alloc, key, number) {
                 self.remove_all(watched, number);
                 return Err(refused);
             }
@@ -98,20 +103,20 @@ impl Watchers {
     }
 
     /// Removes a session from those that watch each of the keys. It takes no memory.
-    pub(crate) fn remove_all(&mut self, watched: &[Watch], number: usize)
-        ensures { RemovesAll self.old.table watched.now number self.new.table }
+    pub(crate) fn remove_all(&mut self, watched: &Watches, number: usize)
+        ensures { RemovesAll self.old.table.entries watched.now number self.new.table.entries }
     {
-        for watch in watched {
-            self.remove(&watch.key, number);
+        for key in watched.keys() {
+            self.remove(key, number);
         }
     }
 }
 
 /// Removes a session from those that watch a key, and the key where it was the last.
-fn remove_from(table: &mut BTreeMap<Key, Vec<usize>>, key: &Key, number: usize)
-    requires { EachWatched table.old }
-    ensures removed { Removes table.old key.now number table.new }
-    ensures watched { EachWatched table.new }
+fn remove_from(table: &mut Table, key: &[u8], number: usize)
+    requires { EachWatched table.old.entries }
+    ensures removed { Removes table.old.entries key.now number table.new.entries }
+    ensures watched { EachWatched table.new.entries }
 {
     if take_out(table, key, number) {
         table.remove(key);
@@ -119,12 +124,12 @@ fn remove_from(table: &mut BTreeMap<Key, Vec<usize>>, key: &Key, number: usize)
 }
 
 /// Takes a session out of the list of a key, and returns whether the list is left empty.
-fn take_out(table: &mut BTreeMap<Key, Vec<usize>>, key: &Key, number: usize) -> bool
-    requires { EachWatched table.old }
-    ensures removed { Removes table.old key.now number table.new }
-    ensures empty { IsTrue result → (n : ℕ) → watches table.new key.now n ≡ false }
-    ensures others { (other : List ℕ) → same_bytes key.now other ≡ false → get bytes_cmp table.new other ≡ get bytes_cmp table.old other }
-    ensures watched { result ≡ false → EachWatched table.new }
+fn take_out(table: &mut Table, key: &[u8], number: usize) -> bool
+    requires { EachWatched table.old.entries }
+    ensures removed { Removes table.old.entries key.now number table.new.entries }
+    ensures empty { IsTrue result → (n : ℕ) → watches table.new.entries key.now n ≡ false }
+    ensures others { (other : List ℕ) → same_bytes key.now other ≡ false → numbers_at table.new.entries other ≡ numbers_at table.old.entries other }
+    ensures watched { result ≡ false → EachWatched table.new.entries }
 {
     let Some(numbers) = table.get_mut(key) else {
         return false;
@@ -137,4 +142,15 @@ fn remove_number(numbers: &mut Vec<usize>, number: usize)
     ensures { (n : ℕ) → has_number n numbers.new.items ≡ (has_number n numbers.old.items && not (nat_eq number n)) }
 {
     numbers.retain(|other| *other != number);
+}
+
+/// The key of these bytes, which are copied.
+fn key_of(alloc: Global, bytes: &[u8]) -> Result<Key, AllocError>
+    requires { length bytes.now ≤ MAX_KEY_BYTES }
+    ensures { IfOk result (λ key. key ≡ bytes.now) }
+{
+    let Some(key) = Key::new(Bytes::copy_from_slice(alloc, bytes)?) else {
+        unreachable!()
+    };
+    Ok(key)
 }

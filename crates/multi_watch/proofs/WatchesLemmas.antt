@@ -1,0 +1,129 @@
+-- The watched keys of one session, as the entries of a table whose keys differ.
+use Rattle.std.proofs.Common.{◌≡◌, ◌≤◌, ℕ, Bool, true, false, cond, ◌||◌, List, [], ◌∷◌, ◌++◌, length, map, Option, None, Some, refl, sym, ap, ap₂, subst, ◌∙◌}
+use Rattle.std.specs.Prelude.{is_some}
+use Rattle.std.specs.Global.{Vec}
+use Rattle.std.specs.List.{list_any, AllByRecursion, IsDistinct}
+use Rattle.std.specs.Map.{lookup, set_value}
+use Rattle.std.specs.Cmp.Lexicographic.{nat_list_eq_equiv}
+use Rattle.std.proofs.Math.Bool.{or-true}
+use Rattle.std.proofs.lemmas.Bool.{or_parts, false_from_ne_true}
+use Rattle.std.proofs.lemmas.Map.Keys.{IsDistinct-head, IsDistinct-tail}
+use Rattle.kv_types.specs.declared.limits.TheConstants.{MAX_KEY_BYTES}
+use Rattle.cmd_core.specs.Contents.{same_bytes}
+use Rattle.indexmap.specs.IndexMap.{insert_entry, insert_all}
+use Rattle.multi_watch.specs.declared.watch.Watch.{Watch}
+use Rattle.multi_watch.specs.Session.{is_watched, marked}
+use Rattle.multi_watch.specs.Watches.{Marks, keys_of, watch_of, watches_of, AreShort, is_key_in}
+use Rattle.multi_watch.proofs.SessionsLemmas.{same_is, marked_other, not_marked, with_mark}
+
+-- the test by which the table finds a key
+abbrev pub is_at : List ℕ → Vec ℕ → Bool
+is_at own key = same_bytes own key.items
+
+abbrev pub vec_eq : Vec ℕ → Vec ℕ → Bool
+vec_eq x y = same_bytes x.items y.items
+
+flipped : (a b : List ℕ) → same_bytes a b ≡ same_bytes b a
+flipped a b = nat_list_eq_equiv.symm a b
+
+-- ---- looking a key up
+
+found_or_later : (here : Bool) (value : Bool) (later : Option Bool) → is_some (cond here (Some value) later) ≡ (here || is_some later)
+found_or_later true value later = refl
+found_or_later false value later = refl
+
+pub found_watched : (own : List ℕ) (marks : Marks) → is_some (lookup (is_at own) marks) ≡ is_watched own (watches_of marks)
+found_watched own [] = refl
+found_watched own (mark ∷ marks) =
+    found_or_later (same_bytes own mark.0.items) mark.1 (lookup (is_at own) marks) ∙ ap₂ (λ a b. a || b) (flipped own mark.0.items) (found_watched own marks)
+
+pub keys_watched : (own : List ℕ) (marks : Marks) → is_key_in own (keys_of marks) ≡ is_watched own (watches_of marks)
+keys_watched own [] = refl
+keys_watched own (mark ∷ marks) = ap (λ b. same_bytes mark.0.items own || b) (keys_watched own marks)
+
+none_there : (o : Option Bool) → is_some o ≡ false → o ≡ None
+none_there None e = refl
+none_there (Some b) e = cc
+
+pub absent : (own : List ℕ) (marks : Marks) → is_watched own (watches_of marks) ≡ false → lookup (is_at own) marks ≡ None
+absent own marks new = none_there (lookup (is_at own) marks) (found_watched own marks ∙ new)
+
+-- ---- marking a key
+
+pub none_marked : (own : List ℕ) (marks : Marks) → lookup (is_at own) marks ≡ None → map (marked own) (watches_of marks) ≡ watches_of marks
+none_marked own marks none = not_marked own (watches_of marks) (sym (found_watched own marks) ∙ ap is_some none)
+
+-- no later key is the first one
+no_later : (own : List ℕ) (key : Vec ℕ) (marks : Marks) → own ≡ key.items → AllByRecursion (λ other. vec_eq key other ≡ false) (keys_of marks) → is_watched own (watches_of marks) ≡ false
+no_later own key [] is apart = refl
+no_later own key (mark ∷ marks) is apart =
+    ap₂ (λ a b. a || b) (flipped mark.0.items own ∙ ap (λ k. same_bytes k mark.0.items) is ∙ apart.0) (no_later own key marks is apart.1)
+
+pub one_marked : (own : List ℕ) (marks : Marks) → IsDistinct vec_eq (keys_of marks) → watches_of (set_value (is_at own) marks true) ≡ map (marked own) (watches_of marks)
+one_marked own [] apart = refl
+one_marked own (mark ∷ marks) apart = by_same (same_bytes own mark.0.items) refl where
+  rest : watches_of (set_value (is_at own) marks true) ≡ map (marked own) (watches_of marks)
+  rest = one_marked own marks (IsDistinct-tail vec_eq mark.0 (keys_of marks) apart)
+
+  by_same : (same : Bool) → same_bytes own mark.0.items ≡ same
+      → watches_of (cond same ((mark.0, true) ∷ marks) (mark ∷ set_value (is_at own) marks true)) ≡ map (marked own) (watches_of (mark ∷ marks))
+  by_same true is =
+      let later = no_later own mark.0 marks (same_is own mark.0.items is) (IsDistinct-head vec_eq mark.0 (keys_of marks) apart) in
+      let here : mark.1 || same_bytes mark.0.items own ≡ true = ap (λ b. mark.1 || b) (flipped mark.0.items own ∙ is) ∙ or-true mark.1 in
+      ap₂ (λ w ws. w ∷ ws) (ap (λ b. with_mark mark.0.items b) (sym here)) (sym (not_marked own (watches_of marks) later))
+  by_same false is = ap₂ (λ w ws. w ∷ ws) (sym (marked_other own (watch_of mark) (flipped mark.0.items own ∙ is))) rest
+
+-- ---- adding keys
+
+pub watches_of-append : (first more : Marks) → watches_of (first ++ more) ≡ watches_of first ++ watches_of more
+watches_of-append [] more = refl
+watches_of-append (mark ∷ first) more = ap (λ ws. watch_of mark ∷ ws) (watches_of-append first more)
+
+pub short-append : (first more : Marks) → AreShort (keys_of first) → AreShort (keys_of more) → AreShort (keys_of (first ++ more))
+short-append [] more short later = later
+short-append (mark ∷ first) more short later = (short.0, short-append first more short.1 later)
+
+-- a key that is not there goes last
+goes_last : (key : Vec ℕ) (value : Bool) (marks : Marks) → is_watched key.items (watches_of marks) ≡ false → insert_entry vec_eq marks key value ≡ marks ++ (key, value) ∷ []
+goes_last key value [] new = refl
+goes_last key value (mark ∷ marks) new =
+    let parts = or_parts (same_bytes mark.0.items key.items) (is_watched key.items (watches_of marks)) new in
+    ap (λ b. cond b ((mark.0, value) ∷ marks) (mark ∷ insert_entry vec_eq marks key value)) (flipped key.items mark.0.items ∙ parts.0)
+    ∙ ap (λ rest. mark ∷ rest) (goes_last key value marks parts.1)
+
+pub one_added : (key : Vec ℕ) (own : List ℕ) (value : Bool) (marks : Marks) → key.items ≡ own → is_watched own (watches_of marks) ≡ false → insert_entry vec_eq marks key value ≡ marks ++ (key, value) ∷ []
+one_added key own value marks is new = goes_last key value marks (ap (λ k. is_watched k (watches_of marks)) is ∙ new)
+
+append_assoc : (first : Marks) (mark : Vec ℕ × Bool) (more : Marks) → (first ++ mark ∷ []) ++ more ≡ first ++ mark ∷ more
+append_assoc [] mark more = refl
+append_assoc (one ∷ first) mark more = ap (λ rest. one ∷ rest) (append_assoc first mark more)
+
+is_watched-append : (own : List ℕ) (first more : List Watch) → is_watched own first ≡ false → is_watched own more ≡ false → is_watched own (first ++ more) ≡ false
+is_watched-append own [] more none later = later
+is_watched-append own (watch ∷ first) more none later =
+    let parts = or_parts (same_bytes watch.key own) (is_watched own first) none in
+    ap₂ (λ a b. a || b) parts.0 (is_watched-append own first more parts.1 later)
+
+-- the later keys are none of the first ones, nor the next one
+still_apart : (first : Marks) (mark : Vec ℕ × Bool) (more : Marks) → AllByRecursion (λ other. vec_eq mark.0 other ≡ false) (keys_of more)
+    → list_any (λ watch. is_watched watch.key (watches_of first)) (watches_of more) ≡ false
+    → list_any (λ watch. is_watched watch.key (watches_of (first ++ mark ∷ []))) (watches_of more) ≡ false
+still_apart first mark [] differ apart = refl
+still_apart first mark (next ∷ more) differ apart =
+    let parts = or_parts (is_watched next.0.items (watches_of first)) (list_any (λ watch. is_watched watch.key (watches_of first)) (watches_of more)) apart in
+    ap₂ (λ a b. a || b)
+    (ap (is_watched next.0.items) (watches_of-append first (mark ∷ [])) ∙ is_watched-append next.0.items (watches_of first) (watch_of mark ∷ []) parts.0 (ap (λ b. b || false) differ.0))
+    (still_apart first mark more differ.1 parts.1)
+
+pub all_added : (first more : Marks) → IsDistinct vec_eq (keys_of more) → list_any (λ watch. is_watched watch.key (watches_of first)) (watches_of more) ≡ false
+    → insert_all vec_eq first more ≡ first ++ more
+all_added first [] differ apart = sym (append_none first) where
+  append_none : (marks : Marks) → marks ++ [] ≡ marks
+  append_none [] = refl
+  append_none (mark ∷ marks) = ap (λ rest. mark ∷ rest) (append_none marks)
+all_added first (mark ∷ more) differ apart =
+    let parts = or_parts (is_watched mark.0.items (watches_of first)) (list_any (λ watch. is_watched watch.key (watches_of first)) (watches_of more)) apart in
+    ap (λ done. insert_all vec_eq done more) (goes_last mark.0 mark.1 first parts.0)
+    ∙ all_added (first ++ mark ∷ []) more (IsDistinct-tail vec_eq mark.0 (keys_of more) differ)
+    (still_apart first mark more (IsDistinct-head vec_eq mark.0 (keys_of more) differ) parts.1)
+    ∙ append_assoc first mark more
