@@ -1,5 +1,5 @@
 -- The watched keys of one session, as the entries of a table whose keys differ.
-use Rattle.std.proofs.Common.{◌≡◌, ◌≤◌, ℕ, Bool, true, false, cond, ◌||◌, List, [], ◌∷◌, ◌++◌, length, map, Option, None, Some, refl, sym, ap, ap₂, subst, ◌∙◌}
+use Rattle.std.proofs.Common.{◌≡◌, ◌≤◌, ℕ, Bool, true, false, cond, ◌||◌, List, [], ◌∷◌, ◌++◌, length, map, Option, None, Some, Result, Ok, Err, OnOk, refl, sym, ap, ap₂, ◌∙◌}
 use Rattle.std.specs.Prelude.{is_some}
 use Rattle.std.specs.Global.{Vec}
 use Rattle.std.specs.List.{list_any, AllByRecursion, IsDistinct}
@@ -61,17 +61,14 @@ no_later own key (mark ∷ marks) is apart =
 
 pub one_marked : (own : List ℕ) (marks : Marks) → IsDistinct vec_eq (keys_of marks) → watches_of (set_value (is_at own) marks true) ≡ map (marked own) (watches_of marks)
 one_marked own [] apart = refl
-one_marked own (mark ∷ marks) apart = by_same (same_bytes own mark.0.items) refl where
-  rest : watches_of (set_value (is_at own) marks true) ≡ map (marked own) (watches_of marks)
-  rest = one_marked own marks (IsDistinct-tail vec_eq mark.0 (keys_of marks) apart)
-
-  by_same : (same : Bool) → same_bytes own mark.0.items ≡ same
+one_marked own (mark ∷ marks) apart = by_same (one_marked own marks (IsDistinct-tail vec_eq mark.0 (keys_of marks) apart)) (same_bytes own mark.0.items) refl where
+  by_same : watches_of (set_value (is_at own) marks true) ≡ map (marked own) (watches_of marks) → (same : Bool) → same_bytes own mark.0.items ≡ same
       → watches_of (cond same ((mark.0, true) ∷ marks) (mark ∷ set_value (is_at own) marks true)) ≡ map (marked own) (watches_of (mark ∷ marks))
-  by_same true is =
+  by_same rest true is =
       let later = no_later own mark.0 marks (same_is own mark.0.items is) (IsDistinct-head vec_eq mark.0 (keys_of marks) apart) in
-      let here : mark.1 || same_bytes mark.0.items own ≡ true = ap (λ b. mark.1 || b) (flipped mark.0.items own ∙ is) ∙ or-true mark.1 in
+      let here : (mark.1 || same_bytes mark.0.items own) ≡ true = ap (λ b. mark.1 || b) (flipped mark.0.items own ∙ is) ∙ or-true mark.1 in
       ap₂ (λ w ws. w ∷ ws) (ap (λ b. with_mark mark.0.items b) (sym here)) (sym (not_marked own (watches_of marks) later))
-  by_same false is = ap₂ (λ w ws. w ∷ ws) (sym (marked_other own (watch_of mark) (flipped mark.0.items own ∙ is))) rest
+  by_same rest false is = ap₂ (λ w ws. w ∷ ws) (sym (marked_other own (watch_of mark) (flipped mark.0.items own ∙ is))) rest
 
 -- ---- adding keys
 
@@ -127,3 +124,13 @@ all_added first (mark ∷ more) differ apart =
     ∙ all_added (first ++ mark ∷ []) more (IsDistinct-tail vec_eq mark.0 (keys_of more) differ)
     (still_apart first mark more (IsDistinct-head vec_eq mark.0 (keys_of more) differ) parts.1)
     ∙ append_assoc first mark more
+
+-- ---- some key was modified
+
+pub some_modified : (marks : Marks) → list_any (λ is_modified. is_modified) (map (λ mark. mark.1) marks) ≡ list_any (λ watch. watch.is_modified) (watches_of marks)
+some_modified [] = refl
+some_modified (mark ∷ marks) = ap (λ b. mark.1 || b) (some_modified marks)
+
+pub then_on_ok : {X E P Q : Type 0} (result : Result X E) → OnOk result P → (P → Q) → OnOk result Q
+then_on_ok (Ok x) done next = next done
+then_on_ok (Err e) done next = tt

@@ -64,16 +64,22 @@ impl Watches {
     pub(crate) fn has_modified(&self) -> bool
         ensures { result ≡ list_any (λ watch. watch.is_modified) self.now }
     {
-        self.marks.values().any(|is_modified| *is_modified)
+        for is_modified in self.marks.values() {
+            if *is_modified {
+                return true;
+            }
+        }
+        false
     }
 
     /// Marks a key, if it is watched. It takes no memory.
     pub(crate) fn mark(&mut self, key: &[u8])
         ensures { self.new ≡ map (marked key.now) self.old }
     {
-        if let Some(is_modified) = self.marks.get_mut(key) {
-            *is_modified = true;
-        }
+        let Some(is_modified) = self.marks.get_mut(key) else {
+            return;
+        };
+        *is_modified = true;
     }
 
     /// Watches a key that is not watched yet. Its bytes are copied. Where memory is refused, nothing changes.

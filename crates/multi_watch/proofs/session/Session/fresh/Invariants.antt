@@ -8,5 +8,5 @@ use Rattle.multi_watch.proofs.session.Session.fresh.Given as goal
 abbrev pub invariant-loop-key : goal.invariant-loop-key
 invariant-loop-key l =
     IsTrue (are_short shape.All (drop l.key-index l.keys))
-    × (watching (drop l.key-index l.keys) (l.self.watched ++ l.fresh.items) ≡ watching l.keys l.self.watched)
-    × (list_any (λ watch. is_watched watch.key l.self.watched) l.fresh.items ≡ false)
+    × (watching (drop l.key-index l.keys) (l.self.watched ++ l.fresh) ≡ watching l.keys l.self.watched)
+    × (list_any (λ watch. is_watched watch.key l.self.watched) l.fresh ≡ false)
