@@ -1,17 +1,18 @@
 -- Marking a key in the sessions that watch it, and adding watches that are new.
-use Rattle.std.proofs.Common.{◌≡◌, ℕ, suc, ◌+◌, ◌<◌, ◌≤◌, Bool, true, false, not, ◌&&◌, ◌||◌, List, [], ◌∷◌, length, map, drop, drop-cons, get_or, Option, Some, None, nat_eq, refl, sym, ap, ap₂, ◌∙◌, arith}
+use Rattle.std.proofs.Common.{◌≡◌, ◌≢◌, ℕ, zero, suc, slice_set, ◌+◌, ◌<◌, ◌≤◌, Bool, true, false, not, ◌&&◌, ◌||◌, List, [], ◌∷◌, ◌++◌, length, map, drop, drop-cons, get_or, Option, Some, None, nat_eq, refl, sym, ap, ap₂, ◌∙◌, arith}
 use Rattle.std.specs.List.{list_any}
 use Rattle.std.specs.Option.{option_map}
 use Rattle.std.proofs.lemmas.List.{drop_all}
-use Rattle.std.proofs.Math.Bool.{or-false}
-use Rattle.std.proofs.lemmas.Bool.{eqb-true, or_parts}
+use Rattle.std.proofs.lemmas.List.Folds.{list_any-append}
+use Rattle.std.proofs.Math.Bool.{or-false, and-true, and-false}
+use Rattle.std.proofs.lemmas.Bool.{eqb-true, eq-eqb, or_parts}
 use Rattle.cmd_core.specs.Contents.{same_bytes}
 pub use Rattle.multi_watch.proofs.TableLemmas.{same_is}
 pub use Rattle.multi_watch.proofs.ModifiedLemmas.{with_mark}
 use Rattle.multi_watch.specs.declared.watch.Watch.{Watch}
 use Rattle.multi_watch.specs.Session.{Session, is_watched, marked, modified}
 use Rattle.multi_watch.specs.Watchers.{Table, has_number, watches, AddsAll, RemovesAll}
-use Rattle.multi_watch.specs.Sessions.{Sessions, slot, session_of, session_at, marked_if, Agree}
+use Rattle.multi_watch.specs.Sessions.{Sessions, slot, session_of, session_at, marked_if, Moves, Agree}
 
 -- ---- a key is marked
 
@@ -128,3 +129,79 @@ agrees_without table new sessions fresh number agree apart removes key n =
       unwatched is own =
           let same : number ≡ n = eqb-true number n own in
           ap (watches table key) (sym same) ∙ agree key number ∙ apart_key (session_at sessions number).watched fresh apart key is
+
+-- ---- the session of one number changes
+
+by_number : (new : Table) (now : Sessions) (number : ℕ) → ((key : List ℕ) → watches new key number ≡ is_watched key (session_at now number).watched)
+    → ((key : List ℕ) (n : ℕ) → nat_eq number n ≡ false → watches new key n ≡ is_watched key (session_at now n).watched) → Agree new now
+by_number new now number here others key n = by_same (nat_eq number n) refl where
+  by_same : (same : Bool) → nat_eq number n ≡ same → watches new key n ≡ is_watched key (session_at now n).watched
+  by_same true is = ap (watches new key) (sym (eqb-true number n is)) ∙ here key ∙ ap (λ m. is_watched key (session_at now m).watched) (eqb-true number n is)
+  by_same false is = others key n is
+
+itself : (n : ℕ) → nat_eq n n ≡ true
+itself n = eq-eqb n n refl
+
+other_number : (number n : ℕ) → nat_eq number n ≡ false → n ≢ number
+other_number number n is same = let both : true ≡ false = sym (eq-eqb number n (sym same)) ∙ is in cc
+
+no_longer : (was own : Bool) → own ≡ true → (was && not (was && own)) ≡ false
+no_longer true true is = refl
+no_longer false own is = refl
+no_longer true false is = cc
+
+as_it_was : (was removed own : Bool) → own ≡ false → (was && not (removed && own)) ≡ was
+as_it_was true removed own is = ap (λ b. not (removed && b)) is ∙ ap not (and-false removed)
+as_it_was false removed own is = refl
+
+not_added : (was added own : Bool) → own ≡ false → (was || (added && own)) ≡ was
+not_added was added own is = ap (λ b. was || (added && b)) is ∙ ap (λ b. was || b) (and-false added) ∙ or-false was
+
+added_here : (was added own : Bool) → own ≡ true → (was || (added && own)) ≡ (was || added)
+added_here was added own is = ap (λ b. was || (added && b)) is ∙ ap (λ b. was || b) (and-true added)
+
+module _ (table new : Table) (old now : Sessions) (number : ℕ) (o : Option Session) (agree : Agree table old) (moves : Moves old number o now) where
+  other_session : (key : List ℕ) (n : ℕ) → nat_eq number n ≡ false → watches table key n ≡ is_watched key (session_at now n).watched
+  other_session key n is = agree key n ∙ ap (λ s. is_watched key (session_of s).watched) (sym (moves.others n (other_number number n is)))
+
+  this_session : (key : List ℕ) → is_watched key (session_at now number).watched ≡ is_watched key (session_of o).watched
+  this_session key = ap (λ s. is_watched key (session_of s).watched) moves.moved
+
+  -- A session that watches nothing any more is taken out of the table.
+  pub agrees_forgotten : (watched : List Watch) → watched ≡ (session_at old number).watched → (session_of o).watched ≡ [] → RemovesAll table watched number new → Agree new now
+  agrees_forgotten watched was none removes =
+      by_number new now number
+      (λ key. (removes key number ∙ ap (λ b. b && not (is_watched key watched && nat_eq number number)) (agree key number ∙ ap (is_watched key) (sym was))
+      ∙ no_longer (is_watched key watched) (nat_eq number number) (itself number) ∙ sym (this_session key ∙ ap (is_watched key) none)))
+      (λ key n is. (removes key n ∙ as_it_was (watches table key n) (is_watched key watched) (nat_eq number n) is ∙ other_session key n is))
+
+  -- A session that watches more keys is added to the table at these.
+  pub agrees_with : (fresh : List Watch) → (session_of o).watched ≡ (session_at old number).watched ++ fresh → AddsAll table fresh number new → Agree new now
+  agrees_with fresh is_now adds =
+      by_number new now number
+      (λ key. (adds key number ∙ added_here (watches table key number) (is_watched key fresh) (nat_eq number number) (itself number)
+      ∙ ap (λ b. b || is_watched key fresh) (agree key number) ∙ sym (list_any-append (λ watch. same_bytes watch.key key) (session_at old number).watched fresh)
+      ∙ sym (this_session key ∙ ap (is_watched key) is_now)))
+      (λ key n is. (adds key n ∙ not_added (watches table key n) (is_watched key fresh) (nat_eq number n) is ∙ other_session key n is))
+
+  -- Where the session watches what it did, the table says the same.
+  pub agrees_unchanged : (session_of o).watched ≡ (session_at old number).watched → Agree table now
+  agrees_unchanged same =
+      by_number table now number (λ key. (agree key number ∙ ap (is_watched key) (sym same) ∙ sym (this_session key))) other_session
+
+-- the session of an open number is written
+set_here : (old : Sessions) (number : ℕ) (before now : Session) → slot old number ≡ Some before → slot (slice_set old number (Some now)) number ≡ Some now
+set_here [] zero before now is = let p = is in cc
+set_here [] (suc number) before now is = let p = is in cc
+set_here (first ∷ old) zero before now is = refl
+set_here (first ∷ old) (suc number) before now is = set_here old number before now is
+
+set_others : (old : Sessions) (number : ℕ) (now : Option Session) (other : ℕ) → other ≢ number → slot (slice_set old number now) other ≡ slot old other
+set_others [] number now other apart = refl
+set_others (first ∷ old) zero now zero apart = absurd (apart refl)
+set_others (first ∷ old) zero now (suc other) apart = refl
+set_others (first ∷ old) (suc number) now zero apart = refl
+set_others (first ∷ old) (suc number) now (suc other) apart = set_others old number now other (λ same. apart (ap suc same))
+
+pub moves_set : (old : Sessions) (number : ℕ) (before now : Session) → slot old number ≡ Some before → Moves old number (Some now) (slice_set old number (Some now))
+moves_set old number before now is = record { moved = set_here old number before now is; others = set_others old number (Some now) }

@@ -1,5 +1,5 @@
 //! The sessions of all connections.
-ghost use Rattle.std.specs.Prelude.{◌≡◌, ℕ, List, [], nat_eq, true, false, ◌&&◌, IsTrue, IsSome, None, Some, drop, ◌↔◌, IfOk, IsErr, IfErr, OnErr};
+ghost use Rattle.std.specs.Prelude.{◌≡◌, ℕ, List, [], nat_eq, true, false, ◌&&◌, IsTrue, IsSome, None, Some, drop, ◌++◌, ◌↔◌, IfOk, IsErr, IfErr, OnOk, OnErr};
 ghost use Rattle.std.specs.List.{list_any};
 ghost use Rattle.std.specs.Option.{option_map};
 ghost use Rattle.cmd_core.specs.Contents.{same_bytes, has_key};
@@ -16,6 +16,7 @@ use crate::error::SessionError;
 use crate::session::Session;
 use crate::verb::Verb;
 use crate::watchers::Watchers;
+use crate::watches::Watches;
 use bytes::Bytes;
 use cmd_core::Lookup;
 use cmd_table::Misuse;
@@ -215,12 +216,28 @@ impl Sessions {
             return Ok(SessionError::WatchInside.answer());
         }
         let mut fresh = session.fresh(alloc, keys)?;
-        self.watchers.add_all(alloc, &fresh, number.0)?;
-        if let Err(refused) = self.sessions[number.0].watch(&mut fresh) {
-            self.watchers.remove_all(&fresh, number.0);
+        self.watch_fresh(alloc, number, &mut fresh)?;
+        Ok(Act::ok())
+    }
+
+    /// Watches more keys, none of which the session watches yet. Where memory is refused, nothing changes.
+    fn watch_fresh(
+        &mut self,
+        alloc: Global,
+        number: SessionNo,
+        fresh: &mut Watches,
+    ) -> Result<(), AllocError>
+        requires opened { IsSome (slot self.old number.0) }
+        requires apart { list_any (λ watch. is_watched watch.key (session_at self.old number.0).watched) fresh.old ≡ false }
+        ensures ok { OnOk result (Moves self.old number.0 (Some (with_watched ((session_at self.old number.0).watched ++ fresh.old) (session_at self.old number.0))) self.new) }
+        ensures err { OnErr result (self.new ≡ self.old) }
+    {
+        self.watchers.add_all(alloc, fresh, number.0)?;
+        if let Err(refused) = self.sessions[number.0].watch(fresh) {
+            self.watchers.remove_all(fresh, number.0);
             return Err(refused);
         }
-        Ok(Act::ok())
+        Ok(())
     }
 
     /// UNWATCH, which waits in a transaction. Where memory is refused there, the transaction is spoiled.

@@ -1,5 +1,6 @@
 //! The errors with which the sequencer refuses a call.
 ghost use Rattle.std.specs.Prelude.{◌≡◌};
+ghost use Rattle.model.specs.Call as call;
 ghost use Rattle.redis_core.specs.Serving as replies;
 
 use bytes::Bytes;
@@ -11,8 +12,15 @@ pub(crate) fn refusal_reply(refusal: Refusal) -> Reply
 {
     match refusal {
         Refusal::Full => error(b"ERR store is full"),
-        _ => error(b"ERR out of memory"),
+        _ => memory_reply(),
     }
+}
+
+/// The reply that says that memory was refused.
+pub(crate) fn memory_reply() -> Reply
+    ensures { result ≡ call.memory_reply }
+{
+    error(b"ERR out of memory")
 }
 
 /// An error with a constant text, which takes no memory.

@@ -14,6 +14,7 @@ use kv_types::{Key, Refusal, Request};
 use multi_watch::{Act, SessionNo, Sessions};
 use pipes::{MAX_SEATS, Seat};
 use std::alloc::Global;
+use std::hash::RandomState;
 use std::marker::Model;
 use std::mem;
 
@@ -37,17 +38,17 @@ impl Model for Seats {
 }
 
 impl Seats {
-    /// All seats, each of them closed.
+    /// All seats, each of them closed. Watched keys are hashed with `hash_builder`.
     ///
     /// # Errors
     ///
     /// Only `Memory`.
-    pub(crate) fn new(alloc: Global) -> Result<Seats, Refusal>
+    pub(crate) fn new(alloc: Global, hash_builder: RandomState) -> Result<Seats, Refusal>
         ensures closed { IfOk result (λ seats. seats ≡ replicate MAX_SEATS None) }
         ensures cause { IfErr result (λ refusal. refusal ≡ Refusal.Memory) }
     {
         Ok(Seats {
-            sessions: Sessions::new(alloc),
+            sessions: Sessions::new(alloc, hash_builder),
             numbers: vec![in alloc; None; MAX_SEATS]?,
         })
     }

@@ -17,7 +17,7 @@ ghost use Rattle.redis_core.specs.Sequencing.{IsAheadOf, HandsOut, MovesSeat, Un
 ghost use Rattle.redis_core.specs.Serving.{Acts, AnswersRequest, Finishes, RefusesMemory, Runs};
 ghost use Rattle.redis_core.specs.Turn.{Answers, OnServed, OnIdle, OnBlocked, OnGroupFull, OnEnded, OnUnserved};
 
-use crate::error::{error, refusal_reply};
+use crate::error::{memory_reply, refusal_reply};
 use crate::seats::Seats;
 use crate::store::Store;
 use crate::turn::Turn;
@@ -28,6 +28,7 @@ use multi_watch::Act;
 use mv_keyspace::Keyspace;
 use pipes::{Inlet, MAX_SEATS, Outlet, Seat};
 use std::alloc::Global;
+use std::hash::RandomState;
 use std::marker::Model;
 
 /// Turns what each seat asks into calls of one list, one per turn, and keeps what they changed until a group takes it.
@@ -66,7 +67,7 @@ impl<K: Keyspace> Model for Sequencer<K> {
 
 impl<K: Keyspace + Drop> Sequencer<K> {
     /// A sequencer over a keyspace at this position of the list, with a heap of what is free beside it, whose groups are of this epoch. All seats
-    /// are closed and nothing waits.
+    /// are closed and nothing waits. Watched keys are hashed with `hash_builder`, on which nothing that is promised depends.
     ///
     /// # Errors
     ///
@@ -77,6 +78,7 @@ impl<K: Keyspace + Drop> Sequencer<K> {
         heap: ExtentHeap,
         position: u64,
         epoch: u64,
+        hash_builder: RandomState,
     ) -> Result<Sequencer<K>, Refusal>
         requires { IsBeside (K.table keyspace) heap }
         ensures ok { IfOk result (λ s. s ≡ starts (K.table keyspace) heap position epoch (replicate MAX_SEATS None)) }
@@ -88,7 +90,7 @@ impl<K: Keyspace + Drop> Sequencer<K> {
             return Err(Refusal::Exhausted);
         }
         let waiting = Vec::with_capacity(alloc, MAX_PARTS)?;
-        let seats = Seats::new(alloc)?;
+        let seats = Seats::new(alloc, hash_builder)?;
         Ok(Sequencer {
             store: Store::new(keyspace, heap, seats),
             position,
@@ -100,13 +102,6 @@ impl<K: Keyspace + Drop> Sequencer<K> {
 }
 
 impl<K: Keyspace> Sequencer<K> {
-    /// The keyspace after all calls so far.
-    pub fn keyspace(&self) -> &K
-        ensures { K.table result.now ≡ (self.now).table }
-    {
-        self.store.keyspace()
-    }
-
     /// Whether a changing command waits for a group.
     pub fn has_open(&self) -> bool
         ensures { IsTrue result ↔ ((self.now).waiting ≢ []) }
@@ -314,6 +309,6 @@ fn fault_reply(alloc: Global, fault: ProtocolFault) -> Reply
 {
     match fault.message(alloc) {
         Ok(text) => Reply::Error(text),
-        Err(_) => error(b"ERR out of memory"),
+        Err(_) => memory_reply(),
     }
 }

@@ -54,13 +54,6 @@ impl<K: Keyspace> Store<K> {
         }
     }
 
-    /// The keyspace after all calls so far.
-    pub(crate) fn keyspace(&self) -> &K
-        ensures { K.table result.now ≡ (self.now).table }
-    {
-        &self.keyspace
-    }
-
     /// Whether no connection is open at a seat.
     pub(crate) fn is_closed(&self, seat: &Seat) -> bool
         ensures { result ≡ is_closed_at (self.now).sessions seat.now }
