@@ -1,11 +1,10 @@
 -- Rows that exclude none of the others make up a lawful table once they are in order.
-use Rattle.std.proofs.Common.{◌≡◌, ℕ, zero, suc, ◌<◌, ◌≤◌, ◌⊎◌, ⊎_elim, ◌&&◌, ◌||◌, List, [], ◌∷◌, length, map, get_or, Bool, true, false, IsTrue, cond, Option, Some, None, IsSome, Ordering, Less, Equal, Greater, Contains, nat_eq, refl, sym, ap, ap₂, subst, ◌∙◌, is_eq, is_lt, arith, eq-eqb}
+use Rattle.std.proofs.Common.{◌≡◌, ℕ, zero, suc, ◌<◌, ◌≤◌, ◌⊎◌, ⊎_elim, ◌&&◌, ◌||◌, List, [], ◌∷◌, length, get_or, Bool, true, false, IsTrue, cond, Option, Some, None, IsSome, Less, Equal, Greater, Contains, nat_eq, refl, sym, ap, ap₂, subst, ◌∙◌, is_lt, arith, eq-eqb, eqb-true}
 use Rattle.std.proofs.lemmas.Bool.{and_parts, cases_order}
 use Rattle.std.proofs.lemmas.List.{get_or_default}
 use Rattle.std.proofs.lemmas.List.Sorted.{ranks_by, sorted_far, IsPermutation-map, IsPermutation-sym, Contains-permutation}
 use Rattle.std.proofs.lemmas.Map.Keys.{IsDistinct-head, IsDistinct-tail, IsDistinct-IsPermutation, apart_from_distinct}
 use Rattle.std.specs.Cmp.{both_ways}
-use Rattle.std.specs.Cmp.Lexicographic.{pointwise}
 use Rattle.std.specs.FinMap.Entries.{is_sorted, below_all}
 use Rattle.std.specs.List.{AllByRecursion}
 use Rattle.std.specs.List.Sorted.{IsPermutation, IsSortedBy}
@@ -14,19 +13,19 @@ use Rattle.std.specs.Ordering.{ordering_reverse}
 use Rattle.std.specs.Prelude.{is_none}
 use Rattle.kv_types.specs.declared.record_id.RecordId.{RecordId}
 use Rattle.kv_types.specs.declared.record_id.RecordId.TheVariants.{Str, Field}
-use Rattle.kv_types.specs.Keyspace.{IsKeyspace, value_at, key_of, field_of, record_cmp}
+use Rattle.kv_types.specs.Keyspace.{key_of, field_of, record_cmp}
 use Rattle.kv_types.specs.Order.{record_cmp_total}
 use Rattle.kv_types.proofs.OrderLemmas.{record_cmp_equal, same_record, record_itself, same_key, key_itself}
 use Rattle.kv_types.proofs.LookUpLemmas.{is_same, is_same_at, is_same_key}
 use Rattle.model.specs.ReadImage.{is_clash}
 use Rattle.mv_keyspace.specs.declared.row.Row.{Row}
 use Rattle.mv_keyspace.specs.Loading.{excludes, AreCompatible, HasRows}
-use Rattle.mv_keyspace.specs.Row.{cell_of_row, records_of, records_of_table, table_of}
-use Rattle.mv_keyspace.specs.Table.{Cell, Table, records, cell_at, IsLawful}
+use Rattle.mv_keyspace.specs.Row.{records_of, records_of_table, table_of}
+use Rattle.mv_keyspace.specs.Table.{Cell, Table, cell_at, IsLawful}
 use Rattle.mv_keyspace.proofs.EndedLemmas.{or_right}
 use Rattle.mv_keyspace.proofs.ListLemmas.{entry_of}
 use Rattle.mv_keyspace.proofs.TableLemmas.{value_at-records}
-use Rattle.mv_keyspace.proofs.TableMembers.{IsSortedTable, is_sorted-records, found-first, found-later}
+use Rattle.mv_keyspace.proofs.TableMembers.{IsSortedTable, is_sorted-records, found-later}
 
 -- ---- what excludes what
 
@@ -52,7 +51,7 @@ clash-flips x y =
     ∙ ap (λ b. is_same_key (key_of y) (key_of x) && b) (or-flips (is_same y x) (is_none (field_of x)) (is_none (field_of y)))
 
 nat_eq-flips : (i j : ℕ) → nat_eq i j ≡ nat_eq j i
-nat_eq-flips i j = both_ways (nat_eq i j) (nat_eq j i) (λ e. omega (arith, e)) (λ e. omega (arith, e))
+nat_eq-flips i j = both_ways (nat_eq i j) (nat_eq j i) (λ e. eq-eqb j i (sym (eqb-true i j e))) (λ e. eq-eqb i j (sym (eqb-true j i e)))
 
 pub excludes-flips : (x y : RecordId × Cell) → excludes x y ≡ excludes y x
 excludes-flips x y = ap₂ (λ (a b : Bool). a || b) (clash-flips x.0 y.0) (nat_eq-flips x.1.entry y.1.entry)
@@ -143,9 +142,10 @@ module _ (table : Table) (sorted : IsSortedTable table) (apart : AreCompatible t
   one_kind key field string None found found' some = refl
   one_kind key field None (Some other) found found' some = cc
   one_kind key field (Some cell) (Some other) found found' some =
-      let clash = ap₂ (λ (a b : Bool). a && b || nat_eq cell.entry other.entry) (key_itself key) (or_right (is_same (Str key) (Field key field)) true refl) in
-      let row : (Str key, cell) ≡ (Field key field, other) = same_row table apart (Str key, cell) (Field key field, other) (row-from_found table (Str key) cell found) (row-from_found table (Field key field) other found') clash in
-      let same : Str key ≡ Field key field = ap (λ (y : RecordId × Cell). y.0) row in
+      let clash = ap₂ (λ (a b : Bool). a && b || nat_eq cell.entry other.entry) (key_itself key) (ap (λ b. b || false) (or_right (is_same (Str key) (Field key field)) true refl)) in
+      let same : Str key ≡ Field key field =
+      ap (λ (y : RecordId × Cell). y.0)
+      (same_row table apart (Str key, cell) (Field key field, other) (row-from_found table (Str key) cell found) (row-from_found table (Field key field) other found') clash) in
       cc
 
   pub lawful : IsLawful table
