@@ -1,7 +1,10 @@
-//! Changes made on a keyspace, with places from a heap for their puts: keyspace and heap move together, or not at all.
+//! Changes made on a keyspace, with places from a heap for their puts: keyspace and heap move together, or not at all; and both made anew from the
+//! versions of an image.
 #![tactic(auto)]
 
 mod performing;
 mod places;
+mod rebuilding;
 
 pub use performing::{empty_part, perform};
+pub use rebuilding::{Rebuilt, rebuild};
