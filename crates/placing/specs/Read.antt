@@ -1,6 +1,6 @@
 -- The versions of an image as they are read: each entry whose begin counts, with the end 0 where its version was not ended, and the entries that a
 -- commit began and did not come to the end of.
-use Rattle.std.specs.Prelude.{◌≡◌, ◌≢◌, ◌↔◌, ◌⊎◌, ℕ, ◌+◌, ◌<◌, ◌≤◌, ◌==◌, false, nat_eq, if◌then◌else◌, List, [], ◌∷◌, map, Contains, Some, None, IsTrue}
+use Rattle.std.specs.Prelude.{◌≡◌, ◌≢◌, ◌↔◌, ◌⊎◌, ℕ, ◌+◌, ◌<◌, ◌≤◌, ◌==◌, false, not, nat_eq, if◌then◌else◌, List, [], ◌∷◌, map, Contains, Some, None, IsTrue}
 use Rattle.std.specs.List.{IsDistinct, flat_map}
 use Rattle.kv_types.specs.declared.place.EntryNo.{EntryNo}
 use Rattle.kv_types.specs.declared.record_id.RecordId.{RecordId}
@@ -31,7 +31,7 @@ abbrev pub rows_read : List (EntryNo × Entry) → Table
 rows_read = flat_map row_if_live
 
 abbrev pub number_if_ended : EntryNo × Entry → List ℕ
-number_if_ended read = if read.1.end == 0 then [] else read.0.0 ∷ []
+number_if_ended read = if not (read.1.end == 0) then read.0.0 ∷ [] else []
 
 -- the entries of those that were
 abbrev pub ended_read : List (EntryNo × Entry) → List ℕ

@@ -1,8 +1,9 @@
 //! What a node holds in memory, made from the versions of its image.
-ghost use Rattle.std.specs.Prelude.{◌≡◌, [], OnOk, OnErr, IfOk, IfErr};
+ghost use Rattle.std.specs.Prelude.{◌≡◌, [], nat_eq, OnOk, OnErr, IfOk, IfErr};
+ghost use Rattle.std.specs.List.{IsDistinct};
 ghost use Rattle.model.specs.Group.{Contents};
-ghost use Rattle.mv_keyspace.specs.Row.{numbers_of, table_of};
-ghost use Rattle.placing.specs.Read.{AreOf, ended_read, rows_read};
+ghost use Rattle.mv_keyspace.specs.Row.{cell_of_row, numbers_of, table_of};
+ghost use Rattle.placing.specs.Read.{AreOf, ended_read, row_read, rows_read};
 ghost use Rattle.placing.specs.Rebuilt.{AreEndedOf, AreFreeEntries, CanClaimAll, ClaimsAll, ClaimsEntries, IsRebuilt, RisesWith};
 
 use extent_heap::ExtentHeap;
@@ -75,8 +76,8 @@ fn claim_entries(heap: &mut ExtentHeap, entries: &[EntryNo])
     requires once { IsDistinct nat_eq (numbers_of entries.now) }
     ensures { ClaimsEntries heap.old entries.now heap.new }
 {
-    for no in entries {
-        heap.claim_entry(*no);
+    for &no in entries {
+        heap.claim_entry(no);
     }
 }
 
