@@ -1,14 +1,14 @@
 -- What was read is claimed of a heap, one entry and extent after another.
-use Rattle.std.proofs.Common.{◌≡◌, ◌≢◌, ℕ, ◌+◌, ◌<◌, ◌≤◌, ◌&&◌, ◌||◌, ◌⊎◌, inl, inr, ⊎_elim, Bool, true, false, not, IsTrue, List, [], ◌∷◌, length, drop, get_or, map, nat_eq, refl, sym, ap, ap₂, subst, ◌∙◌, arith, ne_eqb}
+use Rattle.std.proofs.Common.{◌≡◌, ℕ, ◌+◌, ◌<◌, ◌≤◌, ◌&&◌, ◌||◌, ⊎_elim, Bool, true, false, not, IsTrue, List, [], ◌∷◌, length, drop, get_or, nat_eq, refl, sym, ap, subst, ◌∙◌, arith, ne_eqb}
 use Rattle.std.proofs.lemmas.Bool.{false_from_ne_true}
 use Rattle.std.proofs.lemmas.List.{drop_more}
 use Rattle.std.proofs.lemmas.Map.Keys.{IsDistinct-head, IsDistinct-tail}
-use Rattle.std.specs.List.{AllByRecursion, IsDistinct, list_any}
+use Rattle.std.specs.List.{AllByRecursion, IsDistinct}
 use Rattle.kv_types.specs.declared.place.EntryNo.{EntryNo}
 use Rattle.kv_types.specs.declared.place.Extent.{Extent}
 use Rattle.heap_layout.specs.declared.entry.Entry.{Entry}
 use Rattle.extent_heap.specs.Extents.{is_line_of}
-use Rattle.extent_heap.specs.Room.{Room, is_free_entry, is_free_line, IsFreeRun, ClaimsEntry, ClaimsExtent}
+use Rattle.extent_heap.specs.Room.{Room, is_free_entry, is_free_line, ClaimsEntry, ClaimsExtent}
 use Rattle.extent_heap.specs.Runs.{has_line}
 use Rattle.extent_heap.proofs.RunsLemmas.{line_bounds}
 use Rattle.model.specs.Group.{AreApart}

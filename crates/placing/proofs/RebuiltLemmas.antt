@@ -1,8 +1,8 @@
 -- What is made of the versions of an image is that of its contents.
-use Rattle.std.proofs.Common.{◌≡◌, ◌≢◌, ◌↔◌, ℕ, ◌+◌, ◌<◌, ◌≤◌, ◌&&◌, ◌||◌, ◌==◌, ◌⊎◌, inl, inr, ⊎_elim, Bool, true, false, not, cond, IsTrue, List, [], ◌∷◌, map, Contains, nat_eq, Option, Some, None, IsSome, refl, sym, ap, ap₂, subst, subst₂, ◌∙◌, arith, eq-eqb, eqb-true, ne_eqb}
+use Rattle.std.proofs.Common.{◌≡◌, ◌≢◌, ◌↔◌, ℕ, ◌<◌, ◌≤◌, ◌&&◌, ◌||◌, ◌==◌, ⊎_elim, Bool, true, false, not, IsTrue, List, [], ◌∷◌, Contains, nat_eq, Option, Some, None, refl, sym, ap, ap₂, subst, subst₂, ◌∙◌, arith, eq-eqb, eqb-true, ne_eqb}
 use Rattle.std.proofs.lemmas.Bool.{and_parts, true≢false, false_from_ne_true}
 use Rattle.std.proofs.lemmas.Map.Keys.{IsDistinct-head, IsDistinct-tail}
-use Rattle.std.specs.List.{AllByRecursion, IsDistinct, list_any}
+use Rattle.std.specs.List.{IsDistinct}
 use Rattle.std.specs.Option.{is_some}
 use Rattle.kv_types.specs.declared.place.EntryNo.{EntryNo}
 use Rattle.kv_types.specs.declared.record_id.RecordId.{RecordId}
@@ -18,14 +18,13 @@ use Rattle.extent_heap.proofs.RunsLemmas.{line_bounds, line_within}
 use Rattle.model.specs.Group.{Contents, Versions, IsConsistent, is_ended_version}
 use Rattle.model.specs.Image.{Version, IsLive, counts, entries_of_lines, first_extent_line}
 use Rattle.model.specs.ReadImage.{is_clash}
-use Rattle.model.proofs.MapLemmas.{live_version}
 use Rattle.mv_keyspace.specs.Loading.{excludes, AreCompatible, HasRows}
 use Rattle.mv_keyspace.specs.Row.{numbers_of}
 use Rattle.mv_keyspace.specs.Table.{Cell, Table, cell_at, IsCellOf, IsTable}
-use Rattle.placing.specs.Left.{HasNoFreeLine, IsBeside, IsLeftOf}
-use Rattle.placing.specs.Read.{AreOf, IsRead, LiesIn, ended_read, number_if_ended, numbers_read, row_read, rows_read}
+use Rattle.placing.specs.Left.{IsLeftOf}
+use Rattle.placing.specs.Read.{AreOf, ended_read, numbers_read, row_read, rows_read}
 use Rattle.placing.specs.Rebuilt.{AreEndedOf, AreFreeEntries, CanClaim, CanClaimAll, ClaimsAll, ClaimsEntries, IsHeapOf, IsLineOfVersion, IsRebuilt, LiesApart, has_entry, has_entry_read, has_line_read}
-use Rattle.placing.proofs.MemberLemmas.{here, later, no_member, first_or_later, member-from_any, any-from_member, any_false, all_other, member-from_chosen, chosen-from_member, distinct_chosen}
+use Rattle.placing.proofs.MemberLemmas.{here, later, no_member, first_or_later, any-from_member, any_false, all_other, member-from_chosen, chosen-from_member, distinct_chosen}
 
 -- ---- records of one keyspace that clash are the same
 
@@ -112,7 +111,7 @@ module _ (contents : Contents) (counted : List (EntryNo × Entry)) (gapped : Lis
     can_claim_of (read ∷ rest) among once = (
       can_claim read (among read (here read rest)),
       all_other (λ (other : EntryNo × Entry). other.0.0) (LiesApart read) read.0.0 rest (IsDistinct-head nat_eq read.0.0 (numbers_read rest) once)
-      (λ other m differ. apart read other (among read (here read rest)) (among other (later read other rest m)) differ),
+          (λ other m differ. apart read other (among read (here read rest)) (among other (later read other rest m)) differ),
       can_claim_of rest (λ other m. among other (later read other rest m)) (IsDistinct-tail nat_eq read.0.0 (numbers_read rest) once),
     )
 

@@ -3,9 +3,8 @@ use Rattle.std.specs.List.Sorted.{IsStrictlySortedBy}
 use Rattle.std.specs.Ordering.{nat_cmp}
 use Rattle.kv_types.specs.declared.place.EntryNo.{EntryNo}
 use Rattle.heap_layout.specs.declared.entry.Entry.{Entry}
-use Rattle.model.specs.Group.{Contents}
 use Rattle.mv_keyspace.specs.Loading.{AreCompatible, HasRows}
-use Rattle.placing.specs.Read.{AreOf, ended_read, rows_read, numbers_read}
+use Rattle.placing.specs.Read.{ended_read}
 use Rattle.placing.specs.Rebuilt.{AreEndedOf, CanClaimAll, ClaimsAll}
 use Rattle.placing.proofs.MemberLemmas.{chosen_rise}
 use Rattle.placing.proofs.RebuiltLemmas.{can_claim_all, ended_are, free_gaps, fresh_entries, fresh_lines, rebuilt_of, rows_compatible, table_of_versions}
@@ -42,8 +41,7 @@ returns-clause-ok g c = λ contents is are.
     let heap = c.in_ok-heap.heap in
     let table = g.K.Keyspace.table c.load.new.self in
     let has = subst (λ rows. HasRows rows table) c.in_ok-live_rows.ensures.ok c.in_ok-load.ensures.ok in
-    let ended = c.in_ok-ended.ensures.ok ∙ ap ended_read c.deref-2.ensures.value in
-    (
+    let ended = c.in_ok-ended.ensures.ok ∙ ap ended_read c.deref-2.ensures.value in (
       rebuilt_of contents counted gapped are heap
           (fresh_lines contents heap c.args.lines c.first_extent_line.result is c.first_extent_line.ensures c.in_ok-heap.ensures.lines)
           (fresh_entries contents heap c.args.lines c.entries_of_lines.result is c.entries_of_lines.ensures c.in_ok-heap.ensures.entries)
