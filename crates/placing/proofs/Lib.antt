@@ -7,3 +7,4 @@ pub mod AddingLemmas
 pub mod MemberLemmas
 pub mod ClaimLemmas
 pub mod RebuiltLemmas
+pub mod ReadLemmas

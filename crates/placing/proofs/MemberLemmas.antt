@@ -121,11 +121,11 @@ module _ {X A : Type 0} (test : X → Bool) (made : X → A) where
 
 -- ---- numbers that rise
 
-rises_none : IsStrictlySortedBy nat_cmp []
+pub rises_none : IsStrictlySortedBy nat_cmp []
 unfolding IsStrictlySortedBy
 rises_none = tt
 
-rises_more : (n : ℕ) (ns : List ℕ) → AllByRecursion (λ m. nat_cmp n m ≡ Less) ns → IsStrictlySortedBy nat_cmp ns → IsStrictlySortedBy nat_cmp (n ∷ ns)
+pub rises_more : (n : ℕ) (ns : List ℕ) → AllByRecursion (λ m. nat_cmp n m ≡ Less) ns → IsStrictlySortedBy nat_cmp ns → IsStrictlySortedBy nat_cmp (n ∷ ns)
 unfolding IsStrictlySortedBy
 rises_more n ns below rest = (below, rest)
 

@@ -7,9 +7,10 @@ use Rattle.kv_types.specs.declared.record_id.RecordId.{RecordId}
 use Rattle.kv_types.specs.Keyspace.{Keyspace, IsKeyspace}
 use Rattle.heap_layout.specs.declared.entry.Entry.{Entry}
 use Rattle.heap_layout.specs.Version.{version_of}
+use Rattle.heap_layout.specs.Versions.{AreVersions}
 use Rattle.model.specs.declared.record.Record.{Record}
-use Rattle.model.specs.Group.{Contents, AreApart}
-use Rattle.model.specs.Image.{Version, IsMapOf, counts, entries_of_lines, first_extent_line}
+use Rattle.model.specs.Group.{Contents, AreApart, IsConsistent}
+use Rattle.model.specs.Image.{Image, Version, IsMapOf, counts, entries_of_lines, entry_word, first_extent_line, version_at}
 use Rattle.mv_keyspace.specs.Row.{numbers_of}
 use Rattle.mv_keyspace.specs.Table.{Cell, Table}
 
@@ -72,3 +73,12 @@ pub record AreOf (contents : Contents) (counted : List (EntryNo × Entry)) (gapp
   pub gapped_once : IsDistinct nat_eq (numbers_of gapped)
   pub gapped_are : (i : ℕ) → Contains (numbers_of gapped) i
       ↔ ((i < entries_of_lines contents.lines) × (contents.is_free i ≡ false) × (contents.versions i ≡ None))
+
+-- ---- an image and its contents
+
+-- The contents say of each entry what the image holds, and its versions break no rule.
+pub record Shows (contents : Contents) (image : Image) : Type 0 where
+  pub versions : (i : ℕ) → i < entries_of_lines contents.lines → version_at contents.current image i ≡ contents.versions i
+  pub is_free : (i : ℕ) → i < entries_of_lines contents.lines → contents.is_free i ≡ (image (entry_word i 0) == 0)
+  pub consistent : IsConsistent contents
+  pub rules : AreVersions contents.current contents.lines image

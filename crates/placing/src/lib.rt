@@ -2,9 +2,11 @@
 //! versions of an image.
 #![tactic(auto)]
 
+mod laws;
 mod performing;
 mod places;
 mod rebuilding;
 
+pub use laws::images_are_read_by_entries;
 pub use performing::{empty_part, perform};
 pub use rebuilding::{Rebuilt, rebuild};
