@@ -10,3 +10,4 @@ pub mod PlayingLemmas
 pub mod EndingLemmas
 pub mod KeyCountLemmas
 pub mod PuttingLemmas
+pub mod LoadingLemmas

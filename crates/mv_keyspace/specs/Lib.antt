@@ -1,3 +1,4 @@
 pub mod Table
 pub mod Row
 pub mod Keys
+pub mod Loading

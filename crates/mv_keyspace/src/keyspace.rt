@@ -1,9 +1,12 @@
 //! The keyspace as a sequencer and a standby see it.
-ghost use Rattle.std.specs.Prelude.{◌≡◌, ◌++◌, List, OnOk, OnErr, IfErr};
+ghost use Rattle.std.specs.Prelude.{◌≡◌, ◌++◌, [], List, OnOk, OnErr, IfErr};
 ghost use Rattle.kv_types.specs.declared.place.EntryNo.{EntryNo};
 ghost use Rattle.kv_types.specs.declared.refusal.Refusal.TheVariants.{Memory};
+ghost use Rattle.mv_keyspace.specs.Loading.{AreCompatible, HasRows};
+ghost use Rattle.mv_keyspace.specs.Row.{table_of};
 ghost use Rattle.mv_keyspace.specs.Table.{Table, records, place_all, puts_of, AreEnded, AreFresh, IsLawful};
 
+use crate::row::Row;
 use cmd_core::Lookup;
 use kv_types::{EntryNo, Refusal};
 use model::PlacedChange;
@@ -29,6 +32,15 @@ pub trait Keyspace: Lookup {
         ensures ended { OnOk result ((more : List EntryNo) × (ended.new.items ≡ ended.old.items ++ more) × AreEnded position (table self.old) changes.now more) }
         ensures err { OnErr result (table self.new ≡ table self.old) }
         ensures ended_stays { OnErr result (ended.new.items ≡ ended.old.items) }
+        ensures cause { IfErr result (λ refusal. refusal ≡ Memory) };
+
+    /// Takes these rows, in any order, as all that the keyspace holds. Refused with `Memory` where a growth was refused, and then it is still
+    /// empty.
+    fn load(&mut self, alloc: Global, rows: Vec<Row>) -> Result<(), Refusal>
+        requires empty { table self.old ≡ [] }
+        requires compatible { AreCompatible (table_of rows.items) }
+        ensures ok { OnOk result (HasRows (table_of rows.items) (table self.new)) }
+        ensures err { OnErr result (table self.new ≡ []) }
         ensures cause { IfErr result (λ refusal. refusal ≡ Memory) };
 
     /// What a command reads is the table.

@@ -5,8 +5,10 @@ mod counting;
 mod ending;
 mod keyspace;
 mod list_keyspace;
+mod loading;
 mod putting;
 mod row;
 
 pub use keyspace::Keyspace;
 pub use list_keyspace::ListKeyspace;
+pub use row::Row;

@@ -13,10 +13,12 @@ ghost use Rattle.mv_keyspace.specs.Row.{records_of, table_of, rows_of_puts, numb
 use crate::counting::{count_others, count_with};
 use crate::ending::{end_all, end_key, end_record};
 use crate::keyspace::Keyspace;
+use crate::loading::sort_rows;
 use crate::putting::put_row;
 use crate::row::{Row, row_of};
 use cmd_core::{
-    Lookup, count_fields_in_order, field_in_order, fields_in_order, has_in_order, string_in_order,
+    Lookup, count_fields_in_order, count_keys_in, field_in_order, fields_in_order, has_in_order,
+    string_in_order,
 };
 use kv_types::{EntryNo, Field, Refusal, Value};
 use model::PlacedChange;
@@ -111,6 +113,13 @@ impl Keyspace for ListKeyspace {
         self.rows.reserve(staged.len())?;
         ended.reserve(self.rows.len() + staged.len())?;
         self.keys = play(&mut self.rows, self.keys, changes, staged, ended);
+        Ok(())
+    }
+
+    fn load(&mut self, _alloc: Global, mut rows: Vec<Row>) -> Result<(), Refusal> {
+        sort_rows(&mut rows);
+        self.keys = count_keys_in(&rows);
+        self.rows = rows;
         Ok(())
     }
 }

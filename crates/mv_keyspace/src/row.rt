@@ -10,9 +10,10 @@ use std::alloc::{AllocError, Global};
 
 /// A live record, with the entry that holds it.
 #[derive(Debug, Drop)]
-pub(crate) struct Row {
+pub struct Row {
     pub id: RecordId,
     pub value: Value,
+    /// The directory entry that holds its version.
     pub entry: EntryNo,
     /// The position of the list at which it was put.
     pub position: u64,

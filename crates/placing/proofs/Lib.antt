@@ -4,3 +4,7 @@ pub mod BesideLemmas
 pub mod LeftLemmas
 pub mod PartsLemmas
 pub mod AddingLemmas
+pub mod MemberLemmas
+pub mod ClaimLemmas
+pub mod RebuiltLemmas
+pub mod ReadLemmas

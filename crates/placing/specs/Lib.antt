@@ -1,3 +1,5 @@
 pub mod Place
 pub mod Left
 pub mod Performs
+pub mod Read
+pub mod Rebuilt

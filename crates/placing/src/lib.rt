@@ -1,7 +1,12 @@
-//! Changes made on a keyspace, with places from a heap for their puts: keyspace and heap move together, or not at all.
+//! Changes made on a keyspace, with places from a heap for their puts: keyspace and heap move together, or not at all; and both made anew from the
+//! versions of an image.
 #![tactic(auto)]
 
+mod laws;
 mod performing;
 mod places;
+mod rebuilding;
 
+pub use laws::images_are_read_by_entries;
 pub use performing::{empty_part, perform};
+pub use rebuilding::{Rebuilt, rebuild};

@@ -1,0 +1,139 @@
+-- What was read is claimed of a heap, one entry and extent after another.
+use Rattle.std.proofs.Common.{◌≡◌, ℕ, ◌+◌, ◌<◌, ◌≤◌, ◌&&◌, ◌||◌, ⊎_elim, Bool, true, false, not, IsTrue, List, [], ◌∷◌, length, drop, get_or, nat_eq, refl, sym, ap, subst, ◌∙◌, arith, ne_eqb}
+use Rattle.std.proofs.lemmas.Bool.{false_from_ne_true}
+use Rattle.std.proofs.lemmas.List.{drop_more}
+use Rattle.std.proofs.lemmas.Map.Keys.{IsDistinct-head, IsDistinct-tail}
+use Rattle.std.specs.List.{AllByRecursion, IsDistinct}
+use Rattle.kv_types.specs.declared.place.EntryNo.{EntryNo}
+use Rattle.kv_types.specs.declared.place.Extent.{Extent}
+use Rattle.heap_layout.specs.declared.entry.Entry.{Entry}
+use Rattle.extent_heap.specs.Extents.{is_line_of}
+use Rattle.extent_heap.specs.Room.{Room, is_free_entry, is_free_line, ClaimsEntry, ClaimsExtent}
+use Rattle.extent_heap.specs.Runs.{has_line}
+use Rattle.extent_heap.proofs.RunsLemmas.{line_bounds}
+use Rattle.model.specs.Group.{AreApart}
+use Rattle.mv_keyspace.specs.Row.{numbers_of}
+use Rattle.placing.specs.Rebuilt.{CanClaim, LiesApart, CanClaimAll, has_line_read, has_entry_read, has_entry, ClaimsAll, AreFreeEntries, ClaimsEntries}
+use Rattle.placing.proofs.MemberLemmas.{differ}
+
+-- ---- tests
+
+without_both : (has first others : Bool) → ((has && not first) && not others) ≡ (has && not (first || others))
+without_both true true others = refl
+without_both true false others = refl
+without_both false first others = refl
+
+without_none : (has : Bool) → (has && not false) ≡ has
+without_none true = refl
+without_none false = refl
+
+still : (has is : Bool) → IsTrue has → is ≡ false → IsTrue (has && not is)
+still has is own none = ap (λ b. b && not is) own ∙ ap not none
+
+-- a line of one of two runs that are apart is none of the other
+not_line_of : (extent : Extent) (first lines line : ℕ) → AreApart extent.first_line extent.lines first lines → first ≤ line → line < first + lines → is_line_of extent line ≡ false
+not_line_of extent first lines line apart from before =
+    false_from_ne_true (is_line_of extent line) (λ is.
+    let bounds = line_bounds extent line is in
+    ⊎_elim (λ (below : extent.first_line + extent.lines ≤ first). absurd (omega (arith, bounds.0, bounds.1, below, from, before)))
+    (λ (above : first + lines ≤ extent.first_line). absurd (omega (arith, bounds.0, bounds.1, above, from, before)))
+    apart)
+
+-- ---- one claim
+
+module _ (room : Room) (read : EntryNo × Entry) (between new : Room) (extent : ClaimsExtent room read.1.extent between) (entry : ClaimsEntry between read.0 new) where
+  pub claimed_line : (line : ℕ) → is_free_line new line ≡ (is_free_line room line && not (is_line_of read.1.extent line))
+  claimed_line line = ap (λ (runs : List Extent). has_line runs line) entry.lines ∙ extent.taken line
+
+  pub claimed_entry : (i : ℕ) → is_free_entry new i ≡ (is_free_entry room i && not (nat_eq i read.0.0))
+  claimed_entry i = entry.taken i ∙ ap (λ (runs : List Extent). has_line runs i && not (nat_eq i read.0.0)) extent.entries
+
+  can_still : (other : EntryNo × Entry) → LiesApart read other → CanClaim room other → CanClaim new other
+  can_still other apart can = record {
+    entry = claimed_entry other.0.0 ∙ still (is_free_entry room other.0.0) (nat_eq other.0.0 read.0.0) can.entry (ne_eqb other.0.0 read.0.0 (λ same. apart.entries (sym same)));
+    some = can.some;
+    run = λ line from before.
+        claimed_line line
+        ∙ still (is_free_line room line) (is_line_of read.1.extent line) (can.run line from before) (not_line_of read.1.extent other.1.extent.first_line other.1.extent.lines line apart.lines from before);
+  }
+
+  pub can_still_all : (rest : List (EntryNo × Entry)) → AllByRecursion (LiesApart read) rest → CanClaimAll room rest → CanClaimAll new rest
+  can_still_all [] apart can = tt
+  can_still_all (other ∷ rest) apart can = (can_still other apart.0 can.0, can.1, can_still_all rest apart.1 can.2)
+
+-- ---- one after another
+
+-- Of all that is claimed from `start` on, `rest` is left to be claimed.
+pub record Claiming (start : Room) (all : List (EntryNo × Entry)) (room : Room) (rest : List (EntryNo × Entry)) : Type 0 where
+  pub can : CanClaimAll room rest
+  pub lines : (line : ℕ) → (is_free_line room line && not (has_line_read rest line)) ≡ (is_free_line start line && not (has_line_read all line))
+  pub entries : (i : ℕ) → (is_free_entry room i && not (has_entry_read rest i)) ≡ (is_free_entry start i && not (has_entry_read all i))
+
+pub claiming-start : (start : Room) (all : List (EntryNo × Entry)) → CanClaimAll start all → Claiming start all start all
+claiming-start start all can = record { can = can; lines = λ line. refl; entries = λ i. refl }
+
+pub claiming-end : (start : Room) (all : List (EntryNo × Entry)) (room : Room) → Claiming start all room [] → ClaimsAll start all room
+claiming-end start all room claiming = record {
+  lines = λ line. sym (without_none (is_free_line room line)) ∙ claiming.lines line;
+  entries = λ i. sym (without_none (is_free_entry room i)) ∙ claiming.entries i;
+}
+
+module _ (start : Room) (all : List (EntryNo × Entry)) (room : Room) (n : ℕ) (read : EntryNo × Entry) (claiming : Claiming start all room (drop n all)) (lt : n < length all) (is : read ≡ get_or all n read) where
+  at_read : Claiming start all room (read ∷ drop (n + 1) all)
+  at_read = subst (λ rest. Claiming start all room rest) (drop_more all n read lt ∙ ap (λ x. x ∷ drop (n + 1) all) (sym is)) claiming
+
+  pub can-first : CanClaim room read
+  can-first = at_read.can.0
+
+  pub claiming-step : (between new : Room) → ClaimsExtent room read.1.extent between → ClaimsEntry between read.0 new → Claiming start all new (drop (n + 1) all)
+  claiming-step between new extent entry =
+      let rest = drop (n + 1) all in
+      record {
+        can = can_still_all room read between new extent entry rest at_read.can.1 at_read.can.2;
+        lines = λ line.
+            ap (λ b. b && not (has_line_read rest line)) (claimed_line room read between new extent entry line)
+            ∙ without_both (is_free_line room line) (is_line_of read.1.extent line) (has_line_read rest line) ∙ at_read.lines line;
+        entries = λ i.
+            ap (λ b. b && not (has_entry_read rest i)) (claimed_entry room read between new extent entry i)
+            ∙ without_both (is_free_entry room i) (nat_eq i read.0.0) (has_entry_read rest i) ∙ at_read.entries i;
+      }
+
+-- ---- entries alone
+
+pub record ClaimingEntries (start : Room) (all : List EntryNo) (room : Room) (rest : List EntryNo) : Type 0 where
+  pub free : AreFreeEntries room rest
+  pub once : IsDistinct nat_eq (numbers_of rest)
+  pub lines : (line : ℕ) → is_free_line room line ≡ is_free_line start line
+  pub entries : (i : ℕ) → (is_free_entry room i && not (has_entry rest i)) ≡ (is_free_entry start i && not (has_entry all i))
+
+pub entries-start : (start : Room) (all : List EntryNo) → AreFreeEntries start all → IsDistinct nat_eq (numbers_of all) → ClaimingEntries start all start all
+entries-start start all free once = record { free = free; once = once; lines = λ line. refl; entries = λ i. refl }
+
+pub entries-end : (start : Room) (all : List EntryNo) (room : Room) → ClaimingEntries start all room [] → ClaimsEntries start all room
+entries-end start all room claiming = record { lines = claiming.lines; free = λ i. sym (without_none (is_free_entry room i)) ∙ claiming.entries i }
+
+free_still : (room : Room) (entry : EntryNo) (new : Room) → ClaimsEntry room entry new → (rest : List EntryNo) → AllByRecursion (λ m. nat_eq entry.0 m ≡ false) (numbers_of rest) → AreFreeEntries room rest → AreFreeEntries new rest
+free_still room entry new claims [] apart free = tt
+free_still room entry new claims (other ∷ rest) apart free = (
+  claims.taken other.0 ∙ still (is_free_entry room other.0) (nat_eq other.0 entry.0) free.0 (ne_eqb other.0 entry.0 (λ same. differ entry.0 other.0 apart.0 (sym same))),
+  free_still room entry new claims rest apart.1 free.1,
+)
+
+module _ (start : Room) (all : List EntryNo) (room : Room) (n : ℕ) (entry : EntryNo) (claiming : ClaimingEntries start all room (drop n all)) (lt : n < length all) (is : entry ≡ get_or all n entry) where
+  at_entry : ClaimingEntries start all room (entry ∷ drop (n + 1) all)
+  at_entry = subst (λ rest. ClaimingEntries start all room rest) (drop_more all n entry lt ∙ ap (λ x. x ∷ drop (n + 1) all) (sym is)) claiming
+
+  pub free-first : IsTrue (is_free_entry room entry.0)
+  free-first = at_entry.free.0
+
+  pub entries-step : (new : Room) → ClaimsEntry room entry new → ClaimingEntries start all new (drop (n + 1) all)
+  entries-step new claims =
+      let rest = drop (n + 1) all in
+      record {
+        free = free_still room entry new claims rest (IsDistinct-head nat_eq entry.0 (numbers_of rest) at_entry.once) at_entry.free.1;
+        once = IsDistinct-tail nat_eq entry.0 (numbers_of rest) at_entry.once;
+        lines = λ line. ap (λ (runs : List Extent). has_line runs line) claims.lines ∙ at_entry.lines line;
+        entries = λ i.
+            ap (λ b. b && not (has_entry rest i)) (claims.taken i)
+            ∙ without_both (is_free_entry room i) (nat_eq i entry.0) (has_entry rest i) ∙ at_entry.entries i;
+      }

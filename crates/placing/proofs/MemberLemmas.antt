@@ -1,0 +1,148 @@
+-- Elements of lists, and of what is made of some of them.
+use Rattle.std.proofs.Common.{◌≡◌, ◌≢◌, ℕ, zero, suc, ◌<◌, ◌||◌, ◌⊎◌, inl, inr, ⊎_elim, Bool, true, false, cond, IsTrue, List, [], ◌∷◌, ◌++◌, length, map, get_or, Contains, nat_eq, refl, sym, ap, subst, ◌∙◌, arith, eq-eqb}
+use Rattle.std.proofs.lemmas.Bool.{true≢false}
+use Rattle.std.specs.declared.cmp.Ordering.TheVariants.{Less}
+use Rattle.std.proofs.lemmas.Map.Keys.{IsDistinct-head, IsDistinct-tail, IsDistinct-cons, sorted_head, sorted_tail}
+use Rattle.std.specs.List.{AllByRecursion, IsDistinct, flat_map, list_any}
+use Rattle.std.specs.List.Sorted.{IsStrictlySortedBy}
+use Rattle.std.specs.Ordering.{nat_cmp}
+
+pub here : {X : Type 0} (x : X) (xs : List X) → Contains (x ∷ xs) x
+here x xs = (0, omega arith, refl)
+
+pub later : {X : Type 0} (x y : X) (xs : List X) → Contains xs y → Contains (x ∷ xs) y
+later x y xs m = (suc m.0, omega (arith, m.1), m.2)
+
+member_at : {X : Type 0} (x y : X) (xs : List X) (k : ℕ) → k < length (x ∷ xs) → get_or (x ∷ xs) k y ≡ y → (x ≡ y) ⊎ Contains xs y
+member_at x y xs zero lt e = inl e
+member_at x y xs (suc k) lt e = inr (k, omega (arith, lt), e)
+
+pub first_or_later : {X : Type 0} (x y : X) (xs : List X) → Contains (x ∷ xs) y → (x ≡ y) ⊎ Contains xs y
+first_or_later x y xs m = member_at x y xs m.0 m.1 m.2
+
+pub no_member : {X : Type 0} (y : X) → Contains {X = X} [] y → ⊥
+no_member y m = let lt = m.1 in omega arith
+
+-- ---- elements that pass a test
+
+pub member-from_any : {X : Type 0} (test : X → Bool) (xs : List X) → IsTrue (list_any test xs) → (x : X) × Contains xs x × IsTrue (test x)
+member-from_any test [] t = cc
+member-from_any test (x ∷ xs) t =
+    elim (test x) as (λ b. test x ≡ b → IsTrue (b || list_any test xs) → (y : _) × Contains (x ∷ xs) y × IsTrue (test y)) [
+      | true ↦ λ own h. (x, here x xs, own)
+      | false ↦ λ other h. let found = member-from_any test xs h in (found.0, later x found.0 xs found.1, found.2)
+    ] refl t
+
+pub any-from_member : {X : Type 0} (test : X → Bool) (xs : List X) (y : X) → Contains xs y → IsTrue (test y) → IsTrue (list_any test xs)
+any-from_member test [] y m t = absurd (no_member y m)
+any-from_member test (x ∷ xs) y m t =
+    ⊎_elim (λ (same : x ≡ y). ap (λ b. b || list_any test xs) (ap test same ∙ t))
+    (λ (rest : Contains xs y). elim (test x) as (λ b. IsTrue (b || list_any test xs)) [ true ↦ refl | false ↦ any-from_member test xs y rest t ])
+    (first_or_later x y xs m)
+
+pub any_false : {X : Type 0} (test : X → Bool) (xs : List X) → ((x : X) → Contains xs x → IsTrue (test x) → ⊥) → list_any test xs ≡ false
+any_false test xs none =
+    elim (list_any test xs) as (λ b. list_any test xs ≡ b → b ≡ false) [
+      | true ↦ λ some. let found = member-from_any test xs some in absurd (none found.0 found.1 found.2)
+      | false ↦ λ is. refl
+    ] refl
+
+-- ---- elements with different numbers
+
+pub differ : (m n : ℕ) → nat_eq m n ≡ false → m ≢ n
+differ m n none same = true≢false (sym (eq-eqb m n same) ∙ none)
+
+pub distinct_none : {A : Type 0} (same : A → A → Bool) → IsDistinct same []
+unfolding IsDistinct
+distinct_none same = tt
+
+module _ {X : Type 0} (number : X → ℕ) where
+  pub all_other : (P : X → Type 0) (n : ℕ) (xs : List X) → AllByRecursion (λ m. nat_eq n m ≡ false) (map number xs) → ((x : X) → Contains xs x → n ≢ number x → P x) → AllByRecursion P xs
+  all_other P n [] apart holds = tt
+  all_other P n (x ∷ xs) apart holds = (holds x (here x xs) (differ n (number x) apart.0), all_other P n xs apart.1 (λ y m. holds y (later x y xs m)))
+
+-- ---- what is made of the elements that pass a test
+
+module _ {X A : Type 0} (test : X → Bool) (made : X → A) where
+  abbrev pub if_chosen : X → List A
+  if_chosen x = cond (test x) (made x ∷ []) []
+
+  abbrev pub chosen : List X → List A
+  chosen = flat_map if_chosen
+
+  pub member-from_chosen : (xs : List X) (a : A) → Contains (chosen xs) a → (x : X) × Contains xs x × IsTrue (test x) × (made x ≡ a)
+  member-from_chosen [] a m = absurd (no_member a m)
+  member-from_chosen (x ∷ xs) a m =
+      elim (test x) as (λ b. test x ≡ b → Contains (cond b (made x ∷ []) [] ++ chosen xs) a → (y : X) × Contains (x ∷ xs) y × IsTrue (test y) × (made y ≡ a)) [
+        | true ↦ λ own h.
+            ⊎_elim (λ (same : made x ≡ a). (x, here x xs, own, same))
+            (λ (rest : Contains (chosen xs) a). let found = member-from_chosen xs a rest in (found.0, later x found.0 xs found.1, found.2, found.3))
+            (first_or_later (made x) a (chosen xs) h)
+        | false ↦ λ other h. let found = member-from_chosen xs a h in (found.0, later x found.0 xs found.1, found.2, found.3)
+      ] refl m
+
+  pub chosen-from_member : (xs : List X) (y : X) → Contains xs y → IsTrue (test y) → Contains (chosen xs) (made y)
+  chosen-from_member [] y m t = absurd (no_member y m)
+  chosen-from_member (x ∷ xs) y m t =
+      elim (test x) as (λ b. test x ≡ b → Contains (cond b (made x ∷ []) [] ++ chosen xs) (made y)) [
+        | true ↦ λ own.
+            ⊎_elim (λ (same : x ≡ y). subst (λ z. Contains (made x ∷ chosen xs) (made z)) same (here (made x) (chosen xs)))
+            (λ (rest : Contains xs y). later (made x) (made y) (chosen xs) (chosen-from_member xs y rest t))
+            (first_or_later x y xs m)
+        | false ↦ λ other.
+            ⊎_elim (λ (same : x ≡ y). absurd (true≢false (sym t ∙ ap test (sym same) ∙ other)))
+            (λ (rest : Contains xs y). chosen-from_member xs y rest t)
+            (first_or_later x y xs m)
+      ] refl
+
+  pub all_chosen : (P : A → Type 0) (xs : List X) → AllByRecursion (λ x. IsTrue (test x) → P (made x)) xs → AllByRecursion P (chosen xs)
+  all_chosen P [] all = tt
+  all_chosen P (x ∷ xs) all =
+      elim (test x) as (λ b. test x ≡ b → AllByRecursion P (cond b (made x ∷ []) [] ++ chosen xs)) [
+        | true ↦ λ own. (all.0 own, all_chosen P xs all.1)
+        | false ↦ λ other. all_chosen P xs all.1
+      ] refl
+
+  -- they differ by any test by which those of elements with different numbers do
+  pub distinct_chosen : (number : X → ℕ) (same : A → A → Bool) (all xs : List X) → ((x : X) → Contains xs x → Contains all x) → IsDistinct nat_eq (map number xs)
+      → ((x y : X) → Contains all x → Contains all y → IsTrue (test x) → IsTrue (test y) → number x ≢ number y → same (made x) (made y) ≡ false) → IsDistinct same (chosen xs)
+  distinct_chosen number same all [] among once apart = distinct_none same
+  distinct_chosen number same all (x ∷ xs) among once apart =
+      let rest = distinct_chosen number same all xs (λ y m. among y (later x y xs m)) (IsDistinct-tail nat_eq (number x) (map number xs) once) apart in
+      elim (test x) as (λ b. test x ≡ b → IsDistinct same (cond b (made x ∷ []) [] ++ chosen xs)) [
+        | true ↦ λ own.
+            IsDistinct-cons same (made x) (chosen xs)
+            (all_chosen (λ a. same (made x) a ≡ false) xs
+            (all_other number (λ y. IsTrue (test y) → same (made x) (made y) ≡ false) (number x) xs (IsDistinct-head nat_eq (number x) (map number xs) once)
+            (λ y m apart_from t. apart x y (among x (here x xs)) (among y (later x y xs m)) own t apart_from)))
+            rest
+        | false ↦ λ other. rest
+      ] refl
+
+-- ---- numbers that rise
+
+pub rises_none : IsStrictlySortedBy nat_cmp []
+unfolding IsStrictlySortedBy
+rises_none = tt
+
+pub rises_more : (n : ℕ) (ns : List ℕ) → AllByRecursion (λ m. nat_cmp n m ≡ Less) ns → IsStrictlySortedBy nat_cmp ns → IsStrictlySortedBy nat_cmp (n ∷ ns)
+unfolding IsStrictlySortedBy
+rises_more n ns below rest = (below, rest)
+
+module _ {X : Type 0} (test : X → Bool) (number : X → ℕ) where
+  all_if_chosen : (P : ℕ → Type 0) (xs : List X) → AllByRecursion P (map number xs) → AllByRecursion (λ x. IsTrue (test x) → P (number x)) xs
+  all_if_chosen P [] all = tt
+  all_if_chosen P (x ∷ xs) all = (λ t. all.0, all_if_chosen P xs all.1)
+
+  -- the numbers of some of the elements rise where those of all do
+  pub chosen_rise : (xs : List X) → IsStrictlySortedBy nat_cmp (map number xs) → IsStrictlySortedBy nat_cmp (chosen test number xs)
+  chosen_rise [] up = rises_none
+  chosen_rise (x ∷ xs) up =
+      let rest = chosen_rise xs (sorted_tail nat_cmp (number x) (map number xs) up) in
+      elim (test x) as (λ b. test x ≡ b → IsStrictlySortedBy nat_cmp (cond b (number x ∷ []) [] ++ chosen test number xs)) [
+        | true ↦ λ own.
+            rises_more (number x) (chosen test number xs)
+            (all_chosen test number (λ m. nat_cmp (number x) m ≡ Less) xs (all_if_chosen (λ m. nat_cmp (number x) m ≡ Less) xs (sorted_head nat_cmp (number x) (map number xs) up)))
+            rest
+        | false ↦ λ other. rest
+      ] refl
