@@ -10,11 +10,15 @@ pub mod FormatLemmas
 pub mod FormatRuns
 pub mod GroupSteps
 pub mod NewImage
+pub mod OpenGap
 pub mod PartEffects
 pub mod PartSteps
 pub mod PartWords
 pub mod PutPairs
 pub mod ReadBack
+pub mod Readable
+pub mod ReadsAs
+pub mod Reopened
 pub mod StageImages
 pub mod Staged
 pub mod StagingLemmas

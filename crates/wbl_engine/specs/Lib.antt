@@ -3,4 +3,5 @@ pub mod Contents
 pub mod Formatting
 pub mod Freeing
 pub mod Lawful
+pub mod Reopening
 pub mod Stage

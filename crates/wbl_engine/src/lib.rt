@@ -6,6 +6,7 @@ mod committed;
 mod durable;
 mod engine;
 mod format;
+mod reopening;
 mod staging;
 mod successor;
 
