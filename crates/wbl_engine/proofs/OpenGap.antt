@@ -3,7 +3,7 @@ use Rattle.std.proofs.Common.{◌≡◌, ℕ, ◌+◌, ◌*◌, ◌<◌, length,
 use Rattle.pmem.specs.Device.{State}
 use Rattle.pmem.specs.Crash.{image_of}
 use Rattle.pmem.specs.Runs.{LeavesOnly}
-use Rattle.model.specs.declared.image.TheConstants.{COUNTER_LIMIT}
+use Rattle.model.specs.declared.image.TheConstants.{COUNTER_LIMIT, STAMP_WINDOW}
 use Rattle.model.specs.declared.record.Record.{Record}
 use Rattle.model.specs.declared.record.TheConstants.{MAX_GAPS}
 use Rattle.wbl_record.specs.Current.{IsLawful}
@@ -15,7 +15,7 @@ use Rattle.wbl_engine.proofs.Reopened.{open_lawful, counts-open}
 -- there is room for the gap, and no counter reaches its limit
 pub record HasRoom (r : Record) : Type 0 where
   pub room : length r.gaps.items < MAX_GAPS
-  pub limit : r.cd + 4097 < COUNTER_LIMIT
+  pub limit : r.cd + 1 + STAMP_WINDOW < COUNTER_LIMIT
   pub number : r.number + 1 < COUNTER_LIMIT
 
 pub open_later : (r : Record) → IsLater r (with_open_gap r)

@@ -67,14 +67,14 @@ reads_over {lines} {r} {s} {image} {image'} whole later alike same =
 -- an image that reads as an undamaged one stays readable
 pub stays_as : {lines : ℕ} {r s : Record} {image image' : Image} → IsUndamaged lines r image → ReadsAs lines r image s image' → IsCurrent image' s
     → StaysReadable lines r image image'
-stays_as {lines} {r} {s} {image} {image'} whole as current =
+stays_as {lines} {r} {s} {image} {image'} whole reads current =
     record {
       current = s;
-      undamaged = undamaged_as whole as current;
-      position = as.position;
-      epoch = as.epoch;
-      role = as.role;
-      versions = λ i within. versions_as whole as i within;
+      undamaged = undamaged_as whole reads current;
+      position = reads.position;
+      epoch = reads.epoch;
+      role = reads.role;
+      versions = λ i within. versions_as whole reads i within;
     }
 
 -- ---- devices
@@ -111,7 +111,7 @@ settled_readable r d many few settled whole =
 
 -- ---- the next record
 
-beside_record : (n word : ℕ) → IsBesideRecords word → IsRecordWord n word → ⊥
+pub beside_record : (n word : ℕ) → IsBesideRecords word → IsRecordWord n word → ⊥
 beside_record n word (inl before) (inl root) = omega (arith, before, root)
 beside_record n word (inl before) (inr slot) = omega (arith, before, slot.0)
 beside_record n word (inr behind) (inl root) = omega (arith, behind, root)
@@ -125,12 +125,12 @@ recorded_as {r} {s} {d} {c} readable later alike recorded =
 
 pub recorded_readable : {r s : Record} {d c : State} → IsReadable r d → IsLawful s → ReadsAs d.lines r (image_of d.words) s (image_of c.words)
     → IsRecorded d c s → IsReadable s c
-recorded_readable {r} {s} {d} {c} readable lawful as recorded =
+recorded_readable {r} {s} {d} {c} readable lawful reads recorded =
     record {
       many = omega (arith, readable.many, recorded.stays.lines);
       few = omega (arith, readable.few, recorded.stays.lines);
       undamaged = subst (λ (lines : ℕ). IsUndamaged lines s (image_of c.words)) (sym recorded.stays.lines)
-          (undamaged_as readable.undamaged as
+          (undamaged_as readable.undamaged reads
           (record { has_record = recorded.durable (image_of c.words) (image_of-is c.words); lawful = lawful }));
       recorded = recorded.durable;
       certain = λ word beside.
@@ -190,13 +190,13 @@ readable_rest {r} {d} readable low =
 pub readable_durable : {r : Record} {d : State} → IsReadable r d → IsDurable d (contents_of r d)
 readable_durable {r} {d} readable image is =
     let same = same_beside readable image (λ word beside. is word) in
-    let as = reads_over readable.undamaged (IsLater-same r) (λ i k within low. refl) same in
+    let reads = reads_over readable.undamaged (IsLater-same r) (λ i k within low. refl) same in
     let current : IsCurrent image r = record { has_record = readable.recorded image is; lawful = readable.undamaged.current.lawful } in
-    let whole = undamaged_as readable.undamaged as current in
+    let whole = undamaged_as readable.undamaged reads current in
     record {
       superblock = whole.superblock;
       has_record = readable.recorded image is;
       versions = λ i within.
-          versions_as readable.undamaged as i within ∙ sym (cond-true (lt-ltb i (entries_of_lines d.lines) within));
+          versions_as readable.undamaged reads i within ∙ sym (cond-true (nat_lt i (entries_of_lines d.lines)) _ _ (lt-ltb i (entries_of_lines d.lines) within));
       entries = λ i within. whole.versions.entries i within;
     }

@@ -14,7 +14,7 @@ use Rattle.model.specs.Image.{Image, HasSuperblock, root_word, entry_word, entry
 use Rattle.model.specs.ReadImage.{is_clash, record_in}
 use Rattle.wbl_record.specs.Current.{IsCurrent}
 use Rattle.wbl_engine.specs.Lawful.{IsUndamaged}
-use Rattle.wbl_engine.proofs.VersionLemmas.{SameEntry, version_in_entry, version_in-entry, version_in_entry-same}
+use Rattle.wbl_engine.proofs.VersionLemmas.{SameEntry, version_in_entry, version_in_entry-same}
 
 -- Under its record the second image says what the first does under its own: the same superblock, the same stamps count, and all other words
 -- of the directory and of the extents are equal.
@@ -76,10 +76,10 @@ entry_as lines image image' i same entry =
 -- the words of an entry that counts, and of its extent
 same_entry : {lines : ℕ} {r s : Record} {image image' : Image} → ReadsAs lines r image s image' → (i : ℕ) → i < entries_of_lines lines
     → IsEntry lines image i → SameEntry image image' i
-same_entry {lines} {r} {s} {image} {image'} as i within entry =
+same_entry {lines} {r} {s} {image} {image'} reads i within entry =
     record {
-      words = λ k low high. as.words i k within low high;
-      extent = λ j below. as.extents (8 * image (entry_word i 3) + j) (omega (arith, entry.above));
+      words = λ k low high. reads.words i k within low high;
+      extent = λ j below. reads.extents (8 * image (entry_word i 3) + j) (omega (arith, entry.above));
     }
 
 record_same : (image image' : Image) (i : ℕ) → SameEntry image image' i → record_in image' i ≡ record_in image i
@@ -99,50 +99,52 @@ record_same image image' i same =
 
 pub versions_as : {lines : ℕ} {r s : Record} {image image' : Image} → IsUndamaged lines r image → ReadsAs lines r image s image'
     → (i : ℕ) → i < entries_of_lines lines → version_at s image' i ≡ version_at r image i
-versions_as {lines} {r} {s} {image} {image'} whole as i within =
+versions_as {lines} {r} {s} {image} {image'} whole reads i within =
     elim (cases_Bool (counts r (image (entry_word i 0)))) [
       | inl begun ↦
-          cond-true (as.stamps i 0 within (omega arith) ∙ begun) ∙ ap Some (same_version begun) ∙ sym (cond-true begun)
-      | inr free ↦ cond-false (as.stamps i 0 within (omega arith) ∙ free) ∙ sym (cond-false free)
+          cond-true (counts s (image' (entry_word i 0))) _ _ (reads.stamps i 0 within (omega arith) ∙ begun) ∙ ap Some (same_version begun)
+          ∙ sym (cond-true (counts r (image (entry_word i 0))) _ _ begun)
+      | inr free ↦
+          cond-false (counts s (image' (entry_word i 0))) _ _ (reads.stamps i 0 within (omega arith) ∙ free)
+          ∙ sym (cond-false (counts r (image (entry_word i 0))) _ _ free)
     ]
   where
     same_version : counts r (image (entry_word i 0)) ≡ true → version_in s image' i ≡ version_in r image i
     same_version begun =
-        let ended = as.stamps i 1 within (omega arith) in
-        version_in-entry s image' i
-        ∙ version_in_entry-same image image' i (counts s (image' (entry_word i 1))) (same_entry as i within ((whole.versions.entries i within).whole begun))
-        ∙ ap (version_in_entry image i) ended ∙ sym (version_in-entry r image i)
+        let ended = reads.stamps i 1 within (omega arith) in
+        version_in_entry-same image image' i (counts s (image' (entry_word i 1))) (same_entry reads i within ((whole.versions.entries i within).whole begun))
+        ∙ ap (version_in_entry image i) ended
 
 -- ---- images
 
 -- an image that reads as an undamaged one is undamaged
 pub undamaged_as : {lines : ℕ} {r s : Record} {image image' : Image} → IsUndamaged lines r image → ReadsAs lines r image s image' → IsCurrent image' s
     → IsUndamaged lines s image'
-undamaged_as {lines} {r} {s} {image} {image'} whole as current =
+undamaged_as {lines} {r} {s} {image} {image'} whole reads current =
     record {
       superblock = record {
-        magic = as.superblock 0 (omega arith) ∙ whole.superblock.magic;
-        version = as.superblock 1 (omega arith) ∙ whole.superblock.version;
-        line_count = as.superblock 2 (omega arith) ∙ whole.superblock.line_count;
-        entry_count = as.superblock 3 (omega arith) ∙ whole.superblock.entry_count;
+        magic = reads.superblock 0 (omega arith) ∙ whole.superblock.magic;
+        version = reads.superblock 1 (omega arith) ∙ whole.superblock.version;
+        line_count = reads.superblock 2 (omega arith) ∙ whole.superblock.line_count;
+        entry_count = reads.superblock 3 (omega arith) ∙ whole.superblock.entry_count;
       };
       current = current;
       versions = record {
         entries = λ i within.
             record {
-              begin = as.below i 0 within (omega arith);
-              end = as.below i 1 within (omega arith);
-              whole = λ begun. entry_as lines image image' i (λ k. as.words i k within) ((whole.versions.entries i within).whole (was i 0 within (omega arith) begun));
+              begin = reads.below i 0 within (omega arith);
+              end = reads.below i 1 within (omega arith);
+              whole = λ begun. entry_as lines image image' i (λ k. reads.words i k within) ((whole.versions.entries i within).whole (was i 0 within (omega arith) begun));
               position = λ begun.
-                  let same = as.words i 2 within (omega arith) (omega arith) in
+                  let same = reads.words i 2 within (omega arith) (omega arith) in
                   let old = (whole.versions.entries i within).position (was i 0 within (omega arith) begun) in
-                  omega (arith, same, old, as.position);
+                  omega (arith, same, old, reads.position);
             };
         apart = λ i j in_i in_j other begun_i begun_j.
             lines_apart (image (entry_word i 3)) (image (entry_word i 4)) (image (entry_word j 3)) (image (entry_word j 4))
             (image' (entry_word i 3)) (image' (entry_word i 4)) (image' (entry_word j 3)) (image' (entry_word j 4))
-            (as.words i 3 in_i (omega arith) (omega arith)) (as.words i 4 in_i (omega arith) (omega arith))
-            (as.words j 3 in_j (omega arith) (omega arith)) (as.words j 4 in_j (omega arith) (omega arith))
+            (reads.words i 3 in_i (omega arith) (omega arith)) (reads.words i 4 in_i (omega arith) (omega arith))
+            (reads.words j 3 in_j (omega arith) (omega arith)) (reads.words j 4 in_j (omega arith) (omega arith))
             (whole.versions.apart i j in_i in_j other (was i 0 in_i (omega arith) begun_i) (was j 0 in_j (omega arith) begun_j));
         distinct = λ i j in_i in_j other live_i live_j.
             let old_i = was_live i in_i live_i in
@@ -154,20 +156,20 @@ undamaged_as {lines} {r} {s} {image} {image'} whole as current =
     }
   where
     was : (i k : ℕ) → i < entries_of_lines lines → k < 2 → IsTrue (counts s (image' (entry_word i k))) → IsTrue (counts r (image (entry_word i k)))
-    was i k within low begun = sym (as.stamps i k within low) ∙ begun
+    was i k within low begun = sym (reads.stamps i k within low) ∙ begun
     was_live : (i : ℕ) → i < entries_of_lines lines → IsTrue (is_live s image' i) → IsTrue (is_live r image i)
     was_live i within live =
-        let begin = as.stamps i 0 within (omega arith) in
-        let end = as.stamps i 1 within (omega arith) in
+        let begin = reads.stamps i 0 within (omega arith) in
+        let end = reads.stamps i 1 within (omega arith) in
         let same : is_live s image' i ≡ is_live r image i = cc in
         sym same ∙ live
-    record_as : (i : ℕ) → i < entries_of_lines lines → IsTrue (is_live r image i) → record_in image' i ≡ record_in image i
-    record_as i within live =
-        record_same image image' i
-        (same_entry as i within ((whole.versions.entries i within).whole (begun_of (is_counted r image i) (not (counts r (image (entry_word i 1)))) live)))
     begun_of : (a b : Bool) → IsTrue (a && b) → IsTrue a
     begun_of true b e = refl
     begun_of false b e = e
+    record_as : (i : ℕ) → i < entries_of_lines lines → IsTrue (is_live r image i) → record_in image' i ≡ record_in image i
+    record_as i within live =
+        record_same image image' i
+        (same_entry reads i within ((whole.versions.entries i within).whole (begun_of (is_counted r image i) (not (counts r (image (entry_word i 1)))) live)))
     lines_apart : (a b c d a' b' c' d' : ℕ) → a' ≡ a → b' ≡ b → c' ≡ c → d' ≡ d → AreApart a b c d → AreApart a' b' c' d'
     lines_apart a b c d a' b' c' d' ea eb ec ed (inl before) = inl (omega (arith, before, ea, eb, ec, ed))
     lines_apart a b c d a' b' c' d' ea eb ec ed (inr after) = inr (omega (arith, after, ea, eb, ec, ed))

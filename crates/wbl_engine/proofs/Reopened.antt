@@ -5,7 +5,7 @@ use Rattle.std.specs.List.{list_any}
 use Rattle.std.proofs.lemmas.Bool.{lt-ltb, le-leb, lt-leb, cases_lt, and_left, and_right, and_from, or_from}
 use Rattle.std.proofs.lemmas.List.{length-append}
 use Rattle.std.proofs.lemmas.List.Folds.{list_any-append}
-use Rattle.model.specs.declared.image.TheConstants.{COUNTER_LIMIT}
+use Rattle.model.specs.declared.image.TheConstants.{COUNTER_LIMIT, STAMP_WINDOW}
 use Rattle.model.specs.declared.record.Gap.{Gap}
 use Rattle.model.specs.declared.record.Record.{Record}
 use Rattle.model.specs.declared.record.TheConstants.{MAX_GAPS}
@@ -17,17 +17,16 @@ use Rattle.wbl_engine.proofs.CountLemmas.{counts-above}
 -- one more gap, above all others
 gaps_more : (low : ℕ) (gaps : List Gap) (cp : ℕ) (gap : Gap) (cp' : ℕ) → low < gap.first → cp ≤ gap.first → gap.first ≤ gap.last → gap.last < cp'
     → AreGaps low gaps cp → AreGaps low (gaps ++ gap ∷ []) cp'
-gaps_more low [] cp gap cp' above beyond some high are = (above, (some, (high, tt)))
+gaps_more low [] cp gap cp' above beyond some high are = (above, some, high, tt)
 gaps_more low (g ∷ gaps) cp gap cp' above beyond some high are = (
   are.0,
-  (
-    are.1.0,
-    (omega (arith, are.1.1.0, beyond, some, high), gaps_more g.last gaps cp gap cp' (omega (arith, are.1.1.0, beyond)) beyond some high are.1.1.1),
-  ),
+  are.1,
+  omega (arith, are.2, beyond, some, high),
+  gaps_more g.last gaps cp gap cp' (omega (arith, are.2, beyond)) beyond some high are.3,
 )
 
 -- the record with one more gap obeys its rules
-pub open_lawful : (r : Record) → IsLawful r → length r.gaps.items < MAX_GAPS → r.cd + 4097 < COUNTER_LIMIT → r.number + 1 < COUNTER_LIMIT
+pub open_lawful : (r : Record) → IsLawful r → length r.gaps.items < MAX_GAPS → r.cd + 1 + STAMP_WINDOW < COUNTER_LIMIT → r.number + 1 < COUNTER_LIMIT
     → IsLawful (with_open_gap r)
 open_lawful r lawful room limit number =
     record {

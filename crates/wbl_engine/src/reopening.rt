@@ -2,7 +2,7 @@
 ghost use Rattle.std.specs.Prelude.{◌≡◌, ℕ, ◌+◌, ◌<◌, length, OnOk, OnErr, IfOk, MatchResult};
 ghost use Rattle.pmem.specs.Crash.{image_of};
 ghost use Rattle.pmem.specs.Runs.{LeavesOnly};
-ghost use Rattle.model.specs.declared.image.TheConstants.{COUNTER_LIMIT};
+ghost use Rattle.model.specs.declared.image.TheConstants.{COUNTER_LIMIT, STAMP_WINDOW};
 ghost use Rattle.model.specs.declared.record.TheConstants.{MAX_GAPS};
 ghost use Rattle.wbl_engine.specs.Reopening.{with_open_gap, IsBesideRecords, IsReadable, StaysReadable};
 
@@ -14,7 +14,7 @@ use wbl_record::write_next;
 fn add_open_gap<P: Pmem>(device: &mut P, current: Record) -> Result<Record, Fault>
     requires readable { IsReadable current (P.state device.old) }
     requires room { length current.gaps.items < MAX_GAPS }
-    requires limit { current.cd + 4097 < COUNTER_LIMIT }
+    requires limit { current.cd + 1 + STAMP_WINDOW < COUNTER_LIMIT }
     requires number { current.number + 1 < COUNTER_LIMIT }
     ensures next { IfOk result (λ next. next ≡ with_open_gap current) }
     ensures readable { OnOk result (IsReadable (with_open_gap current) (P.state device.new)) }
@@ -35,7 +35,7 @@ fn add_open_gap<P: Pmem>(device: &mut P, current: Record) -> Result<Record, Faul
 fn with_open_gap(current: Record) -> Record
     requires room { length current.gaps.items < MAX_GAPS }
     requires some { 0 < current.cd }
-    requires limit { current.cd + 4097 < COUNTER_LIMIT }
+    requires limit { current.cd + 1 + STAMP_WINDOW < COUNTER_LIMIT }
     requires below { current.cp < current.cd }
     requires number { current.number + 1 < COUNTER_LIMIT }
     ensures { result ≡ with_open_gap current }
