@@ -130,7 +130,7 @@ fn flush_change<P: Pmem>(device: &mut P, change: &PlacedChange)
 }
 
 /// Flushes the lines of these entries.
-fn flush_ends<P: Pmem>(device: &mut P, ended: &[EntryNo])
+pub(crate) fn flush_ends<P: Pmem>(device: &mut P, ended: &[EntryNo])
     requires { AreWithin (P.state device.old).lines ended.now }
     ensures { Runs (P.state device.old) (P.state device.new) (flushes (end_lines ended.now) (P.state device.old).words) }
 {

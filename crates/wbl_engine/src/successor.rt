@@ -51,7 +51,7 @@ fn last_position(before: u64, parts: &[Part]) -> u64
 }
 
 /// A copy of the gaps.
-fn copy_gaps(gaps: &ArrayVec<Gap, MAX_GAPS>) -> ArrayVec<Gap, MAX_GAPS>
+pub(crate) fn copy_gaps(gaps: &ArrayVec<Gap, MAX_GAPS>) -> ArrayVec<Gap, MAX_GAPS>
     ensures { result ≡ gaps.now }
 {
     let mut copy = ArrayVec::new();
