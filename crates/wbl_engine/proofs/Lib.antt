@@ -6,6 +6,7 @@ pub mod CountLemmas
 pub mod Covering
 pub mod Ending
 pub mod EndsWithin
+pub mod Erased
 pub mod ErasingRuns
 pub mod FormatLemmas
 pub mod FormatRuns
