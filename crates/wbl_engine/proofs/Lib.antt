@@ -7,6 +7,7 @@ pub mod Covering
 pub mod Ending
 pub mod EndsWithin
 pub mod Erased
+pub mod ErasedStamps
 pub mod ErasingRuns
 pub mod FormatLemmas
 pub mod FormatRuns

@@ -1,4 +1,3 @@
-use Rattle.wbl_engine.proofs.Erased.{erased_rest}
 use Rattle.std.proofs.lemmas.Result.{on_ok_weaker, on_err_weaker}
 use Rattle.pmem.proofs.Chaining.{stage_ok, stage_err}
 use Rattle.wbl_engine.specs.Erasing.{erase_pairs, erase_lines}
