@@ -1,4 +1,5 @@
 pub mod AfterStage
+pub mod ApartLemmas
 pub mod Beginning
 pub mod CommitSteps
 pub mod Committing
@@ -13,6 +14,7 @@ pub mod NewImage
 pub mod PartEffects
 pub mod PartSteps
 pub mod PartWords
+pub mod PositionLemmas
 pub mod PutPairs
 pub mod ReadBack
 pub mod StageImages
