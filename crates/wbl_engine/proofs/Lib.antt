@@ -10,6 +10,7 @@ pub mod EndsWithin
 pub mod FormatLemmas
 pub mod FormatRuns
 pub mod GroupSteps
+pub mod LawfulLemmas
 pub mod NewImage
 pub mod PartEffects
 pub mod PartSteps
