@@ -1,6 +1,7 @@
 pub mod AfterStage
 pub mod ApartLemmas
 pub mod Beginning
+pub mod ClashLemmas
 pub mod CommitSteps
 pub mod Committing
 pub mod CountLemmas

@@ -3,7 +3,7 @@ ghost use Rattle.std.specs.Prelude.{ℕ, ◌≤◌};
 ghost use Rattle.model.specs.declared.group.Group.{Group};
 ghost use Rattle.model.specs.declared.image.TheConstants.{MIN_LINES, MAX_LINES};
 ghost use Rattle.model.specs.declared.record.Role.{Role};
-ghost use Rattle.model.specs.Group.{Contents, IsGroup, IsConsistent, after_group};
+ghost use Rattle.model.specs.Group.{Contents, IsGroup, after_group};
 ghost use Rattle.model.specs.Image.{Image};
 ghost use Rattle.wbl_engine.specs.Contents.{Keeps, IsNew, Exhausts};
 ghost use Rattle.wbl_engine.specs.Lawful.{AreLawful, IsUndamaged};
@@ -16,7 +16,7 @@ pub fn new_contents_are_lawful()
 
 /// A group takes contents that obey the rules to contents that do, unless a counter of the record would reach its limit.
 pub fn groups_keep_contents_lawful()
-    ensures { (contents : Contents) (group : Group) → IsConsistent contents → AreLawful contents → IsGroup contents group
+    ensures { (contents : Contents) (group : Group) → AreLawful contents → IsGroup contents group
         → ¬ Exhausts contents group → AreLawful (after_group contents group) }
 {}
 
