@@ -1,5 +1,7 @@
 pub mod AfterStage
+pub mod ApartLemmas
 pub mod Beginning
+pub mod ClashLemmas
 pub mod CommitSteps
 pub mod Committing
 pub mod CountLemmas
@@ -12,10 +14,12 @@ pub mod ErasingRuns
 pub mod FormatLemmas
 pub mod FormatRuns
 pub mod GroupSteps
+pub mod LawfulLemmas
 pub mod NewImage
 pub mod PartEffects
 pub mod PartSteps
 pub mod PartWords
+pub mod PositionLemmas
 pub mod PutPairs
 pub mod ReadBack
 pub mod StageImages

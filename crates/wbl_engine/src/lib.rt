@@ -9,6 +9,7 @@ mod engine;
 mod erasing;
 mod format;
 mod freeing;
+mod laws;
 mod staging;
 mod successor;
 
@@ -16,4 +17,5 @@ pub use committed::Committed;
 pub use durable::Durable;
 pub use engine::WblEngine;
 pub use freeing::Freed;
+pub use laws::{groups_keep_contents_lawful, lawful_contents_are_undamaged, new_contents_are_lawful};
 pub use model::{Gap, Record, Role};
