@@ -1,5 +1,6 @@
 pub mod AtRest
 pub mod Contents
+pub mod Erasing
 pub mod Formatting
 pub mod Freeing
 pub mod Lawful

@@ -2,16 +2,20 @@
 ghost use Rattle.std.specs.Prelude.{◌≡◌, false};
 ghost use Rattle.wbl_engine.specs.AtRest.{IsAtRest, at_rest_prop};
 
+use crate::clearing::{clear_oldest, record_after_clearing};
 use crate::commit::commit_group;
 use crate::committed::Committed;
 use crate::durable::Durable;
+use crate::erasing::erase_stamps;
 use crate::format::{first_record, format_device};
+use crate::freeing::{Freed, freed_by};
 use crate::successor::next_record;
-use kv_types::Refusal;
+use kv_types::{EntryNo, Refusal};
 use model::{Group, MAX_LINES, MIN_LINES, Record, Role};
 use pmem::{Fault, Pmem};
+use std::alloc::Global;
 
-/// An engine over a device. It keeps the current record but no list, and allocates no memory.
+/// An engine over a device. It keeps the current record but no list.
 pub struct WblEngine<P: Pmem> {
     device: P,
     /// The current record. After a fault, the record before the commit that faulted.
@@ -94,6 +98,45 @@ impl<P: Pmem> Durable for WblEngine<P> {
             Err(Fault) => {
                 self.faulted = true;
                 Err(Refusal::Fault)
+            }
+        }
+    }
+
+    fn free(&mut self, alloc: Global, entries: &[EntryNo]) -> Result<Freed, Refusal> {
+        if self.faulted {
+            return Err(Refusal::Fault);
+        }
+        let freed = freed_by(alloc, &self.device, entries)?;
+        match erase_stamps(&mut self.device, entries, &[]) {
+            Ok(()) => Ok(freed),
+            Err(Fault) => {
+                self.faulted = true;
+                Err(Refusal::Fault)
+            }
+        }
+    }
+
+    fn clear_gap(&mut self, alloc: Global) -> Result<Freed, Refusal> {
+        if self.faulted {
+            return Err(Refusal::Fault);
+        }
+        if self.current.gaps.is_empty() {
+            return Ok(Freed::none(alloc));
+        }
+        let Some(next) = record_after_clearing(&self.current) else {
+            return Err(Refusal::Exhausted);
+        };
+        match clear_oldest(alloc, &mut self.device, &self.current, &next) {
+            Ok(entries) => {
+                self.current = next;
+                Ok(Freed {
+                    entries,
+                    extents: Vec::new(alloc),
+                })
+            }
+            Err(refusal) => {
+                self.faulted |= refusal == Refusal::Fault;
+                Err(refusal)
             }
         }
     }

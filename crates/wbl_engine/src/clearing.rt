@@ -1,0 +1,120 @@
+//! A gap leaves the record once no stamp in it is left on the device.
+ghost use Rattle.std.specs.Prelude.{◌≡◌, ◌⊎◌, ◌+◌, ◌<◌, ◌≤◌, ◌++◌, ◌∷◌, [], if◌then◌else◌, length, None, IfOk, IfErr, IfSome, OnOk, IsErrOf};
+ghost use Rattle.pmem.specs.Crash.{image_of};
+ghost use Rattle.pmem.specs.Runs.{LeavesOnly};
+ghost use Rattle.model.specs.declared.image.TheConstants.{MIN_LINES};
+ghost use Rattle.model.specs.Image.{entries_of_lines};
+ghost use Rattle.wbl_record.specs.Current.{IsLawful};
+ghost use Rattle.wbl_engine.specs.AtRest.{IsAtRest, contents_of};
+ghost use Rattle.wbl_engine.specs.Contents.{Keeps};
+ghost use Rattle.wbl_engine.specs.Erasing.{stamped_below};
+ghost use Rattle.wbl_engine.specs.Freeing.{Clears, KeepsVersions, record_after_clearing, cleared_contents};
+
+use crate::erasing::erase_stamps;
+use crate::successor::copy_gaps;
+use heap_layout::read_stamps;
+use kv_types::{EntryNo, Refusal};
+use model::{COUNTER_LIMIT, Gap, LAYOUT, Record};
+use pmem::Pmem;
+use std::alloc::{AllocError, Global};
+use wbl_record::write_next;
+
+/// The entries of the directory that have a stamp in a gap.
+#[derive(Debug, Drop)]
+pub struct Stamped {
+    /// Those whose begin lies in it, in rising order.
+    pub begins: Vec<EntryNo>,
+    /// Those whose end lies in it, in rising order.
+    pub ends: Vec<EntryNo>,
+}
+
+/// Lists the entries that have a stamp in a gap. `AllocError` if an allocation was refused.
+pub fn stamped_in<P: Pmem>(alloc: Global, device: &P, gap: Gap) -> Result<Stamped, AllocError>
+    requires { MIN_LINES ≤ (P.state device.now).lines }
+    ensures begins { IfOk result (λ stamped.
+        stamped.begins.items ≡ stamped_below gap (image_of (P.state device.now).words) 0 (entries_of_lines (P.state device.now).lines)) }
+    ensures ends { IfOk result (λ stamped.
+        stamped.ends.items ≡ stamped_below gap (image_of (P.state device.now).words) 1 (entries_of_lines (P.state device.now).lines)) }
+{
+    let mut begins = Vec::new(alloc);
+    let mut ends = Vec::new(alloc);
+    for i in 0..LAYOUT.entries_of_lines(device.lines()) {
+        let stamps = read_stamps(device, EntryNo(i));
+        push_if(&mut begins, EntryNo(i), gap.holds(stamps.begin))?;
+        push_if(&mut ends, EntryNo(i), gap.holds(stamps.end))?;
+    }
+    Ok(Stamped { begins, ends })
+}
+
+/// Adds an entry to a list, if it is to be there.
+fn push_if(list: &mut Vec<EntryNo>, entry: EntryNo, listed: bool) -> Result<(), AllocError>
+    ensures { OnOk result (list.new.items ≡ list.old.items ++ (if listed then entry ∷ [] else [])) }
+{
+    if listed {
+        list.push(entry)?;
+    }
+    Ok(())
+}
+
+/// The record without its oldest gap, or `None` if its number would reach 2^62.
+pub fn record_after_clearing(current: &Record) -> Option<Record>
+    requires lawful { IsLawful current.now }
+    requires some { 0 < length current.now.gaps.items }
+    ensures next { IfSome result (λ next. next ≡ record_after_clearing current.now) }
+    ensures lawful { IfSome result IsLawful }
+    ensures exhausted { result ≡ None → COUNTER_LIMIT ≤ current.now.number + 1 }
+    ensures exhausts { COUNTER_LIMIT ≤ current.now.number + 1 → result ≡ None }
+{
+    let number = current.number + 1;
+    if number >= COUNTER_LIMIT {
+        return None;
+    }
+    let mut gaps = copy_gaps(&current.gaps);
+    gaps.remove(0);
+    Some(Record {
+        number,
+        position: current.position,
+        cp: current.cp,
+        cd: current.cd,
+        epoch: current.epoch,
+        role: current.role,
+        gaps,
+    })
+}
+
+/// Erases all stamps in the oldest gap of the current record, and then writes the next record, which lacks that gap. Returns the entries that
+/// were begun in it, which are free. `Fault` if a fence failed; `Memory`, with nothing changed.
+///
+/// At any moment a crash leaves the same versions, under the current record or the next one.
+pub fn clear_oldest<P: Pmem>(
+    alloc: Global,
+    device: &mut P,
+    current: &Record,
+    next: &Record,
+) -> Result<Vec<EntryNo>, Refusal>
+    requires rest { IsAtRest current.now (P.state device.old) }
+    requires some { 0 < length current.now.gaps.items }
+    requires after { next.now ≡ record_after_clearing current.now }
+    requires lawful { IsLawful next.now }
+    ensures rest { OnOk result (IsAtRest next.now (P.state device.new)) }
+    ensures clears { IfOk result (λ entries.
+        Clears (contents_of current.now (P.state device.old)) entries.items (contents_of next.now (P.state device.new))) }
+    ensures sound { OnOk result ((P.state device.new).failures ≡ (P.state device.old).failures) }
+    ensures causes { IfErr result (λ refusal. (refusal ≡ Refusal.Fault) ⊎ (refusal ≡ Refusal.Memory)) }
+    ensures memory { IsErrOf result Refusal.Memory → device.new ≡ device.old }
+    ensures fault { IsErrOf result Refusal.Fault → (P.state device.old).failures < (P.state device.new).failures }
+    ensures stays { IsErrOf result Refusal.Fault
+        → KeepsVersions (contents_of current.now (P.state device.old)) (contents_of current.now (P.state device.new)) }
+    ensures moments { LeavesOnly (P.state device.old) (P.state device.new) (λ image.
+        Keeps (contents_of current.now (P.state device.old)) image
+        ⊎ Keeps (cleared_contents (contents_of current.now (P.state device.old))) image) }
+{
+    let stamped = stamped_in(alloc, device, current.gaps[0])?;
+    let Ok(()) = erase_stamps(device, stamped.begins.as_slice(), stamped.ends.as_slice()) else {
+        return Err(Refusal::Fault);
+    };
+    let Ok(()) = write_next(device, next) else {
+        return Err(Refusal::Fault);
+    };
+    Ok(stamped.begins)
+}
