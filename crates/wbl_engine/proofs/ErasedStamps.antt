@@ -23,13 +23,13 @@ use Rattle.wbl_engine.proofs.Erased.{IsErased, erased_keeps, erased_rest, no_rec
 -- ---- what is stored
 
 -- a zero is stored in word k of a listed entry
-record IsZeroed (k : ℕ) (entries : List EntryNo) (word x : ℕ) : Type 0 where
-  entry : ℕ
-  listed : IsTrue (is_listed entry entries)
-  word_is : word ≡ entry_word entry k
-  zero_is : x ≡ 0
+pub record IsZeroed (k : ℕ) (entries : List EntryNo) (word x : ℕ) : Type 0 where
+  pub entry : ℕ
+  pub listed : IsTrue (is_listed entry entries)
+  pub word_is : word ≡ entry_word entry k
+  pub zero_is : x ≡ 0
 
-zero_where : (k : ℕ) (entries : List EntryNo) (word x : ℕ) → IsStored (zero_pairs k entries) word x → IsZeroed k entries word x
+pub zero_where : (k : ℕ) (entries : List EntryNo) (word x : ℕ) → IsStored (zero_pairs k entries) word x → IsZeroed k entries word x
 zero_where k [] word x stored = absurd stored
 zero_where k (entry ∷ entries) word x (inl here) =
     record {
@@ -47,7 +47,7 @@ zero_where k (entry ∷ entries) word x (inr later) =
       zero_is = more.zero_is;
     }
 
-listed_zeroed : (k : ℕ) (entries : List EntryNo) (i : ℕ) → IsTrue (is_listed i entries) → IsStored (zero_pairs k entries) (entry_word i k) 0
+pub listed_zeroed : (k : ℕ) (entries : List EntryNo) (i : ℕ) → IsTrue (is_listed i entries) → IsStored (zero_pairs k entries) (entry_word i k) 0
 listed_zeroed k [] i listed = absurd (both_ways false refl listed)
 listed_zeroed k (entry ∷ entries) i listed =
     elim (or_cases (nat_eq i entry.0) (is_listed i entries) listed) [
@@ -70,7 +70,7 @@ IsLine-right : (a b : List ℕ) (line : ℕ) → IsLine b line → IsLine (a ++ 
 IsLine-right [] b line is = is
 IsLine-right (l ∷ a) b line is = inr (IsLine-right a b line is)
 
-erase_line : (begins ends : List EntryNo) (word x : ℕ) → IsStored (erase_pairs begins ends) word x → IsLine (erase_lines begins ends) (word / 8)
+pub erase_line : (begins ends : List EntryNo) (word x : ℕ) → IsStored (erase_pairs begins ends) word x → IsLine (erase_lines begins ends) (word / 8)
 erase_line begins ends word x stored =
     elim (IsStored-append (zero_pairs 0 begins) (zero_pairs 1 ends) word x stored) [
       | inl begin ↦ IsLine-left (end_lines begins) (end_lines ends) (word / 8) (zero_line 0 begins word x (omega arith) begin)

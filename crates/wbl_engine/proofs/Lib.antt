@@ -2,6 +2,8 @@ pub mod AfterStage
 pub mod ApartLemmas
 pub mod Beginning
 pub mod ClashLemmas
+pub mod ClearedGap
+pub mod ClearedStamps
 pub mod CommitSteps
 pub mod Committing
 pub mod CountLemmas

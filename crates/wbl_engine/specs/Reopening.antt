@@ -1,6 +1,5 @@
 -- Reopening: what it reads of an image, the record that it writes, and what a crash in it leaves.
-use Rattle.std.specs.Prelude.{◌≡◌, ◌≢◌, ℕ, ◌+◌, ◌-◌, ◌<◌, ◌≤◌, ◌&&◌, ◌||◌, ◌⊎◌, ◌==◌, Bool, not, nat_lt, if◌then◌else◌, List, [], ◌∷◌, ◌++◌, length, take, Some, None, is_none}
-use Rattle.std.specs.List.{list_any}
+use Rattle.std.specs.Prelude.{◌≡◌, ◌≢◌, ℕ, ◌+◌, ◌-◌, ◌<◌, ◌≤◌, ◌&&◌, ◌||◌, ◌⊎◌, ◌==◌, Bool, not, nat_lt, if◌then◌else◌, List, [], ◌∷◌, ◌++◌, length, slice_index_or, Some, None, is_none}
 use Rattle.kv_types.specs.declared.place.EntryNo.{EntryNo}
 use Rattle.heap_layout.specs.declared.entry.Entry.{Entry}
 use Rattle.heap_layout.specs.Versions.{counted_below}
@@ -17,7 +16,7 @@ use Rattle.model.specs.declared.record.Record.{Record}
 use Rattle.model.specs.declared.record.Role.{Role}
 use Rattle.model.specs.declared.record.TheConstants.{MAX_GAPS}
 use Rattle.model.specs.Group.{Contents}
-use Rattle.model.specs.Image.{Image, HasRecord, entries_of_lines, entry_word, is_in_gap, root_word, version_at}
+use Rattle.model.specs.Image.{Image, HasRecord, entries_of_lines, entry_word, first_extent_line, is_in_gap, root_word, version_at}
 use Rattle.wbl_engine.specs.Freeing.{is_listed, record_after_clearing}
 use Rattle.wbl_engine.specs.Lawful.{IsUndamaged}
 
@@ -54,9 +53,21 @@ ExhaustsReopening r = (COUNTER_LIMIT ≤ (reopened r).cd) ⊎ (COUNTER_LIMIT ≤
 
 -- ---- the contents
 
+-- the gap of a record that has the oldest stamps
+abbrev pub oldest_gap : Record → Gap
+oldest_gap r = slice_index_or r.gaps.items 0 (record { first = 0; last = 0 })
+
 -- the stamp is in the gap that a reopening clears
 abbrev pub is_cleared : Record → ℕ → Bool
-is_cleared r stamp = is_full r && list_any (is_in_gap stamp) (take 1 r.gaps.items)
+is_cleared r stamp = is_full r && is_in_gap stamp (oldest_gap r)
+
+-- In the second image the stamps that pass the test are 0, and beside the records nothing else has changed.
+pub record AreCleared (lines : ℕ) (test : ℕ → Bool) (image image' : Image) : Type 0 where
+  pub superblock : (word : ℕ) → word < root_word → image' word ≡ image word
+  pub stamps : (i k : ℕ) → i < entries_of_lines lines → k < 2
+      → image' (entry_word i k) ≡ (if test (image (entry_word i k)) then 0 else image (entry_word i k))
+  pub words : (i k : ℕ) → i < entries_of_lines lines → 2 ≤ k → k < 8 → image' (entry_word i k) ≡ image (entry_word i k)
+  pub extents : (word : ℕ) → first_word (first_extent_line lines) ≤ word → image' word ≡ image word
 
 -- The image was undamaged, with a record of this role, and these are the contents and the lists of versions once it is reopened.
 pub record Reopens (lines' : ℕ) (image : Image) (role : Role) (contents : Contents) (counted' : List (EntryNo × Entry)) (gapped' : List EntryNo) : Type 0 where
