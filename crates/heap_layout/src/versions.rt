@@ -1,5 +1,5 @@
 //! All versions of an image, as its record tells of them.
-ghost use Rattle.std.specs.Prelude.{◌≡◌, ℕ, ◌⊎◌, ◌<◌, ◌≤◌, ◌++◌, ◌↔◌, All, IsTrue, map, IfOk, IfErr, OnOk, IsErrOf};
+ghost use Rattle.std.specs.Prelude.{◌≡◌, ℕ, ◌⊎◌, ◌<◌, ◌≤◌, ◌++◌, ◌↔◌, All, IsTrue, map, if◌then◌else◌, IfOk, IfErr, OnOk, IsErrOf};
 ghost use Rattle.kv_types.specs.declared.refusal.Refusal.{Refusal};
 ghost use Rattle.pmem.specs.Crash.{image_of};
 ghost use Rattle.model.specs.declared.image.TheConstants.{MIN_LINES};
@@ -106,15 +106,12 @@ fn with_end(current: &Record, entry: Entry) -> Entry
     Entry { end, ..entry }
 }
 
-/// Whether no two of the versions have a line in common; each has one at least.
+/// Whether no two of the versions have a line in common.
 fn lie_apart(alloc: Global, versions: &[(EntryNo, Entry)]) -> Result<bool, AllocError>
     requires { All (λ run. 0 < run.lines) (runs_of versions.now) }
     ensures { IfOk result (λ apart. IsTrue apart ↔ NoTwo overlap (runs_of versions.now)) }
 {
-    let mut runs = versions
-        .iter()
-        .map(|(_, entry)| entry.extent)
-        .collect::<Vec<Extent>>(alloc)?;
+    let mut runs = extents(alloc, versions)?;
     Ok(are_apart(runs.as_mut_slice()))
 }
 
@@ -122,10 +119,27 @@ fn lie_apart(alloc: Global, versions: &[(EntryNo, Entry)]) -> Result<bool, Alloc
 fn differ(alloc: Global, versions: &[(EntryNo, Entry)]) -> Result<bool, AllocError>
     ensures { IfOk result (λ distinct. IsTrue distinct ↔ NoTwo is_clash (live_ids versions.now)) }
 {
-    let mut ids = versions
+    let mut ids = names_of_live(alloc, versions)?;
+    Ok(are_distinct(ids.as_mut_slice()))
+}
+
+/// The extents of the versions.
+fn extents(alloc: Global, versions: &[(EntryNo, Entry)]) -> Result<Vec<Extent>, AllocError>
+    ensures { IfOk result (λ runs. runs.items ≡ runs_of versions.now) }
+{
+    versions.iter().map(|(_, entry)| entry.extent).collect(alloc)
+}
+
+/// The records of the live versions.
+fn names_of_live(
+    alloc: Global,
+    versions: &[(EntryNo, Entry)],
+) -> Result<Vec<&RecordId>, AllocError>
+    ensures { IfOk result (λ ids. map (λ id. id.now) ids.items ≡ live_ids versions.now) }
+{
+    versions
         .iter()
         .filter(|(_, entry)| entry.end == 0)
         .map(|(_, entry)| &entry.id)
-        .collect::<Vec<&RecordId>>(alloc)?;
-    Ok(are_distinct(ids.as_mut_slice()))
+        .collect(alloc)
 }
