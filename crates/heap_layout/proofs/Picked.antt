@@ -1,6 +1,7 @@
 -- What is picked by number: the f i of each i below n that passes, in rising order.
-use Rattle.std.proofs.Common.{◌≡◌, ◌≢◌, ℕ, zero, suc, ◌<◌, ⊎_elim, List, [], ◌∷◌, ◌++◌, All, length, get_or, Bool, true, false, refl, sym, ◌∙◌, subst, ap₂, arith, true≢false, append-nil, length-append, get_or-append}
-use lib.Seq.{get_or-append_seam}
+use Rattle.std.proofs.Common.{◌≡◌, ◌≢◌, ℕ, zero, suc, ◌<◌, ⊎_elim, List, [], ◌∷◌, ◌++◌, All, length, get_or, Bool, true, false, refl, sym, ◌∙◌, subst, ap₂, arith, true≢false, append-nil, length-append}
+use Rattle.std.proofs.Math.ListN.{get_or-append}
+use Rattle.std.proofs.Math.Seq.{get_or-append_seam}
 use Rattle.std.specs.Prelude.{if◌then◌else◌}
 use Rattle.std.proofs.lemmas.Bool.{cases_eq, cases_order}
 use Rattle.std.proofs.lemmas.List.Elements.{All-push, All-nil}
@@ -20,7 +21,7 @@ module _ {X : Type 0} (xs : List X) (y : X) where
   All-before : (P : X → Type 0) (b : Bool) → All P (push_if b xs y) → All P xs
   All-before P true all k d within =
       subst P (get_or-append xs (y ∷ []) d k within) (all k d (omega (arith, length-append xs (y ∷ []))))
-  All-before P false all = subst (All P) (append-nil xs) all
+  All-before P false all k d within = subst (All P) (append-nil xs) all k d within
 
   All-last : (P : X → Type 0) (b : Bool) → All P (push_if b xs y) → b ≡ true → P y
   All-last P true all e = subst P (get_or-append_seam xs y [] y) (all (length xs) y (omega (arith, length-append xs (y ∷ []))))
@@ -34,13 +35,13 @@ module _ {X : Type 0} (xs : List X) (y : X) where
   NoTwo-before test true none i j d less within =
       sym (ap₂ test (get_or-append xs (y ∷ []) d i (omega arith)) (get_or-append xs (y ∷ []) d j within))
       ∙ none i j d less (omega (arith, length-append xs (y ∷ [])))
-  NoTwo-before test false none = subst (NoTwo test) (append-nil xs) none
+  NoTwo-before test false none i j d less within = subst (NoTwo test) (append-nil xs) none i j d less within
 
   NoTwo-last : (test : X → X → Bool) (b : Bool) → NoTwo test (push_if b xs y) → b ≡ true → All (λ x. test x y ≡ false) xs
   NoTwo-last test true none e k d within =
       sym (ap₂ test (get_or-append xs (y ∷ []) d k within) (get_or-append_seam xs y [] d))
       ∙ none k (length xs) d within (omega (arith, length-append xs (y ∷ [])))
-  NoTwo-last test false none e = absurd (true≢false (sym e))
+  NoTwo-last test false none e k d within = absurd (true≢false (sym e))
 
 -- ---- all that pass
 
@@ -55,20 +56,20 @@ module _ {X : Type 0} (passes : ℕ → Bool) (f : ℕ → X) where
       All-push_if (picked n) (f n) P (passes n) (All-picked P n (λ i less. each i (omega arith))) (each n (omega arith))
 
   pub at_picked : (P : X → Type 0) (n : ℕ) → All P (picked n) → (i : ℕ) → i < n → passes i ≡ true → P (f i)
-  at_picked P zero all i less p = omega arith
+  at_picked P zero all i less p = absurd (omega arith)
   at_picked P (suc n) all i less p =
       ⊎_elim (λ same. subst (λ k. P (f k)) (sym same) (All-last (picked n) (f n) P (passes n) all (subst (λ k. passes k ≡ true) same p)))
       (λ other. at_picked P n (All-before (picked n) (f n) P (passes n) all) i (omega (arith, other)) p) (cases_eq i n)
 
   module _ (test : X → X → Bool) where
     NoTwo-ordered : (n : ℕ) → ((i j : ℕ) → i < j → j < n → passes i ≡ true → passes j ≡ true → test (f i) (f j) ≡ false) → NoTwo test (picked n)
-    NoTwo-ordered zero each i j d less within = omega arith
+    NoTwo-ordered zero each = λ i j d less within. absurd (omega arith)
     NoTwo-ordered (suc n) each =
         NoTwo-push_if (picked n) (f n) test (passes n) (NoTwo-ordered n (λ i j less below. each i j less (omega arith)))
         (λ last. All-picked (λ x. test x (f n) ≡ false) n (λ i less p. each i n less (omega arith) p last))
 
     ordered-NoTwo : (n : ℕ) → NoTwo test (picked n) → (i j : ℕ) → i < j → j < n → passes i ≡ true → passes j ≡ true → test (f i) (f j) ≡ false
-    ordered-NoTwo zero none i j less below p q = omega arith
+    ordered-NoTwo zero none i j less below p q = absurd (omega arith)
     ordered-NoTwo (suc n) none i j less below p q =
         ⊎_elim
         (λ same. subst (λ k. test (f i) (f k) ≡ false) (sym same)
