@@ -13,5 +13,7 @@ mod successor;
 pub use committed::Committed;
 pub use durable::Durable;
 pub use engine::WblEngine;
-pub use laws::{groups_keep_contents_lawful, lawful_contents_are_undamaged, new_contents_are_lawful};
+pub use laws::{
+    groups_keep_contents_lawful, lawful_contents_are_undamaged, new_contents_are_lawful,
+};
 pub use model::{Gap, Record, Role};
