@@ -3,6 +3,7 @@ pub mod ApartLemmas
 pub mod Beginning
 pub mod ClashLemmas
 pub mod ClearedGap
+pub mod ClearedRecord
 pub mod ClearedStamps
 pub mod CommitSteps
 pub mod Committing
