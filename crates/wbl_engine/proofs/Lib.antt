@@ -13,6 +13,7 @@ pub mod ErasedStamps
 pub mod ErasingRuns
 pub mod FormatLemmas
 pub mod FormatRuns
+pub mod FreeingLemmas
 pub mod GroupSteps
 pub mod LawfulLemmas
 pub mod NewImage
