@@ -20,7 +20,7 @@ use Rattle.wbl_engine.specs.Erasing.{erase_pairs, erase_lines, extent_in}
 use Rattle.wbl_engine.specs.Freeing.{AreEnded, KeepsMap, KeepsWithoutSome, after_free, extent_of, extents_of, is_listed, without}
 use Rattle.wbl_engine.specs.Stage.{AreWithin}
 use Rattle.wbl_engine.proofs.Erased.{IsErased, erased_version, version_within}
-use Rattle.wbl_engine.proofs.ErasedStamps.{AreErased, AreGone, IsErasing, erased_over, listed_zero, made_free, made_over, partly_keeps, staged_rest}
+use Rattle.wbl_engine.proofs.ErasedStamps.{AreErased, AreGone, IsErasing, erased_over, listed_begin, made_free, made_over, partly_keeps, staged_rest}
 
 -- ---- what is asked of the entries
 
@@ -70,11 +70,11 @@ ended_extents r d (entry ∷ entries) ended =
 
 -- ---- once they are freed
 
-listed_gone : (r : Record) (d : State) (entries : List EntryNo) (n : ℕ) {image : Image} → AreErased n d entries [] image
+listed_gone : (r : Record) (d : State) (entries : List EntryNo) {image : Image} → AreErased r d entries [] image
     → AreGone r d.lines (image_of d.words) entries (λ i. is_listed i entries) image
-listed_gone r d entries n {image} made =
+listed_gone r d entries {image} made =
     record {
-      zero_is = λ i within listed. listed_zero d entries [] n made i listed;
+      zero_is = λ i within listed. listed_begin r d entries [] made i within listed;
       erased = λ i listed zeroed unlisted. absurd (both_ways (is_listed i entries) unlisted listed);
     }
 
@@ -84,11 +84,11 @@ pub freed_same : (r : Record) (d b : State) (entries : List EntryNo) → IsAtRes
     → Same (after_free entries (contents_of r d)) (contents_of r b)
 freed_same r d b entries rest ended newest lines =
     let image : Image = image_of b.words in
-    let made : AreErased 0 d entries [] image = λ word out. newest word in
+    let made : AreErased r d entries [] image = λ word matters. newest word in
     let erasing = ended_erasing r d entries ended in
     let gone : ℕ → Bool = λ i. is_listed i entries in
     let erased : IsErased r r d.lines gone (image_of d.words) image =
-    erased_over gone image rest.whole erasing (made_over entries [] 0 rest made) (listed_gone r d entries 0 made) in
+    erased_over gone image rest.whole erasing (made_over r d entries [] made) (listed_gone r d entries made) in
     let at : ℕ → ℕ → Option Version = λ (n i : ℕ). cond (nat_lt i (entries_of_lines n)) (version_at r image i) None in
     let free : ℕ → ℕ → Bool =
     λ (n i : ℕ). nat_lt i (entries_of_lines n) && (image (entry_word i 0) == 0 || nat_lt r.cp (image (entry_word i 0))) in
@@ -107,7 +107,7 @@ freed_same r d b entries rest ended newest lines =
                 ∙ sym (none_anyway (gone i)
                 (cond-false (nat_lt i (entries_of_lines d.lines)) (version_at r (image_of d.words) i) None (le-ltb i (entries_of_lines d.lines) beyond)))
           ];
-      is_free = λ i. ap (λ (n : ℕ). free n i) lines ∙ made_free r d entries [] 0 erasing made i;
+      is_free = λ i. ap (λ (n : ℕ). free n i) lines ∙ made_free r d entries [] erasing made i;
     }
   where
     none_anyway : {X : Type 0} {x : Option X} (b : Bool) → x ≡ None → cond b None x ≡ None
@@ -118,7 +118,7 @@ pub freed_rest : (r : Record) (d b : State) (entries : List EntryNo) → IsAtRes
     → Staged d b (erase_pairs entries []) (erase_lines entries []) → IsAtRest r b
 freed_rest r d b entries rest ended staged =
     staged_rest entries [] (λ i. is_listed i entries) rest (ended_erasing r d entries ended)
-    (listed_gone r d entries 0 (λ word out. staged.newest word)) staged
+    (listed_gone r d entries (λ word matters. staged.newest word)) staged
 
 -- ---- at each crash
 

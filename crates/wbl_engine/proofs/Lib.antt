@@ -2,6 +2,7 @@ pub mod AfterStage
 pub mod ApartLemmas
 pub mod Beginning
 pub mod ClashLemmas
+pub mod ClearingLemmas
 pub mod CommitSteps
 pub mod Committing
 pub mod CountLemmas
@@ -14,6 +15,7 @@ pub mod ErasingRuns
 pub mod FormatLemmas
 pub mod FormatRuns
 pub mod FreeingLemmas
+pub mod GapLemmas
 pub mod GroupSteps
 pub mod LawfulLemmas
 pub mod NewImage
