@@ -1,12 +1,12 @@
 -- What erasing stamps leaves: of what loads return, and at each crash.
 use Rattle.std.proofs.Common.{◌≡◌, ℕ, ◌+◌, ◌*◌, ◌/◌, ◌<◌, ◌≤◌, Bool, true, false, cond, ◌&&◌, ◌||◌, ◌==◌, IsTrue, List, [], ◌∷◌, ◌++◌, ◌⊎◌, inl, inr, Option, None, refl, sym, ap, subst, ◌∙◌, arith}
 use Rattle.std.specs.Prelude.{nat_eq, nat_lt}
-use Rattle.std.proofs.lemmas.Bool.{cond-true, cond-false, cases_Bool, or_cases, or_left, or_right, or_from, eqb-true, eq-eqb, lt-ltb, both_ways}
+use Rattle.std.proofs.lemmas.Bool.{cond-true, cond-false, cases_Bool, or_cases, or_left, or_right, or_from, eqb-true, eq-eqb, lt-ltb, ltb-true, both_ways}
 use Rattle.kv_types.specs.declared.place.EntryNo.{EntryNo}
 use Rattle.pmem.specs.Device.{State, Only, MayBe}
 use Rattle.pmem.specs.Crash.{IsImage, image_of}
 use Rattle.pmem.specs.Runs.{LeavesOnly, Staged, IsStored, IsOutside, IsPartlyStored, IsLine, written}
-use Rattle.pmem.proofs.Staging.{IsStored-append, IsStored-append_left, written-cases, written-outside, written-stored, stored_or_outside}
+use Rattle.pmem.proofs.Staging.{IsStored-append, IsStored-append_left, IsStored-append_right, written-cases, written-outside, written-stored, stored_or_outside}
 use Rattle.model.specs.declared.record.Record.{Record}
 use Rattle.model.specs.Image.{Image, HasRecord, root_word, entry_word, entries_of_lines, counts}
 use Rattle.wbl_record.specs.Record.{IsRecordWord}
@@ -142,7 +142,7 @@ erased_inside {r} {lines} {base} {begins} {ends} erasing word x stored =
           (omega (arith, at.word_is), omega (arith, at.word_is, within))
     ]
 
-directory_matters : (r : Record) (lines : ℕ) (base : Image) (i k : ℕ) → i < entries_of_lines lines → k < 8 → Matters r lines base (entry_word i k)
+pub directory_matters : (r : Record) (lines : ℕ) (base : Image) (i k : ℕ) → i < entries_of_lines lines → k < 8 → Matters r lines base (entry_word i k)
 directory_matters r lines base i k within below = inr (inl (omega arith, omega (arith, within)))
 
 -- Such an image has lost just what is gone.
@@ -228,59 +228,78 @@ partly_keeps {r} {d} begins ends gone image rest erasing partly are_gone =
 
 -- ---- once they are stored
 
--- loads return what was stored, but perhaps in the words of record n
-abbrev pub AreErased : ℕ → State → List EntryNo → List EntryNo → Image → Type 0
-AreErased n d begins ends image =
-    (word : ℕ) → (IsRecordWord n word → ⊥) → image word ≡ written (erase_pairs begins ends) (image_of d.words) word
+-- wherever the map depends, the image has what was stored
+abbrev pub AreErased : Record → State → List EntryNo → List EntryNo → Image → Type 0
+AreErased r d begins ends image =
+    (word : ℕ) → Matters r d.lines (image_of d.words) word → image word ≡ written (erase_pairs begins ends) (image_of d.words) word
 
-pub made_over : {r : Record} {d : State} {image : Image} (begins ends : List EntryNo) (n : ℕ) → IsAtRest r d → AreErased n d begins ends image
+pub made_over : (r : Record) (d : State) (begins ends : List EntryNo) {image : Image} → AreErased r d begins ends image
     → IsErasedOver r d.lines (image_of d.words) begins ends image
-made_over {r} {d} {image} begins ends n rest made word matters =
+made_over r d begins ends {image} made word matters =
     let pairs : List (ℕ × ℕ) = erase_pairs begins ends in
-    let is : image word ≡ written pairs (image_of d.words) word = made word (no_record_word n word rest.whole matters) in
     elim (written-cases pairs (image_of d.words) word) [
-      | inl out ↦ inl (is ∙ out.1)
-      | inr stored ↦ inr (subst (λ (x : ℕ). IsStored pairs word x) (sym is) stored)
+      | inl out ↦ inl (made word matters ∙ out.1)
+      | inr stored ↦ inr (subst (λ (x : ℕ). IsStored pairs word x) (sym (made word matters)) stored)
     ]
 
-directory_no_record : (n i k : ℕ) → IsRecordWord n (entry_word i k) → ⊥
-directory_no_record n i k (inl root) = omega (arith, root)
-directory_no_record n i k (inr slot) = omega (arith, slot.1)
-
 -- the begin of a listed entry is 0
-pub listed_zero : (d : State) (begins ends : List EntryNo) {image : Image} (n : ℕ) → AreErased n d begins ends image → (i : ℕ)
-    → IsTrue (is_listed i begins) → image (entry_word i 0) ≡ 0
-listed_zero d begins ends {image} n made i listed =
-    let pairs : List (ℕ × ℕ) = erase_pairs begins ends in
-    made (entry_word i 0) (directory_no_record n i 0)
-    ∙ written-stored pairs (image_of d.words) (entry_word i 0) 0
+pub listed_begin : (r : Record) (d : State) (begins ends : List EntryNo) {image : Image} → AreErased r d begins ends image → (i : ℕ)
+    → i < entries_of_lines d.lines → IsTrue (is_listed i begins) → image (entry_word i 0) ≡ 0
+listed_begin r d begins ends {image} made i within listed =
+    made (entry_word i 0) (directory_matters r d.lines (image_of d.words) i 0 within (omega arith))
+    ∙ written-stored (erase_pairs begins ends) (image_of d.words) (entry_word i 0) 0
     (IsStored-append_left (zero_pairs 0 begins) (zero_pairs 1 ends) (entry_word i 0) 0 (listed_zeroed 0 begins i listed))
     (λ y stored. (stamp_of begins ends i 0 y (omega arith) stored).zero_is)
 
--- and that of another is as it was
-pub unlisted_begin : (d : State) (begins ends : List EntryNo) {image : Image} (n : ℕ) → AreErased n d begins ends image → (i : ℕ)
-    → is_listed i begins ≡ false → image (entry_word i 0) ≡ image_of d.words (entry_word i 0)
-unlisted_begin d begins ends {image} n made i unlisted =
-    made (entry_word i 0) (directory_no_record n i 0)
+-- and so is the end of one that is listed for its end
+pub listed_end : (r : Record) (d : State) (begins ends : List EntryNo) {image : Image} → AreErased r d begins ends image → (i : ℕ)
+    → i < entries_of_lines d.lines → IsTrue (is_listed i ends) → image (entry_word i 1) ≡ 0
+listed_end r d begins ends {image} made i within listed =
+    made (entry_word i 1) (directory_matters r d.lines (image_of d.words) i 1 within (omega arith))
+    ∙ written-stored (erase_pairs begins ends) (image_of d.words) (entry_word i 1) 0
+    (IsStored-append_right (zero_pairs 0 begins) (zero_pairs 1 ends) (entry_word i 1) 0 (listed_zeroed 1 ends i listed))
+    (λ y stored. (stamp_of begins ends i 1 y (omega arith) stored).zero_is)
+
+-- the stamps of the others are as they were
+pub unlisted_begin : (r : Record) (d : State) (begins ends : List EntryNo) {image : Image} → AreErased r d begins ends image → (i : ℕ)
+    → i < entries_of_lines d.lines → is_listed i begins ≡ false → image (entry_word i 0) ≡ image_of d.words (entry_word i 0)
+unlisted_begin r d begins ends {image} made i within unlisted =
+    made (entry_word i 0) (directory_matters r d.lines (image_of d.words) i 0 within (omega arith))
     ∙ written-outside (erase_pairs begins ends) (image_of d.words) (entry_word i 0)
     (λ y stored. both_ways (is_listed i begins) unlisted ((stamp_of begins ends i 0 y (omega arith) stored).begin refl))
 
+pub unlisted_end : (r : Record) (d : State) (begins ends : List EntryNo) {image : Image} → AreErased r d begins ends image → (i : ℕ)
+    → i < entries_of_lines d.lines → is_listed i ends ≡ false → image (entry_word i 1) ≡ image_of d.words (entry_word i 1)
+unlisted_end r d begins ends {image} made i within unlisted =
+    made (entry_word i 1) (directory_matters r d.lines (image_of d.words) i 1 within (omega arith))
+    ∙ written-outside (erase_pairs begins ends) (image_of d.words) (entry_word i 1)
+    (λ y stored. both_ways (is_listed i ends) unlisted ((stamp_of begins ends i 1 y (omega arith) stored).end refl))
+
 -- the entries of the erased begins are free, besides those that were
-pub made_free : (r : Record) (d : State) (begins ends : List EntryNo) {image : Image} (n : ℕ) → IsErasing r d.lines (image_of d.words) begins ends
-    → AreErased n d begins ends image → (i : ℕ)
+pub made_free : (r : Record) (d : State) (begins ends : List EntryNo) {image : Image} → IsErasing r d.lines (image_of d.words) begins ends
+    → AreErased r d begins ends image → (i : ℕ)
     → (nat_lt i (entries_of_lines d.lines) && (image (entry_word i 0) == 0 || nat_lt r.cp (image (entry_word i 0))))
     ≡ ((contents_of r d).is_free i || is_listed i begins)
-made_free r d begins ends {image} n erasing made i =
-    let within : Bool = nat_lt i (entries_of_lines d.lines) in
+made_free r d begins ends {image} erasing made i =
+    let inside : Bool = nat_lt i (entries_of_lines d.lines) in
     let was : ℕ = image_of d.words (entry_word i 0) in
-    let test : ℕ → Bool = λ (x : ℕ). within && (x == 0 || nat_lt r.cp x) in
+    let test : ℕ → Bool = λ (x : ℕ). x == 0 || nat_lt r.cp x in
     elim (cases_Bool (is_listed i begins)) [
       | inl listed ↦
-          ap test (listed_zero d begins ends n made i listed)
-          ∙ ap (λ (b : Bool). b && true) (lt-ltb i (entries_of_lines d.lines) (erasing.begins_within i listed))
-          ∙ sym (or_right (test was) (is_listed i begins) listed)
+          let within = erasing.begins_within i listed in
+          ap (λ (x : ℕ). inside && test x) (listed_begin r d begins ends made i within listed)
+          ∙ ap (λ (b : Bool). b && true) (lt-ltb i (entries_of_lines d.lines) within)
+          ∙ sym (or_right (inside && test was) (is_listed i begins) listed)
       | inr unlisted ↦
-          ap test (unlisted_begin d begins ends n made i unlisted) ∙ sym (or_false (test was) (is_listed i begins) unlisted)
+          elim (cases_Bool inside) [
+            | inl within ↦
+                ap (λ (x : ℕ). inside && test x)
+                (unlisted_begin r d begins ends made i (ltb-true i (entries_of_lines d.lines) within) unlisted)
+                ∙ sym (or_false (inside && test was) (is_listed i begins) unlisted)
+            | inr beyond ↦
+                ap (λ (b : Bool). b && test (image (entry_word i 0))) beyond ∙ sym (ap (λ (b : Bool). b && test was) beyond)
+                ∙ sym (or_false (inside && test was) (is_listed i begins) unlisted)
+          ]
     ]
   where
     or_false : (a b : Bool) → b ≡ false → (a || b) ≡ a
@@ -332,5 +351,5 @@ pub staged_rest : {r : Record} {d b : State} (begins ends : List EntryNo) (gone 
     → Staged d b (erase_pairs begins ends) (erase_lines begins ends) → IsAtRest r b
 staged_rest {r} {d} {b} begins ends gone rest erasing are_gone staged =
     erased_rest rest
-    (erased_over gone (image_of b.words) rest.whole erasing (made_over begins ends 0 rest (λ word out. staged.newest word)) are_gone) rest.lawful (omega arith)
+    (erased_over gone (image_of b.words) rest.whole erasing (made_over r d begins ends (λ word matters. staged.newest word)) are_gone) rest.lawful (omega arith)
     (omega arith) staged.stays.lines (staged_recorded begins ends rest erasing staged) (staged_certain begins ends rest staged)

@@ -5,6 +5,7 @@ pub mod ClashLemmas
 pub mod ClearedGap
 pub mod ClearedRecord
 pub mod ClearedStamps
+pub mod ClearingLemmas
 pub mod CommitSteps
 pub mod Committing
 pub mod CountLemmas
@@ -16,6 +17,8 @@ pub mod ErasedStamps
 pub mod ErasingRuns
 pub mod FormatLemmas
 pub mod FormatRuns
+pub mod FreeingLemmas
+pub mod GapLemmas
 pub mod GroupSteps
 pub mod LawfulLemmas
 pub mod NewImage
