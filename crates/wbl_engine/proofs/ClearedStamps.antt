@@ -22,59 +22,10 @@ use Rattle.wbl_engine.specs.Freeing.{is_listed}
 use Rattle.wbl_engine.specs.Lawful.{IsUndamaged}
 use Rattle.wbl_engine.specs.Reopening.{IsBesideRecords, IsReadable, StaysReadable}
 use Rattle.wbl_engine.proofs.CountLemmas.{counts-zero}
+use Rattle.wbl_engine.proofs.GapLemmas.{stamped_where, stamped_listed}
 use Rattle.wbl_engine.proofs.ErasedStamps.{zero_where, listed_zeroed, erase_line}
 use Rattle.wbl_engine.proofs.ReadsAs.{ReadsAs, undamaged_as}
 use Rattle.wbl_engine.proofs.Readable.{stamp_below, stays_as}
-
--- ---- the entries that have a stamp in a gap
-
-listed_append : (i : ℕ) (xs ys : List EntryNo) → is_listed i (xs ++ ys) ≡ (is_listed i xs || is_listed i ys)
-listed_append i xs ys = list_any-append (λ (entry : EntryNo). nat_eq i entry.0) xs ys
-
-pub stamped_listed : (gap : Gap) (image : Image) (k n i : ℕ) → IsTrue (is_listed i (stamped_below gap image k n))
-    → (i < n) × IsTrue (is_in_gap (image (entry_word i k)) gap)
-stamped_listed gap image k zero i listed = absurd (both_ways false refl listed)
-stamped_listed gap image k (suc n) i listed =
-    elim (or_cases (is_listed i (stamped_below gap image k n)) (is_listed i (stamped_at gap image k n))
-    (sym (listed_append i (stamped_below gap image k n) (stamped_at gap image k n)) ∙ listed)) [
-      | inl before ↦ let more = stamped_listed gap image k n i before in (omega (arith, more.0), more.1)
-      | inr here ↦ at (cases_Bool (is_in_gap (image (entry_word n k)) gap)) here
-    ]
-  where
-    at : (is_in_gap (image (entry_word n k)) gap ≡ true) ⊎ (is_in_gap (image (entry_word n k)) gap ≡ false)
-        → IsTrue (is_listed i (stamped_at gap image k n)) → (i < suc n) × IsTrue (is_in_gap (image (entry_word i k)) gap)
-    at (inl within) here =
-        let one : is_listed i (record { 0 = n } ∷ []) ≡ true =
-        sym (ap (is_listed i) (cond-true (is_in_gap (image (entry_word n k)) gap) (record { 0 = n } ∷ []) [] within)) ∙ here in
-        elim (or_cases (nat_eq i n) false one) [
-          | inl same ↦
-              let e = eqb-true i n same in
-              (omega (arith, e), ap (λ (m : ℕ). is_in_gap (image (entry_word m k)) gap) e ∙ within)
-          | inr none ↦ absurd (both_ways false refl none)
-        ]
-    at (inr without) here =
-        absurd (both_ways false refl (sym (ap (is_listed i) (cond-false (is_in_gap (image (entry_word n k)) gap) (record { 0 = n } ∷ []) [] without)) ∙ here))
-
-pub stamped_found : (gap : Gap) (image : Image) (k n i : ℕ) → i < n → IsTrue (is_in_gap (image (entry_word i k)) gap)
-    → IsTrue (is_listed i (stamped_below gap image k n))
-stamped_found gap image k zero i below within = absurd (omega (arith, below))
-stamped_found gap image k (suc n) i below within =
-    listed_append i (stamped_below gap image k n) (stamped_at gap image k n)
-    ∙ elim (cases_Bool (nat_eq i n)) [
-      | inl same ↦
-          let e = eqb-true i n same in
-          let there : is_in_gap (image (entry_word n k)) gap ≡ true = sym (ap (λ (m : ℕ). is_in_gap (image (entry_word m k)) gap) e) ∙ within in
-          or_right (is_listed i (stamped_below gap image k n)) (is_listed i (stamped_at gap image k n))
-          (ap (is_listed i) (cond-true (is_in_gap (image (entry_word n k)) gap) (record { 0 = n } ∷ []) [] there) ∙ or_left (nat_eq i n) false same)
-      | inr other ↦
-          or_left (is_listed i (stamped_below gap image k n)) (is_listed i (stamped_at gap image k n))
-          (stamped_found gap image k n i (not_last i n below other) within)
-    ]
-  where
-    not_last : (i n : ℕ) → i < suc n → nat_eq i n ≡ false → i < n
-    not_last i n below other = omega (arith, below, ne_of i n other)
-    ne_of : (i n : ℕ) → nat_eq i n ≡ false → i ≡ n → ⊥
-    ne_of i n other e = both_ways (nat_eq i n) other (eq-eqb i n e)
 
 -- ---- the stores
 
@@ -100,11 +51,11 @@ gap_store gap image lines word x stored =
     elim (IsStored-append (zero_pairs 0 begins) (zero_pairs 1 ends) word x stored) [
       | inl begin ↦
           let at = zero_where 0 begins word x begin in
-          let is = stamped_listed gap image 0 (entries_of_lines lines) at.entry at.listed in
+          let is = stamped_where gap image 0 (entries_of_lines lines) at.entry at.listed in
           record { entry = at.entry; k = 0; within = is.0; low = omega arith; word_is = at.word_is; zero_is = at.zero_is; in_gap = is.1 }
       | inr end ↦
           let at = zero_where 1 ends word x end in
-          let is = stamped_listed gap image 1 (entries_of_lines lines) at.entry at.listed in
+          let is = stamped_where gap image 1 (entries_of_lines lines) at.entry at.listed in
           record { entry = at.entry; k = 1; within = is.0; low = omega arith; word_is = at.word_is; zero_is = at.zero_is; in_gap = is.1 }
     ]
 
@@ -113,11 +64,11 @@ pub gap_stored : (gap : Gap) (image : Image) (lines i k : ℕ) → i < entries_o
 gap_stored gap image lines i zero within low in_gap =
     IsStored-append_left (zero_pairs 0 (stamped_below gap image 0 (entries_of_lines lines))) (zero_pairs 1 (stamped_below gap image 1 (entries_of_lines lines)))
     (entry_word i 0) 0
-    (listed_zeroed 0 (stamped_below gap image 0 (entries_of_lines lines)) i (stamped_found gap image 0 (entries_of_lines lines) i within in_gap))
+    (listed_zeroed 0 (stamped_below gap image 0 (entries_of_lines lines)) i (stamped_listed gap image 0 (entries_of_lines lines) i within in_gap))
 gap_stored gap image lines i (suc zero) within low in_gap =
     IsStored-append_right (zero_pairs 0 (stamped_below gap image 0 (entries_of_lines lines))) (zero_pairs 1 (stamped_below gap image 1 (entries_of_lines lines)))
     (entry_word i 1) 0
-    (listed_zeroed 1 (stamped_below gap image 1 (entries_of_lines lines)) i (stamped_found gap image 1 (entries_of_lines lines) i within in_gap))
+    (listed_zeroed 1 (stamped_below gap image 1 (entries_of_lines lines)) i (stamped_listed gap image 1 (entries_of_lines lines) i within in_gap))
 gap_stored gap image lines i (suc (suc k)) within low in_gap = absurd (omega (arith, low))
 
 -- no other word of the directory, and none beside it

@@ -61,7 +61,7 @@ nothing_gone {r} {d} {gap} {begins} {ends} clearing image =
     }
 
 -- the lines of the entries are on the device
-within_from : (d : State) (entries : List EntryNo) → ((i : ℕ) → IsTrue (is_listed i entries) → entry_line i < d.lines) → AreWithin d.lines entries
+pub within_from : (d : State) (entries : List EntryNo) → ((i : ℕ) → IsTrue (is_listed i entries) → entry_line i < d.lines) → AreWithin d.lines entries
 within_from d [] each = tt
 within_from d (entry ∷ entries) each = (
   each entry.0 (or_left (nat_eq entry.0 entry.0) (is_listed entry.0 entries) (eq-eqb entry.0 entry.0 refl)),

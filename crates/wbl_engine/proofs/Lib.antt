@@ -13,6 +13,7 @@ pub mod Covering
 pub mod Ending
 pub mod EndsWithin
 pub mod Erased
+pub mod ErasedGap
 pub mod ErasedStamps
 pub mod ErasingRuns
 pub mod FormatLemmas
@@ -30,8 +31,11 @@ pub mod PositionLemmas
 pub mod PutPairs
 pub mod ReadBack
 pub mod Readable
+pub mod ReadingLemmas
 pub mod ReadsAs
 pub mod Reopened
+pub mod ReopeningSteps
+pub mod RoomLemmas
 pub mod StageImages
 pub mod Staged
 pub mod StagingLemmas

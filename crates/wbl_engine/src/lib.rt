@@ -9,6 +9,7 @@ mod engine;
 mod erasing;
 mod format;
 mod freeing;
+mod inspecting;
 mod laws;
 mod reopening;
 mod staging;

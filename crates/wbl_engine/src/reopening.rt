@@ -7,7 +7,7 @@ ghost use Rattle.model.specs.declared.record.TheConstants.{MAX_GAPS};
 ghost use Rattle.model.specs.Image.{is_in_gap};
 ghost use Rattle.wbl_record.specs.Current.{IsLawful};
 ghost use Rattle.wbl_engine.specs.Freeing.{record_after_clearing};
-ghost use Rattle.wbl_engine.specs.Reopening.{AreCleared, ExhaustsReopening, IsBesideRecords, IsReadable, StaysReadable, is_cleared, oldest_gap, with_open_gap, with_room};
+ghost use Rattle.wbl_engine.specs.Reopening.{AreCleared, ExhaustsReopening, IsBesideRecords, IsReadable, StaysReadable, is_cleared, oldest_gap, reopened, with_open_gap, with_room};
 
 use crate::clearing::{record_after_clearing, stamped_in};
 use crate::erasing::erase_stamps;
@@ -16,6 +16,30 @@ use model::{COUNTER_LIMIT, Gap, MAX_GAPS, Record, STAMP_WINDOW};
 use pmem::{Fault, Pmem};
 use std::alloc::Global;
 use wbl_record::write_next;
+
+/// Writes the reopened record: with room for one more gap, and then with the gap of all stamps that were perhaps given out. Errors as at
+/// `make_room`.
+fn write_reopened<P: Pmem>(alloc: Global, device: &mut P, current: Record) -> Result<Record, Refusal>
+    requires readable { IsReadable current (P.state device.old) }
+    requires limits { ¬ ExhaustsReopening current }
+    ensures next { IfOk result (λ next. next ≡ reopened current) }
+    ensures readable { OnOk result (IsReadable (reopened current) (P.state device.new)) }
+    ensures cleared { OnOk result (AreCleared (P.state device.old).lines (is_cleared current)
+        (image_of (P.state device.old).words) (image_of (P.state device.new).words)) }
+    ensures lines { OnOk result ((P.state device.new).lines ≡ (P.state device.old).lines) }
+    ensures sound { OnOk result ((P.state device.new).failures ≡ (P.state device.old).failures) }
+    ensures causes { IfErr result (λ refusal. (refusal ≡ Refusal.Fault) ⊎ (refusal ≡ Refusal.Memory)) }
+    ensures memory { IsErrOf result Refusal.Memory → device.new ≡ device.old }
+    ensures fault { IsErrOf result Refusal.Fault → (P.state device.old).failures < (P.state device.new).failures }
+    ensures moments { LeavesOnly (P.state device.old) (P.state device.new)
+        (StaysReadable (P.state device.old).lines current (image_of (P.state device.old).words)) }
+{
+    let roomy = make_room(alloc, device, current)?;
+    match add_open_gap(device, roomy) {
+        Ok(next) => Ok(next),
+        Err(Fault) => Err(Refusal::Fault),
+    }
+}
 
 /// Makes room for one more gap: where the record holds all that it can, its oldest gap is cleared. Returns the record with room.
 ///
@@ -85,10 +109,20 @@ fn erase_gap<P: Pmem>(alloc: Global, device: &mut P, current: &Record) -> Result
     ensures moments { LeavesOnly (P.state device.old) (P.state device.new)
         (StaysReadable (P.state device.old).lines current.now (image_of (P.state device.old).words)) }
 {
-    let stamped = stamped_in(alloc, device, current.gaps[0])?;
+    let stamped = stamped_in(alloc, device, oldest_gap(current))?;
     match erase_stamps(device, stamped.begins.as_slice(), stamped.ends.as_slice()) {
         Ok(()) => Ok(()),
         Err(Fault) => Err(Refusal::Fault),
+    }
+}
+
+/// The gap with the oldest stamps, or one of 0 alone where the record has none.
+fn oldest_gap(current: &Record) -> Gap
+    ensures { result ≡ oldest_gap current.now }
+{
+    match current.gaps.get(0) {
+        Some(gap) => *gap,
+        None => Gap { first: 0, last: 0 },
     }
 }
 
