@@ -22,6 +22,7 @@ pub mod FreeingLemmas
 pub mod GapLemmas
 pub mod GroupSteps
 pub mod LawfulLemmas
+pub mod LeftEntries
 pub mod NewImage
 pub mod OpenGap
 pub mod PartEffects
@@ -34,6 +35,7 @@ pub mod Readable
 pub mod ReadingLemmas
 pub mod ReadsAs
 pub mod Reopened
+pub mod ReopenedContents
 pub mod ReopeningSteps
 pub mod RoomLemmas
 pub mod StageImages

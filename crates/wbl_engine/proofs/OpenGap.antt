@@ -23,7 +23,7 @@ open_later r = record { position = refl; epoch = refl; role = refl; limit = omeg
 
 pub open_alike : {r : Record} {d : State} → IsReadable r d → CountAlike d.lines (image_of d.words) r (with_open_gap r)
 open_alike {r} {d} readable i k within low =
-    counts-open r (image_of d.words (8 * (8 + i) + k)) readable.undamaged.current.lawful (stamp_below readable.undamaged i k within low)
+    counts-open r (image_of d.words (8 * (8 + i) + k)) (stamp_below readable.undamaged i k within low)
 
 pub open_is_lawful : {r : Record} {d : State} → IsReadable r d → HasRoom r → IsLawful (with_open_gap r)
 open_is_lawful {r} readable has = open_lawful r readable.undamaged.current.lawful has.room has.limit has.number

@@ -109,6 +109,20 @@ settled_readable r d many few settled whole =
       certain = λ word beside. settled word;
     }
 
+-- where nothing was stored, whatever its size
+pub settled_stays : (r : Record) (d : State) → ((word : ℕ) → Only (d.words word) (image_of d.words word)) → IsUndamaged d.lines r (image_of d.words)
+    → LeavesOnly d d (StaysReadable d.lines r (image_of d.words))
+settled_stays r d settled whole =
+    none_leaves d (StaysReadable d.lines r (image_of d.words))
+    (λ image is.
+    stays_as whole
+    (reads_over whole (IsLater-same r) (λ i k within low. refl) (λ word beside. (settled word).only (image word) (is word)))
+    (record {
+      has_record = HasRecord-same r (image_of d.words) image ((settled root_word).only (image root_word) (is root_word))
+          (λ word low high. (settled word).only (image word) (is word)) whole.current.has_record;
+      lawful = whole.current.lawful;
+    }))
+
 -- ---- the next record
 
 pub beside_record : (n word : ℕ) → IsBesideRecords word → IsRecordWord n word → ⊥

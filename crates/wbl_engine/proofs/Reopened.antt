@@ -41,12 +41,9 @@ open_lawful r lawful room limit number =
       gaps = gaps_more 0 r.gaps.items r.cp (open_gap r) r.cd (omega arith) (omega arith) (omega (arith, lawful.limit)) (omega (arith, lawful.limit)) lawful.gaps;
     }
 
-in_both : (a b : Bool) → a ≡ true → b ≡ true → (a && b) ≡ true
-in_both a b ea eb = and_from a b ea eb
-
 -- the stamps that were given out before it count as they did
-pub counts-open : (r : Record) (stamp : ℕ) → IsLawful r → stamp < r.cd → counts (with_open_gap r) stamp ≡ counts r stamp
-counts-open r stamp lawful below =
+pub counts-open : (r : Record) (stamp : ℕ) → stamp < r.cd → counts (with_open_gap r) stamp ≡ counts r stamp
+counts-open r stamp below =
     elim (cases_lt r.cp stamp) [
       | inl above ↦
           let within : is_in_gap stamp (open_gap r) ≡ true =

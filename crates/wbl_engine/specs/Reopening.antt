@@ -1,5 +1,5 @@
 -- Reopening: what it reads of an image, the record that it writes, and what a crash in it leaves.
-use Rattle.std.specs.Prelude.{◌≡◌, ◌≢◌, ℕ, ◌+◌, ◌-◌, ◌<◌, ◌≤◌, ◌&&◌, ◌||◌, ◌⊎◌, ◌==◌, Bool, not, nat_lt, if◌then◌else◌, List, [], ◌∷◌, ◌++◌, length, slice_index_or, Some, None, is_none}
+use Rattle.std.specs.Prelude.{◌≡◌, ◌≢◌, ℕ, zero, suc, ◌+◌, ◌-◌, ◌<◌, ◌≤◌, ◌&&◌, ◌||◌, ◌⊎◌, ◌==◌, Bool, not, nat_lt, if◌then◌else◌, List, [], ◌∷◌, ◌++◌, length, slice_index_or, Some, None, is_none}
 use Rattle.kv_types.specs.declared.place.EntryNo.{EntryNo}
 use Rattle.heap_layout.specs.declared.entry.Entry.{Entry}
 use Rattle.heap_layout.specs.Versions.{counted_below}
@@ -16,7 +16,7 @@ use Rattle.model.specs.declared.record.Record.{Record}
 use Rattle.model.specs.declared.record.Role.{Role}
 use Rattle.model.specs.declared.record.TheConstants.{MAX_GAPS}
 use Rattle.model.specs.Group.{Contents}
-use Rattle.model.specs.Image.{Image, HasRecord, entries_of_lines, entry_word, first_extent_line, is_in_gap, root_word, version_at}
+use Rattle.model.specs.Image.{Image, HasRecord, counts, entries_of_lines, entry_word, first_extent_line, is_in_gap, root_word, version_at}
 use Rattle.wbl_engine.specs.Freeing.{is_listed, record_after_clearing}
 use Rattle.wbl_engine.specs.Lawful.{IsUndamaged}
 
@@ -60,6 +60,18 @@ oldest_gap r = slice_index_or r.gaps.items 0 (record { first = 0; last = 0 })
 -- the stamp is in the gap that a reopening clears
 abbrev pub is_cleared : Record → ℕ → Bool
 is_cleared r stamp = is_full r && is_in_gap stamp (oldest_gap r)
+
+-- a begin that neither counts nor is cleared: its entry is neither free nor holds a version
+abbrev pub is_left : Record → ℕ → Bool
+is_left r begin = not (begin == 0) && (not (counts r begin) && not (is_cleared r begin))
+
+abbrev pub left_at : Record → Image → ℕ → List EntryNo
+left_at r image i = if is_left r (image (entry_word i 0)) then record { 0 = i } ∷ [] else []
+
+-- the entries below this number with such a begin, in rising order
+abbrev pub left_below : Record → Image → ℕ → List EntryNo
+left_below r image zero = []
+left_below r image (suc i) = left_below r image i ++ left_at r image i
 
 -- In the second image the stamps that pass the test are 0, and beside the records nothing else has changed.
 pub record AreCleared (lines : ℕ) (test : ℕ → Bool) (image image' : Image) : Type 0 where

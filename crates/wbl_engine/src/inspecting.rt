@@ -36,6 +36,8 @@ pub fn read_undamaged<P: Pmem>(alloc: Global, device: &P) -> Result<(Record, Ver
 {
     read_super(device)?;
     let current = read_current(device)?;
-    let versions = read_versions(alloc, device, &current)?;
-    Ok((current, versions))
+    match read_versions(alloc, device, &current) {
+        Ok(versions) => Ok((current, versions)),
+        Err(refusal) => Err(refusal),
+    }
 }
