@@ -52,18 +52,10 @@ pub record IsOldest (r : Record) (gap : Gap) : Type 0 where
   pub low : 0 < gap.first
   pub high : gap.last < r.cp
 
-pub oldest : (r : Record) (gap : Gap) → IsLawful r → 0 < length r.gaps.items → gap ≡ get_or r.gaps.items 0 gap → IsOldest r gap
-oldest r gap lawful some is = of r.gaps.items some is lawful.gaps
-  where
-    of : (gaps : List Gap) → 0 < length gaps → gap ≡ get_or gaps 0 gap → AreGaps 0 gaps r.cp
-        → IsOldest (record r { gaps = record { items = gaps } }) gap
-    of [] some is are = absurd (omega (arith, some))
-    of (first ∷ gaps) some is are =
-        record {
-          is = ap (λ (g : Gap). g ∷ gaps) (sym is);
-          low = subst (λ (g : Gap). 0 < g.first) (sym is) are.0;
-          high = subst (λ (g : Gap). g.last < r.cp) (sym is) are.2;
-        }
+pub oldest : (r : Record) (gap : Gap) → IsLawful r → r.gaps.items ≡ gap ∷ drop 1 r.gaps.items → IsOldest r gap
+oldest r gap lawful is =
+    let are : AreGaps 0 (gap ∷ drop 1 r.gaps.items) r.cp = subst (λ (gaps : List Gap). AreGaps 0 gaps r.cp) is lawful.gaps in
+    record { is = is; low = are.0; high = are.2 }
 
 -- a stamp in it does not count
 pub in_oldest : (r : Record) (gap : Gap) (stamp : ℕ) → IsOldest r gap → IsTrue (is_in_gap stamp gap) → counts r stamp ≡ false

@@ -1,5 +1,5 @@
 //! A gap leaves the record once no stamp in it is left on the device.
-ghost use Rattle.std.specs.Prelude.{◌≡◌, ◌⊎◌, ◌+◌, ◌<◌, ◌≤◌, ◌++◌, ◌∷◌, [], if◌then◌else◌, length, None, IfOk, IfErr, IfSome, OnOk, IsErrOf};
+ghost use Rattle.std.specs.Prelude.{◌≡◌, ◌⊎◌, ◌+◌, ◌<◌, ◌≤◌, ◌++◌, ◌∷◌, [], if◌then◌else◌, length, drop, None, IfOk, IfErr, IfSome, OnOk, IsErrOf};
 ghost use Rattle.pmem.specs.Crash.{image_of};
 ghost use Rattle.pmem.specs.Runs.{LeavesOnly};
 ghost use Rattle.model.specs.declared.image.TheConstants.{MIN_LINES};
@@ -56,6 +56,14 @@ fn push_if(list: &mut Vec<EntryNo>, entry: EntryNo, listed: bool) -> Result<(), 
     Ok(())
 }
 
+/// The oldest gap of a record.
+fn oldest_gap(current: &Record) -> Gap
+    requires { 0 < length current.now.gaps.items }
+    ensures { current.now.gaps.items ≡ result ∷ drop 1 current.now.gaps.items }
+{
+    current.gaps[0]
+}
+
 /// The record without its oldest gap, or `None` if its number would reach 2^62.
 pub fn record_after_clearing(current: &Record) -> Option<Record>
     requires lawful { IsLawful current.now }
@@ -109,7 +117,8 @@ pub fn clear_oldest<P: Pmem>(
         Keeps (contents_of current.now (P.state device.old)) image
         ⊎ Keeps (cleared_contents (contents_of current.now (P.state device.old))) image) }
 {
-    let stamped = stamped_in(alloc, device, current.gaps[0])?;
+    let gap = oldest_gap(current);
+    let stamped = stamped_in(alloc, device, gap)?;
     let Ok(()) = erase_stamps(device, stamped.begins.as_slice(), stamped.ends.as_slice()) else {
         return Err(Refusal::Fault);
     };
