@@ -1,5 +1,5 @@
 -- The oldest gap is cleared, at every crash.
-use Rattle.std.proofs.Common.{◌≡◌, ℕ, ◌+◌, ◌<◌, ◌≤◌, Bool, true, false, cond, ◌&&◌, ◌||◌, ◌==◌, IsTrue, List, [], ◌∷◌, ◌⊎◌, inl, inr, Option, None, Some, length, drop, refl, sym, ap, subst, ◌∙◌, arith}
+use Rattle.std.proofs.Common.{◌≡◌, ℕ, ◌+◌, ◌<◌, ◌≤◌, Bool, true, false, cond, ◌&&◌, ◌||◌, ◌==◌, IsTrue, List, [], ◌∷◌, ◌⊎◌, inl, inr, Option, None, Some, length, refl, sym, ap, subst, ◌∙◌, arith}
 use Rattle.std.specs.Prelude.{nat_eq, nat_lt}
 use Rattle.std.proofs.lemmas.Bool.{cond-true, cond-false, cases_Bool, and_right, or_left, or_right, eq-eqb, lt-ltb, le-ltb, cases_lt, both_ways}
 use Rattle.kv_types.specs.declared.place.EntryNo.{EntryNo}
@@ -15,7 +15,7 @@ use Rattle.wbl_record.specs.Current.{IsLawful}
 use Rattle.wbl_record.specs.Record.{IsRecorded, IsRecordFault, IsRecordWord, IsSucceeded, IsEitherRecord}
 use Rattle.wbl_engine.specs.AtRest.{IsAtRest, Matters, contents_of}
 use Rattle.wbl_engine.specs.Contents.{Keeps}
-use Rattle.wbl_engine.specs.Erasing.{erase_pairs, erase_lines, stamped_below}
+use Rattle.wbl_engine.specs.Erasing.{erase_pairs, erase_lines, oldest_gap, stamped_below}
 use Rattle.wbl_engine.specs.Freeing.{Clears, KeepsVersions, cleared_contents, is_listed, record_after_clearing, without}
 use Rattle.wbl_engine.specs.Stage.{AreWithin}
 use Rattle.wbl_engine.proofs.Erased.{IsErased, erased_keeps, erased_rest, erased_version, no_record_word, version_within}
@@ -275,14 +275,14 @@ clear_none {r} {d} rest keeps = none_leaves d (IsClearedOrNot r d) (λ image is.
 -- ---- the call
 
 -- what is listed of the oldest gap
-pub clearing : (r : Record) (d : State) (gap : Gap) (begins ends listed_begins listed_ends : List EntryNo) → IsAtRest r d
-    → r.gaps.items ≡ gap ∷ drop 1 r.gaps.items → begins ≡ listed_begins → ends ≡ listed_ends
-    → listed_begins ≡ stamped_below gap (image_of d.words) 0 (entries_of_lines d.lines)
-    → listed_ends ≡ stamped_below gap (image_of d.words) 1 (entries_of_lines d.lines) → IsClearing r d gap begins ends
-clearing r d gap begins ends listed_begins listed_ends rest is is_begins is_ends begins_are ends_are =
+pub clearing : (r : Record) (d : State) (begins ends listed_begins listed_ends : List EntryNo) → IsAtRest r d → 0 < length r.gaps.items
+    → begins ≡ listed_begins → ends ≡ listed_ends
+    → listed_begins ≡ stamped_below (oldest_gap r) (image_of d.words) 0 (entries_of_lines d.lines)
+    → listed_ends ≡ stamped_below (oldest_gap r) (image_of d.words) 1 (entries_of_lines d.lines) → IsClearing r d (oldest_gap r) begins ends
+clearing r d begins ends listed_begins listed_ends rest some is_begins is_ends begins_are ends_are =
     record {
       rest = rest;
-      first = oldest r gap rest.lawful is;
+      first = oldest r rest.lawful some;
       begins_are = is_begins ∙ begins_are;
       ends_are = is_ends ∙ ends_are;
     }
