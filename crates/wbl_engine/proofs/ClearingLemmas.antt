@@ -15,12 +15,12 @@ use Rattle.wbl_record.specs.Current.{IsLawful}
 use Rattle.wbl_record.specs.Record.{IsRecorded, IsRecordFault, IsRecordWord, IsSucceeded, IsEitherRecord}
 use Rattle.wbl_engine.specs.AtRest.{IsAtRest, Matters, contents_of}
 use Rattle.wbl_engine.specs.Contents.{Keeps}
-use Rattle.wbl_engine.specs.Erasing.{erase_pairs, erase_lines, stamped_below}
+use Rattle.wbl_engine.specs.Erasing.{erase_pairs, erase_lines, oldest_gap, stamped_below}
 use Rattle.wbl_engine.specs.Freeing.{Clears, KeepsVersions, cleared_contents, is_listed, record_after_clearing, without}
 use Rattle.wbl_engine.specs.Stage.{AreWithin}
 use Rattle.wbl_engine.proofs.Erased.{IsErased, erased_keeps, erased_rest, erased_version, no_record_word, version_within}
 use Rattle.wbl_engine.proofs.ErasedStamps.{AreErased, AreGone, IsErasing, directory_matters, erased_over, listed_begin, listed_end, made_free, made_over, partly_keeps, staged_certain, staged_recorded, unlisted_begin, unlisted_end}
-use Rattle.wbl_engine.proofs.GapLemmas.{IsOldest, in_oldest, inside_not_free, not_in_oldest, stamped_listed, stamped_where, zero_outside}
+use Rattle.wbl_engine.proofs.GapLemmas.{IsOldest, in_oldest, inside_not_free, not_in_oldest, oldest, stamped_listed, stamped_where, zero_outside}
 
 -- no version is gone
 abbrev pub nothing : ℕ → Bool
@@ -140,9 +140,9 @@ cleared_new {r} {d} {gap} {begins} {ends} {image} clearing made =
 -- ---- the contents afterwards
 
 -- the same versions
-same_versions : {r q : Record} {d c : State} → IsAtRest r d → c.lines ≡ d.lines → IsErased r q d.lines nothing (image_of d.words) (image_of c.words)
+same_versions : {r q : Record} {d : State} (c : State) → IsAtRest r d → c.lines ≡ d.lines → IsErased r q d.lines nothing (image_of d.words) (image_of c.words)
     → (i : ℕ) → (contents_of q c).versions i ≡ (contents_of r d).versions i
-same_versions {r} {q} {d} {c} rest lines erased i =
+same_versions {r} {q} {d} c rest lines erased i =
     let at : ℕ → Option Version = λ (n : ℕ). cond (nat_lt i (entries_of_lines n)) (version_at q (image_of c.words) i) None in
     let inside : Bool = nat_lt i (entries_of_lines d.lines) in
     ap at lines
@@ -155,10 +155,10 @@ same_versions {r} {q} {d} {c} rest lines erased i =
           ∙ sym (cond-false inside (version_at r (image_of d.words) i) None (le-ltb i (entries_of_lines d.lines) beyond))
     ]
 
-cleared_free : {r : Record} {d c : State} {gap : Gap} {begins ends : List EntryNo} → IsClearing r d gap begins ends → c.lines ≡ d.lines
+cleared_free : {r : Record} {d : State} {gap : Gap} {begins ends : List EntryNo} (c : State) → IsClearing r d gap begins ends → c.lines ≡ d.lines
     → AreErased r d begins ends (image_of c.words) → (i : ℕ)
     → (contents_of r c).is_free i ≡ ((contents_of r d).is_free i || is_listed i begins)
-cleared_free {r} {d} {c} {gap} {begins} {ends} clearing lines made i =
+cleared_free {r} {d} {gap} {begins} {ends} c clearing lines made i =
     ap (λ (n : ℕ). nat_lt i (entries_of_lines n)
     && (image_of c.words (entry_word i 0) == 0 || nat_lt r.cp (image_of c.words (entry_word i 0)))) lines
     ∙ made_free r d begins ends (clear_erasing clearing) made i
@@ -173,36 +173,36 @@ begun_in_gap {r} {d} {gap} {begins} {ends} clearing i listed =
     version_within r d i at.0
     ∙ cond-false (counts r begin) (Some (version_in r (image_of d.words) i)) None (in_oldest r gap begin clearing.first at.1))
 
-pub clears : {r : Record} {d c : State} {gap : Gap} {begins ends : List EntryNo} → IsClearing r d gap begins ends → c.lines ≡ d.lines
+pub clears : {r : Record} {d : State} {gap : Gap} {begins ends : List EntryNo} (c : State) → IsClearing r d gap begins ends → c.lines ≡ d.lines
     → AreErased r d begins ends (image_of c.words) → Clears (contents_of r d) begins (contents_of (record_after_clearing r) c)
-clears {r} {d} {c} {gap} {begins} {ends} clearing lines made =
+clears {r} {d} {gap} {begins} {ends} c clearing lines made =
     record {
       current = refl;
       lines_are = lines;
-      versions = same_versions clearing.rest lines (cleared_new clearing made);
-      is_free = cleared_free clearing lines made;
+      versions = same_versions c clearing.rest lines (cleared_new clearing made);
+      is_free = cleared_free c clearing lines made;
       were_not_free = λ i listed. (begun_in_gap clearing i listed).0;
       held_none = λ i listed. (begun_in_gap clearing i listed).1;
     }
 
-pub keeps_versions : {r : Record} {d c : State} {gap : Gap} {begins ends : List EntryNo} → IsClearing r d gap begins ends → c.lines ≡ d.lines
+pub keeps_versions : {r : Record} {d : State} {gap : Gap} {begins ends : List EntryNo} (c : State) → IsClearing r d gap begins ends → c.lines ≡ d.lines
     → AreErased r d begins ends (image_of c.words) → KeepsVersions (contents_of r d) (contents_of r c)
-keeps_versions {r} {d} {c} {gap} {begins} {ends} clearing lines made =
+keeps_versions {r} {d} {gap} {begins} {ends} c clearing lines made =
     record {
       current = refl;
       lines_are = lines;
-      versions = same_versions clearing.rest lines (cleared_old clearing made);
+      versions = same_versions c clearing.rest lines (cleared_old clearing made);
       is_free = λ i free.
-          cleared_free clearing lines made i ∙ or_left ((contents_of r d).is_free i) (is_listed i begins) free;
+          cleared_free c clearing lines made i ∙ or_left ((contents_of r d).is_free i) (is_listed i begins) free;
     }
 
 -- ---- the record is written
 
 -- words that matter are in no record
-pub recorded_erased : {r : Record} {d b c : State} {gap : Gap} {begins ends : List EntryNo} (n : ℕ) → IsClearing r d gap begins ends
+pub recorded_erased : {r : Record} {d b : State} {gap : Gap} {begins ends : List EntryNo} (c : State) (n : ℕ) → IsClearing r d gap begins ends
     → Staged d b (erase_pairs begins ends) (erase_lines begins ends)
     → ((word : ℕ) → (IsRecordWord n word → ⊥) → image_of c.words word ≡ image_of b.words word) → AreErased r d begins ends (image_of c.words)
-recorded_erased {r} {d} {b} {c} {gap} {begins} {ends} n clearing staged newest word matters =
+recorded_erased {r} {d} {b} {gap} {begins} {ends} c n clearing staged newest word matters =
     newest word (no_record_word n word clearing.rest.whole matters) ∙ staged.newest word
 
 either_erased : {r : Record} {d b : State} {gap : Gap} {begins ends : List EntryNo} {image : Image} (n : ℕ) → IsClearing r d gap begins ends
@@ -218,7 +218,7 @@ pub cleared_rest : {r : Record} {d b c : State} {gap : Gap} {begins ends : List 
     → IsRecorded b c (record_after_clearing r) → IsAtRest (record_after_clearing r) c
 cleared_rest {r} {d} {b} {c} {gap} {begins} {ends} clearing lawful staged recorded =
     let n : ℕ = r.number + 1 in
-    erased_rest clearing.rest (cleared_new clearing (recorded_erased n clearing staged recorded.newest)) lawful (omega arith) (omega arith)
+    erased_rest clearing.rest (cleared_new clearing (recorded_erased c n clearing staged recorded.newest)) lawful (omega arith) (omega arith)
     (recorded.stays.lines ∙ staged.stays.lines) recorded.durable
     (λ word matters.
     let out : IsRecordWord n word → ⊥ = no_record_word n word clearing.rest.whole matters in
@@ -234,9 +234,9 @@ abbrev pub IsClearedOrNot : Record → State → Image → Type 0
 IsClearedOrNot r d image = Keeps (contents_of r d) image ⊎ Keeps (cleared_contents (contents_of r d)) image
 
 -- what is left without nothing is all
-all_left : {q : Record} {contents : Contents} {image : Image} → Keeps (record (without nothing contents) { current = q }) image
+all_left : {q : Record} {image : Image} (contents : Contents) → Keeps (record (without nothing contents) { current = q }) image
     → Keeps (record contents { current = q }) image
-all_left {q} {contents} {image} keeps =
+all_left {q} {image} contents keeps =
     record { superblock = keeps.superblock; has_record = keeps.has_record; versions = keeps.versions; entries = keeps.entries }
 
 pub erase_moments : {r : Record} {d b : State} {gap : Gap} {begins ends : List EntryNo} → IsClearing r d gap begins ends
@@ -244,7 +244,7 @@ pub erase_moments : {r : Record} {d b : State} {gap : Gap} {begins ends : List E
 erase_moments {r} {d} {b} {gap} {begins} {ends} clearing moments =
     LeavesOnly-weaken (IsClearedOrNot r d)
     (λ image partly.
-    inl (all_left (partly_keeps begins ends nothing image clearing.rest (clear_erasing clearing) partly (nothing_gone clearing image))))
+    inl (all_left (contents_of r d) (partly_keeps begins ends nothing image clearing.rest (clear_erasing clearing) partly (nothing_gone clearing image))))
     moments
 
 clear_either : {r : Record} {d b : State} {gap : Gap} {begins ends : List EntryNo} {image : Image} → IsClearing r d gap begins ends
@@ -253,8 +253,8 @@ clear_either : {r : Record} {d b : State} {gap : Gap} {begins ends : List EntryN
 clear_either {r} {d} {b} {gap} {begins} {ends} {image} clearing lawful staged recorded =
     let made : AreErased r d begins ends image = either_erased (r.number + 1) clearing staged recorded.elsewhere in
     elim recorded.either [
-      | inl old ↦ inl (all_left (erased_keeps clearing.rest (cleared_old clearing made) clearing.rest.lawful (omega arith) (omega arith) old))
-      | inr new ↦ inr (all_left (erased_keeps clearing.rest (cleared_new clearing made) lawful (omega arith) (omega arith) new))
+      | inl old ↦ inl (all_left (contents_of r d) (erased_keeps clearing.rest (cleared_old clearing made) clearing.rest.lawful (omega arith) (omega arith) old))
+      | inr new ↦ inr (all_left (contents_of r d) (erased_keeps clearing.rest (cleared_new clearing made) lawful (omega arith) (omega arith) new))
     ]
 
 pub clear_moments : {r : Record} {d b c : State} {gap : Gap} {begins ends : List EntryNo} → IsClearing r d gap begins ends
@@ -271,3 +271,18 @@ clear_moments {r} {d} {b} {c} {gap} {begins} {ends} clearing lawful staged momen
 pub clear_none : {r : Record} {d : State} → IsAtRest r d → ((image : Image) → IsImage d.words image → Keeps (contents_of r d) image)
     → LeavesOnly d d (IsClearedOrNot r d)
 clear_none {r} {d} rest keeps = none_leaves d (IsClearedOrNot r d) (λ image is. inl (keeps image is))
+
+-- ---- the call
+
+-- what is listed of the oldest gap
+pub clearing : (r : Record) (d : State) (begins ends listed_begins listed_ends : List EntryNo) → IsAtRest r d → 0 < length r.gaps.items
+    → begins ≡ listed_begins → ends ≡ listed_ends
+    → listed_begins ≡ stamped_below (oldest_gap r) (image_of d.words) 0 (entries_of_lines d.lines)
+    → listed_ends ≡ stamped_below (oldest_gap r) (image_of d.words) 1 (entries_of_lines d.lines) → IsClearing r d (oldest_gap r) begins ends
+clearing r d begins ends listed_begins listed_ends rest some is_begins is_ends begins_are ends_are =
+    record {
+      rest = rest;
+      first = oldest r rest.lawful some;
+      begins_are = is_begins ∙ begins_are;
+      ends_are = is_ends ∙ ends_are;
+    }

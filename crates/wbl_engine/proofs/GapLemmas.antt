@@ -1,7 +1,7 @@
 -- The oldest gap of a record, the stamps in it, and the record without it.
-use Rattle.std.proofs.Common.{◌≡◌, ℕ, zero, suc, ◌+◌, ◌<◌, ◌≤◌, Bool, true, false, cond, not, ◌&&◌, ◌||◌, ◌==◌, IsTrue, List, [], ◌∷◌, ◌++◌, ◌⊎◌, inl, inr, length, drop, get_or, refl, sym, ap, subst, ◌∙◌, arith}
-use Rattle.std.specs.Prelude.{nat_eq, nat_le, nat_lt}
-use Rattle.std.specs.List.{list_any, remove}
+use Rattle.std.proofs.Common.{◌≡◌, ℕ, zero, suc, ◌+◌, ◌<◌, ◌≤◌, Bool, true, false, cond, not, ◌&&◌, ◌||◌, ◌==◌, IsTrue, List, [], ◌∷◌, ◌++◌, ◌⊎◌, inl, inr, length, drop, refl, sym, ap, subst, ◌∙◌, arith}
+use Rattle.std.specs.Prelude.{nat_eq, nat_le, nat_lt, slice_index_or}
+use Rattle.std.specs.List.{list_any}
 use Rattle.std.proofs.lemmas.Bool.{cases_Bool, cases_eq, or_cases, or_left, or_right, or_from, and_parts, and_right, and_left, leb-true, lt-leb, le-ltb, eqb-true, eq-eqb, both_ways}
 use Rattle.std.proofs.lemmas.List.Folds.{list_any-append}
 use Rattle.kv_types.specs.declared.place.EntryNo.{EntryNo}
@@ -11,7 +11,7 @@ use Rattle.model.specs.declared.record.Gap.{Gap}
 use Rattle.model.specs.declared.record.Record.{Record}
 use Rattle.model.specs.Image.{Image, counts, entry_word, is_in_gap}
 use Rattle.wbl_record.specs.Current.{AreGaps, IsLawful}
-use Rattle.wbl_engine.specs.Erasing.{stamped_at, stamped_below}
+use Rattle.wbl_engine.specs.Erasing.{oldest_gap, stamped_at, stamped_below}
 use Rattle.wbl_engine.specs.Freeing.{is_listed, record_after_clearing}
 
 -- ---- the record without its oldest gap
@@ -20,29 +20,27 @@ gaps_from : (low lower : ℕ) (gaps : List Gap) (cp : ℕ) → lower ≤ low →
 gaps_from low lower [] cp down are = tt
 gaps_from low lower (gap ∷ gaps) cp down are = (omega (arith, are.0, down), are.1, are.2, are.3)
 
-gaps_but_one : (gaps : List Gap) (cp : ℕ) → 0 < length gaps → AreGaps 0 gaps cp → AreGaps 0 (remove gaps 0) cp
-gaps_but_one [] cp some are = absurd (omega (arith, some))
-gaps_but_one (gap ∷ gaps) cp some are = gaps_from gap.last 0 gaps cp (omega arith) are.3
+gaps_but_one : (gaps : List Gap) (cp : ℕ) → AreGaps 0 gaps cp → AreGaps 0 (drop 1 gaps) cp
+gaps_but_one [] cp are = tt
+gaps_but_one (gap ∷ gaps) cp are = gaps_from gap.last 0 gaps cp (omega arith) are.3
 
-fewer_gaps : (gaps : List Gap) (most : ℕ) → length gaps ≤ most → length (remove gaps 0) ≤ most
+fewer_gaps : (gaps : List Gap) (most : ℕ) → length gaps ≤ most → length (drop 1 gaps) ≤ most
 fewer_gaps [] most few = few
 fewer_gaps (gap ∷ gaps) most few = omega (arith, few)
 
 -- it obeys the rules of records
-pub lawful_but_one : (r q : Record) → IsLawful r → 0 < length r.gaps.items → r.number + 1 < COUNTER_LIMIT → q.number ≡ r.number + 1
-    → q.position ≡ r.position → q.cp ≡ r.cp → q.cd ≡ r.cd → q.epoch ≡ r.epoch → q.gaps.items ≡ remove r.gaps.items 0 → IsLawful q
-lawful_but_one r q lawful some room number position cp cd epoch gaps =
+pub lawful_but_one : (r : Record) → IsLawful r → r.number + 1 < COUNTER_LIMIT → IsLawful (record_after_clearing r)
+lawful_but_one r lawful room =
     record {
-      some = omega (arith, number);
-      number = omega (arith, number, room);
-      position = omega (arith, position, lawful.position);
-      limit = omega (arith, cd, cp, lawful.limit);
-      room = omega (arith, cd, lawful.room);
-      some_epoch = omega (arith, epoch, lawful.some_epoch);
-      epoch = omega (arith, epoch, lawful.epoch);
-      few = subst (λ (gs : List Gap). length gs ≤ 8) (sym gaps) (fewer_gaps r.gaps.items 8 lawful.few);
-      gaps = subst (λ (gs : List Gap). AreGaps 0 gs q.cp) (sym gaps)
-          (subst (λ (n : ℕ). AreGaps 0 (remove r.gaps.items 0) n) (sym cp) (gaps_but_one r.gaps.items r.cp some lawful.gaps));
+      some = omega arith;
+      number = room;
+      position = lawful.position;
+      limit = lawful.limit;
+      room = lawful.room;
+      some_epoch = lawful.some_epoch;
+      epoch = lawful.epoch;
+      few = fewer_gaps r.gaps.items 8 lawful.few;
+      gaps = gaps_but_one r.gaps.items r.cp lawful.gaps;
     }
 
 -- ---- the oldest gap
@@ -52,18 +50,15 @@ pub record IsOldest (r : Record) (gap : Gap) : Type 0 where
   pub low : 0 < gap.first
   pub high : gap.last < r.cp
 
-pub oldest : (r : Record) (gap : Gap) → IsLawful r → 0 < length r.gaps.items → gap ≡ get_or r.gaps.items 0 gap → IsOldest r gap
-oldest r gap lawful some is = of r.gaps.items some is lawful.gaps
-  where
-    of : (gaps : List Gap) → 0 < length gaps → gap ≡ get_or gaps 0 gap → AreGaps 0 gaps r.cp
-        → IsOldest (record r { gaps = record { items = gaps } }) gap
-    of [] some is are = absurd (omega (arith, some))
-    of (first ∷ gaps) some is are =
-        record {
-          is = ap (λ (g : Gap). g ∷ gaps) (sym is);
-          low = subst (λ (g : Gap). 0 < g.first) (sym is) are.0;
-          high = subst (λ (g : Gap). g.last < r.cp) (sym is) are.2;
-        }
+first_and_rest : (gaps : List Gap) (d : Gap) → 0 < length gaps → gaps ≡ slice_index_or gaps 0 d ∷ drop 1 gaps
+first_and_rest [] d some = absurd (omega (arith, some))
+first_and_rest (gap ∷ gaps) d some = refl
+
+pub oldest : (r : Record) → IsLawful r → 0 < length r.gaps.items → IsOldest r (oldest_gap r)
+oldest r lawful some =
+    let is : r.gaps.items ≡ oldest_gap r ∷ drop 1 r.gaps.items = first_and_rest r.gaps.items (record { first = 0; last = 0 }) some in
+    let are : AreGaps 0 (oldest_gap r ∷ drop 1 r.gaps.items) r.cp = subst (λ (gaps : List Gap). AreGaps 0 gaps r.cp) is lawful.gaps in
+    record { is = is; low = are.0; high = are.2 }
 
 -- a stamp in it does not count
 pub in_oldest : (r : Record) (gap : Gap) (stamp : ℕ) → IsOldest r gap → IsTrue (is_in_gap stamp gap) → counts r stamp ≡ false

@@ -1,8 +1,9 @@
 -- Stamps that are erased, to free an entry or to clear a gap.
-use Rattle.std.specs.Prelude.{ℕ, zero, suc, List, [], ◌∷◌, ◌++◌, map, if◌then◌else◌}
+use Rattle.std.specs.Prelude.{ℕ, zero, suc, List, [], ◌∷◌, ◌++◌, map, if◌then◌else◌, slice_index_or}
 use Rattle.kv_types.specs.declared.place.EntryNo.{EntryNo}
 use Rattle.kv_types.specs.declared.place.Extent.{Extent}
 use Rattle.model.specs.declared.record.Gap.{Gap}
+use Rattle.model.specs.declared.record.Record.{Record}
 use Rattle.model.specs.Image.{Image, entry_word, is_in_gap}
 use Rattle.wbl_engine.specs.Stage.{end_lines}
 
@@ -22,6 +23,10 @@ abbrev pub extent_in : Image → ℕ → Extent
 extent_in image i = record { first_line = image (entry_word i 3); lines = image (entry_word i 4) }
 
 -- ---- the stamps of a gap
+
+-- the oldest gap of a record that has one
+abbrev pub oldest_gap : Record → Gap
+oldest_gap r = slice_index_or r.gaps.items 0 (record { first = 0; last = 0 })
 
 -- entry i, if its word k lies in the gap
 abbrev pub stamped_at : Gap → Image → ℕ → ℕ → List EntryNo

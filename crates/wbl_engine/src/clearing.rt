@@ -1,21 +1,21 @@
 //! A gap leaves the record once no stamp in it is left on the device.
-ghost use Rattle.std.specs.Prelude.{◌≡◌, ◌⊎◌, ◌+◌, ◌<◌, ◌≤◌, ◌++◌, ◌∷◌, [], if◌then◌else◌, length, None, IfOk, IfErr, IfSome, OnOk, IsErrOf};
+ghost use Rattle.std.specs.Prelude.{◌≡◌, ◌⊎◌, ◌+◌, ◌<◌, ◌≤◌, ◌++◌, ◌∷◌, [], if◌then◌else◌, length, IfOk, OnOk, OnErr};
 ghost use Rattle.pmem.specs.Crash.{image_of};
 ghost use Rattle.pmem.specs.Runs.{LeavesOnly};
-ghost use Rattle.model.specs.declared.image.TheConstants.{MIN_LINES};
+ghost use Rattle.model.specs.declared.image.TheConstants.{COUNTER_LIMIT, MIN_LINES};
 ghost use Rattle.model.specs.Image.{entries_of_lines};
 ghost use Rattle.wbl_record.specs.Current.{IsLawful};
 ghost use Rattle.wbl_engine.specs.AtRest.{IsAtRest, contents_of};
 ghost use Rattle.wbl_engine.specs.Contents.{Keeps};
-ghost use Rattle.wbl_engine.specs.Erasing.{stamped_below};
+ghost use Rattle.wbl_engine.specs.Erasing.{oldest_gap, stamped_below};
 ghost use Rattle.wbl_engine.specs.Freeing.{Clears, KeepsVersions, record_after_clearing, cleared_contents};
 
 use crate::erasing::erase_stamps;
 use crate::successor::copy_gaps;
 use heap_layout::read_stamps;
-use kv_types::{EntryNo, Refusal};
-use model::{COUNTER_LIMIT, Gap, LAYOUT, Record};
-use pmem::Pmem;
+use kv_types::EntryNo;
+use model::{Gap, LAYOUT, Record};
+use pmem::{Fault, Pmem};
 use std::alloc::{AllocError, Global};
 use wbl_record::write_next;
 
@@ -56,65 +56,63 @@ pub(crate) fn push_if(list: &mut Vec<EntryNo>, entry: EntryNo, listed: bool) -> 
     Ok(())
 }
 
-/// The record without its oldest gap, or `None` if its number would reach 2^62.
-pub fn record_after_clearing(current: &Record) -> Option<Record>
+/// The oldest gap of a record.
+pub fn oldest_gap(current: &Record) -> Gap
+    requires { 0 < length current.now.gaps.items }
+    ensures { result ≡ oldest_gap current.now }
+{
+    current.gaps[0]
+}
+
+/// Erases the stamps in the oldest gap of the current record, and then writes the next record, which lacks that gap and is returned.
+///
+/// At any moment a crash leaves the same versions, under the current record or the next one. On `Err` a fence has failed.
+pub fn clear_oldest<P: Pmem>(
+    device: &mut P,
+    current: &Record,
+    stamped: &Stamped,
+) -> Result<Record, Fault>
+    requires rest { IsAtRest current.now (P.state device.old) }
+    requires some { 0 < length current.now.gaps.items }
+    requires room { current.now.number + 1 < COUNTER_LIMIT }
+    requires begins { stamped.now.begins.items
+        ≡ stamped_below (oldest_gap current.now) (image_of (P.state device.old).words) 0 (entries_of_lines (P.state device.old).lines) }
+    requires ends { stamped.now.ends.items
+        ≡ stamped_below (oldest_gap current.now) (image_of (P.state device.old).words) 1 (entries_of_lines (P.state device.old).lines) }
+    ensures rest { IfOk result (λ next. IsAtRest next (P.state device.new)) }
+    ensures clears { IfOk result (λ next.
+        Clears (contents_of current.now (P.state device.old)) stamped.now.begins.items (contents_of next (P.state device.new))) }
+    ensures sound { OnOk result ((P.state device.new).failures ≡ (P.state device.old).failures) }
+    ensures fault { OnErr result ((P.state device.old).failures < (P.state device.new).failures) }
+    ensures stays { OnErr result
+        (KeepsVersions (contents_of current.now (P.state device.old)) (contents_of current.now (P.state device.new))) }
+    ensures moments { LeavesOnly (P.state device.old) (P.state device.new) (λ image.
+        Keeps (contents_of current.now (P.state device.old)) image
+        ⊎ Keeps (cleared_contents (contents_of current.now (P.state device.old))) image) }
+{
+    erase_stamps(device, stamped.begins.as_slice(), stamped.ends.as_slice())?;
+    let next = without_oldest_gap(current);
+    write_next(device, &next)?;
+    Ok(next)
+}
+
+/// The record after its oldest gap is cleared.
+fn without_oldest_gap(current: &Record) -> Record
     requires lawful { IsLawful current.now }
     requires some { 0 < length current.now.gaps.items }
-    ensures next { IfSome result (λ next. next ≡ record_after_clearing current.now) }
-    ensures lawful { IfSome result IsLawful }
-    ensures exhausted { result ≡ None → COUNTER_LIMIT ≤ current.now.number + 1 }
-    ensures exhausts { COUNTER_LIMIT ≤ current.now.number + 1 → result ≡ None }
+    requires room { current.now.number + 1 < COUNTER_LIMIT }
+    ensures next { result ≡ record_after_clearing current.now }
+    ensures lawful { IsLawful (record_after_clearing current.now) }
 {
-    let number = current.number + 1;
-    if number >= COUNTER_LIMIT {
-        return None;
-    }
     let mut gaps = copy_gaps(&current.gaps);
     gaps.remove(0);
-    Some(Record {
-        number,
+    Record {
+        number: current.number + 1,
         position: current.position,
         cp: current.cp,
         cd: current.cd,
         epoch: current.epoch,
         role: current.role,
         gaps,
-    })
-}
-
-/// Erases all stamps in the oldest gap of the current record, and then writes the next record, which lacks that gap. Returns the entries that
-/// were begun in it, which are free. `Fault` if a fence failed; `Memory`, with nothing changed.
-///
-/// At any moment a crash leaves the same versions, under the current record or the next one.
-pub fn clear_oldest<P: Pmem>(
-    alloc: Global,
-    device: &mut P,
-    current: &Record,
-    next: &Record,
-) -> Result<Vec<EntryNo>, Refusal>
-    requires rest { IsAtRest current.now (P.state device.old) }
-    requires some { 0 < length current.now.gaps.items }
-    requires after { next.now ≡ record_after_clearing current.now }
-    requires lawful { IsLawful next.now }
-    ensures rest { OnOk result (IsAtRest next.now (P.state device.new)) }
-    ensures clears { IfOk result (λ entries.
-        Clears (contents_of current.now (P.state device.old)) entries.items (contents_of next.now (P.state device.new))) }
-    ensures sound { OnOk result ((P.state device.new).failures ≡ (P.state device.old).failures) }
-    ensures causes { IfErr result (λ refusal. (refusal ≡ Refusal.Fault) ⊎ (refusal ≡ Refusal.Memory)) }
-    ensures memory { IsErrOf result Refusal.Memory → device.new ≡ device.old }
-    ensures fault { IsErrOf result Refusal.Fault → (P.state device.old).failures < (P.state device.new).failures }
-    ensures stays { IsErrOf result Refusal.Fault
-        → KeepsVersions (contents_of current.now (P.state device.old)) (contents_of current.now (P.state device.new)) }
-    ensures moments { LeavesOnly (P.state device.old) (P.state device.new) (λ image.
-        Keeps (contents_of current.now (P.state device.old)) image
-        ⊎ Keeps (cleared_contents (contents_of current.now (P.state device.old))) image) }
-{
-    let stamped = stamped_in(alloc, device, current.gaps[0])?;
-    let Ok(()) = erase_stamps(device, stamped.begins.as_slice(), stamped.ends.as_slice()) else {
-        return Err(Refusal::Fault);
-    };
-    let Ok(()) = write_next(device, next) else {
-        return Err(Refusal::Fault);
-    };
-    Ok(stamped.begins)
+    }
 }

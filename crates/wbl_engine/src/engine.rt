@@ -2,7 +2,7 @@
 ghost use Rattle.std.specs.Prelude.{◌≡◌, false};
 ghost use Rattle.wbl_engine.specs.AtRest.{IsAtRest, at_rest_prop};
 
-use crate::clearing::{clear_oldest, record_after_clearing};
+use crate::clearing::{clear_oldest, oldest_gap, stamped_in};
 use crate::commit::commit_group;
 use crate::committed::Committed;
 use crate::durable::Durable;
@@ -11,7 +11,7 @@ use crate::format::{first_record, format_device};
 use crate::freeing::{Freed, freed_by};
 use crate::successor::next_record;
 use kv_types::{EntryNo, Refusal};
-use model::{Group, MAX_LINES, MIN_LINES, Record, Role};
+use model::{COUNTER_LIMIT, Group, MAX_LINES, MIN_LINES, Record, Role};
 use pmem::{Fault, Pmem};
 use std::alloc::Global;
 
@@ -123,20 +123,21 @@ impl<P: Pmem> Durable for WblEngine<P> {
         if self.current.gaps.is_empty() {
             return Ok(Freed::none(alloc));
         }
-        let Some(next) = record_after_clearing(&self.current) else {
+        if self.current.number + 1 >= COUNTER_LIMIT {
             return Err(Refusal::Exhausted);
-        };
-        match clear_oldest(alloc, &mut self.device, &self.current, &next) {
-            Ok(entries) => {
+        }
+        let stamped = stamped_in(alloc, &self.device, oldest_gap(&self.current))?;
+        match clear_oldest(&mut self.device, &self.current, &stamped) {
+            Ok(next) => {
                 self.current = next;
                 Ok(Freed {
-                    entries,
+                    entries: stamped.begins,
                     extents: Vec::new(alloc),
                 })
             }
-            Err(refusal) => {
-                self.faulted |= refusal == Refusal::Fault;
-                Err(refusal)
+            Err(Fault) => {
+                self.faulted = true;
+                Err(Refusal::Fault)
             }
         }
     }
