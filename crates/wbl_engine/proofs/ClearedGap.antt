@@ -14,7 +14,8 @@ use Rattle.wbl_record.specs.Current.{AreGaps, IsLawful}
 use Rattle.wbl_record.specs.Record.{IsRecorded, IsSucceeded, IsEitherRecord}
 use Rattle.wbl_engine.specs.Freeing.{record_after_clearing}
 use Rattle.wbl_engine.specs.Lawful.{IsUndamaged}
-use Rattle.wbl_engine.specs.Reopening.{AreCleared, IsReadable, StaysReadable, oldest_gap}
+use Rattle.wbl_engine.specs.Erasing.{oldest_gap}
+use Rattle.wbl_engine.specs.Reopening.{AreCleared, IsReadable, StaysReadable}
 use Rattle.wbl_engine.proofs.ClearedStamps.{IsUncounted}
 use Rattle.wbl_engine.proofs.ReadsAs.{ReadsAs, ReadsAs-then, versions_as}
 use Rattle.wbl_engine.proofs.Readable.{IsLater, CountAlike}

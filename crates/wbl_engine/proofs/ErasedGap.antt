@@ -12,10 +12,10 @@ use Rattle.model.specs.Layout.{first_word}
 use Rattle.model.specs.Image.{Image, entry_word, entries_of_lines, first_extent_line, root_word, counts, is_in_gap}
 use Rattle.wbl_record.specs.Current.{IsLawful}
 use Rattle.wbl_record.specs.Record.{IsRecorded, IsSucceeded, IsEitherRecord}
-use Rattle.wbl_engine.specs.Erasing.{erase_pairs, erase_lines, stamped_below}
+use Rattle.wbl_engine.specs.Erasing.{erase_pairs, erase_lines, stamped_below, oldest_gap}
 use Rattle.wbl_engine.specs.Freeing.{is_listed, record_after_clearing}
 use Rattle.wbl_engine.specs.Lawful.{IsUndamaged}
-use Rattle.wbl_engine.specs.Reopening.{AreCleared, IsBesideRecords, IsReadable, StaysReadable, oldest_gap}
+use Rattle.wbl_engine.specs.Reopening.{AreCleared, IsBesideRecords, IsReadable, StaysReadable}
 use Rattle.wbl_engine.specs.Stage.{AreWithin}
 use Rattle.wbl_engine.proofs.CountLemmas.{counts-zero}
 use Rattle.wbl_engine.proofs.ClearedGap.{oldest_uncounted, cleared_later, cleared_alike, moments_then}
@@ -141,7 +141,7 @@ pub record IsErasedGap (r : Record) (d b : State) : Type 0 where
 -- and the next record lacks the gap
 pub record IsWithoutGap (r next : Record) : Type 0 where
   pub is : next ≡ record_after_clearing r
-  pub lawful : IsLawful next
+  pub lawful : IsLawful (record_after_clearing r)
 
 without_alike : {r : Record} {d b : State} → IsErasedGap r d b → CountAlike b.lines (image_of b.words) r (record_after_clearing r)
 without_alike {r} {d} {b} erased =
@@ -156,7 +156,7 @@ pub without_readable : {r : Record} {d b c : State} (next : Record) → IsErased
     → IsReadable (record_after_clearing r) c
 without_readable {r} {d} {b} {c} next erased without recorded =
     let written : IsRecorded b c (record_after_clearing r) = subst (λ (q : Record). IsRecorded b c q) without.is recorded in
-    recorded_readable erased.readable (subst IsLawful without.is without.lawful)
+    recorded_readable erased.readable without.lawful
     (recorded_as erased.readable (cleared_later r) (without_alike erased) written) written
 
 pub without_cleared : {r : Record} {d b c : State} (next : Record) → IsErasedGap r d b → IsRecorded b c next
@@ -170,5 +170,5 @@ without_moments {r} {d} {b} {c} next erased without first second =
     moments_then erased.before.undamaged
     (cleared_reads (λ stamp. is_in_gap stamp (oldest_gap r)) erased.before.undamaged (oldest_uncounted r erased.some) erased.cleared)
     erased.lines_are first
-    (either_stays erased.readable (cleared_later r) (subst IsLawful without.is without.lawful) (without_alike erased)
+    (either_stays erased.readable (cleared_later r) without.lawful (without_alike erased)
     (subst (λ (q : Record). LeavesOnly b c (IsEitherRecord b.words r q)) without.is second))

@@ -3,7 +3,6 @@ pub mod ApartLemmas
 pub mod Beginning
 pub mod ClashLemmas
 pub mod ClearedGap
-pub mod ClearedRecord
 pub mod ClearedStamps
 pub mod ClearingLemmas
 pub mod CommitSteps

@@ -13,7 +13,8 @@ use Rattle.model.specs.Image.{Image, entry_word, entries_of_lines, counts, is_in
 use Rattle.wbl_record.specs.Current.{IsLawful}
 use Rattle.wbl_engine.specs.Freeing.{record_after_clearing}
 use Rattle.wbl_engine.specs.Lawful.{IsUndamaged}
-use Rattle.wbl_engine.specs.Reopening.{AreCleared, ExhaustsReopening, IsBesideRecords, IsReadable, StaysReadable, is_cleared, is_full, oldest_gap, reopened, with_open_gap, with_room}
+use Rattle.wbl_engine.specs.Erasing.{oldest_gap}
+use Rattle.wbl_engine.specs.Reopening.{AreCleared, ExhaustsReopening, IsBesideRecords, IsReadable, StaysReadable, is_cleared, is_full, reopened, with_open_gap, with_room}
 use Rattle.wbl_engine.proofs.ClearedGap.{cleared_alike, moments_then, oldest_uncounted}
 use Rattle.wbl_engine.proofs.ErasedGap.{cleared_beside, cleared_reads}
 use Rattle.wbl_engine.proofs.ReadsAs.{ReadsAs}

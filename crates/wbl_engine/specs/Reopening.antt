@@ -1,5 +1,5 @@
 -- Reopening: what it reads of an image, the record that it writes, and what a crash in it leaves.
-use Rattle.std.specs.Prelude.{◌≡◌, ◌≢◌, ℕ, zero, suc, ◌+◌, ◌-◌, ◌<◌, ◌≤◌, ◌&&◌, ◌||◌, ◌⊎◌, ◌==◌, Bool, not, nat_lt, if◌then◌else◌, List, [], ◌∷◌, ◌++◌, length, slice_index_or, Some, None, is_none}
+use Rattle.std.specs.Prelude.{◌≡◌, ◌≢◌, ℕ, zero, suc, ◌+◌, ◌-◌, ◌<◌, ◌≤◌, ◌&&◌, ◌||◌, ◌⊎◌, ◌==◌, Bool, not, nat_lt, if◌then◌else◌, List, [], ◌∷◌, ◌++◌, length, Some, None, is_none}
 use Rattle.kv_types.specs.declared.place.EntryNo.{EntryNo}
 use Rattle.heap_layout.specs.declared.entry.Entry.{Entry}
 use Rattle.heap_layout.specs.Versions.{counted_below}
@@ -17,6 +17,7 @@ use Rattle.model.specs.declared.record.Role.{Role}
 use Rattle.model.specs.declared.record.TheConstants.{MAX_GAPS}
 use Rattle.model.specs.Group.{Contents}
 use Rattle.model.specs.Image.{Image, HasRecord, counts, entries_of_lines, entry_word, first_extent_line, is_in_gap, root_word, version_at}
+use Rattle.wbl_engine.specs.Erasing.{oldest_gap}
 use Rattle.wbl_engine.specs.Freeing.{is_listed, record_after_clearing}
 use Rattle.wbl_engine.specs.Lawful.{IsUndamaged}
 
@@ -52,10 +53,6 @@ abbrev pub ExhaustsReopening : Record → Type 0
 ExhaustsReopening r = (COUNTER_LIMIT ≤ (reopened r).cd) ⊎ (COUNTER_LIMIT ≤ (reopened r).number)
 
 -- ---- the contents
-
--- the gap of a record that has the oldest stamps
-abbrev pub oldest_gap : Record → Gap
-oldest_gap r = slice_index_or r.gaps.items 0 (record { first = 0; last = 0 })
 
 -- the stamp is in the gap that a reopening clears
 abbrev pub is_cleared : Record → ℕ → Bool

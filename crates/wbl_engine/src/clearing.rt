@@ -97,7 +97,7 @@ pub fn clear_oldest<P: Pmem>(
 }
 
 /// The record after its oldest gap is cleared.
-fn without_oldest_gap(current: &Record) -> Record
+pub(crate) fn without_oldest_gap(current: &Record) -> Record
     requires lawful { IsLawful current.now }
     requires some { 0 < length current.now.gaps.items }
     requires room { current.now.number + 1 < COUNTER_LIMIT }

@@ -13,11 +13,12 @@ ghost use Rattle.heap_layout.specs.Versions.{counted_below, gapped_below};
 ghost use Rattle.wbl_record.specs.Current.{IsLawful};
 ghost use Rattle.wbl_engine.specs.AtRest.{IsAtRest, contents_of};
 ghost use Rattle.wbl_engine.specs.Contents.{IsDurable};
+ghost use Rattle.wbl_engine.specs.Erasing.{oldest_gap};
 ghost use Rattle.wbl_engine.specs.Freeing.{record_after_clearing};
 ghost use Rattle.wbl_engine.specs.Lawful.{IsUndamaged};
-ghost use Rattle.wbl_engine.specs.Reopening.{AreCleared, ExhaustsReopening, IsBesideRecords, IsReadable, RefusesReopening, Reopens, StaysReadable, is_cleared, is_left, left_below, oldest_gap, reopened, with_open_gap, with_room};
+ghost use Rattle.wbl_engine.specs.Reopening.{AreCleared, ExhaustsReopening, IsBesideRecords, IsReadable, RefusesReopening, Reopens, StaysReadable, is_cleared, is_left, left_below, reopened, with_open_gap, with_room};
 
-use crate::clearing::{push_if, record_after_clearing, stamped_in};
+use crate::clearing::{oldest_gap, push_if, stamped_in, without_oldest_gap};
 use crate::erasing::erase_stamps;
 use crate::inspecting::read_undamaged;
 use heap_layout::{Versions, read_stamps};
@@ -201,9 +202,7 @@ fn clear_oldest<P: Pmem>(alloc: Global, device: &mut P, current: Record) -> Resu
     ensures moments { LeavesOnly (P.state device.old) (P.state device.new)
         (StaysReadable (P.state device.old).lines current (image_of (P.state device.old).words)) }
 {
-    let Some(next) = record_after_clearing(&current) else {
-        return Err(Refusal::Memory);
-    };
+    let next = without_oldest_gap(&current);
     erase_gap(alloc, device, &current)?;
     match write_next(device, &next) {
         Ok(()) => Ok(next),
@@ -230,16 +229,6 @@ fn erase_gap<P: Pmem>(alloc: Global, device: &mut P, current: &Record) -> Result
     match erase_stamps(device, stamped.begins.as_slice(), stamped.ends.as_slice()) {
         Ok(()) => Ok(()),
         Err(Fault) => Err(Refusal::Fault),
-    }
-}
-
-/// The gap with the oldest stamps, or one of 0 alone where the record has none.
-fn oldest_gap(current: &Record) -> Gap
-    ensures { result ≡ oldest_gap current.now }
-{
-    match current.gaps.get(0) {
-        Some(gap) => *gap,
-        None => Gap { first: 0, last: 0 },
     }
 }
 

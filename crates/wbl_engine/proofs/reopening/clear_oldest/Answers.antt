@@ -11,8 +11,8 @@ returns-in-Ok-clause-readable g c =
       cleared = c.in_ok-erase_gap.ensures.cleared;
       lines_are = c.in_ok-erase_gap.ensures.lines;
     } in
-    let without : IsWithoutGap c.args.current c.in-Some.next = record { is = c.in-Some.ensures.next; lawful = c.in-Some.ensures.lawful } in
-    without_readable c.in-Some.next erased without c.in-Ok.ensures.ok
+    let without : IsWithoutGap c.args.current c.without_oldest_gap-next.result = record { is = c.without_oldest_gap-next.ensures.next; lawful = c.without_oldest_gap-next.ensures.lawful } in
+    without_readable c.without_oldest_gap-next.result erased without c.in-Ok.ensures.ok
 
 pub returns-in-Ok-clause-cleared : goal.returns-in-Ok-clause-cleared
 returns-in-Ok-clause-cleared g c =
@@ -24,7 +24,7 @@ returns-in-Ok-clause-cleared g c =
       cleared = c.in_ok-erase_gap.ensures.cleared;
       lines_are = c.in_ok-erase_gap.ensures.lines;
     } in
-    without_cleared c.in-Some.next erased c.in-Ok.ensures.ok
+    without_cleared c.without_oldest_gap-next.result erased c.in-Ok.ensures.ok
 
 pub returns-in-Ok-clause-moments : goal.returns-in-Ok-clause-moments
 returns-in-Ok-clause-moments g c =
@@ -36,9 +36,9 @@ returns-in-Ok-clause-moments g c =
       cleared = c.in_ok-erase_gap.ensures.cleared;
       lines_are = c.in_ok-erase_gap.ensures.lines;
     } in
-    let without : IsWithoutGap c.args.current c.in-Some.next = record { is = c.in-Some.ensures.next; lawful = c.in-Some.ensures.lawful } in
-    without_moments c.in-Some.next erased without c.in_ok-erase_gap.ensures.moments
-    (c.write_next.ensures.moments c.args.current (without_succeeded c.in-Some.next erased without))
+    let without : IsWithoutGap c.args.current c.without_oldest_gap-next.result = record { is = c.without_oldest_gap-next.ensures.next; lawful = c.without_oldest_gap-next.ensures.lawful } in
+    without_moments c.without_oldest_gap-next.result erased without c.in_ok-erase_gap.ensures.moments
+    (c.write_next.ensures.moments c.args.current (without_succeeded c.without_oldest_gap-next.result erased without))
 
 pub returns-in-Err-clause-moments : goal.returns-in-Err-clause-moments
 returns-in-Err-clause-moments g c =
@@ -50,6 +50,6 @@ returns-in-Err-clause-moments g c =
       cleared = c.in_ok-erase_gap.ensures.cleared;
       lines_are = c.in_ok-erase_gap.ensures.lines;
     } in
-    let without : IsWithoutGap c.args.current c.in-Some.next = record { is = c.in-Some.ensures.next; lawful = c.in-Some.ensures.lawful } in
-    without_moments c.in-Some.next erased without c.in_ok-erase_gap.ensures.moments
-    (c.write_next.ensures.moments c.args.current (without_succeeded c.in-Some.next erased without))
+    let without : IsWithoutGap c.args.current c.without_oldest_gap-next.result = record { is = c.without_oldest_gap-next.ensures.next; lawful = c.without_oldest_gap-next.ensures.lawful } in
+    without_moments c.without_oldest_gap-next.result erased without c.in_ok-erase_gap.ensures.moments
+    (c.write_next.ensures.moments c.args.current (without_succeeded c.without_oldest_gap-next.result erased without))
