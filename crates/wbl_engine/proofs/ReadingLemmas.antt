@@ -1,11 +1,12 @@
 -- Why an image is not read.
-use Rattle.std.proofs.Common.{◌≡◌, ℕ, ◌≤◌, ◌⊎◌, inl, inr, Option, Some, None, refl, sym, ap, subst, ◌∙◌}
+use Rattle.std.proofs.Common.{◌≡◌, ℕ, Bool, true, false, not, cond, ◌==◌, ◌⊎◌, inl, inr, Option, Some, None, Result, Err, ap, subst, ◌∙◌}
 use Rattle.kv_types.specs.declared.refusal.Refusal.{Refusal}
-use Rattle.kv_types.specs.declared.refusal.Refusal.TheVariants.{Damaged, Memory}
-use Rattle.heap_layout.specs.Superblock.{super_refusal}
+use Rattle.kv_types.specs.declared.refusal.Refusal.TheVariants.{BadMagic, BadVersion, Damaged, Fault, Memory, WrongSize}
+use Rattle.heap_layout.specs.Superblock.{is_wrong_size, super_refusal}
 use Rattle.heap_layout.specs.Versions.{AreVersions}
 use Rattle.model.specs.declared.record.Record.{Record}
-use Rattle.model.specs.Image.{Image}
+use Rattle.model.specs.declared.layout.TheConstants.{LAYOUT}
+use Rattle.model.specs.Image.{Image, entries_of_lines, magic_number}
 use Rattle.model.proofs.RecordLemmas.{HasRecord-unique}
 use Rattle.wbl_record.specs.Current.{IsCurrent}
 use Rattle.wbl_engine.specs.Lawful.{IsUndamaged}
@@ -29,12 +30,27 @@ no_versions lines image r refusal current none (inl damaged) =
     ))
 no_versions lines image r refusal current none (inr memory) = inr (inr memory)
 
--- the superblock earns one refusal at most
-pub same_refusal : (x : Option Refusal) (a b : Refusal) → x ≡ Some a → x ≡ Some b → a ≡ b
-same_refusal x a b in_a in_b = cc
-
-pub none_refused : {P : Type 0} (x : Option Refusal) (a : Refusal) → x ≡ None → x ≡ Some a → P
-none_refused x a none some = absurd (differ (sym none ∙ some))
+-- no superblock earns a fault
+pub super_no_fault : (lines : ℕ) (image : Image) → super_refusal lines image ≡ Some Fault → ⊥
+super_no_fault lines image =
+    none (is_wrong_size lines) (image 0 == magic_number) (image 1 == LAYOUT.version) (image 2 == lines) (image 3 == entries_of_lines lines)
   where
-    differ : {a : Refusal} → None ≡ Some a → ⊥
-    differ e = cc
+    none : (size magic version count entries : Bool)
+        → cond size (Some WrongSize) (cond (not magic) (Some BadMagic) (cond (not version) (Some BadVersion)
+        (cond (not count) (Some WrongSize) (cond (not entries) (Some Damaged) None)))) ≡ Some Fault → ⊥
+    none true magic version count entries e = cc
+    none false false version count entries e = cc
+    none false true false count entries e = cc
+    none false true true false entries e = cc
+    none false true true true false e = cc
+    none false true true true true e = cc
+
+-- a refusal that the superblock earns leaves the device as it is
+pub super_unchanged : {T P : Type 0} (result : Result T Refusal) (refusal other : Refusal) → result ≡ Err other → result ≡ Err refusal
+    → (lines : ℕ) (image : Image) → super_refusal lines image ≡ Some refusal → (other ≡ Fault) ⊎ P → (refusal ≡ other) × P
+super_unchanged result refusal other is earned lines image super cause =
+    let same : refusal ≡ other = cc in
+    elim cause [
+      | inl fault ↦ absurd (super_no_fault lines image (super ∙ ap Some (same ∙ fault)))
+      | inr unchanged ↦ (same, unchanged)
+    ]
