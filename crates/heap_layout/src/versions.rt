@@ -112,12 +112,10 @@ fn add_entry<P: Pmem>(
 fn with_end(current: &Record, entry: Entry) -> Entry
     ensures { result ≡ record entry { end = if counts current.now entry.end then entry.end else 0 } }
 {
-    let end = if current.counts(entry.end) {
-        entry.end
-    } else {
-        0
-    };
-    Entry { end, ..entry }
+    if current.counts(entry.end) {
+        return entry;
+    }
+    Entry { end: 0, ..entry }
 }
 
 /// Whether no two of the versions have a line in common.
