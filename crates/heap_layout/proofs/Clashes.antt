@@ -1,6 +1,6 @@
 -- When two runs overlap and two records clash, in lists sorted by first line and by record.
-use Rattle.std.proofs.Common.{◌≡◌, ℕ, ◌+◌, ◌-◌, ◌<◌, ◌≤◌, ◌⊎◌, ⊎_elim, inl, inr, List, Bool, true, false, not, ◌&&◌, ◌||◌, Ordering, Less, Equal, Greater, is_lt, is_eq, nat_cmp, nat_eq, refl, sym, ap, ap₂, ◌∙◌, subst, arith, true≢false, Option, Some, None}
-use Rattle.std.proofs.lemmas.Bool.{ltb-true, ltb-false, lt-ltb, le-ltb, leb-true, leb-false, and_parts, and_from, and_left, and_right, or_left, or_right, false_from_ne_true}
+use Rattle.std.proofs.Common.{◌≡◌, ℕ, ◌+◌, ◌-◌, ◌<◌, ◌≤◌, ⊎_elim, inl, inr, List, Bool, true, false, not, ◌&&◌, ◌||◌, Ordering, Less, Equal, Greater, is_lt, is_eq, nat_cmp, nat_eq, refl, sym, ap, ap₂, ◌∙◌, arith, true≢false}
+use Rattle.std.proofs.lemmas.Bool.{ltb-false, lt-ltb, le-ltb, leb-true, leb-false, and_parts, and_from, and_left, and_right, false_from_ne_true}
 use Rattle.std.proofs.lemmas.Map.Keys.{ge_from_not_lt}
 use Rattle.std.specs.Cmp.{tied_itself, eq_by_cmp_equiv}
 use Rattle.std.specs.Cmp.Lexicographic.{pointwise, nat_list_cmp_total, nat_list_eq_equiv}
@@ -12,7 +12,7 @@ use Rattle.kv_types.specs.declared.record_id.RecordId.{RecordId}
 use Rattle.kv_types.specs.declared.record_id.RecordId.TheVariants.{Str, Field}
 use Rattle.kv_types.specs.Keyspace.{key_of, field_of, bytes_cmp, record_cmp}
 use Rattle.kv_types.specs.Order.{record_cmp_total}
-use Rattle.kv_types.proofs.OrderLemmas.{same_key, key_itself, same_record, record_itself, bytes_cmp_equal, record_cmp_equal}
+use Rattle.kv_types.proofs.OrderLemmas.{same_key, key_itself, same_record, bytes_cmp_equal}
 use Rattle.model.specs.Group.{AreApart}
 use Rattle.model.specs.ReadImage.{is_clash}
 use Rattle.heap_layout.specs.Versions.{overlap}

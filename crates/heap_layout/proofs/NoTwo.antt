@@ -46,7 +46,10 @@ module _ {X : Type 0} (lt test fits : X → X → Bool) (order : IsStrictWeakOrd
   pub NoTwo-decided : ((k : ℕ) (d : X) → k + 1 < length xs → fits (get_or xs k d) (get_or xs (k + 1) d) ≡ false → test (get_or xs k d) (get_or xs (k + 1) d) ≡ true)
       → (b : Bool) → IsAllAdjacentAnswer (λ x y b. b ≡ fits x y) xs b → IsTrue b ↔ NoTwo test xs
   NoTwo-decided near true all = (λ _. NoTwo-from_neighbours all, λ _. refl)
-  NoTwo-decided near false found = (λ never. absurd (cc), λ none.
-      let k = found.0 in
-      let d = some_element xs (k + 1) found.1 in
-      absurd (true≢false (sym (near k d found.1 (sym (found.2 d))) ∙ none k (k + 1) d (omega arith) found.1)))
+  NoTwo-decided near false found = (
+    λ never. absurd (cc),
+    λ none.
+        let k = found.0 in
+        let d = some_element xs (k + 1) found.1 in
+        absurd (true≢false (sym (near k d found.1 (sym (found.2 d))) ∙ none k (k + 1) d (omega arith) found.1)),
+  )

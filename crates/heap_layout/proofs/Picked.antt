@@ -1,5 +1,5 @@
 -- What is picked by number: the f i of each i below n that passes, in rising order.
-use Rattle.std.proofs.Common.{◌≡◌, ◌≢◌, ℕ, zero, suc, ◌<◌, ⊎_elim, List, [], ◌∷◌, ◌++◌, All, length, get_or, Bool, true, false, refl, sym, ◌∙◌, subst, ap₂, arith, true≢false, append-nil, length-append}
+use Rattle.std.proofs.Common.{◌≡◌, ◌≢◌, ℕ, zero, suc, ◌<◌, ⊎_elim, List, [], ◌∷◌, ◌++◌, All, length, Bool, true, false, refl, sym, ◌∙◌, subst, ap₂, arith, true≢false, append-nil, length-append}
 use Rattle.std.proofs.Math.ListN.{get_or-append}
 use Rattle.std.proofs.Math.Seq.{get_or-append_seam}
 use Rattle.std.specs.Prelude.{if◌then◌else◌}

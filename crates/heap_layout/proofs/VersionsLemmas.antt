@@ -1,7 +1,6 @@
 -- What the versions that are read say of the entries of the image.
-use Rattle.std.proofs.Common.{◌≡◌, ◌≢◌, ◌↔◌, ℕ, zero, suc, ◌+◌, ◌/◌, ◌<◌, ◌≤◌, List, [], ◌∷◌, ◌++◌, map, filter, All, length, get_or, Bool, true, false, not, IsTrue, refl, sym, ap, ap₂, ◌∙◌, subst, arith, true≢false, add-one}
-use Rattle.std.specs.Prelude.{if◌then◌else◌, ◌&&◌, ◌==◌, nat_lt, nat_le}
-use Rattle.std.specs.List.{list_any}
+use Rattle.std.proofs.Common.{◌≡◌, ℕ, zero, suc, ◌+◌, ◌/◌, ◌<◌, List, [], ◌∷◌, ◌++◌, map, All, Bool, true, false, not, refl, sym, ap, ap₂, ◌∙◌, subst, arith, true≢false, add-one}
+use Rattle.std.specs.Prelude.{if◌then◌else◌, ◌&&◌, ◌==◌}
 use Rattle.std.proofs.lemmas.Bool.{ne_eqb, eqb-false, cond_both}
 use Rattle.std.proofs.lemmas.List.{map-append}
 use Rattle.std.proofs.lemmas.List.Elements.{filter-append}
@@ -9,11 +8,9 @@ use Rattle.kv_types.specs.declared.place.EntryNo.{EntryNo}
 use Rattle.kv_types.specs.declared.place.Extent.{Extent}
 use Rattle.kv_types.specs.declared.record_id.RecordId.{RecordId}
 use Rattle.model.specs.declared.record.Record.{Record}
-use Rattle.model.specs.Image.{Image, counts, is_in_gap, entries_of_lines, entry_word, entry_bytes, lines_of_bytes}
+use Rattle.model.specs.Image.{Image, counts, entries_of_lines, entry_word, entry_bytes, lines_of_bytes}
 use Rattle.model.specs.ReadImage.{is_clash, record_in}
 use Rattle.heap_layout.specs.declared.entry.Entry.{Entry}
-use Rattle.heap_layout.specs.Entry.{IsEntry}
-use Rattle.heap_layout.specs.Version.{IsUnder}
 use Rattle.heap_layout.specs.Versions.{is_counted, is_live, AreVersions, AreUnder, NoTwo, overlap, runs_of, live_in, live_ids, counted_entry, counted_at, counted_below, gapped_at, gapped_below}
 use Rattle.heap_layout.proofs.Clashes.{overlap-flips, not_overlap, apart_from_overlap, is_clash-flips}
 use Rattle.heap_layout.proofs.Picked.{picked, All-picked, NoTwo-picked, picked-NoTwo}

@@ -25,6 +25,21 @@ pub struct Versions {
     pub gapped: Vec<EntryNo>,
 }
 
+impl Versions {
+    ghost use Rattle.std.specs.Prelude.{◌≡◌, length};
+    ghost use Rattle.heap_layout.specs.Versions.{live_in};
+
+    /// How many of the versions are live: those whose end is given as 0.
+    pub fn count_live(&self) -> u64
+        ensures { result ≡ length (live_in self.now.counted.items) }
+    {
+        self.counted
+            .iter()
+            .filter(|(_, version)| version.end == 0)
+            .count() as u64
+    }
+}
+
 /// Reads all versions of an image under its record. `Damaged` where an entry breaks a rule that `read_version` names, two extents share a
 /// line, a record lives twice, or a key has a live string and a live field. `Memory` if an allocation was refused.
 pub fn read_versions<P: Pmem>(
@@ -40,20 +55,15 @@ pub fn read_versions<P: Pmem>(
     ensures causes { IfErr result (λ refusal. (refusal ≡ Refusal.Damaged) ⊎ (refusal ≡ Refusal.Memory)) }
 {
     let versions = read_entries(alloc, device, current)?;
-    if !lie_apart(alloc, versions.counted.as_slice())?
-        || !differ(alloc, versions.counted.as_slice())?
-    {
+    let counted = versions.counted.as_slice();
+    if !lie_apart(alloc, counted)? || !differ(alloc, counted)? {
         return Err(Refusal::Damaged);
     }
     Ok(versions)
 }
 
 /// Reads the versions of all entries, each by itself.
-fn read_entries<P: Pmem>(
-    alloc: Global,
-    device: &P,
-    current: &Record,
-) -> Result<Versions, Refusal>
+fn read_entries<P: Pmem>(alloc: Global, device: &P, current: &Record) -> Result<Versions, Refusal>
     requires image { MIN_LINES ≤ (P.state device.now).lines }
     ensures counted { IfOk result (λ versions. versions.counted.items ≡ counted_below current.now (image_of (P.state device.now).words) (entries_of_lines (P.state device.now).lines)) }
     ensures gapped { IfOk result (λ versions. versions.gapped.items ≡ gapped_below current.now (image_of (P.state device.now).words) (entries_of_lines (P.state device.now).lines)) }
@@ -102,8 +112,10 @@ fn add_entry<P: Pmem>(
 fn with_end(current: &Record, entry: Entry) -> Entry
     ensures { result ≡ record entry { end = if counts current.now entry.end then entry.end else 0 } }
 {
-    let end = if current.counts(entry.end) { entry.end } else { 0 };
-    Entry { end, ..entry }
+    if current.counts(entry.end) {
+        return entry;
+    }
+    Entry { end: 0, ..entry }
 }
 
 /// Whether no two of the versions have a line in common.
@@ -127,14 +139,14 @@ fn differ(alloc: Global, versions: &[(EntryNo, Entry)]) -> Result<bool, AllocErr
 fn extents(alloc: Global, versions: &[(EntryNo, Entry)]) -> Result<Vec<Extent>, AllocError>
     ensures { IfOk result (λ runs. runs.items ≡ runs_of versions.now) }
 {
-    versions.iter().map(|(_, entry)| entry.extent).collect(alloc)
+    versions
+        .iter()
+        .map(|(_, entry)| entry.extent)
+        .collect(alloc)
 }
 
 /// The records of the live versions.
-fn names_of_live(
-    alloc: Global,
-    versions: &[(EntryNo, Entry)],
-) -> Result<Vec<&RecordId>, AllocError>
+fn names_of_live(alloc: Global, versions: &[(EntryNo, Entry)]) -> Result<Vec<&RecordId>, AllocError>
     ensures { IfOk result (λ ids. map (λ id. id.now) ids.items ≡ live_ids versions.now) }
 {
     versions

@@ -1,4 +1,4 @@
-use Rattle.std.proofs.Common.{◌≡◌, ℕ, ◌+◌, ◌<◌, ◌↔◌, Bor, Bool, not, length, get_or, is_lt, IsTrue, false, true, rules, arith}
+use Rattle.std.proofs.Common.{◌+◌, ◌↔◌, Bor, Bool, not, get_or, IsTrue, rules}
 use Rattle.std.proofs.lemmas.List.Sorted.{answers_always, ranks_by}
 use Rattle.std.proofs.lemmas.Bool.{not-false}
 use Rattle.std.specs.List.Sorted.{IsSortedBy}

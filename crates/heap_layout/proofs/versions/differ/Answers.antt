@@ -11,8 +11,7 @@ read id = id.now
 pub returns : goal.returns
 returns c =
     let ids = c.as_mut_slice.result.now in
-    let same : map read ids ≡ live_ids c.args.versions.now = ap (map read) c.as_mut_slice.ensures.value ∙ c.in_ok-ids.ensures in
-    (
+    let same : map read ids ≡ live_ids c.args.versions.now = ap (map read) c.as_mut_slice.ensures.value ∙ c.in_ok-ids.ensures in (
       λ distinct. subst (NoTwo is_clash) same (NoTwo-map read is_clash ids (c.are_distinct.ensures.0 distinct)),
       λ none. c.are_distinct.ensures.1 (NoTwo-unmap read is_clash ids (subst (NoTwo is_clash) (sym same) none)),
     )

@@ -14,8 +14,8 @@ loop-i-preserved g c =
     let image = image_of state.words in
     let i = c.loop-i.i in (
       c.in_ok-add_entry.ensures.counted
-      ∙ ap (λ (before : List (EntryNo × Entry)). before ++ counted_at r image i) c.loop-i.invariant.0 ∙ sym (counted_below-more r image i),
+          ∙ ap (λ (before : List (EntryNo × Entry)). before ++ counted_at r image i) c.loop-i.invariant.0 ∙ sym (counted_below-more r image i),
       c.in_ok-add_entry.ensures.gapped
-      ∙ ap (λ (before : List EntryNo). before ++ gapped_at r image i) c.loop-i.invariant.1 ∙ sym (gapped_below-more r image i),
+          ∙ ap (λ (before : List EntryNo). before ++ gapped_at r image i) c.loop-i.invariant.1 ∙ sym (gapped_below-more r image i),
       below_more (λ k. IsUnder r state.lines image k) i c.loop-i.invariant.2 c.in_ok-add_entry.ensures.under,
     )
