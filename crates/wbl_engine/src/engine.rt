@@ -2,7 +2,7 @@
 ghost use Rattle.std.specs.Prelude.{◌≡◌, false};
 ghost use Rattle.wbl_engine.specs.AtRest.{IsAtRest, at_rest_prop};
 
-use crate::clearing::{clear_oldest, oldest_gap, stamped_in};
+use crate::clearing::{clear_oldest, has_no_gap, is_last, oldest_gap, stamped_in};
 use crate::commit::commit_group;
 use crate::committed::Committed;
 use crate::durable::Durable;
@@ -11,7 +11,7 @@ use crate::format::{first_record, format_device};
 use crate::freeing::{Freed, freed_by};
 use crate::successor::next_record;
 use kv_types::{EntryNo, Refusal};
-use model::{COUNTER_LIMIT, Group, MAX_LINES, MIN_LINES, Record, Role};
+use model::{Group, MAX_LINES, MIN_LINES, Record, Role};
 use pmem::{Fault, Pmem};
 use std::alloc::Global;
 
@@ -120,10 +120,10 @@ impl<P: Pmem> Durable for WblEngine<P> {
         if self.faulted {
             return Err(Refusal::Fault);
         }
-        if self.current.gaps.is_empty() {
+        if has_no_gap(&self.current) {
             return Ok(Freed::none(alloc));
         }
-        if self.current.number + 1 >= COUNTER_LIMIT {
+        if is_last(&self.current) {
             return Err(Refusal::Exhausted);
         }
         let stamped = stamped_in(alloc, &self.device, oldest_gap(&self.current))?;
