@@ -1,6 +1,6 @@
 -- The oldest gap of a record, the stamps in it, and the record without it.
 use Rattle.std.proofs.Common.{◌≡◌, ℕ, zero, suc, ◌+◌, ◌<◌, ◌≤◌, Bool, true, false, cond, not, ◌&&◌, ◌||◌, ◌==◌, IsTrue, List, [], ◌∷◌, ◌++◌, ◌⊎◌, inl, inr, length, drop, refl, sym, ap, subst, ◌∙◌, arith}
-use Rattle.std.specs.Prelude.{nat_eq, nat_le, nat_lt, slice_index_or}
+use Rattle.std.specs.Prelude.{◌↔◌, nat_eq, nat_le, nat_lt, slice_index_or}
 use Rattle.std.specs.List.{list_any}
 use Rattle.std.proofs.lemmas.Bool.{cases_Bool, cases_eq, or_cases, or_left, or_right, or_from, and_parts, and_right, and_left, leb-true, lt-leb, le-ltb, eqb-true, eq-eqb, both_ways}
 use Rattle.std.proofs.lemmas.List.Folds.{list_any-append}
@@ -44,6 +44,10 @@ lawful_but_one r lawful room =
     }
 
 -- ---- the oldest gap
+
+pub some_gap : (count : ℕ) (none : Bool) → IsTrue none ↔ (count ≡ 0) → none ≡ false → 0 < count
+some_gap zero none same not = absurd (both_ways none not (same.1 refl))
+some_gap (suc count) none same not = omega arith
 
 pub record IsOldest (r : Record) (gap : Gap) : Type 0 where
   pub is : r.gaps.items ≡ gap ∷ drop 1 r.gaps.items

@@ -1,5 +1,5 @@
 //! A gap leaves the record once no stamp in it is left on the device.
-ghost use Rattle.std.specs.Prelude.{◌≡◌, ◌⊎◌, ◌+◌, ◌<◌, ◌≤◌, ◌++◌, ◌∷◌, [], if◌then◌else◌, length, IfOk, OnOk, OnErr};
+ghost use Rattle.std.specs.Prelude.{◌≡◌, ◌⊎◌, ◌+◌, ◌<◌, ◌≤◌, ◌++◌, ◌∷◌, [], ◌↔◌, if◌then◌else◌, length, IsTrue, IfOk, OnOk, OnErr};
 ghost use Rattle.pmem.specs.Crash.{image_of};
 ghost use Rattle.pmem.specs.Runs.{LeavesOnly};
 ghost use Rattle.model.specs.declared.image.TheConstants.{COUNTER_LIMIT, MIN_LINES};
@@ -14,7 +14,7 @@ use crate::erasing::erase_stamps;
 use crate::successor::copy_gaps;
 use heap_layout::read_stamps;
 use kv_types::EntryNo;
-use model::{Gap, LAYOUT, Record};
+use model::{COUNTER_LIMIT, Gap, LAYOUT, Record};
 use pmem::{Fault, Pmem};
 use std::alloc::{AllocError, Global};
 use wbl_record::write_next;
@@ -54,6 +54,20 @@ pub(crate) fn push_if(list: &mut Vec<EntryNo>, entry: EntryNo, listed: bool) -> 
         list.push(entry)?;
     }
     Ok(())
+}
+
+/// Whether a record has no gap.
+pub fn has_no_gap(current: &Record) -> bool
+    ensures { IsTrue result ↔ (length current.now.gaps.items ≡ 0) }
+{
+    current.gaps.is_empty()
+}
+
+/// Whether no record can follow: its number would reach 2^62.
+pub fn is_last(current: &Record) -> bool
+    ensures { IsTrue result ↔ (COUNTER_LIMIT ≤ current.now.number + 1) }
+{
+    current.number >= COUNTER_LIMIT - 1
 }
 
 /// The oldest gap of a record.

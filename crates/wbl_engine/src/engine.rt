@@ -2,7 +2,7 @@
 ghost use Rattle.std.specs.Prelude.{◌≡◌, false};
 ghost use Rattle.wbl_engine.specs.AtRest.{IsAtRest, at_rest_prop};
 
-use crate::clearing::{clear_oldest, oldest_gap, stamped_in};
+use crate::clearing::{clear_oldest, has_no_gap, is_last, oldest_gap, stamped_in};
 use crate::commit::commit_group;
 use crate::committed::Committed;
 use crate::durable::Durable;
@@ -13,7 +13,7 @@ use crate::reopening::reopen_device;
 use crate::successor::next_record;
 use heap_layout::Versions;
 use kv_types::{EntryNo, Refusal};
-use model::{COUNTER_LIMIT, Group, MAX_LINES, MIN_LINES, Record, Role};
+use model::{Group, MAX_LINES, MIN_LINES, Record, Role};
 use pmem::{Fault, Pmem};
 use std::alloc::Global;
 
@@ -173,10 +173,10 @@ impl<P: Pmem> Durable for WblEngine<P> {
         if self.faulted {
             return Err(Refusal::Fault);
         }
-        if self.current.gaps.is_empty() {
+        if has_no_gap(&self.current) {
             return Ok(Freed::none(alloc));
         }
-        if self.current.number + 1 >= COUNTER_LIMIT {
+        if is_last(&self.current) {
             return Err(Refusal::Exhausted);
         }
         let stamped = stamped_in(alloc, &self.device, oldest_gap(&self.current))?;
