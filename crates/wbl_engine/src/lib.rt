@@ -15,5 +15,6 @@ pub use durable::Durable;
 pub use engine::WblEngine;
 pub use laws::{
     groups_keep_contents_lawful, lawful_contents_are_undamaged, new_contents_are_lawful,
+    same_contents_are_lawful,
 };
 pub use model::{Gap, Record, Role};
