@@ -7,11 +7,11 @@ use Rattle.model.specs.declared.image.TheConstants.{MIN_LINES, MAX_LINES, COUNTE
 use Rattle.model.specs.declared.record.Gap.{Gap}
 use Rattle.model.specs.declared.record.Role.{Role}
 use Rattle.model.specs.Group.{Versions, Contents, IsGroup, next_record, after_group}
-use Rattle.model.specs.Image.{Image, Version, map_below, entries_of_lines, entry_word, version_in, counts}
-use Rattle.model.proofs.MapLemmas.{IsMapOf-none}
+use Rattle.model.specs.Image.{Image, Version, IsMapOf, map_below, entries_of_lines, entry_word, version_in, counts}
+use Rattle.model.proofs.MapLemmas.{IsMapOf-none, IsMapOf-same}
 use Rattle.heap_layout.specs.Versions.{is_counted, is_live}
 use Rattle.wbl_record.specs.Current.{AreGaps, IsLawful}
-use Rattle.wbl_engine.specs.Contents.{Keeps, IsNew, Exhausts}
+use Rattle.wbl_engine.specs.Contents.{Keeps, IsNew, Same, Exhausts}
 use Rattle.wbl_engine.specs.Lawful.{AreLawful, IsUndamaged}
 use Rattle.wbl_engine.proofs.ApartLemmas.{group_apart}
 use Rattle.wbl_engine.proofs.ClashLemmas.{AreDistinct, parts_distinct, map_distinct, distinct_map, distinct_keyspace}
@@ -91,6 +91,21 @@ group_lawful contents group are asked room =
       keyspace = map_below versions entries;
       lawful = distinct_keyspace versions entries distinct;
       map = distinct_map versions entries distinct;
+    }
+
+-- ---- contents that say the same
+
+pub same_lawful : (old new : Contents) → Same old new → AreLawful old → AreLawful new
+same_lawful old new same are =
+    record {
+      many = omega (arith, same.lines, are.many);
+      few = omega (arith, same.lines, are.few);
+      current = subst IsLawful (sym same.current) are.current;
+      apart = λ i j v w differ is_v is_w. are.apart i j v w differ (sym (same.versions i) ∙ is_v) (sym (same.versions j) ∙ is_w);
+      keyspace = are.keyspace;
+      lawful = are.lawful;
+      map = subst (λ (n : ℕ). IsMapOf new.versions (entries_of_lines n) are.keyspace) (sym same.lines)
+          (IsMapOf-same old.versions new.versions (entries_of_lines old.lines) are.keyspace (λ i within. sym (same.versions i)) are.map);
     }
 
 -- ---- an image

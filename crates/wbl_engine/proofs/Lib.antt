@@ -22,6 +22,7 @@ pub mod GapLemmas
 pub mod GroupSteps
 pub mod LawfulLemmas
 pub mod LeftEntries
+pub mod LiveEntries
 pub mod NewImage
 pub mod OpenGap
 pub mod PartEffects

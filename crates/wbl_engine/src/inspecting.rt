@@ -6,6 +6,7 @@ ghost use Rattle.model.specs.declared.image.TheConstants.{MIN_LINES, MAX_LINES};
 ghost use Rattle.model.specs.Image.{entries_of_lines};
 ghost use Rattle.heap_layout.specs.Superblock.{super_refusal};
 ghost use Rattle.heap_layout.specs.Versions.{counted_below, gapped_below};
+ghost use Rattle.wbl_engine.specs.Inspecting.{live_below};
 ghost use Rattle.wbl_engine.specs.Lawful.{IsUndamaged};
 ghost use Rattle.wbl_engine.specs.Reopening.{RefusesReading};
 
@@ -15,6 +16,20 @@ use model::Record;
 use pmem::Pmem;
 use std::alloc::Global;
 use wbl_record::read_current;
+
+/// Reads an undamaged image, and returns its record and how many of its entries are live. Nothing is changed. Errors as at `read_undamaged`.
+pub fn inspect<P: Pmem>(alloc: Global, device: &P) -> Result<(Record, u64), Refusal>
+    ensures undamaged { IfOk result (λ read. IsUndamaged (P.state device.now).lines read.0 (image_of (P.state device.now).words)) }
+    ensures live { IfOk result (λ read. read.1
+        ≡ live_below read.0 (image_of (P.state device.now).words) (entries_of_lines (P.state device.now).lines)) }
+    ensures refused { IfErr result (λ refusal. RefusesReading (P.state device.now).lines (image_of (P.state device.now).words) refusal) }
+    ensures superblock { (refusal : Cause) → super_refusal (P.state device.now).lines (image_of (P.state device.now).words) ≡ Some refusal
+        → result ≡ Err refusal }
+{
+    let (current, versions) = read_undamaged(alloc, device)?;
+    let live = versions.count_live();
+    Ok((current, live))
+}
 
 /// Reads an undamaged image: its record and all its versions.
 ///

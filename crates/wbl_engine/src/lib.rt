@@ -20,5 +20,9 @@ pub use durable::Durable;
 pub use engine::WblEngine;
 pub use freeing::Freed;
 pub use heap_layout::Versions;
-pub use laws::{groups_keep_contents_lawful, lawful_contents_are_undamaged, new_contents_are_lawful};
+pub use inspecting::inspect;
+pub use laws::{
+    groups_keep_contents_lawful, lawful_contents_are_undamaged, new_contents_are_lawful,
+    same_contents_are_lawful,
+};
 pub use model::{Gap, Record, Role};
