@@ -24,7 +24,8 @@ one_live i entry end false ended some = refl
 one_live i entry end true false some = refl
 one_live i entry end true true some =
     let not_zero : (end == 0) ≡ false = ne_eqb end 0 (λ e. let low = some refl in omega (arith, low, e)) in
-    ap (λ (b : Bool). length (cond b ((record { 0 = i }, record entry { end = end }) ∷ []) [])) not_zero
+    let one : EntryNo × Entry = (record { 0 = i }, record entry { end = end }) in
+    ap (λ (b : Bool). length {A = EntryNo × Entry} (cond b (one ∷ []) [])) not_zero
 
 live_at : (r : Record) (image : Image) (i : ℕ) → length (live_in (counted_at r image i)) ≡ cond (is_live r image i) 1 0
 live_at r image i =
