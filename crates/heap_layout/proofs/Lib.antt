@@ -4,3 +4,7 @@ pub mod PutWords
 pub mod ReadAlike
 pub mod ReadBack
 pub mod SameWords
+pub mod NoTwo
+pub mod Clashes
+pub mod Picked
+pub mod VersionsLemmas

@@ -1,6 +1,8 @@
 -- All versions of an image, as they are read under its record (this project's profile).
-use Rattle.std.specs.Prelude.{◌≡◌, ◌≢◌, ℕ, zero, suc, ◌<◌, Bool, false, not, ◌&&◌, ◌==◌, if◌then◌else◌, IsTrue, List, [], ◌∷◌, ◌++◌}
+use Rattle.std.specs.Prelude.{◌≡◌, ◌≢◌, ℕ, zero, suc, ◌+◌, ◌<◌, Bool, false, not, ◌&&◌, ◌==◌, nat_lt, if◌then◌else◌, IsTrue, List, [], ◌∷◌, ◌++◌, map, filter, AllPairs}
 use Rattle.kv_types.specs.declared.place.EntryNo.{EntryNo}
+use Rattle.kv_types.specs.declared.place.Extent.{Extent}
+use Rattle.kv_types.specs.declared.record_id.RecordId.{RecordId}
 use Rattle.heap_layout.specs.declared.entry.Entry.{Entry}
 use Rattle.heap_layout.specs.Entry.{entry_in}
 use Rattle.heap_layout.specs.Version.{IsUnder}
@@ -55,3 +57,27 @@ gapped_at r image i = if is_gapped r image i then record { 0 = i } ∷ [] else [
 abbrev pub gapped_below : Record → Image → ℕ → List EntryNo
 gapped_below r image zero = []
 gapped_below r image (suc i) = gapped_below r image i ++ gapped_at r image i
+
+-- each entry below this number breaks no rule by itself
+abbrev pub AreUnder : Record → ℕ → Image → ℕ → Type 0
+AreUnder r lines' image n = (i : ℕ) → i < n → IsUnder r lines' image i
+
+-- no element passes the test with one after it
+abbrev pub NoTwo : {X : Type 0} → (X → X → Bool) → List X → Type 0
+NoTwo test xs = AllPairs (λ x y. test x y ≡ false) xs
+
+-- the two runs have a line in common, where neither is empty
+abbrev pub overlap : Extent → Extent → Bool
+overlap run other = nat_lt run.first_line (other.first_line + other.lines) && nat_lt other.first_line (run.first_line + run.lines)
+
+-- the lines of the versions
+abbrev pub runs_of : List (EntryNo × Entry) → List Extent
+runs_of versions = map (λ version. version.1.extent) versions
+
+-- the live ones, whose end is given as 0
+abbrev pub live_in : List (EntryNo × Entry) → List (EntryNo × Entry)
+live_in versions = filter (λ version. version.1.end == 0) versions
+
+-- the records of the live ones
+abbrev pub live_ids : List (EntryNo × Entry) → List RecordId
+live_ids versions = map (λ version. version.1.id) (live_in versions)

@@ -1,5 +1,5 @@
 //! The versions of an image: its entries, as its record tells of them.
-ghost use Rattle.std.specs.Prelude.{◌≡◌, ◌↔◌, ◌⊎◌, ◌<◌, ◌≤◌, Err, IfOk, IfErr, IfSome};
+ghost use Rattle.std.specs.Prelude.{◌≡◌, ◌↔◌, ◌⊎◌, ◌<◌, ◌≤◌, Err, IfOk, IfErr, IfSome, OnOk};
 ghost use Rattle.pmem.specs.Crash.{image_of};
 ghost use Rattle.model.specs.declared.image.TheConstants.{MIN_LINES};
 ghost use Rattle.model.specs.Image.{entries_of_lines, version_at};
@@ -27,6 +27,7 @@ pub fn read_version<P: Pmem>(
     requires entry { no.0 < entries_of_lines (P.state device.now).lines }
     ensures ok { IfOk result (λ o. IfSome o (λ entry. entry ≡ entry_in (image_of (P.state device.now).words) no.0)) }
     ensures version { IfOk result (λ o. version_if_read current.now o ≡ version_at current.now (image_of (P.state device.now).words) no.0) }
+    ensures under { OnOk result (IsUnder current.now (P.state device.now).lines (image_of (P.state device.now).words) no.0) }
     ensures damaged { (result ≡ Err Refusal.Damaged) ↔ ¬ IsUnder current.now (P.state device.now).lines (image_of (P.state device.now).words) no.0 }
     ensures causes { IfErr result (λ refusal. (refusal ≡ Refusal.Damaged) ⊎ (refusal ≡ Refusal.Memory)) }
 {

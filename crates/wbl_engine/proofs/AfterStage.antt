@@ -12,15 +12,16 @@ use Rattle.model.specs.declared.group.Put.{Put}
 use Rattle.model.specs.Image.{Image, entry_word, entries_of_lines, counts}
 use Rattle.model.specs.Group.{Versions, IsGroup, IsPlaced, is_put_at, next_record, parts_versions}
 use Rattle.wbl_engine.specs.AtRest.{contents_of, IsAtRest, Matters}
-use Rattle.heap_layout.specs.Put.{IsStorable, entry_words}
-use Rattle.wbl_engine.specs.Stage.{puts_of_parts, parts_pairs, parts_lines}
-use Rattle.wbl_engine.proofs.Beginning.{rest_fits, group_stored, group_staging}
+use Rattle.heap_layout.specs.Put.{entry_words}
+use Rattle.wbl_engine.specs.Stage.{IsWritable, puts_of_parts, parts_pairs, parts_lines}
+use Rattle.wbl_engine.proofs.Beginning.{rest_fits, rest_made, group_stored, group_staging}
 use Rattle.wbl_engine.proofs.CountLemmas.{with_cp, counts-later}
 use Rattle.wbl_engine.proofs.Covering.{IsStoredPut, parts_covered, parts_stored_put, extent_stored, entry_stored, among_same}
 use Rattle.wbl_engine.proofs.GroupSteps.{parts_fit}
 use Rattle.wbl_engine.proofs.PartEffects.{IsAmong, is_put_at-among, among-is_put_at}
 use Rattle.wbl_engine.proofs.PartSteps.{Fits}
 use Rattle.heap_layout.proofs.PutWords.{IsOfExtent}
+use Rattle.wbl_engine.proofs.PositionLemmas.{AreMadeUpTo, group_made}
 use Rattle.wbl_engine.proofs.PutPairs.{among-all}
 use Rattle.wbl_engine.proofs.Staged.{IsStaging}
 
@@ -33,20 +34,25 @@ next_fits r group lines image versions fits =
       beyond = fits.beyond;
       begins = fits.begins;
       ends = fits.ends;
-      in_place = fits.in_place;
+      entries = fits.entries;
       no_gap = fits.no_gap;
     }
 
 -- once it is stored the image has, under the next record, the versions after the group
 pub after_fits : (r : Record) (d : State) (group : Group) → IsAtRest r d → IsGroup (contents_of r d) group
-    → AllByRecursion IsStorable (puts_of_parts group.parts.items)
+    → AllByRecursion IsWritable (puts_of_parts group.parts.items)
     → Fits (next_record r group) d.lines (written (parts_pairs (r.cp + 1) group.parts.items) (image_of d.words))
     (parts_versions (contents_of r d).versions group.parts.items)
-after_fits r d group rest asked storable =
+after_fits r d group rest asked writable =
     next_fits r group d.lines (written (parts_pairs (r.cp + 1) group.parts.items) (image_of d.words))
     (parts_versions (contents_of r d).versions group.parts.items)
     (parts_fit d.lines group.parts.items group.before r (image_of d.words) (contents_of r d).versions (rest_fits r d rest)
-    (group_stored r d group rest asked storable) asked.parts)
+    (group_stored r d group rest asked writable) asked.parts)
+
+-- and each of them was made at a position that the record after the group has
+pub after_made : (r : Record) (d : State) (group : Group) → IsAtRest r d → IsGroup (contents_of r d) group
+    → AreMadeUpTo (next_record r group).position (parts_versions (contents_of r d).versions group.parts.items)
+after_made r d group rest asked = group_made (contents_of r d) group asked (rest_made r d rest)
 
 -- an entry at which nothing is put keeps its words, but for the end
 pub kept_word : {r : Record} {lines count : ℕ} {base : Image} {versions : Versions} {puts : List Put} {pairs : List (ℕ × ℕ)}
@@ -90,17 +96,17 @@ put_word {r} {lines} {count} {base} {versions} {puts} {pairs} staging put among 
 
 -- a word that matters after the group, and that the group does not store, mattered before
 mattered : (r : Record) (d : State) (group : Group) → IsAtRest r d → IsGroup (contents_of r d) group
-    → AllByRecursion IsStorable (puts_of_parts group.parts.items) → (word : ℕ)
+    → AllByRecursion IsWritable (puts_of_parts group.parts.items) → (word : ℕ)
     → Matters (next_record r group) d.lines (written (parts_pairs (r.cp + 1) group.parts.items) (image_of d.words)) word
     → IsOutside (parts_pairs (r.cp + 1) group.parts.items) word → Matters r d.lines (image_of d.words) word
-mattered r d group rest asked storable word (inl before) out = inl before
-mattered r d group rest asked storable word (inr (inl directory)) out = inr (inl directory)
-mattered r d group rest asked storable word (inr (inr (i, within, begun, at))) out =
+mattered r d group rest asked writable word (inl before) out = inl before
+mattered r d group rest asked writable word (inr (inl directory)) out = inr (inl directory)
+mattered r d group rest asked writable word (inr (inr (i, within, begun, at))) out =
     let parts = group.parts.items in
     let puts : List Put = puts_of_parts parts in
     let pairs : List (ℕ × ℕ) = parts_pairs (r.cp + 1) parts in
     let base : Image = image_of d.words in
-    let staging : IsStaging r d.lines (length parts) base (contents_of r d).versions puts pairs = group_staging r d group rest asked storable in
+    let staging : IsStaging r d.lines (length parts) base (contents_of r d).versions puts pairs = group_staging r d group rest asked writable in
     elim (cases_Bool (is_put_at i puts)) [
       | inl put ↦
           let made = is_put_at-among i puts put in
@@ -126,18 +132,18 @@ mattered r d group rest asked storable word (inr (inr (i, within, begun, at))) o
 
 -- Each word that matters, before the group or after it, is certain.
 pub stage_certain : (r : Record) (d b : State) (group : Group) → IsAtRest r d → IsGroup (contents_of r d) group
-    → AllByRecursion IsStorable (puts_of_parts group.parts.items)
+    → AllByRecursion IsWritable (puts_of_parts group.parts.items)
     → Staged d b (parts_pairs (r.cp + 1) group.parts.items) (parts_lines group.parts.items) → (word : ℕ)
     → Matters r d.lines (image_of d.words) word
     ⊎ Matters (next_record r group) d.lines (written (parts_pairs (r.cp + 1) group.parts.items) (image_of d.words)) word
     → Only (b.words word) (written (parts_pairs (r.cp + 1) group.parts.items) (image_of d.words) word)
-stage_certain r d b group rest asked storable staged word matters =
+stage_certain r d b group rest asked writable staged word matters =
     let pairs : List (ℕ × ℕ) = parts_pairs (r.cp + 1) group.parts.items in
     elim (stored_or_outside pairs word) [
       | inl stored ↦ staged.certain word (parts_covered (r.cp + 1) group.parts.items word stored.0 stored.1)
       | inr out ↦
           let before : Matters r d.lines (image_of d.words) word =
-          elim matters [ inl was ↦ was | inr now ↦ mattered r d group rest asked storable word now out ] in
+          elim matters [ inl was ↦ was | inr now ↦ mattered r d group rest asked writable word now out ] in
           record {
             only = λ y may.
                 (rest.certain word before).only y (staged.elsewhere word y out may)

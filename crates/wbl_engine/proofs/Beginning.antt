@@ -8,13 +8,13 @@ use Rattle.pmem.specs.Crash.{image_of}
 use Rattle.model.specs.declared.record.Record.{Record}
 use Rattle.model.specs.declared.group.Group.{Group}
 use Rattle.model.specs.declared.group.Put.{Put}
-use Rattle.model.specs.Image.{entry_word, entries_of_lines, version_at, counts}
+use Rattle.model.specs.Image.{Version, entry_word, entries_of_lines, version_at, counts}
 use Rattle.model.specs.Group.{Contents, IsGroup, IsUnused, IsConsistent}
 use Rattle.wbl_engine.specs.AtRest.{contents_of, IsAtRest}
-use Rattle.heap_layout.specs.Put.{IsStorable}
-use Rattle.wbl_engine.specs.Stage.{puts_of_parts, parts_pairs}
-use Rattle.wbl_engine.proofs.CountLemmas.{counts-zero, counts-above}
-use Rattle.wbl_engine.proofs.PartSteps.{Fits, IsReady, AreStored}
+use Rattle.wbl_engine.specs.Stage.{IsWritable, puts_of_parts, parts_pairs}
+use Rattle.wbl_engine.proofs.CountLemmas.{counts-zero, counts-above, no_gap_above}
+use Rattle.wbl_engine.proofs.PartSteps.{Fits, IsReady, AreStored, within_directory, begun_version}
+use Rattle.wbl_engine.proofs.PositionLemmas.{AreMadeUpTo}
 use Rattle.wbl_engine.proofs.PutPairs.{among-all}
 use Rattle.wbl_engine.proofs.GroupSteps.{all-from}
 use Rattle.wbl_engine.proofs.Staged.{IsStaging}
@@ -52,9 +52,17 @@ rest_fits r d rest =
       beyond = versions-beyond r d;
       begins = rest.whole.begins;
       ends = rest.whole.ends;
-      in_place = rest.whole.in_place;
-      no_gap = rest.sound.no_gap;
+      entries = rest.whole.entries;
+      no_gap = no_gap_above 0 r.gaps.items r.cp rest.lawful.gaps;
     }
+
+-- at rest each version was made at a position that the record has
+pub rest_made : (r : Record) (d : State) → IsAtRest r d → AreMadeUpTo r.position (contents_of r d).versions
+rest_made r d rest i version is =
+    let fits : Fits r d.lines (image_of d.words) (contents_of r d).versions = rest_fits r d rest in
+    let within : i < entries_of_lines d.lines = within_directory fits i version is in
+    let begun = begun_version fits i version within is in
+    omega (arith, ap (λ (v : Version). v.position) begun.1, rest.whole.positions i within begun.0)
 
 -- at rest a free entry's begin is 0
 free_begin : (r : Record) (d : State) → IsAtRest r d → (i : ℕ) → IsTrue ((contents_of r d).is_free i) → image_of d.words (entry_word i 0) ≡ 0
@@ -69,15 +77,15 @@ free_begin r d rest i free =
 
 -- a group's puts may be stored
 pub group_stored : (r : Record) (d : State) (group : Group) → IsAtRest r d → IsGroup (contents_of r d) group
-    → AllByRecursion IsStorable (puts_of_parts group.parts.items)
+    → AllByRecursion IsWritable (puts_of_parts group.parts.items)
     → AreStored d.lines (contents_of r d).versions (image_of d.words) (puts_of_parts group.parts.items)
-group_stored r d group rest asked storable =
+group_stored r d group rest asked writable =
     let contents : Contents = contents_of r d in
     let puts : List Put = puts_of_parts group.parts.items in
     record {
       placed = asked.placed;
       fitting = asked.fitting;
-      storable = storable;
+      writable = writable;
       ready = all-from (IsReady contents.versions (image_of d.words)) puts
           (λ put among.
           let unused : IsUnused contents.versions contents.is_free put =
@@ -88,13 +96,13 @@ group_stored r d group rest asked storable =
 
 -- all that is known while the group is stored
 pub group_staging : (r : Record) (d : State) (group : Group) → IsAtRest r d → IsGroup (contents_of r d) group
-    → AllByRecursion IsStorable (puts_of_parts group.parts.items)
+    → AllByRecursion IsWritable (puts_of_parts group.parts.items)
     → IsStaging r d.lines (length group.parts.items) (image_of d.words) (contents_of r d).versions (puts_of_parts group.parts.items)
     (parts_pairs (r.cp + 1) group.parts.items)
-group_staging r d group rest asked storable =
+group_staging r d group rest asked writable =
     record {
       fits = rest_fits r d rest;
-      stored = group_stored r d group rest asked storable;
+      stored = group_stored r d group rest asked writable;
       by = λ word x stored.
           parts_by group.parts.items group.before (contents_of r d).versions (r.cp + 1) word x asked.parts stored;
     }

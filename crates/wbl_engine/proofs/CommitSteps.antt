@@ -8,11 +8,11 @@ use Rattle.model.specs.declared.record.Record.{Record}
 use Rattle.model.specs.declared.group.Group.{Group}
 use Rattle.model.specs.declared.group.Part.{Part}
 use Rattle.model.specs.Group.{IsGroup, next_record, after_group}
-use Rattle.wbl_engine.specs.AtRest.{contents_of, IsSound, IsAtRest}
+use Rattle.wbl_engine.specs.AtRest.{contents_of, IsAtRest}
+use Rattle.wbl_record.specs.Current.{IsLawful}
 use Rattle.wbl_engine.specs.Contents.{Same}
-use Rattle.heap_layout.specs.Put.{IsStorable}
+use Rattle.wbl_engine.specs.Stage.{IsWritable, puts_of_parts, parts_pairs, parts_lines}
 use Rattle.wbl_record.specs.Record.{IsRecorded, IsRecordFault, IsSucceeded, IsEitherRecord}
-use Rattle.wbl_engine.specs.Stage.{puts_of_parts, parts_pairs, parts_lines}
 use Rattle.wbl_engine.proofs.Committing.{IsBeforeOrAfter, stage_moments, commit_moments, stage_succeeded}
 use Rattle.wbl_engine.proofs.Ending.{commit_rest, commit_same, fault_same, recorded_made, stage_made, contents_moved}
 
@@ -20,15 +20,15 @@ use Rattle.wbl_engine.proofs.Ending.{commit_rest, commit_same, fault_same, recor
 pub record IsCommitting (r : Record) (d : State) (group : Group) : Type 0 where
   pub rest : IsAtRest r d
   pub asked : IsGroup (contents_of r d) group
-  pub storable : AllByRecursion IsStorable (puts_of_parts group.parts.items)
+  pub writable : AllByRecursion IsWritable (puts_of_parts group.parts.items)
 
 pub committing : (r : Record) (d : State) (group : Group) (parts : List Part) → IsAtRest r d → IsGroup (contents_of r d) group
-    → parts ≡ group.parts.items → AllByRecursion IsStorable (puts_of_parts parts) → IsCommitting r d group
-committing r d group parts rest asked is storable =
+    → parts ≡ group.parts.items → AllByRecursion IsWritable (puts_of_parts parts) → IsCommitting r d group
+committing r d group parts rest asked is writable =
     record {
       rest = rest;
       asked = asked;
-      storable = subst (λ (ps : List Part). AllByRecursion IsStorable (puts_of_parts ps)) is storable;
+      writable = subst (λ (ps : List Part). AllByRecursion IsWritable (puts_of_parts ps)) is writable;
     }
 
 -- what was stored is the group
@@ -45,13 +45,13 @@ pub first_fault : {d b : State} (r : Record) (group : Group) → IsCommitting r 
     → Same (contents_of r d) (contents_of r b)
 first_fault {d} {b} r group begun failed =
     contents_moved (contents_of r d) r d b failed.stays.lines
-    (fault_same r d group (image_of b.words) begun.rest begun.asked begun.storable
+    (fault_same r d group (image_of b.words) begun.rest begun.asked begun.writable
     (stage_made d b (parts_pairs (r.cp + 1) group.parts.items) failed.newest))
 
 pub first_fault_moments : {d b : State} (r : Record) (group : Group) → IsCommitting r d group
     → StageFailed d b (parts_pairs (r.cp + 1) group.parts.items) → LeavesOnly d b (IsBeforeOrAfter r d group)
 first_fault_moments {d} {b} r group begun failed =
-    stage_moments r d b group begun.rest begun.asked begun.storable failed.moments
+    stage_moments r d b group begun.rest begun.asked begun.writable failed.moments
 
 -- and where a later one did
 pub later_fault : {d b c : State} (r next : Record) (group : Group) → next ≡ next_record r group → IsCommitting r d group
@@ -59,15 +59,15 @@ pub later_fault : {d b c : State} (r next : Record) (group : Group) → next ≡
     → Same (contents_of r d) (contents_of r c)
 later_fault {d} {b} {c} r next group is begun staged fault =
     contents_moved (contents_of r d) r d c (fault.stays.lines ∙ staged.stays.lines)
-    (fault_same r d group (image_of c.words) begun.rest begun.asked begun.storable
+    (fault_same r d group (image_of c.words) begun.rest begun.asked begun.writable
     (recorded_made d b c next (parts_pairs (r.cp + 1) group.parts.items) staged.newest fault.newest))
 
 -- once all is done
-pub done_rest : {d b c : State} (r next : Record) (group : Group) → next ≡ next_record r group → IsSound next → IsCommitting r d group
+pub done_rest : {d b c : State} (r next : Record) (group : Group) → next ≡ next_record r group → IsLawful next → IsCommitting r d group
     → Staged d b (parts_pairs (r.cp + 1) group.parts.items) (parts_lines group.parts.items) → IsRecorded b c next → IsAtRest next c
-done_rest {d} {b} {c} r next group is sound begun staged recorded =
+done_rest {d} {b} {c} r next group is lawful begun staged recorded =
     subst (λ (q : Record). IsAtRest q c) (sym is)
-    (commit_rest r d b c group begun.rest begun.asked begun.storable (subst IsSound is sound) staged
+    (commit_rest r d b c group begun.rest begun.asked begun.writable (subst IsLawful is lawful) staged
     (subst (λ (q : Record). IsRecorded b c q) is recorded))
 
 pub done_same : {d b c : State} (r next : Record) (group : Group) → next ≡ next_record r group → IsCommitting r d group
@@ -76,7 +76,7 @@ pub done_same : {d b c : State} (r next : Record) (group : Group) → next ≡ n
 done_same {d} {b} {c} r next group is begun staged recorded =
     subst (λ (q : Record). Same (after_group (contents_of r d) group) (contents_of q c)) (sym is)
     (contents_moved (after_group (contents_of r d) group) (next_record r group) d c (recorded.stays.lines ∙ staged.stays.lines)
-    (commit_same r d group (image_of c.words) begun.rest begun.asked begun.storable
+    (commit_same r d group (image_of c.words) begun.rest begun.asked begun.writable
     (recorded_made d b c next (parts_pairs (r.cp + 1) group.parts.items) staged.newest recorded.newest)))
 
 -- each crash of the whole call
@@ -85,7 +85,7 @@ pub done_moments : {d b c : State} (r next : Record) (group : Group) → next �
     → ((current : Record) → IsSucceeded b.words current next → LeavesOnly b c (IsEitherRecord b.words current next))
     → LeavesOnly d c (IsBeforeOrAfter r d group)
 done_moments {d} {b} {c} r next group is begun staged moments =
-    commit_moments r d b c group begun.rest begun.asked begun.storable staged
+    commit_moments r d b c group begun.rest begun.asked begun.writable staged
     (subst (λ (q : Record). LeavesOnly b c (IsEitherRecord b.words r q)) is
     (moments r (subst (λ (q : Record). IsSucceeded b.words r q) (sym is)
-    (stage_succeeded r d b group begun.rest begun.asked begun.storable staged))))
+    (stage_succeeded r d b group begun.rest begun.asked begun.writable staged))))

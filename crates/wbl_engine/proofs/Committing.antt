@@ -12,23 +12,22 @@ use Rattle.model.specs.Image.{Image, HasRecord, root_word}
 use Rattle.model.specs.Group.{Versions, IsGroup, next_record, after_group, parts_versions}
 use Rattle.wbl_engine.specs.AtRest.{contents_of, IsAtRest, Matters}
 use Rattle.wbl_engine.specs.Contents.{Keeps}
-use Rattle.heap_layout.specs.Put.{IsStorable}
+use Rattle.wbl_engine.specs.Stage.{IsWritable, puts_of_parts, parts_pairs, parts_lines}
 use Rattle.wbl_record.specs.Record.{IsRecordWord, IsSucceeded, IsEitherRecord}
-use Rattle.wbl_engine.specs.Stage.{puts_of_parts, parts_pairs, parts_lines}
-use Rattle.wbl_engine.proofs.AfterStage.{after_fits, stage_certain}
+use Rattle.wbl_engine.proofs.AfterStage.{after_fits, after_made, stage_certain}
 use Rattle.wbl_engine.proofs.Beginning.{rest_fits, group_staging}
 use Rattle.wbl_record.proofs.Mixing.{IsMixed, mixed}
 use Rattle.wbl_engine.proofs.PartSteps.{Fits}
 use Rattle.wbl_record.proofs.RecordWords.{HasRecord-same}
 use Rattle.wbl_engine.proofs.StageImages.{HasSuperblock-same, keeps_old, stage_keeps}
-use Rattle.wbl_engine.proofs.Staged.{IsStaging, IsStagedOver, staging_before, staged_same, staged_begins, staged_ends}
+use Rattle.wbl_engine.proofs.Staged.{IsStaging, IsStagedOver, staging_before, staged_same, staged_under}
 
 -- nothing is being stored
 pub at_rest_staging : {r : Record} {lines : ℕ} {image : Image} {versions : Versions} → Fits r lines image versions → IsStaging r lines 0 image versions [] []
 at_rest_staging {r} {lines} {image} {versions} fits =
     record {
       fits = fits;
-      stored = record { placed = tt; fitting = tt; storable = tt; ready = tt; apart = tt };
+      stored = record { placed = tt; fitting = tt; writable = tt; ready = tt; apart = tt };
       by = λ word x stored. absurd stored;
     }
 
@@ -40,87 +39,86 @@ no_record_word r lines n image versions fits word (inl before) (inr slot) = omeg
 no_record_word r lines n image versions fits word (inr (inl directory)) (inl root) = omega (arith, directory.0, root)
 no_record_word r lines n image versions fits word (inr (inl directory)) (inr slot) = omega (arith, directory.0, slot.1)
 no_record_word r lines n image versions fits word (inr (inr (i, within, begun, at))) (inl root) =
-    omega (arith, at.low, (fits.in_place i within begun).above, root)
+    omega (arith, at.low, (fits.entries i within begun).above, root)
 no_record_word r lines n image versions fits word (inr (inr (i, within, begun, at))) (inr slot) =
-    omega (arith, at.low, (fits.in_place i within begun).above, slot.1)
+    omega (arith, at.low, (fits.entries i within begun).above, slot.1)
 
 -- once the group is stored, an image that agrees outside of the next record's words and has the old record keeps the old contents
 late_keeps : (r : Record) (d b : State) (group : Group) (image : Image) → IsAtRest r d → IsGroup (contents_of r d) group
-    → AllByRecursion IsStorable (puts_of_parts group.parts.items)
+    → AllByRecursion IsWritable (puts_of_parts group.parts.items)
     → Staged d b (parts_pairs (r.cp + 1) group.parts.items) (parts_lines group.parts.items)
     → ((word : ℕ) → (IsRecordWord (r.number + 1) word → ⊥) → MayBe (b.words word) (image word)) → HasRecord r image
     → Keeps (contents_of r d) image
-late_keeps r d b group image rest asked storable staged elsewhere recorded =
+late_keeps r d b group image rest asked writable staged elsewhere recorded =
     let parts = group.parts.items in
     let pairs : List (ℕ × ℕ) = parts_pairs (r.cp + 1) parts in
     let over : IsStagedOver r d.lines (image_of d.words) pairs image =
     λ word matters.
     let is : image word ≡ written pairs (image_of d.words) word =
-    (stage_certain r d b group rest asked storable staged word (inl matters)).only (image word)
+    (stage_certain r d b group rest asked writable staged word (inl matters)).only (image word)
     (elsewhere word
     (no_record_word r d.lines (r.number + 1) (image_of d.words) (contents_of r d).versions (rest_fits r d rest) word matters)) in
     elim (written-cases pairs (image_of d.words) word) [
       | inl out ↦ inl (is ∙ out.1)
       | inr stored ↦ inr (subst (λ (x : ℕ). IsStored pairs word x) (sym is) stored)
     ] in
-    keeps_old r d (length parts) (puts_of_parts parts) pairs image rest (group_staging r d group rest asked storable) asked.few over recorded
+    keeps_old r d (length parts) (puts_of_parts parts) pairs image rest (group_staging r d group rest asked writable) asked.few over recorded
 
 -- and one that has the next record keeps the contents after the group
 new_keeps : (r : Record) (d b : State) (group : Group) (image : Image) → IsAtRest r d → IsGroup (contents_of r d) group
-    → AllByRecursion IsStorable (puts_of_parts group.parts.items)
+    → AllByRecursion IsWritable (puts_of_parts group.parts.items)
     → Staged d b (parts_pairs (r.cp + 1) group.parts.items) (parts_lines group.parts.items)
     → ((word : ℕ) → (IsRecordWord (r.number + 1) word → ⊥) → MayBe (b.words word) (image word)) → HasRecord (next_record r group) image
     → Keeps (after_group (contents_of r d) group) image
-new_keeps r d b group image rest asked storable staged elsewhere recorded =
+new_keeps r d b group image rest asked writable staged elsewhere recorded =
     let parts = group.parts.items in
     let pairs : List (ℕ × ℕ) = parts_pairs (r.cp + 1) parts in
     let new : Image = written pairs (image_of d.words) in
     let next : Record = next_record r group in
     let versions : Versions = parts_versions (contents_of r d).versions parts in
-    let fits : Fits next d.lines new versions = after_fits r d group rest asked storable in
+    let fits : Fits next d.lines new versions = after_fits r d group rest asked writable in
     let staging : IsStaging next d.lines 0 new versions [] [] = at_rest_staging fits in
     let over : IsStagedOver next d.lines new [] image =
     λ word matters.
-    inl ((stage_certain r d b group rest asked storable staged word (inr matters)).only (image word)
+    inl ((stage_certain r d b group rest asked writable staged word (inr matters)).only (image word)
     (elsewhere word (no_record_word next d.lines (r.number + 1) new versions fits word matters))) in
     record {
       superblock = HasSuperblock-same d.lines (image_of d.words) image
           (λ word before.
-          (stage_certain r d b group rest asked storable staged word (inl (inl before))).only (image word)
+          (stage_certain r d b group rest asked writable staged word (inl (inl before))).only (image word)
           (elsewhere word (no_record_word r d.lines (r.number + 1) (image_of d.words) (contents_of r d).versions (rest_fits r d rest) word (inl before)))
-          ∙ before_new r d group rest asked storable word (omega (arith, before)))
+          ∙ before_new r d group rest asked writable word (omega (arith, before)))
           rest.whole.superblock;
       has_record = recorded;
       versions = λ i within. staged_same staging over i within ∙ fits.same i within;
-      begins = λ i within. omega (arith, staged_begins staging over i within);
-      ends = λ i within. omega (arith, staged_ends staging over i within);
+      entries = staged_under refl (omega arith) (after_made r d group rest asked) staging over;
     }
   where
     before_new : (r : Record) (d : State) (group : Group) → IsAtRest r d → IsGroup (contents_of r d) group
-        → AllByRecursion IsStorable (puts_of_parts group.parts.items) → (word : ℕ) → word < 64
+        → AllByRecursion IsWritable (puts_of_parts group.parts.items) → (word : ℕ) → word < 64
         → written (parts_pairs (r.cp + 1) group.parts.items) (image_of d.words) word ≡ image_of d.words word
-    before_new r d group rest asked storable word before =
+    before_new r d group rest asked writable word before =
         written-outside (parts_pairs (r.cp + 1) group.parts.items) (image_of d.words) word
-        (λ x stored. staging_before (group_staging r d group rest asked storable) word x before stored)
+        (λ x stored. staging_before (group_staging r d group rest asked writable) word x before stored)
 
 -- While the record is written, each crash leaves the old contents or the new ones.
 pub record_keeps : (r : Record) (d b : State) (group : Group) (image : Image) → IsAtRest r d → IsGroup (contents_of r d) group
-    → AllByRecursion IsStorable (puts_of_parts group.parts.items)
+    → AllByRecursion IsWritable (puts_of_parts group.parts.items)
     → Staged d b (parts_pairs (r.cp + 1) group.parts.items) (parts_lines group.parts.items)
     → IsEitherRecord b.words r (next_record r group) image → Keeps (contents_of r d) image ⊎ Keeps (after_group (contents_of r d) group) image
-record_keeps r d b group image rest asked storable staged recorded =
+record_keeps r d b group image rest asked writable staged recorded =
     elim recorded.either [
-      | inl old ↦ inl (late_keeps r d b group image rest asked storable staged recorded.elsewhere old)
-      | inr new ↦ inr (new_keeps r d b group image rest asked storable staged recorded.elsewhere new)
+      | inl old ↦ inl (late_keeps r d b group image rest asked writable staged recorded.elsewhere old)
+      | inr new ↦ inr (new_keeps r d b group image rest asked writable staged recorded.elsewhere new)
     ]
 
 -- the record is still there when the group is stored
 pub stage_succeeded : (r : Record) (d b : State) (group : Group) → IsAtRest r d → IsGroup (contents_of r d) group
-    → AllByRecursion IsStorable (puts_of_parts group.parts.items)
+    → AllByRecursion IsWritable (puts_of_parts group.parts.items)
     → Staged d b (parts_pairs (r.cp + 1) group.parts.items) (parts_lines group.parts.items) → IsSucceeded b.words r (next_record r group)
-stage_succeeded r d b group rest asked storable staged =
+stage_succeeded r d b group rest asked writable staged =
     let pairs : List (ℕ × ℕ) = parts_pairs (r.cp + 1) group.parts.items in
-    let staging = group_staging r d group rest asked storable in
+    let staging = group_staging r d group rest asked writable in
     let Q : ℕ → Type 0 = λ word. (x : ℕ) × IsStored pairs word x in
     record {
       number = refl;
@@ -147,23 +145,23 @@ IsBeforeOrAfter r d group image = Keeps (contents_of r d) image ⊎ Keeps (after
 
 -- until the first fence
 pub stage_moments : (r : Record) (d b : State) (group : Group) → IsAtRest r d → IsGroup (contents_of r d) group
-    → AllByRecursion IsStorable (puts_of_parts group.parts.items)
+    → AllByRecursion IsWritable (puts_of_parts group.parts.items)
     → LeavesOnly d b (IsPartlyStored (parts_pairs (r.cp + 1) group.parts.items) d.words) → LeavesOnly d b (IsBeforeOrAfter r d group)
-stage_moments r d b group rest asked storable moments =
+stage_moments r d b group rest asked writable moments =
     LeavesOnly-weaken (IsBeforeOrAfter r d group)
     (λ image partly.
     inl (stage_keeps r d (length group.parts.items) (puts_of_parts group.parts.items) (parts_pairs (r.cp + 1) group.parts.items) image rest
-    (group_staging r d group rest asked storable) asked.few partly))
+    (group_staging r d group rest asked writable) asked.few partly))
     moments
 
 -- from then on
 pub commit_moments : (r : Record) (d b c : State) (group : Group) → IsAtRest r d → IsGroup (contents_of r d) group
-    → AllByRecursion IsStorable (puts_of_parts group.parts.items)
+    → AllByRecursion IsWritable (puts_of_parts group.parts.items)
     → Staged d b (parts_pairs (r.cp + 1) group.parts.items) (parts_lines group.parts.items)
     → LeavesOnly b c (IsEitherRecord b.words r (next_record r group)) → LeavesOnly d c (IsBeforeOrAfter r d group)
-commit_moments r d b c group rest asked storable staged moments =
-    LeavesOnly-then (stage_moments r d b group rest asked storable staged.moments)
-    (LeavesOnly-weaken (IsBeforeOrAfter r d group) (λ image recorded. record_keeps r d b group image rest asked storable staged recorded) moments)
+commit_moments r d b c group rest asked writable staged moments =
+    LeavesOnly-then (stage_moments r d b group rest asked writable staged.moments)
+    (LeavesOnly-weaken (IsBeforeOrAfter r d group) (λ image recorded. record_keeps r d b group image rest asked writable staged recorded) moments)
 
 -- At rest each crash leaves the contents.
 pub rest_keeps : (r : Record) (d : State) → IsAtRest r d → (image : Image) → IsImage d.words image → Keeps (contents_of r d) image

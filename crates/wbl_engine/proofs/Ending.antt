@@ -1,5 +1,5 @@
 -- What an engine holds when a commit ends.
-use Rattle.std.proofs.Common.{◌≡◌, ℕ, ◌+◌, ◌-◌, ◌*◌, ◌<◌, ◌≤◌, Bool, true, false, not, cond, ◌&&◌, ◌||◌, ◌==◌, IsTrue, List, [], ◌⊎◌, inl, inr, None, length, get_or, refl, sym, ap, subst, ◌∙◌, arith}
+use Rattle.std.proofs.Common.{◌≡◌, ℕ, ◌+◌, ◌-◌, ◌<◌, ◌≤◌, Bool, true, false, not, cond, ◌&&◌, ◌||◌, ◌==◌, List, [], ◌⊎◌, inl, inr, None, length, get_or, refl, sym, ap, subst, ◌∙◌, arith}
 use Rattle.std.specs.Prelude.{nat_lt}
 use Rattle.std.specs.List.{AllByRecursion}
 use Rattle.std.proofs.lemmas.Bool.{cond-true, cond-false, cases_lt, cases_Bool, and_left, and_right, le-ltb, lt-ltb, eq-eqb, ne_eqb, or_from, or_left, or_right}
@@ -12,21 +12,22 @@ use Rattle.model.specs.declared.group.Group.{Group}
 use Rattle.model.specs.declared.group.Put.{Put}
 use Rattle.model.specs.Image.{Image, HasSuperblock, root_word, entry_word, entries_of_lines, version_at, counts}
 use Rattle.model.specs.Group.{Contents, Versions, IsGroup, IsPlaced, is_put_at, next_record, after_group, parts_versions}
-use Rattle.wbl_engine.specs.AtRest.{contents_of, IsSound, IsWhole, IsInPlace, IsAtRest, Matters}
+use Rattle.wbl_engine.specs.AtRest.{contents_of, IsWhole, IsAtRest, Matters}
+use Rattle.wbl_record.specs.Current.{IsLawful}
 use Rattle.wbl_engine.specs.Contents.{Same}
-use Rattle.heap_layout.specs.Put.{IsStorable, entry_words}
+use Rattle.heap_layout.specs.Put.{entry_words}
+use Rattle.wbl_engine.specs.Stage.{IsWritable, puts_of_parts, parts_pairs, parts_lines}
 use Rattle.wbl_record.specs.Record.{IsRecordWord, IsRecorded}
-use Rattle.wbl_engine.specs.Stage.{puts_of_parts, parts_pairs, parts_lines}
-use Rattle.wbl_engine.proofs.AfterStage.{after_fits, stage_certain, kept_word}
+use Rattle.wbl_engine.proofs.AfterStage.{after_fits, after_made, stage_certain, kept_word}
 use Rattle.wbl_engine.proofs.Beginning.{versions-within, versions-beyond, group_staging}
 use Rattle.wbl_engine.proofs.Committing.{at_rest_staging, no_record_word}
 use Rattle.wbl_engine.proofs.Covering.{IsStoredPut, parts_stored_put, entry_stored}
 use Rattle.wbl_engine.proofs.PartEffects.{is_put_at-among}
-use Rattle.wbl_engine.proofs.PartSteps.{Fits, in_place-same}
+use Rattle.wbl_engine.proofs.PartSteps.{Fits}
+use Rattle.wbl_engine.proofs.PositionLemmas.{AreMadeUpTo}
 use Rattle.wbl_engine.proofs.PutPairs.{among-all}
 use Rattle.wbl_engine.proofs.StageImages.{HasSuperblock-same}
-use Rattle.wbl_engine.proofs.Staged.{IsStaging, IsStagedOver, staging_before, staged_same, staged_begin, staged_begins, staged_ends}
-use Rattle.wbl_engine.proofs.VersionLemmas.{SameEntry}
+use Rattle.wbl_engine.proofs.Staged.{IsStaging, IsStagedOver, staging_before, staged_same, staged_begin, staged_begins, staged_ends, staged_whole, staged_position}
 
 -- the contents of an image
 abbrev pub contents_at : Record → ℕ → Image → Contents
@@ -47,14 +48,7 @@ made_over : (r : Record) (lines : ℕ) (new image : Image) (versions : Versions)
 made_over r lines new image versions fits made word (inl before) = inl (made word (inl before))
 made_over r lines new image versions fits made word (inr (inl directory)) = inl (made word (inr directory.0))
 made_over r lines new image versions fits made word (inr (inr (i, within, begun, at))) =
-    inl (made word (inr (omega (arith, at.low, (fits.in_place i within begun).above))))
-
-made_entry : (lines : ℕ) (new image : Image) (i : ℕ) → IsMade new image → IsInPlace lines new i → SameEntry new image i
-made_entry lines new image i made place =
-    record {
-      words = λ k low high. made (entry_word i k) (inr (omega arith));
-      extent = λ j below. made (8 * new (entry_word i 3) + j) (inr (omega (arith, place.above)));
-    }
+    inl (made word (inr (omega (arith, at.low, (fits.entries i within begun).above))))
 
 made_matters : (r : Record) (lines : ℕ) (new image : Image) → IsMade new image → (word : ℕ) → Matters r lines image word → Matters r lines new word
 made_matters r lines new image made word (inl before) = inl before
@@ -71,19 +65,18 @@ made_matters r lines new image made word (inr (inr (i, within, begun, at))) =
     ))
 
 -- such an image is as whole as the one that the group made
-made_whole : (r : Record) (lines : ℕ) (base new image : Image) (versions : Versions) → Fits r lines new versions → IsMade new image
+made_whole : (r : Record) (lines : ℕ) (base new image : Image) (versions : Versions) → Fits r lines new versions → AreMadeUpTo r.position versions
+    → IsMade new image
     → ((word : ℕ) → word < root_word → new word ≡ base word) → HasSuperblock lines base → IsWhole r lines image
-made_whole r lines base new image versions fits made before superblock =
+made_whole r lines base new image versions fits positions made before superblock =
     let staging : IsStaging r lines 0 new versions [] [] = at_rest_staging fits in
     let over : IsStagedOver r lines new [] image = made_over r lines new image versions fits made in
     record {
       superblock = HasSuperblock-same lines base image (λ word low. made word (inl low) ∙ before word low) superblock;
       begins = λ i within. omega (arith, staged_begins staging over i within);
       ends = λ i within. omega (arith, staged_ends staging over i within);
-      in_place = λ i within begun.
-          let was : IsTrue (counts r (new (entry_word i 0))) = sym (ap (counts r) (made (entry_word i 0) (inr (omega arith)))) ∙ begun in
-          let place : IsInPlace lines new i = fits.in_place i within was in
-          in_place-same lines new image i (made_entry lines new image i made place) place;
+      entries = staged_whole staging over;
+      positions = staged_position r.position staging over positions;
     }
 
 -- ---- after a commit
@@ -103,31 +96,32 @@ recorded_made d b c next pairs staged recorded word which =
 
 -- no store is before the directory
 before_written : (r : Record) (d : State) (group : Group) → IsAtRest r d → IsGroup (contents_of r d) group
-    → AllByRecursion IsStorable (puts_of_parts group.parts.items) → (word : ℕ) → word < root_word
+    → AllByRecursion IsWritable (puts_of_parts group.parts.items) → (word : ℕ) → word < root_word
     → written (parts_pairs (r.cp + 1) group.parts.items) (image_of d.words) word ≡ image_of d.words word
-before_written r d group rest asked storable word before =
+before_written r d group rest asked writable word before =
     written-outside (parts_pairs (r.cp + 1) group.parts.items) (image_of d.words) word
-    (λ x stored. staging_before (group_staging r d group rest asked storable) word x (omega (arith, before)) stored)
+    (λ x stored. staging_before (group_staging r d group rest asked writable) word x (omega (arith, before)) stored)
 
 -- The device is at rest with the next record.
 pub commit_rest : (r : Record) (d b c : State) (group : Group) → IsAtRest r d → IsGroup (contents_of r d) group
-    → AllByRecursion IsStorable (puts_of_parts group.parts.items) → IsSound (next_record r group)
+    → AllByRecursion IsWritable (puts_of_parts group.parts.items) → IsLawful (next_record r group)
     → Staged d b (parts_pairs (r.cp + 1) group.parts.items) (parts_lines group.parts.items) → IsRecorded b c (next_record r group)
     → IsAtRest (next_record r group) c
-commit_rest r d b c group rest asked storable sound staged recorded =
+commit_rest r d b c group rest asked writable lawful staged recorded =
     let pairs : List (ℕ × ℕ) = parts_pairs (r.cp + 1) group.parts.items in
     let new : Image = written pairs (image_of d.words) in
     let next : Record = next_record r group in
     let versions : Versions = parts_versions (contents_of r d).versions group.parts.items in
-    let fits : Fits next d.lines new versions = after_fits r d group rest asked storable in
+    let fits : Fits next d.lines new versions = after_fits r d group rest asked writable in
     let made : IsMade new (image_of c.words) = recorded_made d b c next pairs staged.newest recorded.newest in
     let lines : c.lines ≡ d.lines = recorded.stays.lines ∙ staged.stays.lines in
     record {
       many = omega (arith, lines, rest.many);
       few = omega (arith, lines, rest.few);
-      sound = sound;
+      lawful = lawful;
       whole = subst (λ (n : ℕ). IsWhole next n (image_of c.words)) (sym lines)
-          (made_whole next d.lines (image_of d.words) new (image_of c.words) versions fits made (before_written r d group rest asked storable)
+          (made_whole next d.lines (image_of d.words) new (image_of c.words) versions fits (after_made r d group rest asked) made
+          (before_written r d group rest asked writable)
           rest.whole.superblock);
       recorded = recorded.durable;
       certain = λ word matters.
@@ -137,22 +131,22 @@ commit_rest r d b c group rest asked storable sound staged recorded =
           let other = no_record_word next d.lines next.number new versions fits word was in
           record {
             only = λ y may.
-                (stage_certain r d b group rest asked storable staged word (inr was)).only y (recorded.elsewhere word y other may)
+                (stage_certain r d b group rest asked writable staged word (inr was)).only y (recorded.elsewhere word y other may)
                 ∙ sym (staged.newest word) ∙ sym (recorded.newest word other);
           };
     }
 
 -- an entry is free after the group if it was and the group puts nothing there
 stamp_begin : (r : Record) (d : State) (group : Group) → IsAtRest r d → IsGroup (contents_of r d) group
-    → AllByRecursion IsStorable (puts_of_parts group.parts.items) → (i : ℕ) → i < entries_of_lines d.lines
+    → AllByRecursion IsWritable (puts_of_parts group.parts.items) → (i : ℕ) → i < entries_of_lines d.lines
     → is_put_at i (puts_of_parts group.parts.items) ≡ true
     → r.cp < written (parts_pairs (r.cp + 1) group.parts.items) (image_of d.words) (entry_word i 0)
-stamp_begin r d group rest asked storable i within put =
+stamp_begin r d group rest asked writable i within put =
     let parts = group.parts.items in
     let puts : List Put = puts_of_parts parts in
     let pairs : List (ℕ × ℕ) = parts_pairs (r.cp + 1) parts in
     let base : Image = image_of d.words in
-    let staging : IsStaging r d.lines (length parts) base (contents_of r d).versions puts pairs = group_staging r d group rest asked storable in
+    let staging : IsStaging r d.lines (length parts) base (contents_of r d).versions puts pairs = group_staging r d group rest asked writable in
     let at = is_put_at-among i puts put in
     let place : IsStoredPut pairs at.0 = parts_stored_put (r.cp + 1) parts at.0 at.1 in
     elim (written-cases pairs base (entry_word i 0)) [
@@ -187,10 +181,10 @@ and_not_true false = refl
 
 -- The contents are those after the group.
 pub commit_same : (r : Record) (d : State) (group : Group) (image : Image) → IsAtRest r d → IsGroup (contents_of r d) group
-    → AllByRecursion IsStorable (puts_of_parts group.parts.items)
+    → AllByRecursion IsWritable (puts_of_parts group.parts.items)
     → IsMade (written (parts_pairs (r.cp + 1) group.parts.items) (image_of d.words)) image
     → Same (after_group (contents_of r d) group) (contents_at (next_record r group) d.lines image)
-commit_same r d group image rest asked storable made =
+commit_same r d group image rest asked writable made =
     let parts = group.parts.items in
     let puts : List Put = puts_of_parts parts in
     let pairs : List (ℕ × ℕ) = parts_pairs (r.cp + 1) parts in
@@ -198,7 +192,7 @@ commit_same r d group image rest asked storable made =
     let new : Image = written pairs base in
     let next : Record = next_record r group in
     let versions : Versions = parts_versions (contents_of r d).versions parts in
-    let fits : Fits next d.lines new versions = after_fits r d group rest asked storable in
+    let fits : Fits next d.lines new versions = after_fits r d group rest asked writable in
     let staging : IsStaging next d.lines 0 new versions [] [] = at_rest_staging fits in
     let over : IsStagedOver next d.lines new [] image = made_over next d.lines new image versions fits made in
     record {
@@ -214,7 +208,7 @@ commit_same r d group image rest asked storable made =
           ];
       is_free = λ i.
           elim (cases_lt i (entries_of_lines d.lines)) [
-            | inl within ↦ free_within r d group image rest asked storable made i within
+            | inl within ↦ free_within r d group image rest asked writable made i within
             | inr beyond ↦
                 let out : nat_lt i (entries_of_lines d.lines) ≡ false = le-ltb i (entries_of_lines d.lines) beyond in
                 and_left (nat_lt i (entries_of_lines d.lines)) (image (entry_word i 0) == 0 || nat_lt next.cp (image (entry_word i 0))) out
@@ -225,19 +219,19 @@ commit_same r d group image rest asked storable made =
     }
   where
     free_within : (r : Record) (d : State) (group : Group) (image : Image) → IsAtRest r d → IsGroup (contents_of r d) group
-        → AllByRecursion IsStorable (puts_of_parts group.parts.items)
+        → AllByRecursion IsWritable (puts_of_parts group.parts.items)
         → IsMade (written (parts_pairs (r.cp + 1) group.parts.items) (image_of d.words)) image → (i : ℕ) → i < entries_of_lines d.lines
         → (contents_at (next_record r group) d.lines image).is_free i ≡ (after_group (contents_of r d) group).is_free i
-    free_within r d group image rest asked storable made i within =
+    free_within r d group image rest asked writable made i within =
         let puts : List Put = puts_of_parts group.parts.items in
         let pairs : List (ℕ × ℕ) = parts_pairs (r.cp + 1) group.parts.items in
         let base : Image = image_of d.words in
         let next : Record = next_record r group in
         let is : image (entry_word i 0) ≡ written pairs base (entry_word i 0) = made (entry_word i 0) (inr (omega arith)) in
-        let fits = after_fits r d group rest asked storable in
+        let fits = after_fits r d group rest asked writable in
         elim (cases_Bool (is_put_at i puts)) [
           | inl put ↦
-              let above = stamp_begin r d group rest asked storable i within put in
+              let above = stamp_begin r d group rest asked writable i within put in
               let taken : (image (entry_word i 0) == 0 || nat_lt next.cp (image (entry_word i 0))) ≡ false =
               or_from (image (entry_word i 0) == 0) (nat_lt next.cp (image (entry_word i 0)))
               (ne_eqb (image (entry_word i 0)) 0 (λ e. omega (arith, e, is, above)))
@@ -246,7 +240,7 @@ commit_same r d group image rest asked storable made =
               ∙ and_not_true ((contents_of r d).is_free i) ∙ ap (λ (b : Bool). (contents_of r d).is_free i && not b) (sym put)
           | inr none ↦
               let kept : image (entry_word i 0) ≡ base (entry_word i 0) =
-              is ∙ kept_word (group_staging r d group rest asked storable) i 0 within (omega arith) (omega arith) none in
+              is ∙ kept_word (group_staging r d group rest asked writable) i 0 within (omega arith) (omega arith) none in
               ap (λ (b : ℕ). nat_lt i (entries_of_lines d.lines) && (b == 0 || nat_lt next.cp b)) kept
               ∙ ap (λ (t : Bool). nat_lt i (entries_of_lines d.lines) && t)
               (free_after (base (entry_word i 0)) r.cp next.cp (rest.whole.begins i within) (omega arith))
@@ -257,15 +251,15 @@ commit_same r d group image rest asked storable made =
 
 -- The contents are those before the group.
 pub fault_same : (r : Record) (d : State) (group : Group) (image : Image) → IsAtRest r d → IsGroup (contents_of r d) group
-    → AllByRecursion IsStorable (puts_of_parts group.parts.items)
+    → AllByRecursion IsWritable (puts_of_parts group.parts.items)
     → IsMade (written (parts_pairs (r.cp + 1) group.parts.items) (image_of d.words)) image
     → Same (contents_of r d) (contents_at r d.lines image)
-fault_same r d group image rest asked storable made =
+fault_same r d group image rest asked writable made =
     let parts = group.parts.items in
     let puts : List Put = puts_of_parts parts in
     let pairs : List (ℕ × ℕ) = parts_pairs (r.cp + 1) parts in
     let base : Image = image_of d.words in
-    let staging : IsStaging r d.lines (length parts) base (contents_of r d).versions puts pairs = group_staging r d group rest asked storable in
+    let staging : IsStaging r d.lines (length parts) base (contents_of r d).versions puts pairs = group_staging r d group rest asked writable in
     let over : IsStagedOver r d.lines base pairs image = fault_over r d group image rest made in
     record {
       current = refl;
@@ -298,7 +292,7 @@ fault_same r d group image rest asked storable made =
         elim matters [
           | inl before ↦ inl before
           | inr (inl directory) ↦ inr directory.0
-          | inr (inr (i, within, begun, at)) ↦ inr (omega (arith, at.low, (rest.whole.in_place i within begun).above))
+          | inr (inr (i, within, begun, at)) ↦ inr (omega (arith, at.low, (rest.whole.entries i within begun).above))
         ] in
         let is : image word ≡ written pairs (image_of d.words) word = made word which in
         elim (written-cases pairs (image_of d.words) word) [

@@ -1,23 +1,23 @@
 -- The three steps of formatting leave an image from before, the new one, or one without the magic.
-use Rattle.std.proofs.Common.{◌≡◌, ◌≢◌, ℕ, zero, suc, ◌+◌, ◌-◌, ◌*◌, ◌/◌, ◌<◌, ◌≤◌, Bool, true, false, cond, ◌&&◌, ◌||◌, ◌==◌, IsTrue, List, [], ◌∷◌, ◌++◌, ◌⊎◌, inl, inr, Option, None, length, get_or, refl, sym, ap, subst, ◌∙◌, arith}
+use Rattle.std.proofs.Common.{◌≡◌, ◌≢◌, ℕ, ◌+◌, ◌*◌, ◌/◌, ◌<◌, ◌≤◌, Bool, ◌&&◌, ◌||◌, ◌==◌, IsTrue, List, [], ◌∷◌, inl, inr, None, get_or, refl, sym, ap, subst, ◌∙◌, arith}
 use Rattle.std.specs.Prelude.{nat_lt}
-use Rattle.std.proofs.lemmas.Bool.{cond-true, cond-false, cases_lt, lt-ltb, le-ltb, both_ways}
+use Rattle.std.proofs.lemmas.Bool.{cond-false, cases_lt, lt-ltb, both_ways}
 use Rattle.pmem.specs.Device.{Word, State, MayBe, Only}
-use Rattle.pmem.specs.Crash.{IsImage, image_of}
+use Rattle.pmem.specs.Crash.{image_of}
 use Rattle.pmem.specs.Runs.{LeavesOnly, Staged, StageFailed, IsPartlyStored, IsStored, IsOutside, written, lines_from}
 use Rattle.pmem.proofs.Leaving.{LeavesOnly-then, LeavesOnly-weaken}
-use Rattle.pmem.proofs.Staging.{written-outside, stored_or_outside, same_or_other, IsLine-lines_from}
-use Rattle.model.specs.declared.image.TheConstants.{MIN_LINES, MAX_LINES, COUNTER_LIMIT}
-use Rattle.model.specs.declared.record.Record.{Record}
+use Rattle.pmem.proofs.Staging.{same_or_other, IsLine-lines_from}
+use Rattle.model.specs.declared.image.TheConstants.{MIN_LINES, MAX_LINES}
 use Rattle.model.specs.declared.record.Role.{Role}
-use Rattle.model.specs.Image.{Image, HasSuperblock, HasRecord, magic_number, root_word, entry_word, entries_of_lines, first_extent_line, record_words, version_at, counts}
-use Rattle.wbl_engine.specs.AtRest.{contents_of, IsSound, IsWhole, IsAtRest, Matters}
+use Rattle.model.specs.Image.{Image, HasSuperblock, HasRecord, magic_number, entry_word, entries_of_lines, first_extent_line, record_words, version_at, counts}
+use Rattle.wbl_engine.specs.AtRest.{contents_of, IsWhole, IsAtRest, Matters}
 use Rattle.wbl_engine.specs.Contents.{Keeps, IsNew}
 use Rattle.wbl_engine.specs.Formatting.{first_record, superblock_words, new_contents, new_pairs, IsFormatting}
 use Rattle.wbl_engine.proofs.Beginning.{versions-within, versions-beyond}
 use Rattle.wbl_engine.proofs.CountLemmas.{counts-zero}
 use Rattle.wbl_record.proofs.Mixing.{image_of-is}
-use Rattle.wbl_engine.proofs.NewImage.{magic_outside, new_covered, new_super, new_first, new_entry}
+use Rattle.wbl_engine.proofs.NewImage.{magic_outside, new_super, new_first, new_entry}
+use Rattle.wbl_record.specs.Current.{IsLawful}
 use Rattle.wbl_record.proofs.RecordLemmas.{record_is}
 
 abbrev pub magic_pairs : ℕ → List (ℕ × ℕ)
@@ -51,6 +51,13 @@ new_superblock lines role image magic has =
 new_record : (lines : ℕ) (role : Role) (image : Image) → HasNew lines role image → HasRecord (first_record role) image
 new_record lines role image has = record_is (first_record role) image (has.super 3 (omega arith)) has.first
 
+-- no begin counts
+not_begun : (lines : ℕ) (role : Role) (image : Image) → HasNew lines role image → (i : ℕ) → i < entries_of_lines lines
+    → IsTrue (counts (first_record role) (image (entry_word i 0))) → ⊥
+not_begun lines role image has i within begun =
+    both_ways (counts (first_record role) (image (entry_word i 0)))
+    (ap (counts (first_record role)) (has.entry i 0 within (omega arith)) ∙ counts-zero (first_record role)) begun
+
 no_version : (lines : ℕ) (role : Role) (image : Image) → HasNew lines role image → (i : ℕ) → i < entries_of_lines lines
     → version_at (first_record role) image i ≡ None
 no_version lines role image has i within =
@@ -63,8 +70,13 @@ new_keeps lines role image magic has =
       superblock = new_superblock lines role image magic has;
       has_record = new_record lines role image has;
       versions = no_version lines role image has;
-      begins = λ i within. omega (arith, has.entry i 0 within (omega arith));
-      ends = λ i within. omega (arith, has.entry i 1 within (omega arith));
+      entries = λ i within.
+          record {
+            begin = omega (arith, has.entry i 0 within (omega arith));
+            end = omega (arith, has.entry i 1 within (omega arith));
+            whole = λ begun. absurd (not_begun lines role image has i within begun);
+            position = λ begun. absurd (not_begun lines role image has i within begun);
+          };
     }
 
 -- once it is written, all of it is certain
@@ -164,8 +176,7 @@ matters_below : (lines : ℕ) (role : Role) (image : Image) → HasNew lines rol
 matters_below lines role image has word (inl before) = omega (arith, before)
 matters_below lines role image has word (inr (inl directory)) = directory.1
 matters_below lines role image has word (inr (inr (i, within, begun, at))) =
-    absurd (both_ways (counts (first_record role) (image (entry_word i 0)))
-    (ap (counts (first_record role)) (has.entry i 0 within (omega arith)) ∙ counts-zero (first_record role)) begun)
+    absurd (not_begun lines role image has i within begun)
 
 -- a word with one candidate holds what loads return
 only_newest : (word : Word) (x : ℕ) → ((y : ℕ) → MayBe word y → y ≡ x) → Only word word.newest
@@ -185,6 +196,21 @@ certain_below {b} {c} {d} lines role second third word below =
           (third.elsewhere word y (magic_other magic_number word other) may))
     ]
 
+-- the first record obeys its rules
+pub first_lawful : (role : Role) → IsLawful (first_record role)
+first_lawful role =
+    record {
+      some = omega arith;
+      number = omega arith;
+      position = omega arith;
+      limit = refl;
+      room = omega arith;
+      some_epoch = omega arith;
+      epoch = omega arith;
+      few = omega arith;
+      gaps = tt;
+    }
+
 -- The device is at rest with the first record.
 pub format_rest : {a b c d : State} (role : Role) → MIN_LINES ≤ a.lines → a.lines ≤ MAX_LINES → Staged a b (magic_pairs 0) (0 ∷ [])
     → Staged b c (new_pairs a.lines role) (lines_from 0 (first_extent_line a.lines)) → Staged c d (magic_pairs magic_number) (0 ∷ [])
@@ -195,22 +221,14 @@ format_rest {a} {b} {c} {d} role many few first second third =
     record {
       many = omega (arith, lines, many);
       few = omega (arith, lines, few);
-      sound = record {
-        limit = refl;
-        number = omega arith;
-        position = omega arith;
-        epoch = omega arith;
-        room = omega arith;
-        no_gap = λ stamp above. refl;
-      };
+      lawful = first_lawful role;
       whole = subst (λ (n : ℕ). IsWhole (first_record role) n (image_of d.words)) (sym lines)
           (record {
             superblock = new_superblock a.lines role (image_of d.words) now.0 now.1;
             begins = λ i within. omega (arith, now.1.entry i 0 within (omega arith));
             ends = λ i within. omega (arith, now.1.entry i 1 within (omega arith));
-            in_place = λ i within begun.
-                absurd (both_ways (counts (first_record role) (image_of d.words (entry_word i 0)))
-                (ap (counts (first_record role)) (now.1.entry i 0 within (omega arith)) ∙ counts-zero (first_record role)) begun);
+            entries = λ i within begun. absurd (not_begun a.lines role (image_of d.words) now.1 i within begun);
+            positions = λ i within begun. absurd (not_begun a.lines role (image_of d.words) now.1 i within begun);
           });
       recorded = λ image is. new_record a.lines role image (finished a.lines role second third image (λ word below. is word)).1;
       certain = λ word matters.

@@ -9,8 +9,7 @@ use Rattle.model.specs.declared.group.Part.{Part}
 use Rattle.model.specs.declared.group.Put.{Put}
 use Rattle.model.specs.Image.{Image, Version}
 use Rattle.model.specs.Group.{Versions, IsPlaced, HasItsLines, AreApart, IsApartFrom, AreAllApart, AreParts, is_put_at, puts_of_part, part_versions, parts_versions, version_of_put}
-use Rattle.heap_layout.specs.Put.{IsStorable}
-use Rattle.wbl_engine.specs.Stage.{part_pairs, parts_pairs, puts_of_parts}
+use Rattle.wbl_engine.specs.Stage.{IsWritable, part_pairs, parts_pairs, puts_of_parts}
 use Rattle.wbl_engine.proofs.CountLemmas.{with_cp}
 use Rattle.wbl_engine.proofs.PartEffects.{IsAmong, end_if, end_if_begun, changes_kept, changes_made, is_put_at-among}
 use Rattle.wbl_engine.proofs.PartWords.{part_word-kept}
@@ -19,24 +18,24 @@ use Rattle.wbl_engine.proofs.PutPairs.{among-all}
 
 -- concatenated lists
 
-all-prefix : (P : Put → Type 0) (a b : List Put) → AllByRecursion P (a ++ b) → AllByRecursion P a
+pub all-prefix : (P : Put → Type 0) (a b : List Put) → AllByRecursion P (a ++ b) → AllByRecursion P a
 all-prefix P [] b all = tt
 all-prefix P (put ∷ a) b all = (all.0, all-prefix P a b all.1)
 
-all-back : (P : Put → Type 0) (a b : List Put) → AllByRecursion P (a ++ b) → AllByRecursion P b
+pub all-back : (P : Put → Type 0) (a b : List Put) → AllByRecursion P (a ++ b) → AllByRecursion P b
 all-back P [] b all = all
 all-back P (put ∷ a) b all = all-back P a b all.1
 
-apart-prefix : (a b : List Put) → AreAllApart (a ++ b) → AreAllApart a
+pub apart-prefix : (a b : List Put) → AreAllApart (a ++ b) → AreAllApart a
 apart-prefix [] b apart = tt
 apart-prefix (put ∷ a) b apart = (all-prefix (IsApartFrom put) a b apart.0, apart-prefix a b apart.1)
 
-apart-back : (a b : List Put) → AreAllApart (a ++ b) → AreAllApart b
+pub apart-back : (a b : List Put) → AreAllApart (a ++ b) → AreAllApart b
 apart-back [] b apart = apart
 apart-back (put ∷ a) b apart = apart-back a b apart.1
 
 -- each put of the first list is apart from each put of the second
-apart-across : (a b : List Put) → AreAllApart (a ++ b) → (put other : Put) → IsAmong put a → IsAmong other b → IsApartFrom put other
+pub apart-across : (a b : List Put) → AreAllApart (a ++ b) → (put other : Put) → IsAmong put a → IsAmong other b → IsApartFrom put other
 apart-across [] b apart put other among there = absurd among
 apart-across (first ∷ a) b apart put other (inl here) there =
     subst (λ (p : Put). IsApartFrom p other) (sym here) (among-all (IsApartFrom first) b other there (all-back (IsApartFrom first) a b apart.0))
@@ -62,7 +61,7 @@ none-from i puts none =
       | inr no_put ↦ no_put
     ]
 
-flip_apart : (a b c d : ℕ) → AreApart a b c d → AreApart c d a b
+pub flip_apart : (a b c d : ℕ) → AreApart a b c d → AreApart c d a b
 flip_apart a b c d (inl before) = inr before
 flip_apart a b c d (inr after) = inl after
 
@@ -75,7 +74,7 @@ part_stored lines versions image part parts stored =
     record {
       placed = all-prefix (IsPlaced lines) a b stored.placed;
       fitting = all-prefix HasItsLines a b stored.fitting;
-      storable = all-prefix IsStorable a b stored.storable;
+      writable = all-prefix IsWritable a b stored.writable;
       ready = all-prefix (IsReady versions image) a b stored.ready;
       apart = apart-prefix a b stored.apart;
     }
@@ -129,7 +128,7 @@ rest_stored lines stamp versions image part parts stored =
     record {
       placed = all-back (IsPlaced lines) a b stored.placed;
       fitting = all-back HasItsLines a b stored.fitting;
-      storable = all-back IsStorable a b stored.storable;
+      writable = all-back IsWritable a b stored.writable;
       ready = all-from (IsReady (part_versions versions part) (written (part_pairs stamp part) image)) b
           (λ put among. still_ready lines stamp versions image part parts stored put among);
       apart = apart-back a b stored.apart;

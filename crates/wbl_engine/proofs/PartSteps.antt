@@ -1,21 +1,20 @@
 -- One part moves the versions of an image exactly as its changes say.
-use Rattle.std.proofs.Common.{◌≡◌, ℕ, ◌+◌, ◌*◌, ◌<◌, ◌≤◌, Bool, true, false, not, ◌||◌, IsTrue, List, ◌⊎◌, inl, inr, ◌↔◌, Option, None, Some, refl, sym, ap, subst, ◌∙◌, arith}
+use Rattle.std.proofs.Common.{◌≡◌, ℕ, ◌+◌, ◌*◌, ◌/◌, ◌<◌, ◌≤◌, Bool, true, false, not, ◌||◌, IsTrue, List, ◌⊎◌, inl, inr, ◌↔◌, Option, None, Some, refl, sym, ap, subst, ◌∙◌, arith}
 use Rattle.std.specs.List.{list_any, AllByRecursion}
 use Rattle.std.proofs.lemmas.Bool.{cond-true, cond-false, cases_Bool, cases_lt, or_left, or_right}
 use Rattle.pmem.specs.Runs.{written}
 use Rattle.model.specs.declared.record.Record.{Record}
 use Rattle.model.specs.declared.group.Part.{Part}
 use Rattle.model.specs.declared.group.Put.{Put}
-use Rattle.model.specs.Image.{Image, Version, entry_word, entry_bytes, entries_of_lines, version_at, version_in, counts, is_in_gap}
+use Rattle.model.specs.Image.{Image, Version, entry_word, entry_bytes, entries_of_lines, lines_of_bytes, version_at, version_in, counts, is_in_gap}
 use Rattle.model.specs.Group.{Versions, IsPlaced, HasItsLines, AreApart, AreAllApart, NamesEnded, is_put_at, is_live_version, is_ended_version, puts_of_part, part_versions, version_of_put}
-use Rattle.wbl_engine.specs.AtRest.{IsInPlace}
-use Rattle.heap_layout.specs.Put.{IsStorable}
-use Rattle.wbl_engine.specs.Stage.{part_pairs}
+use Rattle.heap_layout.specs.Entry.{IsEntry}
+use Rattle.wbl_engine.specs.Stage.{IsWritable, part_pairs}
 use Rattle.wbl_engine.proofs.CountLemmas.{with_cp, counts-zero, counts-later, counts-new}
 use Rattle.wbl_engine.proofs.PartEffects.{IsAmong, end_if, end_if_begun, changes_kept, changes_made, is_put_at-among, among-is_put_at}
 use Rattle.wbl_engine.proofs.PartWords.{named_or_not, contains-named, named-contains, part_word-end_of_put, part_word-named, part_words-put, part_word-kept, part_word-kept_end, part_word-behind}
 use Rattle.wbl_engine.proofs.PutPairs.{IsNamed, among-all}
-use Rattle.heap_layout.proofs.ReadBack.{HasPut, entry_bytes-put, put_enough}
+use Rattle.heap_layout.proofs.ReadBack.{HasPut, IsEntry-put, lines_enough}
 use Rattle.wbl_engine.proofs.ReadBack.{version_in_entry-put}
 use Rattle.wbl_engine.proofs.VersionLemmas.{SameEntry, version_in_entry, version_in_entry-same}
 
@@ -25,7 +24,7 @@ pub record Fits (r : Record) (lines : ℕ) (image : Image) (versions : Versions)
   pub beyond : (i : ℕ) → entries_of_lines lines ≤ i → versions i ≡ None
   pub begins : (i : ℕ) → i < entries_of_lines lines → image (entry_word i 0) ≤ r.cp
   pub ends : (i : ℕ) → i < entries_of_lines lines → image (entry_word i 1) ≤ r.cp
-  pub in_place : (i : ℕ) → i < entries_of_lines lines → IsTrue (counts r (image (entry_word i 0))) → IsInPlace lines image i
+  pub entries : (i : ℕ) → i < entries_of_lines lines → IsTrue (counts r (image (entry_word i 0))) → IsEntry lines image i
   pub no_gap : (stamp : ℕ) → r.cp < stamp → list_any (is_in_gap stamp) r.gaps.items ≡ false
 
 -- a put may be stored: its entry is free, and its lines are those of no version
@@ -37,12 +36,12 @@ pub record IsReady (versions : Versions) (image : Image) (put : Put) : Type 0 wh
 pub record AreStored (lines : ℕ) (versions : Versions) (image : Image) (puts : List Put) : Type 0 where
   pub placed : AllByRecursion (IsPlaced lines) puts
   pub fitting : AllByRecursion HasItsLines puts
-  pub storable : AllByRecursion IsStorable puts
+  pub writable : AllByRecursion IsWritable puts
   pub ready : AllByRecursion (IsReady versions image) puts
   pub apart : AreAllApart puts
 
 -- a version that is there was begun
-begun_version : {r : Record} {lines : ℕ} {image : Image} {versions : Versions} → Fits r lines image versions → (i : ℕ) (version : Version)
+pub begun_version : {r : Record} {lines : ℕ} {image : Image} {versions : Versions} → Fits r lines image versions → (i : ℕ) (version : Version)
     → i < entries_of_lines lines → versions i ≡ Some version
     → (counts r (image (entry_word i 0)) ≡ true) × (version ≡ version_in r image i)
 begun_version {r} {lines} {image} {versions} fits i version within is =
@@ -88,6 +87,10 @@ named_within {r} {lines} {image} {versions} part fits placed names i named =
     or_live None b h = inr h
     or_live (Some version) b h = inl (version, refl)
 
+-- the lines of an entry are enough for its bytes
+pub entry_enough : {lines : ℕ} {image : Image} {i : ℕ} → IsEntry lines image i → entry_bytes image i ≤ 64 * image (entry_word i 4)
+entry_enough {lines} {image} {i} entry = omega (arith, lines_enough (entry_bytes image i), entry.lines_are)
+
 -- the entry of a kept version stays, and so does its extent
 kept_entry : {r : Record} {lines : ℕ} {image : Image} {versions : Versions} (stamp : ℕ) (part : Part) → Fits r lines image versions
     → AreStored lines versions image (puts_of_part part) → ((i : ℕ) → IsNamed i part.ended.items → i < entries_of_lines lines)
@@ -95,7 +98,7 @@ kept_entry : {r : Record} {lines : ℕ} {image : Image} {versions : Versions} (s
     → SameEntry image (written (part_pairs stamp part) image) i
 kept_entry {r} {lines} {image} {versions} stamp part fits stored within_named i version within is none =
     let begun = begun_version fits i version within is in
-    let at = fits.in_place i within begun.0 in
+    let at = fits.entries i within begun.0 in
     record {
       words = λ k low high. part_word-kept lines stamp part image i k within high (omega (arith, low)) none stored.placed;
       extent = λ j below.
@@ -106,7 +109,7 @@ kept_entry {r} {lines} {image} {versions} stamp part fits stored within_named i 
           let count : version.lines ≡ image (entry_word i 4) = ap (λ (v : Version). v.lines) begun.1 in
           elim apart [
             | inl before ↦ omega (arith, before, first, of.high)
-            | inr after ↦ omega (arith, after, first, count, of.low, below, at.enough)
+            | inr after ↦ omega (arith, after, first, count, of.low, below, entry_enough at)
           ])
           stored.placed;
     }
@@ -242,7 +245,7 @@ same_made {r} {lines} {image} {versions} part fits stored names put among =
     ap (counts r') has.begin ∙ counts-new r (r.cp + 1) (r.cp + 1) (omega arith) (omega arith) (fits.no_gap (r.cp + 1) (omega arith)) in
     let now : version_in r' image' put.entry.0 ≡ end_if made.test (version_of_put part.position put) =
     version_in_entry-put image' (r.cp + 1) part.position put (counts r' (image' (entry_word put.entry.0 1)))
-    (among-all IsStorable (puts_of_part part) put among stored.storable) (among-all HasItsLines (puts_of_part part) put among stored.fitting) has
+    (among-all IsWritable (puts_of_part part) put among stored.writable).storable (among-all HasItsLines (puts_of_part part) put among stored.fitting) has
     ∙ ap (λ (b : Bool). end_if b (version_of_put part.position put)) ended in
     cond-true _ _ _ begun ∙ ap Some now ∙ sym made.is
 
@@ -300,46 +303,50 @@ part_ends {r} {lines} {image} {versions} part fits stored i within =
           i within unnamed
     ]
 
-entry_bytes-same : (base image : Image) (i : ℕ) → SameEntry base image i → entry_bytes image i ≡ entry_bytes base i
-entry_bytes-same base image i same =
-    let at6 = same.words 6 (omega arith) (omega arith) in
-    let at7 = same.words 7 (omega arith) (omega arith) in
-    cc
-
-pub in_place-same : (lines : ℕ) (base image : Image) (i : ℕ) → SameEntry base image i → IsInPlace lines base i → IsInPlace lines image i
-in_place-same lines base image i same at =
+-- the rules of an entry look at its words after the stamps alone
+pub entry-same : (lines : ℕ) (base image : Image) (i : ℕ) → SameEntry base image i → IsEntry lines base i → IsEntry lines image i
+entry-same lines base image i same entry =
     let at3 = same.words 3 (omega arith) (omega arith) in
     let at4 = same.words 4 (omega arith) (omega arith) in
+    let at5 = same.words 5 (omega arith) (omega arith) in
+    let at6 = same.words 6 (omega arith) (omega arith) in
+    let at7 = same.words 7 (omega arith) (omega arith) in
+    let bytes : entry_bytes image i ≡ entry_bytes base i = cc in
+    let room : lines_of_bytes (entry_bytes image i) ≡ lines_of_bytes (entry_bytes base i) = ap lines_of_bytes bytes in
     record {
-      above = omega (arith, at.above, at3);
-      within = omega (arith, at.within, at3, at4);
-      enough = omega (arith, at.enough, at4, entry_bytes-same base image i same);
+      in_format = record {
+        key = omega (arith, at6, entry.in_format.key);
+        field = omega (arith, at6, entry.in_format.field);
+        value = omega (arith, at7, entry.in_format.value);
+        extent = omega (arith, at3, room, entry.in_format.extent);
+      };
+      kind = elim entry.kind [
+        | inl string ↦ inl (at5 ∙ string.0, ap (λ (n : ℕ). n / 65536) at6 ∙ string.1)
+        | inr field ↦ inr (at5 ∙ field)
+      ];
+      above = omega (arith, at3, entry.above);
+      lines_are = at4 ∙ entry.lines_are ∙ sym room;
     }
 
-part_in_place : {r : Record} {lines : ℕ} {image : Image} {versions : Versions} (part : Part) → Fits r lines image versions
+part_entries : {r : Record} {lines : ℕ} {image : Image} {versions : Versions} (part : Part) → Fits r lines image versions
     → AreStored lines versions image (puts_of_part part) → NamesEnded versions part → (i : ℕ) → i < entries_of_lines lines
     → IsTrue (counts (with_cp r (r.cp + 1)) (written (part_pairs (r.cp + 1) part) image (entry_word i 0)))
-    → IsInPlace lines (written (part_pairs (r.cp + 1) part) image) i
-part_in_place {r} {lines} {image} {versions} part fits stored names =
+    → IsEntry lines (written (part_pairs (r.cp + 1) part) image) i
+part_entries {r} {lines} {image} {versions} part fits stored names =
     let image' : Image = written (part_pairs (r.cp + 1) part) image in
     let within_named = named_within part fits stored.placed names in
     each_entry part
-    (λ i. i < entries_of_lines lines → IsTrue (counts (with_cp r (r.cp + 1)) (image' (entry_word i 0))) → IsInPlace lines image' i)
+    (λ i. i < entries_of_lines lines → IsTrue (counts (with_cp r (r.cp + 1)) (image' (entry_word i 0))) → IsEntry lines image' i)
     (λ i none within begun.
     let was : counts r (image (entry_word i 0)) ≡ true = sym (kept_begin part fits stored.placed i within none) ∙ begun in
     let is : versions i ≡ Some (version_in r image i) = sym (fits.same i within) ∙ cond-true (counts r (image (entry_word i 0))) _ _ was in
-    in_place-same lines image image' i (kept_entry (r.cp + 1) part fits stored within_named i (version_in r image i) within is none)
-    (fits.in_place i within was))
+    entry-same lines image image' i (kept_entry (r.cp + 1) part fits stored within_named i (version_in r image i) within is none)
+    (fits.entries i within was))
     (λ put among within begun.
-    let has = part_words-put lines (r.cp + 1) part image put within_named among stored.placed stored.apart in
-    let at = among-all (IsPlaced lines) (puts_of_part part) put among stored.placed in
-    let bytes = entry_bytes-put image' (r.cp + 1) part.position put (among-all IsStorable (puts_of_part part) put among stored.storable) has in
-    let enough = put_enough put (among-all HasItsLines (puts_of_part part) put among stored.fitting) in
-    record {
-      above = omega (arith, at.above, has.first_line);
-      within = omega (arith, at.within, has.first_line, has.lines);
-      enough = omega (arith, bytes, enough, has.lines);
-    })
+    let writable = among-all IsWritable (puts_of_part part) put among stored.writable in
+    IsEntry-put lines image' (r.cp + 1) part.position put (among-all (IsPlaced lines) (puts_of_part part) put among stored.placed)
+    (among-all HasItsLines (puts_of_part part) put among stored.fitting) writable.storable writable.name writable.value
+    (part_words-put lines (r.cp + 1) part image put within_named among stored.placed stored.apart))
 
 -- The versions after the stores of a part, under the record with one more stamp, are those after its changes.
 pub part_fits : {r : Record} {lines : ℕ} {image : Image} {versions : Versions} (part : Part) → Fits r lines image versions
@@ -351,6 +358,6 @@ part_fits {r} {lines} {image} {versions} part fits stored names =
       beyond = part_beyond part fits stored.placed;
       begins = part_begins part fits stored names;
       ends = part_ends part fits stored;
-      in_place = part_in_place part fits stored names;
+      entries = part_entries part fits stored names;
       no_gap = λ stamp above. fits.no_gap stamp (omega arith);
     }

@@ -1,19 +1,17 @@
 -- What a crash leaves while a group is stored before the record.
-use Rattle.std.proofs.Common.{◌≡◌, ◌≢◌, ℕ, zero, suc, ◌+◌, ◌-◌, ◌*◌, ◌%◌, ◌<◌, ◌≤◌, Bool, true, false, List, [], ◌∷◌, ◌++◌, ◌⊎◌, inl, inr, Option, None, Some, length, refl, sym, ap, subst, ◌∙◌, arith}
-use Rattle.pmem.specs.Device.{Word, State, MayBe, Only}
-use Rattle.pmem.specs.Crash.{IsImage, image_of}
+use Rattle.std.proofs.Common.{◌≡◌, ℕ, ◌<◌, ◌≤◌, List, inl, inr, sym, ◌∙◌, arith}
+use Rattle.pmem.specs.Device.{State}
+use Rattle.pmem.specs.Crash.{image_of}
 use Rattle.pmem.specs.Runs.{IsStored, IsPartlyStored}
 use Rattle.model.specs.declared.record.Record.{Record}
-use Rattle.model.specs.declared.group.Group.{Group}
 use Rattle.model.specs.declared.group.Put.{Put}
-use Rattle.model.specs.Image.{Image, HasSuperblock, HasRecord, root_word, record_word, entry_word, entries_of_lines, version_at}
-use Rattle.model.specs.Group.{Contents, Versions}
-use Rattle.wbl_engine.specs.AtRest.{contents_of, IsSound, IsWhole, IsAtRest, Matters}
+use Rattle.model.specs.Image.{Image, HasSuperblock, HasRecord, root_word}
+use Rattle.wbl_engine.specs.AtRest.{contents_of, IsAtRest}
 use Rattle.wbl_engine.specs.Contents.{Keeps}
-use Rattle.wbl_engine.proofs.Beginning.{versions-within}
+use Rattle.wbl_engine.proofs.Beginning.{versions-within, rest_made}
 use Rattle.wbl_record.proofs.Mixing.{IsMixed, mixed}
 use Rattle.wbl_record.proofs.RecordWords.{HasRecord-same}
-use Rattle.wbl_engine.proofs.Staged.{IsStaging, IsStagedOver, staging_before, staged_same, staged_begins, staged_ends}
+use Rattle.wbl_engine.proofs.Staged.{IsStaging, IsStagedOver, staging_before, staged_same, staged_under}
 
 pub HasSuperblock-same : (lines : ℕ) (base image : Image) → ((word : ℕ) → word < root_word → image word ≡ base word) → HasSuperblock lines base
     → HasSuperblock lines image
@@ -40,8 +38,7 @@ keeps_old r d count puts pairs image rest staging few over recorded =
           rest.whole.superblock;
       has_record = recorded;
       versions = λ i within. staged_same staging over i within ∙ sym (versions-within r d i within);
-      begins = λ i within. omega (arith, staged_begins staging over i within, rest.sound.limit);
-      ends = λ i within. omega (arith, staged_ends staging over i within, rest.sound.limit);
+      entries = staged_under rest.lawful.limit few (rest_made r d rest) staging over;
     }
 
 -- if a crash leaves old words or the group's, those that matter are as loads returned them or the group's

@@ -2,15 +2,19 @@
 use Rattle.std.proofs.Common.{◌≡◌, ◌≢◌, ℕ, ◌+◌, ◌-◌, ◌*◌, ◌<◌, ◌≤◌, Bool, true, false, not, ◌||◌, IsTrue, List, ◌⊎◌, inl, inr, Some, get_or, refl, sym, ap, subst, ◌∙◌, arith}
 use Rattle.std.proofs.lemmas.Bool.{cond-true, cond-false, cases_Bool, cases_lt, or_cases, both_ways, not-true}
 use Rattle.pmem.specs.Runs.{IsStored}
+use Rattle.model.specs.declared.image.TheConstants.{STAMP_WINDOW}
 use Rattle.model.specs.declared.record.Record.{Record}
 use Rattle.model.specs.declared.group.Put.{Put}
 use Rattle.model.specs.Image.{Image, entry_word, entries_of_lines, version_at, version_in, counts}
 use Rattle.model.specs.Group.{Versions, IsPlaced, is_put_at, is_live_version}
-use Rattle.wbl_engine.specs.AtRest.{Matters, IsInExtent, IsInPlace}
+use Rattle.wbl_engine.specs.AtRest.{Matters, IsInExtent}
+use Rattle.heap_layout.specs.Entry.{IsEntry}
+use Rattle.heap_layout.specs.Version.{IsUnder}
 use Rattle.heap_layout.specs.Put.{entry_words}
 use Rattle.wbl_engine.proofs.CountLemmas.{counts-above, counts-below}
 use Rattle.wbl_engine.proofs.PartEffects.{is_put_at-among}
-use Rattle.wbl_engine.proofs.PartSteps.{Fits, IsReady, AreStored}
+use Rattle.wbl_engine.proofs.PartSteps.{Fits, IsReady, AreStored, entry_enough, entry-same}
+use Rattle.wbl_engine.proofs.PositionLemmas.{AreMadeUpTo}
 use Rattle.wbl_engine.proofs.PutPairs.{among-all}
 use Rattle.wbl_engine.proofs.StoredBy.{IsStoredBy}
 use Rattle.wbl_engine.proofs.VersionLemmas.{SameEntry, version_in_entry, version_in_entry-same}
@@ -161,7 +165,7 @@ staged_extent : {r : Record} {lines count : ℕ} {base image : Image} {versions 
     → IsStaging r lines count base versions puts pairs → IsStagedOver r lines base pairs image → (i : ℕ) → i < entries_of_lines lines
     → counts r (base (entry_word i 0)) ≡ true → (word : ℕ) → IsInExtent base i word → image word ≡ base word
 staged_extent {r} {lines} {count} {base} {image} {versions} {puts} {pairs} staging over i within begun word at =
-    let place : IsInPlace lines base i = staging.fits.in_place i within begun in
+    let place : IsEntry lines base i = staging.fits.entries i within begun in
     elim (over word (inr (inr (i, within, begun, at)))) [
       | inl same ↦ same
       | inr stored ↦
@@ -200,12 +204,12 @@ staged_entry : {r : Record} {lines count : ℕ} {base image : Image} {versions :
     → IsStaging r lines count base versions puts pairs → IsStagedOver r lines base pairs image → (i : ℕ) → i < entries_of_lines lines
     → counts r (base (entry_word i 0)) ≡ true → SameEntry base image i
 staged_entry {r} {lines} {count} {base} {image} {versions} {puts} {pairs} staging over i within begun =
-    let place : IsInPlace lines base i = staging.fits.in_place i within begun in
+    let place : IsEntry lines base i = staging.fits.entries i within begun in
     record {
       words = λ k low high. staged_word staging over i k within high (omega (arith, low)) begun;
       extent = λ j below.
           staged_extent staging over i within begun (8 * base (entry_word i 3) + j)
-          (record { low = omega arith; high = omega (arith, below, place.enough) });
+          (record { low = omega arith; high = omega (arith, below, entry_enough place) });
     }
 
 -- Each version is as before.
@@ -253,3 +257,46 @@ staged_ends {r} {lines} {count} {base} {image} {versions} {puts} {pairs} staging
             | inr end ↦ (at.stamp end).1
           ]
     ]
+
+-- An entry whose begin counts was begun before.
+staged_begun : {r : Record} {lines count : ℕ} {base image : Image} {versions : Versions} {puts : List Put} {pairs : List (ℕ × ℕ)}
+    → IsStaging r lines count base versions puts pairs → IsStagedOver r lines base pairs image → (i : ℕ) → i < entries_of_lines lines
+    → counts r (image (entry_word i 0)) ≡ true → counts r (base (entry_word i 0)) ≡ true
+staged_begun {r} {lines} {count} {base} {image} {versions} {puts} {pairs} staging over i within begun =
+    elim (staged_begin staging over i within) [
+      | inl same ↦ sym (ap (counts r) same) ∙ begun
+      | inr put ↦ absurd (both_ways (counts r (image (entry_word i 0))) (counts-above r (image (entry_word i 0)) put.1) begun)
+    ]
+
+-- It breaks no rule of entries.
+pub staged_whole : {r : Record} {lines count : ℕ} {base image : Image} {versions : Versions} {puts : List Put} {pairs : List (ℕ × ℕ)}
+    → IsStaging r lines count base versions puts pairs → IsStagedOver r lines base pairs image → (i : ℕ) → i < entries_of_lines lines
+    → counts r (image (entry_word i 0)) ≡ true → IsEntry lines image i
+staged_whole {r} {lines} {count} {base} {image} {versions} {puts} {pairs} staging over i within begun =
+    let was : counts r (base (entry_word i 0)) ≡ true = staged_begun staging over i within begun in
+    entry-same lines base image i (staged_entry staging over i within was) (staging.fits.entries i within was)
+
+-- It was made at a position at which one of the versions was.
+pub staged_position : {r : Record} {lines count : ℕ} {base image : Image} {versions : Versions} {puts : List Put} {pairs : List (ℕ × ℕ)} (top : ℕ)
+    → IsStaging r lines count base versions puts pairs → IsStagedOver r lines base pairs image → AreMadeUpTo top versions
+    → (i : ℕ) → i < entries_of_lines lines → counts r (image (entry_word i 0)) ≡ true → image (entry_word i 2) ≤ top
+staged_position {r} {lines} {count} {base} {image} {versions} {puts} {pairs} top staging over made i within begun =
+    let was : counts r (base (entry_word i 0)) ≡ true = staged_begun staging over i within begun in
+    omega (
+      arith,
+      staged_word staging over i 2 within (omega arith) (omega arith) was,
+      made i (version_in r base i) (version_begun staging.fits i within was),
+    )
+
+-- Each entry breaks no rule under the record.
+pub staged_under : {r : Record} {lines count : ℕ} {base image : Image} {versions : Versions} {puts : List Put} {pairs : List (ℕ × ℕ)}
+    → r.cd ≡ r.cp + 1 + STAMP_WINDOW → count ≤ 64 → AreMadeUpTo r.position versions
+    → IsStaging r lines count base versions puts pairs → IsStagedOver r lines base pairs image → (i : ℕ) → i < entries_of_lines lines
+    → IsUnder r lines image i
+staged_under {r} {lines} {count} {base} {image} {versions} {puts} {pairs} limit few made staging over i within =
+    record {
+      begin = omega (arith, staged_begins staging over i within, limit, few);
+      end = omega (arith, staged_ends staging over i within, limit, few);
+      whole = staged_whole staging over i within;
+      position = staged_position r.position staging over made i within;
+    }

@@ -68,7 +68,7 @@ all_more P f xs i x below is prefix one =
     subst (AllByRecursion P) (sym (flat_map-item f xs i x below is)) (all-both P (flat_map f (take i xs)) (f x) prefix one)
 
 -- runs that store or flush what a loop has handled so far
-stores_more : {a b c : State} (now prefix one : List (ℕ × ℕ)) → now ≡ prefix ++ one → Runs a b (stores prefix a.words) → Runs b c (stores one b.words)
+pub stores_more : {a b c : State} (now prefix one : List (ℕ × ℕ)) → now ≡ prefix ++ one → Runs a b (stores prefix a.words) → Runs b c (stores one b.words)
     → Runs a c (stores now a.words)
 stores_more {a} {b} {c} now prefix one is run more =
     subst (λ (pairs : List (ℕ × ℕ)). Runs a c (stores pairs a.words)) (sym is) (Runs-more_stores prefix one run more)

@@ -1,7 +1,35 @@
--- The position of the last part.
-use Rattle.std.proofs.Common.{◌≡◌, ℕ, zero, suc, ◌+◌, ◌-◌, ◌<◌, List, [], ◌∷◌, length, get_or, refl, sym, ap, ◌∙◌, arith}
+-- The record after a group.
+use Rattle.std.proofs.Common.{◌≡◌, ℕ, suc, ◌+◌, ◌-◌, ◌<◌, ◌≤◌, List, [], ◌∷◌, length, get_or, refl, sym, ap, subst, ◌∙◌, arith}
 use Rattle.model.specs.declared.group.Part.{Part}
+use Rattle.model.specs.declared.image.TheConstants.{COUNTER_LIMIT, STAMP_WINDOW}
+use Rattle.model.specs.declared.record.Gap.{Gap}
+use Rattle.model.specs.declared.record.Record.{Record}
 use Rattle.model.specs.Group.{last_position}
+use Rattle.wbl_record.specs.Current.{AreGaps, IsLawful}
+use Rattle.wbl_engine.proofs.CountLemmas.{AreGaps-later}
+
+-- where its counters are below their limit
+pub record AreBelowLimit (r : Record) : Type 0 where
+  pub number : r.number < COUNTER_LIMIT
+  pub position : r.position < COUNTER_LIMIT
+  pub room : r.cd < COUNTER_LIMIT
+  pub epoch : r.epoch < COUNTER_LIMIT
+
+-- A later record with the same gaps obeys the rules.
+pub lawful_later : (r next : Record) → IsLawful r → AreBelowLimit next → next.number ≡ r.number + 1 → next.cd ≡ next.cp + 1 + STAMP_WINDOW
+    → r.cp ≤ next.cp → r.epoch ≤ next.epoch → next.gaps.items ≡ r.gaps.items → IsLawful next
+lawful_later r next lawful below number limit up epoch gaps =
+    record {
+      some = omega (arith, number);
+      number = below.number;
+      position = below.position;
+      limit = limit;
+      room = below.room;
+      some_epoch = omega (arith, lawful.some_epoch, epoch);
+      epoch = below.epoch;
+      few = omega (arith, ap length gaps, lawful.few);
+      gaps = subst (λ (gs : List Gap). AreGaps 0 gs next.cp) (sym gaps) (AreGaps-later 0 r.gaps.items r.cp next.cp up lawful.gaps);
+    }
 
 pub last_position-get : (before : ℕ) (parts : List Part) (d : Part) → 0 < length parts
     → last_position before parts ≡ (get_or parts (length parts - 1) d).position

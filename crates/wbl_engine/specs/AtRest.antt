@@ -1,17 +1,20 @@
 -- What an engine without a fault maintains about its device.
-use Rattle.std.specs.Prelude.{◌≡◌, ℕ, ◌+◌, ◌*◌, ◌<◌, ◌≤◌, ◌⊎◌, ◌&&◌, ◌||◌, ◌==◌, Bool, false, nat_lt, if◌then◌else◌, None, IsTrue, List, [], ◌∷◌}
-use Rattle.std.specs.List.{list_any}
+use Rattle.std.specs.Prelude.{◌≡◌, ℕ, ◌+◌, ◌<◌, ◌≤◌, ◌⊎◌, ◌&&◌, ◌||◌, ◌==◌, Bool, false, nat_eq, nat_lt, if◌then◌else◌, None, IsTrue, List, [], ◌∷◌}
+use Rattle.std.proofs.Common.{inl, inr, ap}
 use Rattle.std.proofs.Props.{props}
+use Rattle.std.proofs.lemmas.Bool.{both_ways}
 use Rattle.pmem.specs.Device.{State, Only}
 use Rattle.pmem.specs.Crash.{IsImage, image_of}
 use Rattle.model.specs.declared.image.TheConstants.{MIN_LINES, MAX_LINES}
 use Rattle.model.specs.declared.layout.TheConstants.{LAYOUT}
+use Rattle.model.specs.declared.record.Gap.{Gap}
 use Rattle.model.specs.declared.record.Record.{Record}
 use Rattle.model.specs.Layout.{first_word}
-use Rattle.model.specs.Image.{Image, HasSuperblock, HasWords, HasRecord, root_word, entries_of_lines, first_extent_line, entry_word, version_at, counts}
+use Rattle.model.specs.Image.{Image, HasSuperblock, HasWords, HasRecord, root_word, entries_of_lines, first_extent_line, entry_word, field_bytes, version_at, counts}
 use Rattle.model.specs.Group.{Contents}
-use Rattle.heap_layout.specs.Entry.{IsEntry}
-use Rattle.wbl_record.specs.Current.{IsLawful}
+use Rattle.heap_layout.specs.declared.entry.TheConstants.{STRING_KIND, FIELD_KIND}
+use Rattle.heap_layout.specs.Entry.{IsKind, IsEntry}
+use Rattle.wbl_record.specs.Current.{AreGaps, IsLawful}
 
 -- what an engine with this record holds over this device. A begin above the record's last stamp belongs to no version: a failed commit left it.
 abbrev pub contents_of : Record → State → Contents
@@ -61,6 +64,33 @@ HasWords-prop image first (value ∷ values) = hlevel (props, HasWords-prop imag
 HasRecord-prop : (r : Record) (image : Image) → IsProp (HasRecord r image)
 HasRecord-prop r image = hlevel (props, HasWords-prop)
 
+-- a kind is not both that of a string and that of a field
+one_kind : (kind : ℕ) → kind ≡ STRING_KIND → kind ≡ FIELD_KIND → ⊥
+one_kind kind string field =
+    both_ways (nat_eq kind STRING_KIND) (ap (λ (n : ℕ). nat_eq n STRING_KIND) field) (ap (λ (n : ℕ). nat_eq n STRING_KIND) string)
+
+IsKind-prop : (image : Image) (i : ℕ) → IsProp (IsKind image i)
+IsKind-prop image i (inl string) (inl other) = ap inl (both string other)
+  where
+    both : IsProp ((image (entry_word i 5) ≡ STRING_KIND) × (field_bytes image i ≡ 0))
+    both = hlevel props
+IsKind-prop image i (inl string) (inr field) = absurd (one_kind (image (entry_word i 5)) string.0 field)
+IsKind-prop image i (inr field) (inl string) = absurd (one_kind (image (entry_word i 5)) string.0 field)
+IsKind-prop image i (inr field) (inr other) = ap inr (one field other)
+  where
+    one : IsProp (image (entry_word i 5) ≡ FIELD_KIND)
+    one = hlevel props
+
+IsEntry-prop : (lines : ℕ) (image : Image) (i : ℕ) → IsProp (IsEntry lines image i)
+IsEntry-prop lines image i = hlevel (props, IsKind-prop)
+
+AreGaps-prop : (low : ℕ) (gaps : List Gap) (cp : ℕ) → IsProp (AreGaps low gaps cp)
+AreGaps-prop low [] cp = hlevel props
+AreGaps-prop low (gap ∷ gaps) cp = hlevel (props, AreGaps-prop gap.last gaps cp)
+
+IsLawful-prop : (r : Record) → IsProp (IsLawful r)
+IsLawful-prop r = hlevel (props, AreGaps-prop)
+
 -- it has at most one proof
 pub at_rest_prop : (faulted : Bool) (r : Record) (d : State) → IsProp (faulted ≡ false → IsAtRest r d)
-at_rest_prop faulted r d = hlevel (props, HasRecord-prop)
+at_rest_prop faulted r d = hlevel (props, HasRecord-prop, IsEntry-prop, IsLawful-prop)

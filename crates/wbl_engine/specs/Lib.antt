@@ -1,6 +1,9 @@
 pub mod AtRest
 pub mod Contents
+pub mod Erasing
 pub mod Formatting
 pub mod Freeing
+pub mod Inspecting
 pub mod Lawful
+pub mod Reopening
 pub mod Stage

@@ -1,13 +1,20 @@
 -- What a commit stores before it writes the record, and which lines it flushes.
-use Rattle.std.specs.Prelude.{ℕ, ◌+◌, ◌<◌, List, [], ◌∷◌, ◌++◌, map}
+use Rattle.std.specs.Prelude.{ℕ, ◌+◌, ◌<◌, ◌≤◌, List, [], ◌∷◌, ◌++◌, length, map}
 use Rattle.std.specs.List.{flat_map, AllByRecursion}
+use Rattle.kv_types.specs.declared.limits.TheConstants.{MAX_VALUE_BYTES}
 use Rattle.kv_types.specs.declared.place.EntryNo.{EntryNo}
 use Rattle.model.specs.declared.group.Part.{Part}
 use Rattle.model.specs.declared.group.PlacedChange.{PlacedChange}
 use Rattle.model.specs.declared.group.Put.{Put}
 use Rattle.model.specs.Image.{entry_line, entry_word}
 use Rattle.model.specs.Group.{put_of, puts_of_part}
-use Rattle.heap_layout.specs.Put.{put_pairs, put_lines}
+use Rattle.heap_layout.specs.Put.{put_pairs, put_lines, IsShortName, IsStorable}
+
+-- the put can be read back, and its name and its value are within their limits
+pub record IsWritable (put : Put) : Type 0 where
+  pub storable : IsStorable put
+  pub name : IsShortName put.id
+  pub value : length put.value ≤ MAX_VALUE_BYTES
 
 -- all puts of changes, in order
 abbrev pub puts_of_changes : List PlacedChange → List Put

@@ -2,8 +2,9 @@
 ghost use Rattle.std.specs.Prelude.{◌≡◌, ◌⊎◌, ◌<◌, OnOk, OnErr};
 ghost use Rattle.pmem.specs.Runs.{LeavesOnly};
 ghost use Rattle.model.specs.Group.{IsGroup, next_record, after_group};
-ghost use Rattle.wbl_engine.specs.AtRest.{IsAtRest, IsSound, contents_of};
+ghost use Rattle.wbl_engine.specs.AtRest.{IsAtRest, contents_of};
 ghost use Rattle.wbl_engine.specs.Contents.{Keeps, Same};
+ghost use Rattle.wbl_record.specs.Current.{IsLawful};
 
 use crate::staging::stage_parts;
 use model::{Group, Record};
@@ -20,7 +21,7 @@ pub fn commit_group<P: Pmem>(
     requires rest { IsAtRest current.now (P.state device.old) }
     requires asked { IsGroup (contents_of current.now (P.state device.old)) group.now }
     requires after { next.now ≡ next_record current.now group.now }
-    requires sound { IsSound next.now }
+    requires lawful { IsLawful next.now }
     ensures rest { OnOk result (IsAtRest next.now (P.state device.new)) }
     ensures moved { OnOk result (Same (after_group (contents_of current.now (P.state device.old)) group.now)
         (contents_of next.now (P.state device.new))) }

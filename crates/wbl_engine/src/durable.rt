@@ -1,15 +1,19 @@
 //! What the layers above know of an engine.
-ghost use Rattle.std.specs.Prelude.{◌≡◌, ◌⊎◌, ◌<◌, ◌↔◌, ℕ, Bool, true, false, Ok, Err, IsOk, IsErr, IsErrOf, IfOk, IfErr, OnOk, OnErr};
+ghost use Rattle.std.specs.Prelude.{◌≡◌, ◌⊎◌, ◌+◌, ◌<◌, ◌≤◌, ◌↔◌, ℕ, [], length, Bool, true, false, Ok, Err, IsOk, IsErr, IsErrOf, IfOk, IfErr, OnOk, OnErr};
 ghost use Rattle.pmem.specs.Device.{State};
 ghost use Rattle.pmem.specs.Runs.{LeavesOnly};
 ghost use Rattle.model.specs.declared.group.Group.{Group};
 ghost use Rattle.model.specs.Group.{Contents, IsGroup, after_group};
+ghost use Rattle.model.specs.declared.image.TheConstants.{COUNTER_LIMIT};
 ghost use Rattle.wbl_engine.specs.Contents.{Keeps, IsDurable, Same, Exhausts};
+ghost use Rattle.wbl_engine.specs.Freeing.{AreEnded, Clears, KeepsMap, KeepsVersions, KeepsWithoutSome, after_free, cleared_contents, extents_of};
 
 use crate::committed::Committed;
-use kv_types::Refusal;
+use crate::freeing::Freed;
+use kv_types::{EntryNo, Refusal};
 use model::{Group, Record};
 use pmem::Pmem;
+use std::alloc::Global;
 
 /// An engine: its contents change by whole groups, and each crash leaves the contents before a call or those after it.
 pub trait Durable {
@@ -18,7 +22,7 @@ pub trait Durable {
     /// What the engine's device has gone through.
     ghost device: { Self → State };
 
-    /// What the engine holds. After a fault, what it held before the call that faulted.
+    /// What the engine holds. After a fault, what the call that faulted says.
     ghost contents: { Self → Contents };
 
     /// A fence failed: each later commit returns `Refusal::Fault`, until the image is reopened.
@@ -42,6 +46,54 @@ pub trait Durable {
         // whole or not at all, at any moment of the call
         ensures moments { is_faulted self.old ≡ false → LeavesOnly (device self.old) (device self.new)
             (λ image. Keeps (contents self.old) image ⊎ Keeps (after_group (contents self.old) group.now) image) };
+
+    /// Frees entries whose versions have ended: erases the begin of each. `Fault` if a fence failed, in this call or an earlier one; `Memory`
+    /// if an allocation was refused, with nothing changed.
+    ///
+    /// At any moment a crash leaves the contents without some of these versions, perhaps none and perhaps all; and so does a fault.
+    fn free(&mut self, alloc: Global, entries: &[EntryNo]) -> Result<Freed, Refusal>
+        requires { AreEnded (contents self.old) entries.now }
+        ensures entries { IfOk result (λ freed. freed.entries.items ≡ entries.now) }
+        ensures extents { IfOk result (λ freed. freed.extents.items ≡ extents_of (contents self.old).versions entries.now) }
+        ensures moved { OnOk result (Same (after_free entries.now (contents self.old)) (contents self.new)) }
+        ensures map { OnOk result (KeepsMap (contents self.old) (contents self.new)) }
+        ensures durable { OnOk result (IsDurable (device self.new) (contents self.new)) }
+        ensures sound { OnOk result ((is_faulted self.new ≡ false) × ((device self.new).failures ≡ (device self.old).failures)) }
+        ensures causes { IfErr result (λ refusal. (refusal ≡ Refusal.Fault) ⊎ (refusal ≡ Refusal.Memory)) }
+        ensures fault { IsErrOf result Refusal.Fault → (is_faulted self.old ≡ true) ⊎ ((device self.old).failures < (device self.new).failures) }
+        ensures stopped { IsErrOf result Refusal.Fault → is_faulted self.new ≡ true }
+        // a fence that failed loses nothing that loads return
+        ensures stays { IsErrOf result Refusal.Fault → is_faulted self.old ≡ false
+            → Same (after_free entries.now (contents self.old)) (contents self.new) }
+        ensures memory { IsErrOf result Refusal.Memory → self.new ≡ self.old }
+        ensures faulted { is_faulted self.old ≡ true → (result ≡ Err Refusal.Fault) × (self.new ≡ self.old) }
+        ensures moments { is_faulted self.old ≡ false
+            → LeavesOnly (device self.old) (device self.new) (KeepsWithoutSome entries.now (contents self.old)) };
+
+    /// Clears the oldest gap: erases each begin and each end that lies in it, and then writes the record without it. Without a gap nothing
+    /// changes, and nothing is freed. `Fault` if a fence failed, in this call or an earlier one; `Exhausted` if the number of the record would
+    /// reach 2^62, and `Memory` if an allocation was refused, both with nothing changed.
+    fn clear_gap(&mut self, alloc: Global) -> Result<Freed, Refusal>
+        ensures none { is_faulted self.old ≡ false → (contents self.old).current.gaps.items ≡ []
+            → IsOk result × IfOk result (λ freed. freed.entries.items ≡ []) × (self.new ≡ self.old) }
+        ensures clears { 0 < length (contents self.old).current.gaps.items
+            → IfOk result (λ freed. Clears (contents self.old) freed.entries.items (contents self.new)) }
+        ensures extents { IfOk result (λ freed. freed.extents.items ≡ []) }
+        ensures durable { OnOk result (IsDurable (device self.new) (contents self.new)) }
+        ensures sound { OnOk result ((is_faulted self.new ≡ false) × ((device self.new).failures ≡ (device self.old).failures)) }
+        ensures causes { IfErr result (λ refusal. (refusal ≡ Refusal.Fault) ⊎ ((refusal ≡ Refusal.Exhausted) ⊎ (refusal ≡ Refusal.Memory))) }
+        ensures fault { IsErrOf result Refusal.Fault → (is_faulted self.old ≡ true) ⊎ ((device self.old).failures < (device self.new).failures) }
+        ensures stopped { IsErrOf result Refusal.Fault → is_faulted self.new ≡ true }
+        ensures stays { IsErrOf result Refusal.Fault → KeepsVersions (contents self.old) (contents self.new) }
+        ensures memory { IsErrOf result Refusal.Memory → self.new ≡ self.old }
+        ensures exhausted { IsErrOf result Refusal.Exhausted → (0 < length (contents self.old).current.gaps.items)
+            × (COUNTER_LIMIT ≤ (contents self.old).current.number + 1) × (self.new ≡ self.old) }
+        ensures exhausts { is_faulted self.old ≡ false → 0 < length (contents self.old).current.gaps.items
+            → COUNTER_LIMIT ≤ (contents self.old).current.number + 1 → result ≡ Err Refusal.Exhausted }
+        ensures faulted { is_faulted self.old ≡ true → (result ≡ Err Refusal.Fault) × (self.new ≡ self.old) }
+        // the versions stay, at any moment of the call
+        ensures moments { is_faulted self.old ≡ false → LeavesOnly (device self.old) (device self.new)
+            (λ image. Keeps (contents self.old) image ⊎ Keeps (cleared_contents (contents self.old)) image) };
 
     /// The current record.
     fn record(&self) -> &Record

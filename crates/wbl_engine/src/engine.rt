@@ -2,16 +2,22 @@
 ghost use Rattle.std.specs.Prelude.{◌≡◌, false};
 ghost use Rattle.wbl_engine.specs.AtRest.{IsAtRest, at_rest_prop};
 
+use crate::clearing::{clear_oldest, has_no_gap, is_last, oldest_gap, stamped_in};
 use crate::commit::commit_group;
 use crate::committed::Committed;
 use crate::durable::Durable;
+use crate::erasing::erase_stamps;
 use crate::format::{first_record, format_device};
+use crate::freeing::{Freed, freed_by};
+use crate::reopening::reopen_device;
 use crate::successor::next_record;
-use kv_types::Refusal;
+use heap_layout::Versions;
+use kv_types::{EntryNo, Refusal};
 use model::{Group, MAX_LINES, MIN_LINES, Record, Role};
 use pmem::{Fault, Pmem};
+use std::alloc::Global;
 
-/// An engine over a device. It keeps the current record but no list, and allocates no memory.
+/// An engine over a device. It keeps the current record but no list.
 pub struct WblEngine<P: Pmem> {
     device: P,
     /// The current record. After a fault, the record before the commit that faulted.
@@ -27,6 +33,14 @@ impl<P: Pmem> WblEngine<P> {
     ghost use Rattle.model.specs.declared.image.TheConstants.{MIN_LINES, MAX_LINES};
     ghost use Rattle.wbl_engine.specs.Contents.{IsDurable, IsNew};
     ghost use Rattle.wbl_engine.specs.Formatting.{IsFormatting};
+    ghost use Rattle.std.specs.Prelude.{ℕ, Some, Err};
+    ghost use Rattle.kv_types.specs.declared.refusal.Refusal.{Refusal as Cause};
+    ghost use Rattle.pmem.specs.Device.{Only};
+    ghost use Rattle.pmem.specs.Crash.{image_of};
+    ghost use Rattle.model.specs.declared.record.Record.{Record as CommitRecord};
+    ghost use Rattle.heap_layout.specs.Superblock.{super_refusal};
+    ghost use Rattle.wbl_engine.specs.Lawful.{IsUndamaged};
+    ghost use Rattle.wbl_engine.specs.Reopening.{RefusesReopening, Reopens, StaysReadable};
 
     /// Formats a device for this role. `WrongSize` if it has fewer than 4,096 lines or more than 2^31, with nothing changed; `Fault` if a
     /// fence failed. A refusal hands the device back. It allocates no memory.
@@ -65,6 +79,49 @@ impl<P: Pmem> WblEngine<P> {
             Err(Fault) => Err((Refusal::Fault, device)),
         }
     }
+
+    /// Reopens the image of a device in its role: no stamp counts from then on that a crash may have cut off. Returns the engine, and all
+    /// versions of the image. Where the record holds 8 gaps, the oldest is cleared first.
+    ///
+    /// At any moment a crash leaves an undamaged image with the same versions, which can be reopened again.
+    ///
+    /// # Errors
+    ///
+    /// `WrongSize`, `BadMagic`, `BadVersion` or `Damaged` by the rules of the format; `WrongRole` where the image is of the other role;
+    /// `Exhausted` where a counter would reach 2^62; `Memory` if an allocation was refused: nothing is changed. `Fault` if a fence failed.
+    /// Each hands the device back.
+    pub fn reopen(alloc: Global, device: P, role: Role) -> Result<(WblEngine<P>, Versions), (Refusal, P)>
+        requires settled { (word : ℕ) → Only ((P.state device).words word) (image_of (P.state device).words word) }
+        ensures reopens { IfOk result (λ o. Reopens (P.state device).lines (image_of (P.state device).words) role
+            (⟦<WblEngine<P> as Durable>⟧.contents o.0) o.1.counted.items o.1.gapped.items) }
+        ensures durable { IfOk result (λ o. IsDurable (⟦<WblEngine<P> as Durable>⟧.device o.0) (⟦<WblEngine<P> as Durable>⟧.contents o.0)) }
+        ensures sound { IfOk result (λ o. (⟦<WblEngine<P> as Durable>⟧.is_faulted o.0 ≡ false)
+            × ((⟦<WblEngine<P> as Durable>⟧.device o.0).failures ≡ (P.state device).failures)) }
+        ensures refused { IfErr result (λ refused. (refused.0 ≡ Refusal.Fault)
+            ⊎ (RefusesReopening (P.state device).lines (image_of (P.state device).words) role refused.0 × (refused.1 ≡ device))) }
+        ensures fault { IfErr result (λ refused. refused.0 ≡ Refusal.Fault → (P.state device).failures < (P.state refused.1).failures) }
+        ensures superblock { (refusal : Cause) → super_refusal (P.state device).lines (image_of (P.state device).words) ≡ Some refusal
+            → result ≡ Err (refusal, device) }
+        ensures moments { (r : CommitRecord) → IsUndamaged (P.state device).lines r (image_of (P.state device).words)
+            → MatchResult result
+            (λ o. LeavesOnly (P.state device) (⟦<WblEngine<P> as Durable>⟧.device o.0)
+            (StaysReadable (P.state device).lines r (image_of (P.state device).words)))
+            (λ refused. LeavesOnly (P.state device) (P.state refused.1)
+            (StaysReadable (P.state device).lines r (image_of (P.state device).words))) }
+    {
+        let mut device = device;
+        match reopen_device(alloc, &mut device, role) {
+            Ok((current, versions)) => Ok((
+                WblEngine {
+                    device,
+                    current,
+                    faulted: false,
+                },
+                versions,
+            )),
+            Err(refusal) => Err((refusal, device)),
+        }
+    }
 }
 
 impl<P: Pmem> Durable for WblEngine<P> {
@@ -90,6 +147,46 @@ impl<P: Pmem> Durable for WblEngine<P> {
             Ok(()) => {
                 self.current = next;
                 Ok(Committed::at(position))
+            }
+            Err(Fault) => {
+                self.faulted = true;
+                Err(Refusal::Fault)
+            }
+        }
+    }
+
+    fn free(&mut self, alloc: Global, entries: &[EntryNo]) -> Result<Freed, Refusal> {
+        if self.faulted {
+            return Err(Refusal::Fault);
+        }
+        let freed = freed_by(alloc, &self.device, entries)?;
+        match erase_stamps(&mut self.device, entries, &[]) {
+            Ok(()) => Ok(freed),
+            Err(Fault) => {
+                self.faulted = true;
+                Err(Refusal::Fault)
+            }
+        }
+    }
+
+    fn clear_gap(&mut self, alloc: Global) -> Result<Freed, Refusal> {
+        if self.faulted {
+            return Err(Refusal::Fault);
+        }
+        if has_no_gap(&self.current) {
+            return Ok(Freed::none(alloc));
+        }
+        if is_last(&self.current) {
+            return Err(Refusal::Exhausted);
+        }
+        let stamped = stamped_in(alloc, &self.device, oldest_gap(&self.current))?;
+        match clear_oldest(&mut self.device, &self.current, &stamped) {
+            Ok(next) => {
+                self.current = next;
+                Ok(Freed {
+                    entries: stamped.begins,
+                    extents: Vec::new(alloc),
+                })
             }
             Err(Fault) => {
                 self.faulted = true;

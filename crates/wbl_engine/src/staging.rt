@@ -3,8 +3,8 @@ ghost use Rattle.std.specs.Prelude.{◌+◌, ◌^◌, ◌<◌, length, OnOk, OnE
 ghost use Rattle.std.specs.List.{AllByRecursion};
 ghost use Rattle.pmem.specs.Runs.{Runs, Staged, StageFailed, stores, flushes};
 ghost use Rattle.model.specs.Group.{IsPlaced, HasItsLines, put_of, puts_of_part};
-ghost use Rattle.heap_layout.specs.Put.{IsStorable, put_lines};
-ghost use Rattle.wbl_engine.specs.Stage.{puts_of_changes, puts_of_parts, puts_pairs, end_pairs, part_pairs, parts_pairs, puts_lines, end_lines, part_lines, parts_lines, AreWithin, AreEndsWithin};
+ghost use Rattle.heap_layout.specs.Put.{put_lines};
+ghost use Rattle.wbl_engine.specs.Stage.{IsWritable, puts_of_changes, puts_of_parts, puts_pairs, end_pairs, part_pairs, parts_pairs, puts_lines, end_lines, part_lines, parts_lines, AreWithin, AreEndsWithin};
 
 use heap_layout::{entry_word, flush_entry, write_entry};
 use kv_types::EntryNo;
@@ -21,7 +21,7 @@ pub fn stage_parts<P: Pmem>(device: &mut P, parts: &[Part], stamp: u64) -> Resul
     requires room { stamp + length parts.now < 2 ^ 64 }
     ensures ok { OnOk result (Staged (P.state device.old) (P.state device.new) (parts_pairs stamp parts.now) (parts_lines parts.now)) }
     ensures err { OnErr result (StageFailed (P.state device.old) (P.state device.new) (parts_pairs stamp parts.now)) }
-    ensures storable { AllByRecursion IsStorable (puts_of_parts parts.now) }
+    ensures writable { AllByRecursion IsWritable (puts_of_parts parts.now) }
 {
     store_parts(device, parts, stamp);
     flush_parts(device, parts);
@@ -35,7 +35,7 @@ fn store_parts<P: Pmem>(device: &mut P, parts: &[Part], stamp: u64)
     requires ends { AreEndsWithin (P.state device.old).lines parts.now }
     requires room { stamp + length parts.now < 2 ^ 64 }
     ensures stored { Runs (P.state device.old) (P.state device.new) (stores (parts_pairs stamp parts.now) (P.state device.old).words) }
-    ensures storable { AllByRecursion IsStorable (puts_of_parts parts.now) }
+    ensures writable { AllByRecursion IsWritable (puts_of_parts parts.now) }
 {
     for (i, part) in parts.iter().enumerate() {
         store_part(device, part, stamp + i as u64);
@@ -48,7 +48,7 @@ fn store_part<P: Pmem>(device: &mut P, part: &Part, stamp: u64)
     requires fitting { AllByRecursion HasItsLines (puts_of_part part.now) }
     requires ends { AreWithin (P.state device.old).lines part.now.ended.items }
     ensures stored { Runs (P.state device.old) (P.state device.new) (stores (part_pairs stamp part.now) (P.state device.old).words) }
-    ensures storable { AllByRecursion IsStorable (puts_of_part part.now) }
+    ensures writable { AllByRecursion IsWritable (puts_of_part part.now) }
 {
     store_puts(device, part.changes.as_slice(), stamp, part.position);
     store_ends(device, part.ended.as_slice(), stamp);
@@ -59,7 +59,7 @@ fn store_puts<P: Pmem>(device: &mut P, changes: &[PlacedChange], stamp: u64, pos
     requires placed { AllByRecursion (IsPlaced (P.state device.old).lines) (puts_of_changes changes.now) }
     requires fitting { AllByRecursion HasItsLines (puts_of_changes changes.now) }
     ensures stored { Runs (P.state device.old) (P.state device.new) (stores (puts_pairs stamp position (puts_of_changes changes.now)) (P.state device.old).words) }
-    ensures storable { AllByRecursion IsStorable (puts_of_changes changes.now) }
+    ensures writable { AllByRecursion IsWritable (puts_of_changes changes.now) }
 {
     for change in changes {
         store_change(device, change, stamp, position);
@@ -71,7 +71,7 @@ fn store_change<P: Pmem>(device: &mut P, change: &PlacedChange, stamp: u64, posi
     requires placed { AllByRecursion (IsPlaced (P.state device.old).lines) (put_of change.now) }
     requires fitting { AllByRecursion HasItsLines (put_of change.now) }
     ensures stored { Runs (P.state device.old) (P.state device.new) (stores (puts_pairs stamp position (put_of change.now)) (P.state device.old).words) }
-    ensures storable { AllByRecursion IsStorable (put_of change.now) }
+    ensures writable { AllByRecursion IsWritable (put_of change.now) }
 {
     if let PlacedChange::Put(put) = change {
         write_entry(device, put, stamp, position);
@@ -130,7 +130,7 @@ fn flush_change<P: Pmem>(device: &mut P, change: &PlacedChange)
 }
 
 /// Flushes the lines of these entries.
-fn flush_ends<P: Pmem>(device: &mut P, ended: &[EntryNo])
+pub(crate) fn flush_ends<P: Pmem>(device: &mut P, ended: &[EntryNo])
     requires { AreWithin (P.state device.old).lines ended.now }
     ensures { Runs (P.state device.old) (P.state device.new) (flushes (end_lines ended.now) (P.state device.old).words) }
 {

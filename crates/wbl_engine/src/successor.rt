@@ -2,17 +2,18 @@
 ghost use Rattle.std.specs.Prelude.{◌≡◌, ◌⊎◌, ◌<◌, ◌≤◌, length, IfSome, IfNone};
 ghost use Rattle.model.specs.declared.group.TheConstants.{MAX_PARTS};
 ghost use Rattle.model.specs.Group.{next_record, last_position};
-ghost use Rattle.wbl_engine.specs.AtRest.{IsSound};
+ghost use Rattle.wbl_record.specs.Current.{IsLawful};
 
 use arrayvec::ArrayVec;
 use model::{COUNTER_LIMIT, Gap, Group, MAX_GAPS, Part, Record, STAMP_WINDOW};
 
 /// The record after a group, or `None` if one of its counters would reach 2^62.
 pub fn next_record(current: &Record, group: &Group) -> Option<Record>
-    requires sound { IsSound current.now }
+    requires lawful { IsLawful current.now }
     requires few { length group.now.parts.items ≤ MAX_PARTS }
+    requires epoch { current.now.epoch ≤ group.now.epoch }
     ensures next { IfSome result (λ next. next ≡ next_record current.now group.now) }
-    ensures sound { IfSome result IsSound }
+    ensures lawful { IfSome result IsLawful }
     ensures exhausted { IfNone result (let next = next_record current.now group.now in
         (COUNTER_LIMIT ≤ next.cd) ⊎ (COUNTER_LIMIT ≤ next.position) ⊎ (COUNTER_LIMIT ≤ next.number)
         ⊎ ((current.now.epoch < next.epoch) × (COUNTER_LIMIT ≤ next.epoch))) }
@@ -51,7 +52,7 @@ fn last_position(before: u64, parts: &[Part]) -> u64
 }
 
 /// A copy of the gaps.
-fn copy_gaps(gaps: &ArrayVec<Gap, MAX_GAPS>) -> ArrayVec<Gap, MAX_GAPS>
+pub(crate) fn copy_gaps(gaps: &ArrayVec<Gap, MAX_GAPS>) -> ArrayVec<Gap, MAX_GAPS>
     ensures { result ≡ gaps.now }
 {
     let mut copy = ArrayVec::new();

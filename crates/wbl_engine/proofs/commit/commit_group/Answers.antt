@@ -18,7 +18,7 @@ returns-in_err-stage_parts-clause-stays g c =
     let r = c.args.current.now in
     let group = c.args.group.now in
     let begun = committing r (g.P.Pmem.state c.args.device.now) group c.as_slice.result.now c.requires.rest c.requires.asked c.as_slice.ensures.value
-    c.in_err-stage_parts.ensures.storable in
+    c.in_err-stage_parts.ensures.writable in
     let failed = group_failed (r.cp + 1) group c.as_slice.result.now c.as_slice.ensures.value c.in_err-stage_parts.ensures.err in
     on_err_from c.from_residual.result (first_fault r group begun failed)
 
@@ -27,7 +27,7 @@ returns-in_err-stage_parts-clause-moments g c =
     let r = c.args.current.now in
     let group = c.args.group.now in
     let begun = committing r (g.P.Pmem.state c.args.device.now) group c.as_slice.result.now c.requires.rest c.requires.asked c.as_slice.ensures.value
-    c.in_err-stage_parts.ensures.storable in
+    c.in_err-stage_parts.ensures.writable in
     first_fault_moments r group begun
     (group_failed (r.cp + 1) group c.as_slice.result.now c.as_slice.ensures.value c.in_err-stage_parts.ensures.err)
 
@@ -36,9 +36,9 @@ returns-clause-rest g c =
     let r = c.args.current.now in
     let group = c.args.group.now in
     let begun = committing r (g.P.Pmem.state c.args.device.now) group c.as_slice.result.now c.requires.rest c.requires.asked c.as_slice.ensures.value
-    c.in_ok-stage_parts.ensures.storable in
+    c.in_ok-stage_parts.ensures.writable in
     let staged = group_staged (r.cp + 1) group c.as_slice.result.now c.as_slice.ensures.value c.in_ok-stage_parts.ensures.ok in
-    on_ok_weaker c.write_next.result (λ recorded. done_rest r c.args.next.now group c.requires.after c.requires.sound begun staged recorded)
+    on_ok_weaker c.write_next.result (λ recorded. done_rest r c.args.next.now group c.requires.after c.requires.lawful begun staged recorded)
     c.write_next.ensures.ok
 
 pub returns-clause-moved : goal.returns-clause-moved
@@ -46,7 +46,7 @@ returns-clause-moved g c =
     let r = c.args.current.now in
     let group = c.args.group.now in
     let begun = committing r (g.P.Pmem.state c.args.device.now) group c.as_slice.result.now c.requires.rest c.requires.asked c.as_slice.ensures.value
-    c.in_ok-stage_parts.ensures.storable in
+    c.in_ok-stage_parts.ensures.writable in
     let staged = group_staged (r.cp + 1) group c.as_slice.result.now c.as_slice.ensures.value c.in_ok-stage_parts.ensures.ok in
     on_ok_weaker c.write_next.result (λ recorded. done_same r c.args.next.now group c.requires.after begun staged recorded) c.write_next.ensures.ok
 
@@ -55,7 +55,7 @@ returns-clause-stays g c =
     let r = c.args.current.now in
     let group = c.args.group.now in
     let begun = committing r (g.P.Pmem.state c.args.device.now) group c.as_slice.result.now c.requires.rest c.requires.asked c.as_slice.ensures.value
-    c.in_ok-stage_parts.ensures.storable in
+    c.in_ok-stage_parts.ensures.writable in
     let staged = group_staged (r.cp + 1) group c.as_slice.result.now c.as_slice.ensures.value c.in_ok-stage_parts.ensures.ok in
     on_err_weaker c.write_next.result (λ fault. later_fault r c.args.next.now group c.requires.after begun staged fault) c.write_next.ensures.err
 
@@ -64,6 +64,6 @@ returns-clause-moments g c =
     let r = c.args.current.now in
     let group = c.args.group.now in
     let begun = committing r (g.P.Pmem.state c.args.device.now) group c.as_slice.result.now c.requires.rest c.requires.asked c.as_slice.ensures.value
-    c.in_ok-stage_parts.ensures.storable in
+    c.in_ok-stage_parts.ensures.writable in
     let staged = group_staged (r.cp + 1) group c.as_slice.result.now c.as_slice.ensures.value c.in_ok-stage_parts.ensures.ok in
     done_moments r c.args.next.now group c.requires.after begun staged c.write_next.ensures.moments

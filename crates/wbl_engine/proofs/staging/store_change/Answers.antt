@@ -3,8 +3,7 @@ use Rattle.std.specs.List.{AllByRecursion}
 use Rattle.pmem.specs.Runs.{Runs, stores}
 use Rattle.pmem.proofs.Chaining.{Runs-none}
 use Rattle.model.specs.declared.group.Put.{Put}
-use Rattle.heap_layout.specs.Put.{IsStorable}
-use Rattle.wbl_engine.specs.Stage.{puts_pairs}
+use Rattle.wbl_engine.specs.Stage.{IsWritable, puts_pairs}
 use Rattle.wbl_engine.proofs.StagingLemmas.{no_put}
 use Rattle.wbl_engine.proofs.staging.store_change.Goals as goal
 
@@ -14,5 +13,5 @@ returns-in_default g c =
     let d = g.P.Pmem.state c.args.device.now in
     record {
       stored = subst (λ (puts : List Put). Runs d d (stores (puts_pairs c.args.stamp c.args.position puts) d.words)) (sym none) (Runs-none d);
-      storable = subst (AllByRecursion IsStorable) (sym none) tt;
+      writable = subst (AllByRecursion IsWritable) (sym none) tt;
     }

@@ -2,7 +2,7 @@ use Rattle.std.proofs.Common.{ℕ, sym, subst}
 use Rattle.std.specs.List.{AllByRecursion}
 use Rattle.pmem.proofs.Chaining.{Runs-none}
 use Rattle.model.specs.Group.{IsPlaced, HasItsLines, puts_of_part}
-use Rattle.heap_layout.specs.Put.{IsStorable}
+use Rattle.wbl_engine.specs.Stage.{IsWritable}
 use Rattle.wbl_engine.proofs.StagingLemmas.{all_of_item, all_more, parts_stored}
 use Rattle.wbl_engine.proofs.staging.store_parts.Goals as goal
 
@@ -23,6 +23,6 @@ pub loop-i-preserved : goal.loop-i-preserved
 loop-i-preserved g c = (
   parts_stored c.args.stamp c.args.parts.now c.loop-i.i c.index-parts-i.result c.loop-i-test.true c.index-parts-i.is c.loop-i.invariant.0
       c.store_part.ensures.stored,
-  all_more IsStorable puts_of_part c.args.parts.now c.loop-i.i c.index-parts-i.result c.loop-i-test.true c.index-parts-i.is c.loop-i.invariant.1
-      c.store_part.ensures.storable,
+  all_more IsWritable puts_of_part c.args.parts.now c.loop-i.i c.index-parts-i.result c.loop-i-test.true c.index-parts-i.is c.loop-i.invariant.1
+      c.store_part.ensures.writable,
 )

@@ -2,7 +2,7 @@ use Rattle.std.proofs.Common.{ℕ, sym, subst}
 use Rattle.std.specs.List.{AllByRecursion}
 use Rattle.pmem.proofs.Chaining.{Runs-none}
 use Rattle.model.specs.Group.{IsPlaced, HasItsLines, put_of}
-use Rattle.heap_layout.specs.Put.{IsStorable}
+use Rattle.wbl_engine.specs.Stage.{IsWritable}
 use Rattle.wbl_engine.proofs.StagingLemmas.{all_of_item, all_more, changes_stored}
 use Rattle.wbl_engine.proofs.staging.store_puts.Goals as goal
 
@@ -24,6 +24,6 @@ pub loop-change-preserved : goal.loop-change-preserved
 loop-change-preserved g c = (
   changes_stored c.args.stamp c.args.position c.args.changes.now c.loop-change.change-index c.change-item.result c.loop-change-test.true
       c.change-item.is c.loop-change.invariant.0 c.store_change.ensures.stored,
-  all_more IsStorable put_of c.args.changes.now c.loop-change.change-index c.change-item.result c.loop-change-test.true c.change-item.is
-      c.loop-change.invariant.1 c.store_change.ensures.storable,
+  all_more IsWritable put_of c.args.changes.now c.loop-change.change-index c.change-item.result c.loop-change-test.true c.change-item.is
+      c.loop-change.invariant.1 c.store_change.ensures.writable,
 )

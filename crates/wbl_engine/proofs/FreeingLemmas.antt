@@ -1,0 +1,217 @@
+-- Versions that have ended are freed.
+use Rattle.std.proofs.Common.{◌≡◌, ◌≢◌, ℕ, ◌+◌, ◌<◌, ◌≤◌, Bool, true, false, cond, ◌&&◌, ◌||◌, ◌==◌, IsTrue, List, [], ◌∷◌, ◌++◌, ◌⊎◌, inl, inr, Option, None, Some, map, refl, sym, ap, subst, ◌∙◌, arith}
+use Rattle.std.specs.Prelude.{nat_eq, nat_lt}
+use Rattle.std.specs.List.{flat_map}
+use Rattle.std.proofs.lemmas.Bool.{cond-true, cond-false, cases_Bool, or_cases, and_parts, and_from, and_right, eqb-true, eq-eqb, lt-ltb, le-ltb, cases_lt, both_ways}
+use Rattle.kv_types.specs.Keyspace.{Keyspace, value_at}
+use Rattle.kv_types.specs.declared.place.EntryNo.{EntryNo}
+use Rattle.kv_types.specs.declared.place.Extent.{Extent}
+use Rattle.kv_types.specs.declared.record_id.RecordId.{RecordId}
+use Rattle.pmem.specs.Device.{State}
+use Rattle.pmem.specs.Crash.{IsImage, image_of}
+use Rattle.pmem.specs.Runs.{LeavesOnly, Staged, IsPartlyStored, written}
+use Rattle.pmem.proofs.Leaving.{LeavesOnly-weaken, none_leaves}
+use Rattle.model.specs.declared.record.Record.{Record}
+use Rattle.model.specs.Image.{Image, IsLive, IsMapOf, Version, entry_word, entries_of_lines, counts, version_at, version_in}
+use Rattle.model.specs.Group.{Contents, Versions, is_ended_version}
+use Rattle.wbl_engine.specs.AtRest.{IsAtRest, contents_of}
+use Rattle.wbl_engine.specs.Contents.{Keeps, Same}
+use Rattle.wbl_engine.specs.Erasing.{erase_pairs, erase_lines, extent_in}
+use Rattle.wbl_engine.specs.Freeing.{AreEnded, KeepsMap, KeepsWithoutSome, after_free, extent_of, extents_of, is_listed, without}
+use Rattle.wbl_engine.specs.Stage.{AreWithin}
+use Rattle.wbl_engine.proofs.Erased.{IsErased, erased_version, version_within}
+use Rattle.wbl_engine.proofs.ErasedStamps.{AreErased, AreGone, IsErasing, erased_over, listed_begin, made_free, made_over, partly_keeps, staged_rest}
+
+-- ---- what is asked of the entries
+
+pub ended_within : (contents : Contents) (entries : List EntryNo) (i : ℕ) → AreEnded contents entries → IsTrue (is_listed i entries)
+    → (i < entries_of_lines contents.lines) × IsTrue (is_ended_version (contents.versions i))
+ended_within contents [] i ended listed = absurd (both_ways false refl listed)
+ended_within contents (entry ∷ entries) i ended listed =
+    elim (or_cases (nat_eq i entry.0) (is_listed i entries) listed) [
+      | inl here ↦
+          let same : i ≡ entry.0 = eqb-true i entry.0 here in
+          (omega (arith, same, ended.0), ap (λ (n : ℕ). is_ended_version (contents.versions n)) same ∙ ended.1)
+      | inr later ↦ ended_within contents entries i ended.3 later
+    ]
+
+-- the lines of the entries are on the device
+pub ended_lines : (r : Record) (d : State) (entries : List EntryNo) → IsAtRest r d → AreEnded (contents_of r d) entries → AreWithin d.lines entries
+ended_lines r d [] rest ended = tt
+ended_lines r d (entry ∷ entries) rest ended = (omega (arith, ended.0, rest.many), ended_lines r d entries rest ended.3)
+
+-- only begins are erased
+pub ended_erasing : (r : Record) (d : State) (entries : List EntryNo) → AreEnded (contents_of r d) entries
+    → IsErasing r d.lines (image_of d.words) entries []
+ended_erasing r d entries ended =
+    record {
+      begins_within = λ i listed. (ended_within (contents_of r d) entries i ended listed).0;
+      ends_within = λ i listed. absurd (both_ways false refl listed);
+      uncounted = λ i listed. absurd (both_ways false refl listed);
+    }
+
+-- the extents that the entries name are those of their versions
+version_extent : (r : Record) (image : Image) (begun : Bool) (i : ℕ) → IsTrue (is_ended_version (cond begun (Some (version_in r image i)) None))
+    → extent_of (cond begun (Some (version_in r image i)) None) ≡ extent_in image i ∷ []
+version_extent r image true i ended = refl
+version_extent r image false i ended = absurd (both_ways false refl ended)
+
+pub ended_extents : (r : Record) (d : State) (entries : List EntryNo) → AreEnded (contents_of r d) entries
+    → map (λ (entry : EntryNo). extent_in (image_of d.words) entry.0) entries ≡ extents_of (contents_of r d).versions entries
+ended_extents r d [] ended = refl
+ended_extents r d (entry ∷ entries) ended =
+    let at : (contents_of r d).versions entry.0 ≡ version_at r (image_of d.words) entry.0 = version_within r d entry.0 ended.0 in
+    let one : extent_of ((contents_of r d).versions entry.0) ≡ extent_in (image_of d.words) entry.0 ∷ [] =
+    ap extent_of at
+    ∙ version_extent r (image_of d.words) (counts r (image_of d.words (entry_word entry.0 0))) entry.0
+    (subst (λ (v : Option Version). IsTrue (is_ended_version v)) at ended.1) in
+    ap (λ (rest : List Extent). extent_in (image_of d.words) entry.0 ∷ rest) (ended_extents r d entries ended.3)
+    ∙ ap (λ (first : List Extent). first ++ extents_of (contents_of r d).versions entries) (sym one)
+
+-- ---- once they are freed
+
+listed_gone : (r : Record) (d : State) (entries : List EntryNo) {image : Image} → AreErased r d entries [] image
+    → AreGone r d.lines (image_of d.words) entries (λ i. is_listed i entries) image
+listed_gone r d entries {image} made =
+    record {
+      zero_is = λ i within listed. listed_begin r d entries [] made i within listed;
+      erased = λ i listed zeroed unlisted. absurd (both_ways (is_listed i entries) unlisted listed);
+    }
+
+-- The contents lack the versions of the entries.
+pub freed_same : (r : Record) (d b : State) (entries : List EntryNo) → IsAtRest r d → AreEnded (contents_of r d) entries
+    → ((word : ℕ) → image_of b.words word ≡ written (erase_pairs entries []) (image_of d.words) word) → b.lines ≡ d.lines
+    → Same (after_free entries (contents_of r d)) (contents_of r b)
+freed_same r d b entries rest ended newest lines =
+    let image : Image = image_of b.words in
+    let made : AreErased r d entries [] image = λ word matters. newest word in
+    let erasing = ended_erasing r d entries ended in
+    let gone : ℕ → Bool = λ i. is_listed i entries in
+    let erased : IsErased r r d.lines gone (image_of d.words) image =
+    erased_over gone image rest.whole erasing (made_over r d entries [] made) (listed_gone r d entries made) in
+    let at : ℕ → ℕ → Option Version = λ (n i : ℕ). cond (nat_lt i (entries_of_lines n)) (version_at r image i) None in
+    let free : ℕ → ℕ → Bool =
+    λ (n i : ℕ). nat_lt i (entries_of_lines n) && (image (entry_word i 0) == 0 || nat_lt r.cp (image (entry_word i 0))) in
+    record {
+      current = refl;
+      lines = lines;
+      versions = λ i.
+          ap (λ (n : ℕ). at n i) lines
+          ∙ elim (cases_lt i (entries_of_lines d.lines)) [
+            | inl within ↦
+                cond-true (nat_lt i (entries_of_lines d.lines)) (version_at r image i) None (lt-ltb i (entries_of_lines d.lines) within)
+                ∙ erased_version rest.whole erased i within
+                ∙ ap (λ (v : Option Version). cond (gone i) None v) (sym (version_within r d i within))
+            | inr beyond ↦
+                cond-false (nat_lt i (entries_of_lines d.lines)) (version_at r image i) None (le-ltb i (entries_of_lines d.lines) beyond)
+                ∙ sym (none_anyway (gone i)
+                (cond-false (nat_lt i (entries_of_lines d.lines)) (version_at r (image_of d.words) i) None (le-ltb i (entries_of_lines d.lines) beyond)))
+          ];
+      is_free = λ i. ap (λ (n : ℕ). free n i) lines ∙ made_free r d entries [] erasing made i;
+    }
+  where
+    none_anyway : {X : Type 0} {x : Option X} (b : Bool) → x ≡ None → cond b None x ≡ None
+    none_anyway true e = refl
+    none_anyway false e = e
+
+pub freed_rest : (r : Record) (d b : State) (entries : List EntryNo) → IsAtRest r d → AreEnded (contents_of r d) entries
+    → Staged d b (erase_pairs entries []) (erase_lines entries []) → IsAtRest r b
+freed_rest r d b entries rest ended staged =
+    staged_rest entries [] (λ i. is_listed i entries) rest (ended_erasing r d entries ended)
+    (listed_gone r d entries (λ word matters. staged.newest word)) staged
+
+-- ---- at each crash
+
+-- some of the begins are erased
+pub freed_partly : (r : Record) (d : State) (entries : List EntryNo) (image : Image) → IsAtRest r d → AreEnded (contents_of r d) entries
+    → IsPartlyStored (erase_pairs entries []) d.words image → KeepsWithoutSome entries (contents_of r d) image
+freed_partly r d entries image rest ended partly =
+    let gone : ℕ → Bool = λ i. is_listed i entries && (image (entry_word i 0) == 0) in
+    let are : AreGone r d.lines (image_of d.words) entries gone image =
+    record {
+      zero_is = λ i within is. eqb-true (image (entry_word i 0)) 0 (and_parts (is_listed i entries) (image (entry_word i 0) == 0) is).1;
+      erased = λ i listed zeroed not.
+          absurd (both_ways (gone i) not
+          (and_from (is_listed i entries) (image (entry_word i 0) == 0) listed (eq-eqb (image (entry_word i 0)) 0 zeroed)));
+    } in
+    (gone, λ i is. (and_parts (is_listed i entries) (image (entry_word i 0) == 0) is).0,
+    partly_keeps entries [] gone image rest (ended_erasing r d entries ended) partly are)
+
+pub freed_moments : (r : Record) (d b : State) (entries : List EntryNo) → IsAtRest r d → AreEnded (contents_of r d) entries
+    → LeavesOnly d b (IsPartlyStored (erase_pairs entries []) d.words) → LeavesOnly d b (KeepsWithoutSome entries (contents_of r d))
+freed_moments r d b entries rest ended moments =
+    LeavesOnly-weaken (KeepsWithoutSome entries (contents_of r d)) (λ image partly. freed_partly r d entries image rest ended partly) moments
+
+-- where nothing was stored
+pub freed_none : (r : Record) (d : State) (entries : List EntryNo) → IsAtRest r d → AreEnded (contents_of r d) entries
+    → LeavesOnly d d (KeepsWithoutSome entries (contents_of r d))
+freed_none r d entries rest ended =
+    none_leaves d (KeepsWithoutSome entries (contents_of r d)) (λ image is. freed_partly r d entries image rest ended (λ word. inl (is word)))
+
+-- ---- the map
+
+-- a live version is not one that has ended
+still_live : (contents : Contents) (entries : List EntryNo) (i : ℕ) (id : RecordId) (value : List ℕ) → AreEnded contents entries
+    → IsLive contents.versions i id value → IsLive (after_free entries contents).versions i id value
+still_live contents entries i id value ended live =
+    elim (cases_Bool (is_listed i entries)) [
+      | inl listed ↦
+          let is : IsTrue (live.version.is_ended) =
+          sym (ap is_ended_version live.begun) ∙ (ended_within contents entries i ended listed).1 in
+          absurd (both_ways live.version.is_ended live.not_ended is)
+      | inr unlisted ↦
+          record {
+            version = live.version;
+            begun = cond-false (is_listed i entries) None (contents.versions i) unlisted ∙ live.begun;
+            not_ended = live.not_ended;
+            id_is = live.id_is;
+            value_is = live.value_is;
+          }
+    ]
+
+was_live : (contents : Contents) (entries : List EntryNo) (new : Contents) (i : ℕ) (id : RecordId) (value : List ℕ)
+    → ((j : ℕ) → new.versions j ≡ (after_free entries contents).versions j) → IsLive new.versions i id value → IsLive contents.versions i id value
+was_live contents entries new i id value same live =
+    record {
+      version = live.version;
+      begun = some_left (is_listed i entries) (contents.versions i) live.version (sym (same i) ∙ live.begun);
+      not_ended = live.not_ended;
+      id_is = live.id_is;
+      value_is = live.value_is;
+    }
+  where
+    none_some : {X : Type 0} {x : X} → None ≡ Some x → ⊥
+    none_some e = cc
+    some_left : (b : Bool) (v : Option Version) (w : Version) → cond b None v ≡ Some w → v ≡ Some w
+    some_left true v w e = absurd (none_some e)
+    some_left false v w e = e
+
+now_live : (versions other : Versions) (i : ℕ) (id : RecordId) (value : List ℕ) → ((j : ℕ) → other j ≡ versions j) → IsLive versions i id value
+    → IsLive other i id value
+now_live versions other i id value same live =
+    record {
+      version = live.version;
+      begun = same i ∙ live.begun;
+      not_ended = live.not_ended;
+      id_is = live.id_is;
+      value_is = live.value_is;
+    }
+
+-- Freeing what has ended leaves the map.
+pub freed_map : (old new : Contents) (entries : List EntryNo) → AreEnded old entries → Same (after_free entries old) new → KeepsMap old new
+freed_map old new entries ended same s map =
+    let within : (i : ℕ) → i < entries_of_lines old.lines → i < entries_of_lines new.lines =
+    λ i below. subst (λ (n : ℕ). i < entries_of_lines n) (sym same.lines) below in
+    let back : (i : ℕ) → i < entries_of_lines new.lines → i < entries_of_lines old.lines =
+    λ i below. subst (λ (n : ℕ). i < entries_of_lines n) same.lines below in
+    record {
+      held = λ id value at.
+          let found = map.held id value at in
+          (found.0, within found.0 found.1,
+          now_live (after_free entries old).versions new.versions found.0 id value same.versions
+          (still_live old entries found.0 id value ended found.2));
+      found = λ i id value below live. map.found i id value (back i below) (was_live old entries new i id value same.versions live);
+      once = λ i j id v w below_i below_j live_i live_j.
+          map.once i j id v w (back i below_i) (back j below_j) (was_live old entries new i id v same.versions live_i)
+          (was_live old entries new j id w same.versions live_j);
+    }

@@ -1,0 +1,32 @@
+//! Laws of the definitions, each the contract of a function that does nothing.
+ghost use Rattle.std.specs.Prelude.{ℕ, ◌≤◌};
+ghost use Rattle.model.specs.declared.group.Group.{Group};
+ghost use Rattle.model.specs.declared.image.TheConstants.{MIN_LINES, MAX_LINES};
+ghost use Rattle.model.specs.declared.record.Role.{Role};
+ghost use Rattle.model.specs.Group.{Contents, IsGroup, after_group};
+ghost use Rattle.model.specs.Image.{Image};
+ghost use Rattle.wbl_engine.specs.Contents.{Keeps, IsNew, Same, Exhausts};
+ghost use Rattle.wbl_engine.specs.Lawful.{AreLawful, IsUndamaged};
+
+/// The contents of a new image, of a size that an image may have, obey the rules.
+pub fn new_contents_are_lawful()
+    ensures { (lines : ℕ) (role : Role) (contents : Contents) → IsNew lines role contents → MIN_LINES ≤ lines → lines ≤ MAX_LINES
+        → AreLawful contents }
+{}
+
+/// A group takes contents that obey the rules to contents that do, unless a counter of the record would reach its limit.
+pub fn groups_keep_contents_lawful()
+    ensures { (contents : Contents) (group : Group) → AreLawful contents → IsGroup contents group
+        → ¬ Exhausts contents group → AreLawful (after_group contents group) }
+{}
+
+/// Contents that say the same as contents that obey the rules obey them too.
+pub fn same_contents_are_lawful()
+    ensures { (old new : Contents) → Same old new → AreLawful old → AreLawful new }
+{}
+
+/// An image that holds contents that obey the rules breaks no rule of the format: it is never refused as damaged.
+pub fn lawful_contents_are_undamaged()
+    ensures { (contents : Contents) (image : Image) → AreLawful contents → Keeps contents image
+        → IsUndamaged contents.lines contents.current image }
+{}

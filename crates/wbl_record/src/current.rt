@@ -1,0 +1,146 @@
+//! The current record, read from the slot that the root names, and the rules that it obeys.
+ghost use Rattle.std.specs.Prelude.{◌≡◌, ◌≢◌, ◌↔◌, ◌+◌, ◌*◌, ◌<◌, ◌≤◌, IsTrue, MatchOption, length, IfOk, IfErr, OnErr};
+ghost use Rattle.pmem.specs.Crash.{image_of};
+ghost use Rattle.model.specs.declared.record.Record.{Record as CommitRecord};
+ghost use Rattle.model.specs.declared.record.Role.{Role as NodeRole};
+ghost use Rattle.model.specs.Image.{role_number};
+ghost use Rattle.model.specs.ReadImage.{gaps_from, AreZero, IsFilled, IsRecordOf};
+ghost use Rattle.wbl_record.specs.Current.{AreGaps, IsLawful, IsCurrent};
+
+use arrayvec::ArrayVec;
+use kv_types::Refusal;
+use model::{
+    COUNTER_LIMIT, GAPS_WORD, Gap, LAYOUT, LINE_WORDS, MAX_GAPS, Record, Role, STAMP_WINDOW,
+};
+use pmem::Pmem;
+
+/// Reads the current record. It allocates no memory.
+///
+/// # Errors
+///
+/// `Damaged` where the root's slot does not bear the root's number, or a word of the record breaks its rule.
+pub fn read_current<P: Pmem>(device: &P) -> Result<Record, Refusal>
+    requires { LAYOUT.record_line + 2 * LAYOUT.slot_lines ≤ (P.state device.now).lines }
+    ensures ok { IfOk result (λ r. IsCurrent (image_of (P.state device.now).words) r) }
+    ensures damaged { OnErr result ((r : CommitRecord) → ¬ IsCurrent (image_of (P.state device.now).words) r) }
+    ensures cause { IfErr result (λ refusal. refusal ≡ Refusal.Damaged) }
+{
+    let Some(current) = read_record(device) else {
+        return Err(Refusal::Damaged);
+    };
+    if is_lawful(&current) {
+        Ok(current)
+    } else {
+        Err(Refusal::Damaged)
+    }
+}
+
+/// The record that the root names, or `None` where its slot holds none. Whether the record obeys its rules is not looked at.
+fn read_record<P: Pmem>(device: &P) -> Option<Record>
+    requires { LAYOUT.record_line + 2 * LAYOUT.slot_lines ≤ (P.state device.now).lines }
+    ensures { MatchOption result ((r : CommitRecord) → ¬ IsRecordOf (image_of (P.state device.now).words) r)
+        (λ r. IsRecordOf (image_of (P.state device.now).words) r) }
+{
+    let number = device.load(LAYOUT.root_word);
+    let first = LINE_WORDS * LAYOUT.slot_line(number);
+    let gap_count = device.load(first + 5);
+    let gaps = read_gaps(device, first + GAPS_WORD, gap_count)?;
+    let role = role_of(device.load(first + LAYOUT.role_word))?;
+    if !is_filled(device, first, number, gap_count) {
+        return None;
+    }
+    Some(Record {
+        number,
+        position: device.load(first + 1),
+        cp: device.load(first + 2),
+        cd: device.load(first + 3),
+        epoch: device.load(first + 4),
+        role,
+        gaps,
+    })
+}
+
+/// `count` gaps, each a pair of words, from `first` on, or `None` where a record cannot hold that many.
+fn read_gaps<P: Pmem>(device: &P, first: u64, count: u64) -> Option<ArrayVec<Gap, MAX_GAPS>>
+    requires { first + 2 * MAX_GAPS ≤ 8 * (P.state device.now).lines }
+    ensures { MatchOption result (MAX_GAPS < count)
+        (λ gaps. (count ≤ MAX_GAPS) × (gaps.items ≡ gaps_from (image_of (P.state device.now).words) first count)) }
+{
+    let mut gaps = ArrayVec::new();
+    if count > MAX_GAPS as u64 {
+        return None;
+    }
+    for k in 0..count {
+        gaps.push(Gap {
+            first: device.load(first + 2 * k),
+            last: device.load(first + 2 * k + 1),
+        });
+    }
+    Some(gaps)
+}
+
+/// Whether the slot has this number, and zeros in the room after `gaps` gaps and in its last word.
+fn is_filled<P: Pmem>(device: &P, first: u64, number: u64, gaps: u64) -> bool
+    requires slot { first + LINE_WORDS * LAYOUT.slot_lines ≤ 8 * (P.state device.now).lines }
+    requires few { gaps ≤ MAX_GAPS }
+    ensures { IsTrue result ↔ IsFilled (image_of (P.state device.now).words) first number gaps }
+{
+    let room = 2 * (MAX_GAPS as u64 - gaps);
+    device.load(first) == number
+        && device.load(first + LAYOUT.role_word + 1) == 0
+        && are_zero(device, first + GAPS_WORD + 2 * gaps, room)
+}
+
+/// Whether the `count` words from `first` on are zero.
+fn are_zero<P: Pmem>(device: &P, first: u64, count: u64) -> bool
+    requires { first + count ≤ 8 * (P.state device.now).lines }
+    ensures { IsTrue result ↔ AreZero (image_of (P.state device.now).words) first count }
+{
+    for k in 0..count {
+        if device.load(first + k) != 0 {
+            return false;
+        }
+    }
+    true
+}
+
+/// The role that an image stores by this number, or `None` where it stores none so.
+fn role_of(number: u64) -> Option<Role>
+    ensures { MatchOption result ((role : NodeRole) → role_number role ≢ number) (λ role. role_number role ≡ number) }
+{
+    match number {
+        1 => Some(Role::Primary),
+        2 => Some(Role::Standby),
+        _ => None,
+    }
+}
+
+/// Whether a record obeys its rules: its counters are within their limits, and its gaps rise and are below `cp`.
+fn is_lawful(r: &Record) -> bool
+    requires { length r.now.gaps.items ≤ MAX_GAPS }
+    ensures { IsTrue result ↔ IsLawful r.now }
+{
+    0 < r.number
+        && r.number < COUNTER_LIMIT
+        && r.position < COUNTER_LIMIT
+        && r.cp < r.cd
+        && r.cd - r.cp == 1 + STAMP_WINDOW
+        && r.cd < COUNTER_LIMIT
+        && 0 < r.epoch
+        && r.epoch < COUNTER_LIMIT
+        && are_gaps(r.gaps.as_slice(), r.cp)
+}
+
+/// Whether the gaps rise, each with at least one stamp and none shared, and are all above 0 and below `cp`.
+fn are_gaps(gaps: &[Gap], cp: u64) -> bool
+    ensures { IsTrue result ↔ AreGaps 0 gaps.now cp }
+{
+    let mut low = 0;
+    for gap in gaps {
+        if gap.first <= low || gap.last < gap.first || cp <= gap.last {
+            return false;
+        }
+        low = gap.last;
+    }
+    true
+}
