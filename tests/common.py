@@ -21,7 +21,6 @@ PROGRAMS = {
     "simulator": ("WBL_SIM", "bin/wbl-sim < /dev/null"),
     "probe": ("WBL_PROBE", "bin/wbl-probe < /dev/null"),
     "edges_bench": ("WBL_EDGES_BENCH", "cd crates/edges_bench && rt run"),
-    "pmem_file_probe": ("WBL_FILE_PROBE", "cd crates/pmem_file_probe && rt run < /dev/null"),
 }
 
 # A program that takes longer has failed.

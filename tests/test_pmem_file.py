@@ -11,7 +11,7 @@ import tempfile
 
 import common
 
-PROGRAMS = ["pmem_file_probe"]
+PROGRAMS = ["probe"]
 
 LINE_BYTES = 64
 LINES = 4_096
@@ -19,19 +19,19 @@ FAULT = "refusal 1: device fault"
 WRONG_SIZE = "refusal 4: wrong size"
 
 # A folder on a disk, one in memory.
-PLACES = {"disk": common.ROOT / "crates" / "pmem_file_probe" / "out", "memory": pathlib.Path("/dev/shm")}
+PLACES = {"disk": common.ROOT / "crates" / "probe" / "out", "memory": pathlib.Path("/dev/shm")}
 
 
 class Probe:
-    """A probe that runs until it is closed: a line in, a line out."""
+    """A probe that runs until it is closed: a call of its device over a file in, its answer out."""
 
     def __init__(self, words=(), **options):
         self.child = subprocess.Popen(
-            [*words, common.program("pmem_file_probe")], stdin=subprocess.PIPE, stdout=subprocess.PIPE, text=True, **options
+            [*words, common.program("probe")], stdin=subprocess.PIPE, stdout=subprocess.PIPE, text=True, **options
         )
 
     def ask(self, line):
-        self.child.stdin.write(line + "\n")
+        self.child.stdin.write(f"file {line}\n")
         self.child.stdin.flush()
         return self.child.stdout.readline().rstrip("\n")
 

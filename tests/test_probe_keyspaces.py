@@ -1,4 +1,5 @@
-"""What changes do to a keyspace (docs/commands.md, "Changes"), and how long they are in a frame (docs/replication.md, "Frames")."""
+"""What changes do to records (docs/commands.md, "Changes"), as a new standby takes them in a frame, and how long they are in one
+(docs/replication.md, "Frames")."""
 
 from probe_client import Probing, drop, drop_key, hexed, put, record
 
@@ -7,10 +8,12 @@ PROGRAMS = ["probe"]
 K, A, H, HH = (b"k",), (b"a",), (b"h",), (b"hh",)
 
 
-def records(*named):
-    """How the probe shows a keyspace of these records."""
+def taken(changes, *named):
+    """The line of a frame of these changes that takes a new standby to its first position, and the answer where these records are left: its
+    one record, by one stamp."""
     shown = [f"{record(*name)}={hexed(value)}" for name, value in named]
-    return " ".join([str(len(named)), "false" if named else "true", *shown])
+    image = " ".join([f"2 1 1 4098 1 Standby 0 {len(named)}", "false" if named else "true", *shown])
+    return " ".join(["standby take 1 0 1", *changes]), f"ack 1 1, {image}"
 
 
 class Played(Probing):
@@ -34,46 +37,23 @@ class Played(Probing):
     ]
 
     def test_each_change(self):
-        table = [("keyspace new", "done"), ("keyspace records", records())]
-        for change, left in self.STEPS:
-            table += [(f"keyspace play {change}", "done"), ("keyspace records", records(*left))]
-        self.show_session(table)
+        changes = [change for change, _ in self.STEPS]
+        self.show(taken(changes[:count], *left) for count, (_, left) in enumerate(self.STEPS, 1))
 
-    def test_all_at_once(self):
-        changes = " ".join(change for change, _ in self.STEPS[:-1])
-        self.show_session([
-            ("keyspace new", "done"),
-            (f"keyspace play-all {changes}", "done"),
-            ("keyspace records", records(((b"hh", b"f"), b"4"))),
-            ("keyspace play-all", "done"),
-            ("keyspace records", records(((b"hh", b"f"), b"4"))),
-        ])
+    # Three changes at once, of which the last puts nothing, and what is left.
+    THREE = [
+        ([put(K, b"v"), put((b"l",), b"w"), drop((b"m",))], [(K, b"v"), ((b"l",), b"w")]),
+        ([put(K, b"v"), put(K, b"w"), drop((b"m",))], [(K, b"w")]),
+        ([put(K, b"v"), put((b"l",), b"w"), drop(K)], [((b"l",), b"w")]),
+        ([put(H, b"v"), put((b"h", b"f"), b"w"), drop_key(b"k")], [((b"h", b"f"), b"w")]),
+        ([put((b"h", b"f"), b"v"), put(H, b"w"), drop_key(b"k")], [(H, b"w")]),
+        ([put((b"h", b"f"), b"v"), put((b"h", b"g"), b"w"), drop_key(b"h")], []),
+        ([put((b"h", b"f"), b"v"), put(K, b"w"), "clear"], []),
+        ([put(K, b"v"), put((b"h", b"f"), b"1"), put((b"h", b"g"), b"2"), drop((b"h", b"f"))], [((b"h", b"g"), b"2"), (K, b"v")]),
+    ]
 
-    def test_look_ups(self):
-        changes = [put(K, b"v"), put((b"h", b"f"), b"1"), put((b"h", b"g"), b"2"), drop((b"h", b"f"))]
-        self.show_session([
-            ("keyspace new", "done"),
-            ("keyspace play-all " + " ".join(changes), "done"),
-            ("keyspace records", records(((b"h", b"g"), b"2"), (K, b"v"))),
-            (f"keyspace get {record(b'k')}", hexed(b"v")),
-            (f"keyspace get {record(b'h', b'g')}", hexed(b"2")),
-            (f"keyspace get {record(b'h', b'f')}", "none"),
-            (f"keyspace get {record(b'h')}", "none"),
-        ])
-
-    def test_fields(self):
-        # the longer key beside h has fields too; of a string the error of a hash command
-        changes = [put((b"h", b"g"), b"2"), put((b"h", b""), b""), put((b"h", b"f"), b"1"), put((b"hh", b"f"), b"3"), put(K, b"v")]
-        wrong_type = hexed(b"WRONGTYPE Operation against a key holding the wrong kind of value")
-        fields = [("h", "3 -=- 66=31 67=32"), ("hh", "1 66=33"), ("k", wrong_type), ("f", "0"), ("", "0"), (513 * "h", "0")]
-        self.show_session([
-            ("keyspace new", "done"),
-            ("keyspace play-all " + " ".join(changes), "done"),
-            *((f"keyspace fields {hexed(key.encode())}", wanted) for key, wanted in fields),
-            ("keyspace play-all " + " ".join([drop((b"h", b"f")), drop((b"hh", b"f"))]), "done"),
-            ("keyspace fields 68", "2 -=- 67=32"),
-            ("keyspace fields 6868", "0"),
-        ])
+    def test_several_at_once(self):
+        self.show(taken(changes, *left) for changes, left in self.THREE)
 
 
 def short(data):

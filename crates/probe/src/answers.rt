@@ -1,6 +1,6 @@
 //! How answers are written.
 use crate::cause::Cause;
-use kv_types::{Change, RecordId, Refusal, Reply, Value};
+use kv_types::{RecordId, Refusal, Reply, Value};
 use resp_codec::write_reply;
 use std::alloc::{AllocError, Global};
 
@@ -32,14 +32,6 @@ pub fn hexed(alloc: Global, bytes: &[u8]) -> Result<String, AllocError> {
     }
 }
 
-/// As `hexed`, or `none` for `None`.
-pub fn hexed_or_none(alloc: Global, bytes: Option<&[u8]>) -> Result<String, Cause> {
-    match bytes {
-        Some(bytes) => Ok(hexed(alloc, bytes)?),
-        None => none(alloc),
-    }
-}
-
 /// A key, or a key and a field with a dot between them.
 pub fn record_text(alloc: Global, id: &RecordId) -> Result<String, AllocError> {
     let key = hexed(alloc, id.key().as_slice())?;
@@ -61,25 +53,6 @@ pub fn record_and_value_text(
     let id = record_text(alloc, id)?;
     let value = hexed(alloc, value.as_slice())?;
     format!(in alloc; "{id}={value}")
-}
-
-/// `put:RECORD=VALUE`, `drop:RECORD`, `drop-key:KEY` or `clear`.
-pub fn change_text(alloc: Global, change: &Change) -> Result<String, AllocError> {
-    match change {
-        Change::Put(id, value) => {
-            let record = record_and_value_text(alloc, id, value)?;
-            format!(in alloc; "put:{record}")
-        }
-        Change::Drop(id) => {
-            let record = record_text(alloc, id)?;
-            format!(in alloc; "drop:{record}")
-        }
-        Change::DropKey(key) => {
-            let key = hexed(alloc, key.as_slice())?;
-            format!(in alloc; "drop-key:{key}")
-        }
-        Change::Clear => String::from_str(alloc, "clear"),
-    }
 }
 
 /// The bytes of a reply as the protocol writes them, in hexadecimal.

@@ -1,7 +1,7 @@
 //! The words of an image, as the plain reader reads them.
 use crate::answers::{done, none};
 use crate::cause::Cause;
-use crate::keyspace::records_text;
+use crate::records::records_text;
 use crate::words::{number, pairs};
 use model::{ImageContents, read_image};
 use std::alloc::Global;

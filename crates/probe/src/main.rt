@@ -1,23 +1,21 @@
-//! Single calls of the lower crates: one call for each line of standard input, and one line of standard output for what it answers.
+//! Single calls of the lower crates: one call for each line of standard input, and one line of standard output for what it answers, at once.
 #![tactic(auto)]
 
 mod answers;
 mod cause;
-mod command;
 mod device;
 mod entries;
+mod file;
 mod frames;
-mod gate;
 mod heap;
 mod image;
 mod integers;
-mod keyspace;
 mod pipe;
 mod probe;
+mod records;
 mod replies;
 mod run;
 mod seats;
-mod table;
 mod texts;
 mod words;
 
@@ -28,7 +26,7 @@ use std::process::ExitCode;
 const MISUSED: u8 = 2;
 
 fn main(rt: HostRuntime) -> ExitCode {
-    match run(rt.alloc(), rt.stdin(), rt.stdout()) {
+    match run(&rt, rt.stdin(), rt.stdout()) {
         Ok(()) => ExitCode::SUCCESS,
         Err(error) => {
             let _ = rt.eprintln(&error);

@@ -2,52 +2,17 @@
 use crate::answers::{add_word, hexed, reply_text, word};
 use crate::cause::Cause;
 use crate::words::{bytes, number};
-use bytes::{BufMut, Bytes, BytesMut};
-use kv_types::{Listed, Reply};
+use bytes::{BufMut, Bytes};
+use kv_types::Reply;
 use resp_codec::{ReplyItem, ReplyParser, write_reply};
-use std::alloc::Global;
+use std::alloc::{AllocError, Global};
 
 pub fn answer(alloc: Global, words: &[&str]) -> Result<String, Cause> {
     match words {
-        ["behind", before, words @ ..] => {
-            behind(alloc, &bytes(alloc, before)?, replies(alloc, words)?)
-        }
-        ["copies", words @ ..] => copies(alloc, replies(alloc, words)?),
-        ["within", most, words @ ..] => {
-            within(alloc, number(most)? as usize, replies(alloc, words)?)
-        }
         ["read", pieces @ ..] => read(alloc, pieces),
+        ["within", most, text] => within(alloc, number(most)? as usize, bytes(alloc, text)?),
         _ => Err(Cause::NoCall),
     }
-}
-
-/// The bytes `before`, followed by those of the replies.
-fn behind(alloc: Global, before: &[u8], replies: Vec<Reply>) -> Result<String, Cause> {
-    let mut out = Vec::from_slice(alloc, before)?;
-    for reply in &replies {
-        write_reply(reply, &mut out)?;
-    }
-    Ok(hexed(alloc, &out)?)
-}
-
-/// The bytes of a clone of each reply, in a shared buffer.
-fn copies(alloc: Global, replies: Vec<Reply>) -> Result<String, Cause> {
-    let mut out = BytesMut::new(alloc);
-    for reply in &replies {
-        write_reply(&reply.clone()?, &mut out)?;
-    }
-    Ok(hexed(alloc, out.as_slice())?)
-}
-
-/// Whether every reply fits if there is room for `most` bytes, and the bytes written.
-fn within(alloc: Global, most: usize, replies: Vec<Reply>) -> Result<String, Cause> {
-    let mut out = Vec::new(alloc).limit(most);
-    let mut is_whole = true;
-    for reply in &replies {
-        is_whole &= write_reply(reply, &mut out).is_ok();
-    }
-    let bytes = hexed(alloc, out.get_ref().as_slice())?;
-    Ok(format!(in alloc; "{is_whole} {bytes}")?)
 }
 
 /// What a new parser of replies gives when it is fed the pieces and asked for all items after each: the items, and `/` after each piece.
@@ -55,13 +20,15 @@ fn read(alloc: Global, pieces: &[&str]) -> Result<String, Cause> {
     let mut parser = ReplyParser::new(alloc);
     let mut answer = String::new(alloc);
     for piece in pieces {
-        parser
-            .feed(bytes(alloc, piece)?)
-            .map_err(|_| Cause::Memory)?;
+        feed(&mut parser, bytes(alloc, piece)?)?;
         add_items(alloc, &mut parser, &mut answer)?;
         add_word(&mut answer, "/")?;
     }
     Ok(answer)
+}
+
+fn feed(parser: &mut ReplyParser, piece: Bytes) -> Result<(), Cause> {
+    parser.feed(piece).map_err(|_| Cause::Memory)
 }
 
 /// Adds a word for each item that is ahead.
@@ -84,51 +51,28 @@ fn next_text(alloc: Global, parser: &mut ReplyParser) -> Result<Option<String>, 
     }
 }
 
-/// The replies that the words spell, in order. An array is `*COUNT` before its replies, so the words are read from the last to the first.
-pub fn replies(alloc: Global, words: &[&str]) -> Result<Vec<Reply>, Cause> {
-    let mut replies = Vec::new(alloc);
-    for word in words.iter().rev() {
-        let reply = match word.strip_prefix("*") {
-            Some(count) => array(first(alloc, &mut replies, number(count)?)?),
-            None => plain(alloc, word)?,
+/// Whether a clone of every reply that these bytes spell fits if there is room for `most` bytes, and the bytes written.
+fn within(alloc: Global, most: usize, text: Bytes) -> Result<String, Cause> {
+    let mut parser = ReplyParser::new(alloc);
+    feed(&mut parser, text)?;
+    let mut out = Vec::new(alloc).limit(most);
+    let is_whole = write_clones(&mut parser, &mut out)?;
+    let bytes = hexed(alloc, out.get_ref().as_slice())?;
+    Ok(format!(in alloc; "{is_whole} {bytes}")?)
+}
+
+/// Writes a clone of each reply that is ahead, and says whether every one of them was written.
+fn write_clones<B: BufMut>(parser: &mut ReplyParser, out: &mut B) -> Result<bool, Cause> {
+    let mut is_whole = true;
+    for _ in 0..u64::MAX {
+        let Some(ReplyItem::Reply(reply)) = parser.next().map_err(|_| Cause::Memory)? else {
+            break;
         };
-        replies.push(reply)?;
+        is_whole &= write_clone(&reply, out)?;
     }
-    replies.reverse();
-    Ok(replies)
+    Ok(is_whole)
 }
 
-/// Takes `count` replies from the end of the list, the last one first.
-fn first(alloc: Global, replies: &mut Vec<Reply>, count: u64) -> Result<Vec<Reply>, Cause> {
-    let mut taken = Vec::new(alloc);
-    for _ in 0..count {
-        taken.push(replies.pop().ok_or(Cause::OutOfRange)?)?;
-    }
-    Ok(taken)
-}
-
-fn array(replies: Vec<Reply>) -> Reply {
-    Reply::Array(Listed::from_vec(replies))
-}
-
-/// A reply that contains no other: `+TEXT`, `-TEXT`, `:NUMBER`, `$BYTES`, `null-bulk` or `null-array`.
-fn plain(alloc: Global, word: &str) -> Result<Reply, Cause> {
-    match word {
-        "null-bulk" => Ok(Reply::NullBulk),
-        "null-array" => Ok(Reply::NullArray),
-        _ => with_text(alloc, word),
-    }
-}
-
-fn with_text(alloc: Global, word: &str) -> Result<Reply, Cause> {
-    if let Some(text) = word.strip_prefix("+") {
-        Ok(Reply::Simple(bytes(alloc, text)?))
-    } else if let Some(text) = word.strip_prefix("-") {
-        Ok(Reply::Error(bytes(alloc, text)?))
-    } else if let Some(text) = word.strip_prefix("$") {
-        Ok(Reply::Bulk(bytes(alloc, text)?))
-    } else {
-        let number = word.strip_prefix(":").ok_or(Cause::NotWord)?;
-        Ok(Reply::Int(number.parse::<i64>().map_err(|_| Cause::NotNumber)?))
-    }
+fn write_clone<B: BufMut>(reply: &Reply, out: &mut B) -> Result<bool, AllocError> {
+    Ok(write_reply(&reply.clone()?, out).is_ok())
 }

@@ -1,7 +1,7 @@
 //! The lines of a reader, each answered by a line to a writer.
 use crate::cause::Cause;
 use crate::probe::Probe;
-use std::alloc::{AllocError, Global};
+use std::alloc::AllocError;
 use std::error::Error;
 use std::io::{BufRead, BufReader, BufWriter, ErrorKind, Read, Write};
 use std::{fmt, io};
@@ -38,42 +38,45 @@ impl From<AllocError> for RunError {
     }
 }
 
-/// Answers each line, and stops at the first that cannot be answered.
+/// Answers each line as it comes, and stops at the first that cannot be answered.
 pub fn run<R: Read + Drop, W: Write + Drop>(
-    alloc: Global,
+    rt: &HostRuntime,
     reader: R,
     writer: W,
 ) -> Result<(), RunError> {
-    let reader = BufReader::new(alloc, reader).map_err(RunError::Read)?;
-    let mut writer = BufWriter::new(alloc, writer).map_err(RunError::Write)?;
-    let answered = answer_lines(alloc, reader, &mut writer);
-    writer.flush().map_err(RunError::Write)?;
-    answered
+    let reader = BufReader::new(rt.alloc(), reader).map_err(RunError::Read)?;
+    let mut writer = BufWriter::new(rt.alloc(), writer).map_err(RunError::Write)?;
+    answer_lines(rt, reader, &mut writer)
 }
 
 fn answer_lines<R: BufRead + Drop, W: Write>(
-    alloc: Global,
+    rt: &HostRuntime,
     reader: R,
     writer: &mut W,
 ) -> Result<(), RunError> {
     let mut probe = Probe::default();
     let mut number: u64 = 0;
-    for line in reader.lines(alloc) {
+    for line in reader.lines(rt.alloc()) {
         number = number.saturating_add(1);
         let answer = match line {
-            Ok(line) => answer_line(alloc, &mut probe, &line),
+            Ok(line) => answer_line(rt, &mut probe, &line),
             Err(error) if error.kind() == ErrorKind::InvalidData => Err(Cause::NotText),
             Err(error) => return Err(RunError::Read(error)),
         };
         match answer {
-            Ok(answer) => writeln!(writer, "{answer}").map_err(RunError::Write)?,
+            Ok(answer) => write_line(writer, &answer).map_err(RunError::Write)?,
             Err(cause) => return Err(RunError::Line(number, cause)),
         }
     }
     Ok(())
 }
 
-fn answer_line(alloc: Global, probe: &mut Probe, line: &str) -> Result<String, Cause> {
-    let words: Vec<&str> = line.split(' ').collect(alloc)?;
-    probe.answer(alloc, &words)
+fn answer_line(rt: &HostRuntime, probe: &mut Probe, line: &str) -> Result<String, Cause> {
+    let words: Vec<&str> = line.split(' ').collect(rt.alloc())?;
+    probe.answer(rt, &words)
+}
+
+fn write_line<W: Write>(writer: &mut W, answer: &str) -> io::Result<()> {
+    writeln!(writer, "{answer}")?;
+    writer.flush()
 }

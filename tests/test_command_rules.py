@@ -7,15 +7,18 @@ import common
 import draws
 import pages
 import plain_commands
+import plain_image
 import plain_keyspace
 import plain_redis
 import plain_replies
-from command_lines import Commands, line, shown, shown_effect, write, write_field
+from command_runs import CLEAR, CLOSE, Commands, write, write_field
 from draws import GREATEST, LEAST, LONG_KEY, LONGEST_KEY
+from plain_keyspace import Drop, DropKey
 from plain_replies import OK, array, bulk, error, integer, simple
-from probe_client import Probing, drop, drop_key, hexed, put, record
+from simulation import Runs, Schedule
+from spelling import spell
 
-PROGRAMS = ["probe"]
+PROGRAMS = ["simulator"]
 
 PAGE = common.ROOT / "docs" / "commands.md"
 
@@ -55,25 +58,25 @@ class Refused(Commands):
             wrong = error(f"ERR wrong number of arguments for '{name.lower()}' command")
             for count in range(1, 11):
                 asked = (name.encode(), *(count - 1) * [b"1"])
-                served = shown_effect(plain_commands.effect(empty, asked))
-                self.assertEqual(served == shown(wrong), not self.takes(name, count))
-                table.append((asked, served if self.takes(name, count) else shown(wrong)))
-        self.show_answers(table)
+                served, refused = plain_commands.effect(empty, asked), plain_commands.Effect(wrong)
+                self.assertEqual(served == refused, not self.takes(name, count))
+                table.append((asked, served if self.takes(name, count) else refused))
+        self.show_effects(table)
 
     def test_names(self):
         table, empty = [], plain_keyspace.Keyspace()
         for name in map(str.encode, self.names):
             count = next(count for count in range(1, 5) if self.takes(name.decode(), count))
             arguments = (count - 1) * (b"1",)
-            served = shown_effect(plain_commands.effect(empty, (name, *arguments)))
-            self.assertNotIn(hexed(b"-ERR"), served)
+            served = plain_commands.effect(empty, (name, *arguments))
+            self.assertFalse(served.reply.startswith(b"-ERR"))
             table += [((other, *arguments), served) for other in (name.lower(), name.title(), name.title().swapcase())]
             for other in (name[:-1], name + b"X", name + b"\0", b" " + name, name + name):
-                table.append(((other, *arguments), shown(UNKNOWN)))
-        self.show_answers(table)
+                table.append(((other, *arguments), plain_commands.Effect(UNKNOWN)))
+        self.show_effects(table)
 
-    def test_names_that_need_a_session_and_names_of_no_command(self):
-        names = [*self.others, "NOSUCH", "SELECT", "KEYS", "COMMAND", ""]
+    def test_names_of_no_command(self):
+        names = ["NOSUCH", "SELECT", "KEYS", "COMMAND", ""]
         self.show_requests(((name.encode(), *count * [b"h"]), UNKNOWN) for name in names for count in range(6))
 
     # The words after each name: k is a key or a field, v is none.
@@ -91,19 +94,18 @@ class Refused(Commands):
         for name, shape in self.SHAPES.items():
             short = [LONGEST_KEY if kind == "k" else b"1" for kind in shape]
             asked = (name.encode(), *short)
-            table.append((asked, shown_effect(plain_commands.effect(empty, asked))))
+            table.append((asked, plain_commands.effect(empty, asked)))
             for place, kind in enumerate(shape):
                 asked = (name.encode(), *short[:place], LONG_KEY, *short[place + 1:])
-                served = shown_effect(plain_commands.effect(empty, asked))
-                self.assertEqual(served == shown(TOO_LONG), kind == "k")
-                table.append((asked, shown(TOO_LONG) if kind == "k" else served))
-        self.show_answers(table)
+                served, refused = plain_commands.effect(empty, asked), plain_commands.Effect(TOO_LONG)
+                self.assertEqual(served == refused, kind == "k")
+                table.append((asked, refused if kind == "k" else served))
+        self.show_effects(table)
 
     def test_the_first_cause_is_told(self):
         wrong = error("ERR wrong number of arguments for 'get' command")
         self.show_requests([
             ((b"NOSUCH", LONG_KEY), UNKNOWN),
-            ((b"WATCH", LONG_KEY), UNKNOWN),
             ((b"GET", LONG_KEY, b"1"), wrong),
             ((b"MSET", LONG_KEY), error("ERR wrong number of arguments for 'mset' command")),
             ((b"GET", LONG_KEY), TOO_LONG),
@@ -140,67 +142,76 @@ class Refused(Commands):
         self.show_requests((asked, error(texts[cause])) for cause, asked in self.CAUSES.items())
 
 
-class Served(Probing):
+class Served(Commands):
     """Requests one after another, each over what those before it changed."""
 
     def test_a_session(self):
         self.show_session([
-            ("keyspace new", "done"),
-            (line("serve", "SET a 1"), shown(OK, write("a", "1"))),
-            (line("serve", "INCR a"), shown(integer(2), write("a", "2"))),
-            (line("show", "INCR a"), shown(integer(3), write("a", "3"))),
-            (line("serve", "APPEND a 0"), shown(integer(2), write("a", "20"))),
-            ("keyspace play " + put((b"h", b"f"), b"1"), "done"),
-            (line("serve", "DBSIZE"), shown(integer(2))),
-            (line("serve", "GET h"), shown(WRONG_TYPE)),
-            (line("serve", "MSET h 1 b 2"), shown(OK, write("h", "1"), write("b", "2"))),
-            ("keyspace records", f"3 false {record(b'a')}=3230 {record(b'b')}=32 {record(b'h')}=31"),
-            (line("serve", "GETDEL h"), shown(bulk(b"1"), drop_key(b"h"))),
-            (line("serve", "DEL a b h"), shown(integer(2), drop_key(b"a"), drop_key(b"b"))),
-            (line("serve", "FLUSHDB"), shown(OK)),
-            (line("serve", "SET a 1"), shown(OK, write("a", "1"))),
-            (line("serve", "FLUSHDB"), shown(OK, "clear")),
-            (line("serve", "QUIT"), shown(OK, "close")),
-            ("keyspace records", "0 true"),
-        ])
+            ("SET a 1", OK, write("a", "1")),
+            ("INCR a", integer(2), write("a", "2")),
+            ("APPEND a 0", integer(2), write("a", "20")),
+            ("HSET h f 1", integer(1), write_field("h", "f", "1")),
+            ("DBSIZE", integer(2)),
+            ("GET h", WRONG_TYPE),
+            ("MSET h 1 b 2", OK, write("h", "1"), write("b", "2")),
+            ("MGET a b h", array([bulk(word) for word in (b"20", b"2", b"1")])),
+            ("GETDEL h", bulk(b"1"), DropKey(b"h")),
+            ("DEL a b h", integer(2), DropKey(b"a"), DropKey(b"b")),
+            ("FLUSHDB", OK),
+            ("SET a 1", OK, write("a", "1")),
+            ("FLUSHDB", OK, CLEAR),
+            ("QUIT", OK, CLOSE),
+        ], [])
 
     def test_a_hash_from_its_first_field_to_its_last(self):
         self.show_session([
-            ("keyspace new", "done"),
-            (line("serve", "HSET h f 1"), shown(integer(1), write_field("h", "f", "1"))),
-            (line("serve", "HDEL h f"), shown(integer(1), drop((b"h", b"f")))),
-            (line("serve", "TYPE h"), shown(simple(b"none"))),
-            (line("serve", "DBSIZE"), shown(integer(0))),
-            (line("serve", "HSET h b 1 a 2 b 3"), shown(integer(2), *(write_field("h", *pair) for pair in ("b1", "a2", "b3")))),
-            (line("serve", "HGETALL h"), shown(array([bulk(word) for word in (b"a", b"2", b"b", b"3")]))),
-            (line("serve", "HINCRBY h a 5"), shown(integer(7), write_field("h", "a", "7"))),
-            (line("serve", "SET s 1"), shown(OK, write("s", "1"))),
-            (line("serve", "HSET s f 1"), shown(WRONG_TYPE)),
-            (line("serve", "APPEND h 1"), shown(WRONG_TYPE)),
-            ("keyspace records", f"3 false {record(b'h', b'a')}=37 {record(b'h', b'b')}=33 {record(b's')}=31"),
-            (line("serve", "SET h x"), shown(OK, write("h", "x"))),
-            (line("serve", "TYPE h"), shown(simple(b"string"))),
-            (line("serve", "HGET h a"), shown(WRONG_TYPE)),
-            (line("serve", "DEL h"), shown(integer(1), drop_key(b"h"))),
-            (line("serve", "HSETNX h b 4"), shown(integer(1), write_field("h", "b", "4"))),
-            ("keyspace records", f"2 false {record(b'h', b'b')}=34 {record(b's')}=31"),
-        ])
+            ("HSET h f 1", integer(1), write_field("h", "f", "1")),
+            ("HDEL h f", integer(1), Drop((b"h", b"f"))),
+            ("TYPE h", simple(b"none")),
+            ("DBSIZE", integer(0)),
+            ("HSET h b 1 a 2 b 3", integer(2), *(write_field("h", *pair) for pair in ("b1", "a2", "b3"))),
+            ("HGETALL h", array([bulk(word) for word in (b"a", b"2", b"b", b"3")])),
+            ("HINCRBY h a 5", integer(7), write_field("h", "a", "7")),
+            ("SET s 1", OK, write("s", "1")),
+            ("HSET s f 1", WRONG_TYPE),
+            ("APPEND h 1", WRONG_TYPE),
+            ("HGETALL h", array([bulk(word) for word in (b"a", b"7", b"b", b"3")])),
+            ("SET h x", OK, write("h", "x")),
+            ("TYPE h", simple(b"string")),
+            ("HGET h a", WRONG_TYPE),
+            ("DEL h", integer(1), DropKey(b"h")),
+            ("HSETNX h b 4", integer(1), write_field("h", "b", "4")),
+        ], [((b"h", b"b"), b"4"), ((b"s",), b"1")])
 
     def test_what_holds_hashes(self):
-        made = [f"keyspace play {put((b'h', field), b'1')}" for field in (b"f", b"g")]
         for asked, reply in (("SET h 1", OK), ("SET h 1 XX", OK), ("MSET h 1", OK)):
             self.show_session([
-                ("keyspace new", "done"),
-                *((each, "done") for each in made),
-                (line("serve", asked), shown(reply, write("h", "1"))),
-                ("keyspace records", "1 false 68=31"),
-            ], asked)
+                ("HSET h f 1", integer(1), write_field("h", "f", "1")),
+                ("HSET h g 1", integer(1), write_field("h", "g", "1")),
+                (asked, reply, write("h", "1")),
+            ], [((b"h",), b"1")])
+
+    def test_a_key_that_begins_another(self):
+        self.show_session([
+            ("HSET h g 2 f 1", integer(2), write_field("h", "g", "2"), write_field("h", "f", "1")),
+            ("HSET hh f 3", integer(1), write_field("hh", "f", "3")),
+            ((b"HSET", b"h", b"", b""), integer(1), plain_keyspace.Put((b"h", b""), b"")),
+            ("HDEL h f", integer(1), Drop((b"h", b"f"))),
+            ("HDEL hh f", integer(1), Drop((b"hh", b"f"))),
+            ("HLEN h", integer(2)),
+            ("HLEN hh", integer(0)),
+            ("HKEYS h", array([bulk(b""), bulk(b"g")])),
+        ], [((b"h", b""), b""), ((b"h", b"g"), b"2")])
 
 
-class Drawn(Probing):
-    """Requests drawn by a seed, against the plain Redis."""
+class Drawn(Runs):
+    """Requests drawn by a seed, against the plain Redis. Those that need a session are drawn elsewhere (draws.transaction)."""
 
-    SEEDS, REQUESTS = 2, 6_000
+    SEEDS, REQUESTS, LINES = 24, 400, 131_072
+    # At most so many changing calls wait for their group.
+    OPEN = 50
+
+    NAMES = [name for name in draws.NAMES if name not in draws.SESSION - {b"unwatch"}]
 
     # What the draws have to lead to.
     ERRORS = {error(text) for text in (plain_replies.OVERFLOW, plain_replies.NO_OPPOSITE, plain_replies.LONG_STRING, plain_replies.NO_INTEGER_OF_A_FIELD)}
@@ -208,30 +219,44 @@ class Drawn(Probing):
     CHANGES = {plain_keyspace.Put, plain_keyspace.Drop, plain_keyspace.DropKey, plain_keyspace.Clear}
 
     def test_against_the_plain_redis(self):
+        effects = []
         for seed in range(self.SEEDS):
-            drawn, redis = draws.numbers(f"commands {seed}"), plain_redis.Redis()
-            table, effects = [("keyspace new", "done")], []
-            while len(effects) < self.REQUESTS:
-                if drawn.randrange(8) == 0:
-                    table.append(self.draw_field(drawn, redis))
-                asked = draws.request(drawn)
-                effects.append(redis.serve(asked))
-                table.append((line("serve", asked), shown_effect(effects[-1])))
-            records = redis.keyspace.records()
-            shown_records = (f"{record(*name)}={hexed(value)}" for name, value in records)
-            table.append(("keyspace records", " ".join([str(len(records)), str(not records).lower(), *shown_records])))
-            self.check_draws(effects)
-            self.show_session(table, f"seed {seed}")
+            drawn, redis = draws.numbers(f"commands {seed}"), plain_redis.Redis(plain_image.Room(self.LINES))
+            asked = self.draw(drawn)
+            served = [redis.serve(words) for words in asked]
+            effects += served
+            with self.case(f"seed {seed}"):
+                trace = self.play(self.schedule_of(asked, served), lines=(self.LINES, self.LINES))
+                self.assertEqual([call.reply for call in trace.calls], [effect.reply for effect in served])
+                self.assertEqual(trace.records["standby"], redis.keyspace.records())
+        self.check_draws(effects)
+
+    def schedule_of(self, asked, served):
+        """The requests one after another, each connection's up to the one that closes it; groups of `OPEN` requests."""
+        schedule, c, groups = Schedule(1 + sum(effect.closes for effect in served)), 0, 0
+        for number, (words, effect) in enumerate(zip(asked, served)):
+            schedule.feed(c, spell(*words))
+            schedule.serve(c)
+            c += effect.closes
+            if number % self.OPEN == self.OPEN - 1:
+                schedule.commit()
+                schedule.replicate(groups)
+                groups += 1
+        return schedule
 
     def check_draws(self, effects):
         """The draws lead to every error, kind of change and kind of key."""
         wanted = self.ERRORS | {simple(kind) for kind in (b"string", b"hash", b"none")}
         self.assertEqual(wanted - {it.reply for it in effects}, set())
         self.assertEqual(self.CHANGES, {type(change) for it in effects for change in it.changes})
-        self.assertGreater(sum(bool(it.changes) for it in effects), self.REQUESTS // 6)
+        self.assertGreater(sum(bool(it.changes) for it in effects), len(effects) // 6)
 
-    def draw_field(self, drawn, redis):
-        """A line that makes a hash, or one more field of it, also where the key holds a string."""
-        name, value = (drawn.choice(draws.KEYS), drawn.choice(draws.FIELDS)), drawn.choice(draws.VALUES)
-        redis.keyspace.play(plain_keyspace.Put(name, value))
-        return f"keyspace play {put(name, value)}", "done"
+    def draw(self, drawn):
+        """Requests, and now and then one more field of a hash, also where the key holds a string."""
+        asked = []
+        while len(asked) < self.REQUESTS:
+            if drawn.randrange(8) == 0:
+                key, field, value = drawn.choice(draws.KEYS), drawn.choice(draws.FIELDS), drawn.choice(draws.VALUES)
+                asked += [(b"DEL", key)] * drawn.randrange(2) + [(b"HSET", key, field, value)]
+            asked.append(draws.request(drawn, self.NAMES))
+        return asked[:self.REQUESTS]

@@ -1,12 +1,11 @@
-"""What the commands on strings, counters, keys and the connection reply and change (docs/commands.md), over the probe's
-plain keyspace."""
+"""What the commands on strings, counters, keys and the connection reply and change (docs/commands.md), in runs of the simulator."""
 
-from command_lines import Commands, write
+from command_runs import CLEAR, CLOSE, Commands, write
 from draws import GREATEST, LEAST
+from plain_keyspace import DropKey, Put
 from plain_replies import NULL_BULK, OK, array, bulk, error, integer, simple
-from probe_client import drop_key, put
 
-PROGRAMS = ["probe"]
+PROGRAMS = ["simulator"]
 
 SYNTAX = error("ERR syntax error")
 WRONG_TYPE = error("WRONGTYPE Operation against a key holding the wrong kind of value")
@@ -21,9 +20,9 @@ class Strings(Commands):
             ("SET new 1", OK, write("new", "1")),
             ("SET h 1", OK, write("h", "1")),
             ("SET s value", OK, write("s", "value")),
-            ((b"SET", b"", b""), OK, put((b"",), b"")),
-            ((b"SET", b"\0\r\n", b"\xff "), OK, put((b"\0\r\n",), b"\xff ")),
-            ((b"SET", b"s", 65_536 * b"v"), OK, put((b"s",), 65_536 * b"v")),
+            ((b"SET", b"", b""), OK, Put((b"",), b"")),
+            ((b"SET", b"\0\r\n", b"\xff "), OK, Put((b"\0\r\n",), b"\xff ")),
+            ((b"SET", b"s", 65_536 * b"v"), OK, Put((b"s",), 65_536 * b"v")),
         ])
 
     def test_options_of_set(self):
@@ -58,8 +57,8 @@ class Strings(Commands):
             ("GET new", NULL_BULK),
             ("GET S", NULL_BULK),
             ("GET h", WRONG_TYPE),
-            ("GETDEL s", bulk(b"value"), drop_key(b"s")),
-            ("GETDEL e", bulk(b""), drop_key(b"e")),
+            ("GETDEL s", bulk(b"value"), DropKey(b"s")),
+            ("GETDEL e", bulk(b""), DropKey(b"e")),
             ("GETDEL new", NULL_BULK),
             ("GETDEL h", WRONG_TYPE),
         ])
@@ -90,19 +89,19 @@ class Strings(Commands):
 
     def test_append_up_to_the_limit(self):
         long, longest, too_long = 65_535 * b"v", 65_536 * b"v", error("ERR string is longer than 65536 bytes")
-        written = put((b"long",), longest)
+        written = Put((b"long",), longest)
         self.show_requests([
-            ((b"APPEND", b"long", b""), integer(65_535), put((b"long",), long)),
+            ((b"APPEND", b"long", b""), integer(65_535), Put((b"long",), long)),
             ((b"APPEND", b"long", b"v"), integer(65_536), written),
             ((b"APPEND", b"long", b"vv"), too_long),
-            ((b"APPEND", b"longest", b""), integer(65_536), put((b"longest",), longest)),
+            ((b"APPEND", b"longest", b""), integer(65_536), Put((b"longest",), longest)),
             ((b"APPEND", b"longest", b"v"), too_long),
             ((b"APPEND", b"longest", longest), too_long),
-            ((b"APPEND", b"one", long), integer(65_536), put((b"one",), b"1" + long)),
+            ((b"APPEND", b"one", long), integer(65_536), Put((b"one",), b"1" + long)),
             ((b"APPEND", b"one", longest), too_long),
-            ((b"APPEND", b"new", longest), integer(65_536), put((b"new",), longest)),
+            ((b"APPEND", b"new", longest), integer(65_536), Put((b"new",), longest)),
             ((b"STRLEN", b"longest"), integer(65_536)),
-        ], [put((b"long",), long), put((b"longest",), longest), put((b"one",), b"1")])
+        ], [Put((b"long",), long), Put((b"longest",), longest), Put((b"one",), b"1")])
 
     def test_mset_and_msetnx(self):
         self.show_requests([
@@ -167,7 +166,7 @@ class Counters(Commands):
         ])
 
     def test_integers_of_strings(self):
-        kept = [put((b"%d" % place,), text) for place, text in enumerate(self.INTEGERS + self.NO_INTEGERS)]
+        kept = [Put((b"%d" % place,), text) for place, text in enumerate(self.INTEGERS + self.NO_INTEGERS)]
         names = [str(place) for place in range(len(kept))]
         numbers = list(zip(names, map(int, self.INTEGERS)))
         found = [(f"INCRBY {name} 0", integer(number), write(name, str(number))) for name, number in numbers]
@@ -176,16 +175,16 @@ class Counters(Commands):
         self.show_requests(found + refused, kept)
 
     def test_integers_of_arguments(self):
-        table = [((b"INCRBY", b"new", text), integer(int(text)), put((b"new",), text)) for text in self.INTEGERS]
+        table = [((b"INCRBY", b"new", text), integer(int(text)), Put((b"new",), text)) for text in self.INTEGERS]
         for text in set(self.INTEGERS) - {LEAST}:
-            table.append(((b"DECRBY", b"new", text), integer(-int(text)), put((b"new",), b"%d" % -int(text))))
+            table.append(((b"DECRBY", b"new", text), integer(-int(text)), Put((b"new",), b"%d" % -int(text))))
         # (before the key is looked at)
         for text in self.NO_INTEGERS:
             table += [((name, key, text), NO_INTEGER) for name in (b"INCRBY", b"DECRBY") for key in (b"new", b"n", b"h")]
         self.show_requests(table)
 
     def test_results_out_of_range(self):
-        kept = [put((b"most",), GREATEST), put((b"least",), LEAST), put((b"n",), b"-1")]
+        kept = [Put((b"most",), GREATEST), Put((b"least",), LEAST), Put((b"n",), b"-1")]
         no_opposite = error("ERR decrement would overflow")
         self.show_requests([
             ("INCR most", OVERFLOW),
@@ -200,22 +199,22 @@ class Counters(Commands):
             ((b"INCRBY", b"least", LEAST), OVERFLOW),
             ((b"INCRBY", b"most", LEAST), integer(-1), write("most", "-1")),
             ((b"INCRBY", b"n", LEAST), OVERFLOW),
-            ((b"DECRBY", b"n", GREATEST), integer(-(2**63)), put((b"n",), LEAST)),
+            ((b"DECRBY", b"n", GREATEST), integer(-(2**63)), Put((b"n",), LEAST)),
             ((b"DECRBY", b"least", b"-9223372036854775807"), integer(-1), write("least", "-1")),
             # before the key is looked at
             *(((b"DECRBY", key, LEAST), no_opposite) for key in (b"n", b"least", b"new", b"h", b"s")),
-        ], [*kept, put((b"h", b"f"), b"1"), put((b"s",), b"value")])
+        ], [*kept, Put((b"h", b"f"), b"1"), Put((b"s",), b"value")])
 
 
 class Keys(Commands):
     def test_del(self):
         self.show_requests([
-            ("DEL s", integer(1), drop_key(b"s")),
-            ("DEL h", integer(1), drop_key(b"h")),
+            ("DEL s", integer(1), DropKey(b"s")),
+            ("DEL h", integer(1), DropKey(b"h")),
             ("DEL new", integer(0)),
-            ("DEL s new h e", integer(3), drop_key(b"s"), drop_key(b"h"), drop_key(b"e")),
-            ("DEL s s", integer(1), drop_key(b"s")),
-            ("DEL n s n h s", integer(3), drop_key(b"n"), drop_key(b"s"), drop_key(b"h")),
+            ("DEL s new h e", integer(3), DropKey(b"s"), DropKey(b"h"), DropKey(b"e")),
+            ("DEL s s", integer(1), DropKey(b"s")),
+            ("DEL n s n h s", integer(3), DropKey(b"n"), DropKey(b"s"), DropKey(b"h")),
             ("DEL new new", integer(0)),
         ])
 
@@ -235,7 +234,7 @@ class Keys(Commands):
     def test_dbsize_and_flushdb(self):
         self.show_requests([
             ("DBSIZE", integer(4)),
-            ("FLUSHDB", OK, "clear"),
+            ("FLUSHDB", OK, CLEAR),
             ("FLUSHDB ASYNC", SYNTAX),
             ("FLUSHDB a b", SYNTAX),
             ((b"FLUSHDB", b""), SYNTAX),
@@ -245,16 +244,16 @@ class Keys(Commands):
         self.show_requests([("DBSIZE", integer(0)), ("FLUSHDB", OK), ("FLUSHDB SYNC", SYNTAX)], [])
 
     def test_a_hash_alone(self):
-        self.show_requests([("DBSIZE", integer(1)), ("FLUSHDB", OK, "clear")], [put((b"h", b"f"), b""), put((b"h", b"g"), b"")])
+        self.show_requests([("DBSIZE", integer(1)), ("FLUSHDB", OK, CLEAR)], [Put((b"h", b"f"), b""), Put((b"h", b"g"), b"")])
 
     def test_the_most_words(self):
         names = tuple(b"%d" % number for number in range(1_023))
-        kept = [put((name,), b"v") for name in names]
+        kept = [Put((name,), b"v") for name in names]
         self.show_requests([
-            ((b"DEL", *names), integer(1_023), *map(drop_key, names)),
+            ((b"DEL", *names), integer(1_023), *map(DropKey, names)),
             ((b"EXISTS", *1_023 * [b"7"]), integer(1_023)),
             ((b"MGET", *names), array(1_023 * [bulk(b"v")])),
-            ((b"MSET", *names[:-1]), OK, *(put((key,), value) for key, value in zip(names[:-1:2], names[1::2]))),
+            ((b"MSET", *names[:-1]), OK, *(Put((key,), value) for key, value in zip(names[:-1:2], names[1::2]))),
         ], kept)
 
 
@@ -271,6 +270,6 @@ class Connection(Commands):
         ])
 
     def test_quit_alone_closes(self):
-        closing = [(asked, OK, "close") for asked in ("QUIT", "quit", "qUiT now", "QUIT a b c", (b"QUIT", 65_536 * b"q"))]
+        closing = [(asked, OK, CLOSE) for asked in ("QUIT", "quit", "qUiT now", "QUIT a b c", (b"QUIT", 65_536 * b"q"))]
         unknown = error("ERR unknown command")
         self.show_requests([*closing, ("QUI", unknown), ("QUITS", unknown), ("ECHO QUIT", bulk(b"QUIT"))])

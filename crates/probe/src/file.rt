@@ -1,9 +1,9 @@
-//! What each line asks for.
+//! A device over a file.
 ghost use Rattle.std.specs.Prelude.{◌≡◌, ◌↔◌, ◌*◌, ◌^◌, ◌==◌, if◌then◌else◌, Some, IfOk, IfErr, IfSome, IfNone, IsSome, IsSomeAnd, codes, string_bytes};
 ghost use Rattle.std.specs.Fmt.{decimal};
 ghost use Rattle.pmem.specs.Device.{Steps, newest_at, store_at, flush_at};
 ghost use Rattle.pmem_file.specs.Device.{state_of};
-ghost use Rattle.pmem_file_probe.specs.Number.{number_of, IsBelow};
+ghost use Rattle.probe.specs.Number.{number_of, IsBelow};
 
 use kv_types::Refusal;
 use pmem::Pmem;
@@ -12,12 +12,12 @@ use std::alloc::{AllocError, Global};
 
 /// The device that is open, if one is.
 #[derive(Default, Drop)]
-pub struct Probe {
+pub struct FileProbe {
     device: Option<FilePmem>,
 }
 
-impl Probe {
-    /// The answer to a line, or nothing where it is not understood, and then nothing was done.
+impl FileProbe {
+    /// The answer to a call, or nothing where it is not understood, and then nothing was done.
     pub fn answer(
         &mut self,
         rt: &HostRuntime,

@@ -1,11 +1,11 @@
-"""What the commands on hashes reply and change (docs/commands.md), over the probe's plain keyspace."""
+"""What the commands on hashes reply and change (docs/commands.md), in runs of the simulator."""
 
-from command_lines import Commands, write_field
+from command_runs import Commands, write_field
 from draws import GREATEST, LEAST, LONGEST_KEY
+from plain_keyspace import Drop, Put
 from plain_replies import NULL_BULK, array, bulk, error, integer, simple
-from probe_client import drop, put
 
-PROGRAMS = ["probe"]
+PROGRAMS = ["simulator"]
 
 WRONG_TYPE = error("WRONGTYPE Operation against a key holding the wrong kind of value")
 NO_INTEGER = error("ERR value is not an integer or out of range")
@@ -29,9 +29,9 @@ class Written(Commands):
             ("HSET h b 1 f 2 a 3", integer(2), write_field("h", "b", "1"), write_field("h", "f", "2"), write_field("h", "a", "3")),
             ("HSET s f 1", WRONG_TYPE),
             ("HSET e f 1", WRONG_TYPE),
-            ((b"HSET", b"h", b"", b""), integer(0), put((b"h", b""), b"")),
-            ((b"HSET", b"", b"\0\r\n", b"\xff "), integer(1), put((b"", b"\0\r\n"), b"\xff ")),
-            ((b"HSET", b"h", LONGEST_KEY, 65_536 * b"v"), integer(1), put((b"h", LONGEST_KEY), 65_536 * b"v")),
+            ((b"HSET", b"h", b"", b""), integer(0), Put((b"h", b""), b"")),
+            ((b"HSET", b"", b"\0\r\n", b"\xff "), integer(1), Put((b"", b"\0\r\n"), b"\xff ")),
+            ((b"HSET", b"h", LONGEST_KEY, 65_536 * b"v"), integer(1), Put((b"h", LONGEST_KEY), 65_536 * b"v")),
         ])
 
     def test_a_field_named_twice(self):
@@ -48,33 +48,33 @@ class Written(Commands):
             ("HSETNX new f 1", integer(1), write_field("new", "f", "1")),
             ("HSETNX h f 2", integer(0)),
             ((b"HSETNX", b"h", b"", b"1"), integer(0)),
-            ((b"HSETNX", b"new", b"", b""), integer(1), put((b"new", b""), b"")),
+            ((b"HSETNX", b"new", b"", b""), integer(1), Put((b"new", b""), b"")),
             ("HSETNX s f 1", WRONG_TYPE),
         ])
 
     def test_hdel(self):
         self.show_requests([
-            ("HDEL h f", integer(1), drop((b"h", b"f"))),
+            ("HDEL h f", integer(1), Drop((b"h", b"f"))),
             ("HDEL h new", integer(0)),
             ("HDEL h F", integer(0)),
             ("HDEL new f", integer(0)),
-            ("HDEL h t new f", integer(2), drop((b"h", b"t")), drop((b"h", b"f"))),
-            ("HDEL h f f", integer(1), drop((b"h", b"f"))),
-            ("HDEL h g t g f t", integer(3), drop((b"h", b"g")), drop((b"h", b"t")), drop((b"h", b"f"))),
-            ((b"HDEL", b"h", b""), integer(1), drop((b"h", b""))),
+            ("HDEL h t new f", integer(2), Drop((b"h", b"t")), Drop((b"h", b"f"))),
+            ("HDEL h f f", integer(1), Drop((b"h", b"f"))),
+            ("HDEL h g t g f t", integer(3), Drop((b"h", b"g")), Drop((b"h", b"t")), Drop((b"h", b"f"))),
+            ((b"HDEL", b"h", b""), integer(1), Drop((b"h", b""))),
             ("HDEL s f", WRONG_TYPE),
             ("HDEL n n", WRONG_TYPE),
         ])
 
     def test_the_most_words(self):
         names = [b"%03d" % number for number in range(1_022)]
-        kept = [put((b"h", name), b"v") for name in names]
+        kept = [Put((b"h", name), b"v") for name in names]
         pairs = tuple(word for name in names[:511] for word in (name, b"w"))
         self.show_requests([
-            ((b"HDEL", b"h", *names), integer(1_022), *(drop((b"h", name)) for name in names)),
+            ((b"HDEL", b"h", *names), integer(1_022), *(Drop((b"h", name)) for name in names)),
             ((b"HMGET", b"h", *names), bulks(*len(names) * [b"v"])),
-            ((b"HSET", b"h", *pairs), integer(0), *(put((b"h", name), b"w") for name in names[:511])),
-            ((b"HSET", b"new", *pairs), integer(511), *(put((b"new", name), b"w") for name in names[:511])),
+            ((b"HSET", b"h", *pairs), integer(0), *(Put((b"h", name), b"w") for name in names[:511])),
+            ((b"HSET", b"new", *pairs), integer(511), *(Put((b"new", name), b"w") for name in names[:511])),
             ("HLEN h", integer(1_022)),
             ("HKEYS h", bulks(*sorted(names))),
         ], kept)
@@ -141,7 +141,7 @@ class Read(Commands):
 
     def test_ascending_bytes_of_the_field(self):
         fields = [b"b", b"", b"\xff", b"aa", b"a", b"\0", b"B", b"a\0", b"10", b"9", b"\x80"]
-        kept = [put((b"h", field), b"<%s" % field) for field in fields] + [put((b"ha",), b""), put((b"g", b"z"), b"")]
+        kept = [Put((b"h", field), b"<%s" % field) for field in fields] + [Put((b"ha",), b""), Put((b"g", b"z"), b"")]
         ordered = [b"", b"\0", b"10", b"9", b"B", b"a", b"a\0", b"aa", b"b", b"\x80", b"\xff"]
         self.show_requests([
             ("HKEYS h", bulks(*ordered)),
@@ -162,22 +162,22 @@ class Counted(Commands):
             ("HINCRBY h f 0", integer(1), write_field("h", "f", "1")),
             ("HINCRBY h new 7", integer(7), write_field("h", "new", "7")),
             ("HINCRBY new f -7", integer(-7), write_field("new", "f", "-7")),
-            ((b"HINCRBY", b"new", b"", LEAST), integer(-(2**63)), put((b"new", b""), LEAST)),
+            ((b"HINCRBY", b"new", b"", LEAST), integer(-(2**63)), Put((b"new", b""), LEAST)),
             ("HINCRBY h t 1", NO_INTEGER_OF_A_FIELD),
             ((b"HINCRBY", b"h", b"", b"1"), NO_INTEGER_OF_A_FIELD),
             ("HINCRBY n n 1", WRONG_TYPE),
         ])
 
     def test_texts_of_no_integer(self):
-        kept = [put((b"h", b"%d" % place), text) for place, text in enumerate(self.NO_INTEGERS)]
+        kept = [Put((b"h", b"%d" % place), text) for place, text in enumerate(self.NO_INTEGERS)]
         table = [(f"HINCRBY h {place} 1", NO_INTEGER_OF_A_FIELD) for place in range(len(kept))]
         # (before the key is looked at)
         for text in self.NO_INTEGERS:
             table += [((b"HINCRBY", key, field, text), NO_INTEGER) for key in (b"h", b"s", b"new") for field in (b"0", b"f")]
-        self.show_requests(table, [*kept, put((b"s",), b"1")])
+        self.show_requests(table, [*kept, Put((b"s",), b"1")])
 
     def test_results_out_of_range(self):
-        kept = [put((b"h", b"most"), GREATEST), put((b"h", b"least"), LEAST), put((b"h", b"n"), b"-1")]
+        kept = [Put((b"h", b"most"), GREATEST), Put((b"h", b"least"), LEAST), Put((b"h", b"n"), b"-1")]
         self.show_requests([
             ("HINCRBY h most 1", OVERFLOW),
             ("HINCRBY h least -1", OVERFLOW),

@@ -1,11 +1,9 @@
-//! Keys, values, records, changes, and the plain keyspace on which they are played.
-use crate::answers::{add_word, done, hexed, hexed_or_none, record_and_value_text};
+//! Keys, values, records and changes.
+use crate::answers::{add_word, hexed, record_and_value_text};
 use crate::cause::Cause;
-use crate::command;
 use crate::words::{bytes, change, changes, key, number, record_id};
 use bytes::Bytes;
-use cmd_core::{Lookup, check_hash};
-use kv_types::{Field, Key, PlainKeyspace, Value, changes_fit};
+use kv_types::{Key, PlainKeyspace, Value, changes_fit};
 use std::alloc::Global;
 
 /// The most bytes that a key or a value is made of.
@@ -68,40 +66,6 @@ pub fn answer_change(alloc: Global, words: &[&str]) -> Result<String, Cause> {
     }
 }
 
-#[derive(Default, Drop)]
-pub struct KeyspaceProbe {
-    keyspace: Option<PlainKeyspace>,
-}
-
-impl KeyspaceProbe {
-    pub fn answer(&mut self, alloc: Global, words: &[&str]) -> Result<String, Cause> {
-        if let ["new"] = words {
-            self.keyspace = Some(PlainKeyspace::new(alloc));
-            return done(alloc);
-        }
-        let keyspace = self.keyspace.as_mut().ok_or(Cause::NotMade)?;
-        match words {
-            ["play", word] => {
-                keyspace.play(change(alloc, word)?)?;
-                done(alloc)
-            }
-            ["play-all", words @ ..] => {
-                keyspace.play_all(changes(alloc, words)?)?;
-                done(alloc)
-            }
-            ["get", id] => {
-                let value = keyspace.get(&record_id(alloc, id)?);
-                hexed_or_none(alloc, value.map(|value| value.as_slice()))
-            }
-            ["records"] => records_text(alloc, keyspace),
-            ["fields", key] => fields_text(alloc, keyspace, &bytes(alloc, key)?),
-            ["show", words @ ..] => command::show(alloc, keyspace, words),
-            ["serve", words @ ..] => command::serve(alloc, keyspace, words),
-            _ => Err(Cause::NoCall),
-        }
-    }
-}
-
 /// How many records there are, whether there is none, and each as `RECORD=VALUE`.
 pub fn records_text(alloc: Global, keyspace: &PlainKeyspace) -> Result<String, Cause> {
     let mut answer = format!(in alloc; "{} {}", keyspace.len(), keyspace.is_empty())?;
@@ -109,30 +73,4 @@ pub fn records_text(alloc: Global, keyspace: &PlainKeyspace) -> Result<String, C
         add_word(&mut answer, &record_and_value_text(alloc, id, value)?)?;
     }
     Ok(answer)
-}
-
-/// How many fields the hash at a key has, and each as `FIELD=VALUE`, whose value is looked up by itself; or the text of the error where
-/// the key holds a string.
-fn fields_text(alloc: Global, keyspace: &PlainKeyspace, key: &[u8]) -> Result<String, Cause> {
-    if let Err(error) = check_hash(keyspace, key) {
-        return Ok(hexed(alloc, error.text())?);
-    }
-    let mut answer = keyspace.count_fields(key).to_string(alloc)?;
-    for (field, _) in keyspace.fields(alloc, key)? {
-        add_word(&mut answer, &field_text(alloc, keyspace, key, &field)?)?;
-    }
-    Ok(answer)
-}
-
-/// A field of the hash at a key, as `FIELD=VALUE`.
-fn field_text(
-    alloc: Global,
-    keyspace: &PlainKeyspace,
-    key: &[u8],
-    field: &Field,
-) -> Result<String, Cause> {
-    let value = keyspace.field(key, field.as_slice());
-    let value = hexed_or_none(alloc, value.map(|value| value.as_slice()))?;
-    let field = hexed(alloc, field.as_slice())?;
-    Ok(format!(in alloc; "{field}={value}")?)
 }
