@@ -4,6 +4,7 @@ pub mod AnswerLemmas
 pub mod InboundLemmas
 pub mod OutboundLemmas
 pub mod OverLemmas
+pub mod CrashLemmas
 pub mod CommitterLemmas
 pub mod LinkLemmas
 pub mod StandbyLemmas
@@ -12,6 +13,8 @@ pub mod SoundEvents
 pub mod RunLemmas
 pub mod FedLemmas
 pub mod PromiseLemmas
+pub mod CoverLemmas
+pub mod EveryRun
 pub mod GrowLemmas
 pub mod StayLemmas
 pub mod CountLemmas

@@ -5,10 +5,9 @@ use Rattle.machine.specs.declared.event.Event.{Event}
 use Rattle.machine.specs.Event.{World, is_enabled, Happens, Step, Run, start, last_world}
 use Rattle.machine.specs.Promise.{SomeWorld}
 use Rattle.machine.specs.Sound.{Sound}
-use Rattle.machine.proofs.InboundLemmas.{inbound-start}
 use Rattle.machine.proofs.OverLemmas.{over-start}
-use Rattle.machine.proofs.CommitterLemmas.{committer-start}
-use Rattle.machine.proofs.LinkLemmas.{link-start}
+use Rattle.machine.proofs.CommitterLemmas.{committer-new}
+use Rattle.machine.proofs.LinkLemmas.{link-new}
 use Rattle.machine.proofs.StandbyLemmas.{standby-start, wire-start}
 use Rattle.machine.proofs.SoundEvents.{sound-step}
 
@@ -68,15 +67,14 @@ some-last P w (new ∷ worlds) h = inr (some-last P new worlds h)
 pub sound-start : Sound start
 sound-start =
     record {
-      nodes = record { primary = refl; standby = refl };
       connections = record { seats = omega arith };
       legal = tt;
-      inbound = inbound-start;
+      inbound = λ c is_one. cc;
       outbound = λ c is_one. cc;
       over = λ c shut. over-start c;
-      committer = committer-start;
+      committer = committer-new 0;
       sent = 0;
-      link = link-start;
+      link = link-new 0;
       standby = standby-start;
       wire = wire-start;
     }

@@ -71,7 +71,7 @@ far waiting position frames positions = record { node = standby waiting position
 abbrev world : Inbound → Outbound → List Call → Committer → Link → Far → World
 world i o calls c l s =
     record {
-      primary = record { life = Running; epoch = FIRST_EPOCH; connections = record { is_open = true; inbound = i; outbound = o } ∷ []; calls = calls; committer = c; link = l };
+      primary = record { life = Running; epoch = FIRST_EPOCH; opened = 0; connections = record { is_open = true; inbound = i; outbound = o } ∷ []; calls = calls; committer = c; link = l };
       standby = s.node;
       wire = s.between;
     }

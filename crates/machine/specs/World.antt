@@ -104,6 +104,8 @@ pub data Life : Type 0 where
 pub record Primary : Type 0 where
   pub life : Life
   pub epoch : ℕ
+  -- the position of the list at which it was opened last or, once it crashed, will be
+  pub opened : ℕ
   pub connections : List Connection
   -- the list of calls
   pub calls : List Call
@@ -142,16 +144,25 @@ no_connection = record {
 abbrev pub new_connection : Connection
 new_connection = record no_connection { is_open = true }
 
+-- a committer over an image at this position, to which nothing was handed yet
+abbrev pub new_committer : ℕ → Committer
+new_committer position = record { closed = position; waiting = []; stage = Ready; position = position; local = position }
+
+-- a link that has sent nothing and knows of no acknowledgement
+abbrev pub new_link : Link
+new_link = record { waiting = []; kept = []; again = []; known = 0; remote = 0 }
+
 -- two nodes that were formatted together, with this epoch
 abbrev pub start_at : ℕ → World
 start_at epoch = record {
   primary = record {
     life = Running;
     epoch = epoch;
+    opened = 0;
     connections = [];
     calls = [];
-    committer = record { closed = 0; waiting = []; stage = Ready; position = 0; local = 0 };
-    link = record { waiting = []; kept = []; again = []; known = 0; remote = 0 };
+    committer = new_committer 0;
+    link = new_link;
   };
   standby = record { life = Running; epoch = epoch; waiting = []; position = 0 };
   wire = record { frames = []; acknowledgements = [] };
@@ -166,6 +177,11 @@ abbrev pub is_running : Life → Bool
 is_running Running = true
 is_running Stopped = false
 is_running Crashed = false
+
+abbrev pub is_crashed : Life → Bool
+is_crashed Running = false
+is_crashed Stopped = false
+is_crashed Crashed = true
 
 abbrev pub get_connection : List Connection → ℕ → Connection
 get_connection [] c = no_connection

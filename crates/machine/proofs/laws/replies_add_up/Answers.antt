@@ -1,6 +1,6 @@
 use Rattle.machine.specs.Event.{start, last_world}
 use Rattle.machine.proofs.RunLemmas.{sound-run}
-use Rattle.machine.proofs.PromiseLemmas.{replies-add_up, released-covered}
+use Rattle.machine.proofs.PromiseLemmas.{replies-add_up, released-held}
 use Rattle.machine.proofs.LawLemmas.{answers_bear_positions}
 use Rattle.machine.proofs.laws.replies_add_up.Goals as goal
 
@@ -13,5 +13,5 @@ returns-clause-waiting c = λ events done worlds run d is_one. let o = (sound-ru
 pub returns-clause-positions : goal.returns-clause-positions
 returns-clause-positions c = answers_bear_positions
 
-pub returns-clause-covered : goal.returns-clause-covered
-returns-clause-covered c = λ events done worlds run. released-covered (last_world start worlds) (sound-run events done worlds run)
+pub returns-clause-held : goal.returns-clause-held
+returns-clause-held c = λ events done worlds run. released-held (last_world start worlds) (sound-run events done worlds run)
