@@ -7,7 +7,7 @@ use Rattle.model.specs.Call.{position_of}
 use Rattle.machine.specs.declared.event.Node.TheVariants as nodes
 use Rattle.machine.specs.declared.event.Event.{Event}
 use Rattle.machine.specs.declared.event.Event.TheVariants.{Enter, Feed, Offer, Turn, CloseGroup, Commit, RaiseLocal, Hand, OpenLink, Send, Deliver, Apply, AckDelivered, RaiseRemote, Hold, Read, Release, Write, Leave, Crash, Reopen}
-use Rattle.machine.specs.Event.{Connection, World, new_connection, changed_at, with_inbound, with_outbound, with_made, called, fed_with, offered_next, taken_first, held_first, having_read, having_released, written, left, Happens, Step, Run, start, last_world}
+use Rattle.machine.specs.Event.{Connection, World, new_connection, changed_at, with_inbound, with_outbound, with_made, called, fed_with, offered_next, taken_first, held_first, having_read, having_released, written, left, Happens, Step, Run, start_with, last_world}
 use Rattle.machine.proofs.ConnectionLemmas.{length-changed_at}
 
 abbrev pub count : World → ℕ
@@ -66,5 +66,5 @@ count-from w [] [] [] run = omega arith
 count-from w (event ∷ events) (did ∷ done) (new ∷ worlds) run = omega (arith, (count-step w event did new run.0).one, count-from new events done worlds run.1)
 count-from w events done worlds run = absurd run
 
-pub few-connections : (events : List Event) (done : List Bool) (worlds : List World) → Run start events done worlds → length (last_world start worlds).primary.connections ≤ length events
-few-connections events done worlds run = omega (arith, count-from start events done worlds run)
+pub few-connections : (restarts : Bool) (events : List Event) (done : List Bool) (worlds : List World) → Run (start_with restarts) events done worlds → length (last_world (start_with restarts) worlds).primary.connections ≤ length events
+few-connections restarts events done worlds run = omega (arith, count-from (start_with restarts) events done worlds run)

@@ -11,7 +11,7 @@ use Rattle.machine.specs.declared.event.Event.{Event}
 use Rattle.machine.specs.declared.event.Event.TheVariants.{Enter, Feed, Offer, Turn, CloseGroup, Commit, RaiseLocal, Hand, OpenLink, Send, Deliver, Apply, AckDelivered, RaiseRemote, Hold, Read, Release, Write, Leave, Crash, Reopen}
 use Rattle.machine.specs.declared.event.Mark.{Mark}
 use Rattle.machine.specs.declared.event.Mark.TheVariants.{Local, Remote}
-use Rattle.machine.specs.Event.{Connection, World, get_connection, is_open, changed_at, with_inbound, with_outbound, on_inbound, with_call, fed_with, offered_next, taken_first, held_first, having_read, having_released, written, left, may_happen, Happens, Step, Run, start, last_world}
+use Rattle.machine.specs.Event.{Connection, World, get_connection, is_open, changed_at, with_inbound, with_outbound, on_inbound, with_call, fed_with, offered_next, taken_first, held_first, having_read, having_released, written, left, may_happen, Happens, Step, Run, start_with, last_world}
 use Rattle.machine.specs.Promise.{SomeWorld, HasMarks, IsReleased, released_in}
 use Rattle.machine.specs.Sound.{Sound}
 use Rattle.machine.proofs.ConnectionLemmas.{get-changed_other, get-entered, same-changed}
@@ -165,10 +165,10 @@ no-call : (prefix : List Call) (call : Call) (rest : List Call) → [] ≡ prefi
 no-call [] call rest e = cc
 no-call (x ∷ prefix) call rest e = cc
 
-pub covered-run : (events : List Event) (done : List Bool) (worlds : List World) → Run start events done worlds → (prefix : List Call) (call : Call)
-    → let last = last_world start worlds in IsReleased last.primary.calls (released_in last) prefix call → SomeWorld (HasMarks prefix call) (start ∷ worlds)
-covered-run events done worlds run prefix call released =
-    elim (covered-from start events done worlds run sound-start prefix call released) [
+pub covered-run : (restarts : Bool) (events : List Event) (done : List Bool) (worlds : List World) → Run (start_with restarts) events done worlds → (prefix : List Call) (call : Call)
+    → let last = last_world (start_with restarts) worlds in IsReleased last.primary.calls (released_in last) prefix call → SomeWorld (HasMarks prefix call) (start_with restarts ∷ worlds)
+covered-run restarts events done worlds run prefix call released =
+    elim (covered-from (start_with restarts) events done worlds run (sound-start restarts) prefix call released) [
       | inl some ↦ some
       | inr before ↦ absurd (no-call prefix call before.rest before.stands)
     ]

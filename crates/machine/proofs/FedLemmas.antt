@@ -3,7 +3,7 @@ use Rattle.std.proofs.Common.{◌≡◌, ℕ, ◌<◌, Bool, true, false, not, c
 use Rattle.machine.specs.declared.event.Node.TheVariants as nodes
 use Rattle.machine.specs.declared.event.Event.{Event}
 use Rattle.machine.specs.declared.event.Event.TheVariants.{Enter, Feed, Offer, Turn, CloseGroup, Commit, RaiseLocal, Hand, OpenLink, Send, Deliver, Apply, AckDelivered, RaiseRemote, Hold, Read, Release, Write, Leave, Crash, Reopen}
-use Rattle.machine.specs.Event.{Inbound, Outbound, Connection, World, connection_of, with_inbound, with_outbound, on_inbound, on_outbound, is_closed_by, is_open, may_happen, with_call, fed_with, offered_next, taken_first, held_first, having_read, having_released, written, left, Happens, Step, Run, start, last_world}
+use Rattle.machine.specs.Event.{Inbound, Outbound, Connection, World, connection_of, with_inbound, with_outbound, on_inbound, on_outbound, is_closed_by, is_open, may_happen, with_call, fed_with, offered_next, taken_first, held_first, having_read, having_released, written, left, Happens, Step, Run, start_with, last_world}
 use Rattle.machine.specs.Promise.{fed_by, fed_to}
 use Rattle.machine.proofs.ConnectionLemmas.{each-changed, get-entered, open-lt, same-changed}
 use Rattle.machine.proofs.CrashLemmas.{get-over}
@@ -76,5 +76,5 @@ fed-from w (event ∷ events) (did ∷ done) (new ∷ worlds) d run =
     ∙ append_assoc (fed_in w d) (fed_by d event did) (fed_to d events done)
 fed-from w events done worlds d run = absurd run
 
-pub fed-run : (events : List Event) (done : List Bool) (worlds : List World) (d : ℕ) → Run start events done worlds → (connection_of (last_world start worlds) d).inbound.fed ≡ fed_to d events done
-fed-run events done worlds d run = fed-from start events done worlds d run
+pub fed-run : (restarts : Bool) (events : List Event) (done : List Bool) (worlds : List World) (d : ℕ) → Run (start_with restarts) events done worlds → (connection_of (last_world (start_with restarts) worlds) d).inbound.fed ≡ fed_to d events done
+fed-run restarts events done worlds d run = fed-from (start_with restarts) events done worlds d run

@@ -9,7 +9,7 @@ use Rattle.machine.specs.declared.event.Event.{Event}
 use Rattle.machine.specs.declared.event.Event.TheVariants.{Enter, Feed, Offer, Turn, CloseGroup, Commit, RaiseLocal, Hand, OpenLink, Send, Deliver, Apply, AckDelivered, RaiseRemote, Hold, Read, Release, Write, Leave, Crash, Reopen}
 use Rattle.machine.specs.declared.event.Mark.{Mark}
 use Rattle.machine.specs.declared.event.Mark.TheVariants.{Local, Remote}
-use Rattle.machine.specs.Event.{Inbound, Outbound, Connection, Span, Frame, Acknowledgement, Committer, Life, Link, Running, Standby, World, crashed_standby, reopened_standby, with_primary, get_connection, changed_at, with_inbound, with_outbound, with_connections, on_inbound, on_outbound, with_call, with_committer, with_link, with_standby, with_acknowledged, fed_with, offered_next, taken_first, with_made, called, closed_group, committed_first, raised_local, ready_again, handed, handed_to, opened_link, acknowledgement_of, next_to_send, framed, delivered, without_first, Takes, told, knowing, raised_remote, held_first, having_read, having_released, written, left, option_items, Happens, Step, Run, start, last_world}
+use Rattle.machine.specs.Event.{Inbound, Outbound, Connection, Span, Frame, Acknowledgement, Committer, Life, Link, Running, Standby, World, crashed_standby, reopened_standby, with_primary, get_connection, changed_at, with_inbound, with_outbound, with_connections, on_inbound, on_outbound, with_call, with_committer, with_link, with_standby, with_acknowledged, fed_with, offered_next, taken_first, with_made, called, closed_group, committed_first, raised_local, ready_again, handed, handed_to, opened_link, acknowledgement_of, next_to_send, framed, delivered, without_first, Takes, told, knowing, raised_remote, held_first, having_read, having_released, written, left, option_items, Happens, Step, Run, start_with, last_world}
 use Rattle.machine.specs.Promise.{released_in}
 use Rattle.machine.specs.Sound.{IsChain, Sound}
 use Rattle.machine.specs.Law.{Grows}
@@ -248,11 +248,11 @@ last_world-split zero w worlds = refl
 last_world-split (suc n) w [] = refl
 last_world-split (suc n) w (new ∷ worlds) = last_world-split n new worlds
 
-pub grows-run : (n : ℕ) (events : List Event) (done : List Bool) (worlds : List World) → Run start events done worlds → Grows (last_world start (take n worlds)) (last_world start worlds)
-grows-run n events done worlds run =
-    let middle = last_world start (take n worlds) in
-    let s = sound-run (take n events) (take n done) (take n worlds) (run-take n start events done worlds run) in
-    subst (Grows middle) (last_world-split n start worlds) (grows-from middle (drop n events) (drop n done) (drop n worlds) (run-drop n start events done worlds run) s)
+pub grows-run : (restarts : Bool) (n : ℕ) (events : List Event) (done : List Bool) (worlds : List World) → Run (start_with restarts) events done worlds → Grows (last_world (start_with restarts) (take n worlds)) (last_world (start_with restarts) worlds)
+grows-run restarts n events done worlds run =
+    let middle = last_world (start_with restarts) (take n worlds) in
+    let s = sound-run restarts (take n events) (take n done) (take n worlds) (run-take n (start_with restarts) events done worlds run) in
+    subst (Grows middle) (last_world-split n (start_with restarts) worlds) (grows-from middle (drop n events) (drop n done) (drop n worlds) (run-drop n (start_with restarts) events done worlds run) s)
 
 pub cuts-stay : (old new : List Call) (p : ℕ) → IsPrefix old new → p ≤ position_of old → keyspace_after (cut_at new p) ≡ keyspace_after (cut_at old p)
 cuts-stay old new p prefix le = ap (λ calls. keyspace_after (cut_at calls p)) (sym prefix.joined) ∙ keyspace_after-cut_at-append old prefix.rest p le

@@ -5,7 +5,7 @@ use Rattle.model.specs.State.{start_state}
 use Rattle.model.specs.Call.{state_after, position_of}
 use Rattle.machine.specs.declared.event.Event.{Event}
 use Rattle.machine.specs.declared.event.Event.TheVariants.{Enter, Feed, Offer, Turn, CloseGroup, Commit, RaiseLocal, Hand, OpenLink, Send, Deliver, Apply, AckDelivered, RaiseRemote, Hold, Read, Release, Write, Leave, Crash, Reopen}
-use Rattle.machine.specs.Event.{World, Frame, Acknowledgement, Link, told, knowing, nodes_run, may_happen, is_enabled, Happens, Step, Run, start, last_world}
+use Rattle.machine.specs.Event.{World, Frame, Acknowledgement, Link, told, knowing, nodes_run, may_happen, is_enabled, Happens, Step, Run, start_with, last_world}
 use Rattle.machine.specs.Sound.{IsFrameWithin, IsToldWithin, Sound, answers_from, answers_to}
 use Rattle.machine.specs.Law.{IsInOrder, FramesAreCommitted, AnswersBearPositions, RaisesNoRemote, NothingIsReleasedUnacknowledged, OnlyWhatWasMadeIsDelivered}
 use Rattle.machine.proofs.AnswerLemmas.{answers_from-append, answers_to-push_own}
@@ -35,9 +35,9 @@ in_order w s =
     }
 
 pub frames_are_committed : FramesAreCommitted
-frames_are_committed events done worlds run =
-    let w = last_world start worlds in
-    let s = sound-run events done worlds run in
+frames_are_committed restarts events done worlds run =
+    let w = last_world (start_with restarts) worlds in
+    let s = sound-run restarts events done worlds run in
     let le = chain-le _ _ _ s.link.waiting in
     (frames_within-weaker w.primary.epoch s.sent w.primary.committer.position w.wire.frames le s.wire.frames, frames_within-weaker w.primary.epoch s.sent w.primary.committer.position w.standby.waiting le s.standby.frames)
 
@@ -108,8 +108,8 @@ low-marks w (event ∷ events) (did ∷ done) (new ∷ worlds) prefix call run n
 low-marks w events done worlds prefix call run none some = absurd run
 
 pub nothing_is_released_unacknowledged : NothingIsReleasedUnacknowledged
-nothing_is_released_unacknowledged events done worlds run none prefix call released =
-    omega (arith, low-marks start events done worlds prefix call run none (covered-run events done worlds run prefix call released))
+nothing_is_released_unacknowledged restarts events done worlds run none prefix call released =
+    omega (arith, low-marks (start_with restarts) events done worlds prefix call run none (covered-run restarts events done worlds run prefix call released))
 
 -- ---- what was not made
 

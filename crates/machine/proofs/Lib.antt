@@ -11,6 +11,7 @@ pub mod StandbyLemmas
 pub mod SoundConnection
 pub mod SoundEvents
 pub mod RunLemmas
+pub mod LifeLemmas
 pub mod FedLemmas
 pub mod PromiseLemmas
 pub mod CoverLemmas

@@ -2,7 +2,7 @@
 use Rattle.std.proofs.Common.{◌≡◌, ℕ, zero, suc, Bool, true, false, List, [], ◌∷◌, ◌++◌, length, take, drop, All, refl, sym, ap, arith, inl, inr, true≢false}
 use Rattle.std.proofs.lemmas.List.Elements.{All-nil, All-cons}
 use Rattle.machine.specs.declared.event.Event.{Event}
-use Rattle.machine.specs.Event.{World, is_enabled, Happens, Step, Run, start, last_world}
+use Rattle.machine.specs.Event.{World, is_enabled, Happens, Step, Run, start_with, last_world}
 use Rattle.machine.specs.Promise.{SomeWorld}
 use Rattle.machine.specs.Sound.{Sound}
 use Rattle.machine.proofs.OverLemmas.{over-start}
@@ -64,8 +64,8 @@ some-last P w (new ∷ worlds) h = inr (some-last P new worlds h)
 
 -- ---- what holds between any two events
 
-pub sound-start : Sound start
-sound-start =
+pub sound-start : (restarts : Bool) → Sound (start_with restarts)
+sound-start restarts =
     record {
       connections = record { seats = omega arith };
       legal = tt;
@@ -90,8 +90,8 @@ sound-worlds_from w (event ∷ events) (did ∷ done) (new ∷ worlds) run s =
     All-cons Sound w (new ∷ worlds) s (sound-worlds_from new events done worlds run.1 (sound-step w event did new run.0 s))
 sound-worlds_from w events done worlds run s = absurd run
 
-pub sound-run : (events : List Event) (done : List Bool) (worlds : List World) → Run start events done worlds → Sound (last_world start worlds)
-sound-run events done worlds run = sound-from start events done worlds run sound-start
+pub sound-run : (restarts : Bool) (events : List Event) (done : List Bool) (worlds : List World) → Run (start_with restarts) events done worlds → Sound (last_world (start_with restarts) worlds)
+sound-run restarts events done worlds run = sound-from (start_with restarts) events done worlds run (sound-start restarts)
 
-pub sound-worlds : (events : List Event) (done : List Bool) (worlds : List World) → Run start events done worlds → All Sound (start ∷ worlds)
-sound-worlds events done worlds run = sound-worlds_from start events done worlds run sound-start
+pub sound-worlds : (restarts : Bool) (events : List Event) (done : List Bool) (worlds : List World) → Run (start_with restarts) events done worlds → All Sound (start_with restarts ∷ worlds)
+sound-worlds restarts events done worlds run = sound-worlds_from (start_with restarts) events done worlds run (sound-start restarts)

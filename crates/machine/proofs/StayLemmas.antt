@@ -10,7 +10,7 @@ use Rattle.machine.specs.declared.event.TheConstants.{OPEN_CHANGES}
 use Rattle.machine.specs.declared.event.Node.TheVariants as nodes
 use Rattle.machine.specs.declared.event.Event.{Event}
 use Rattle.machine.specs.declared.event.Event.TheVariants.{Enter, Feed, Offer, Turn, CloseGroup, Commit, RaiseLocal, Hand, OpenLink, Send, Deliver, Apply, AckDelivered, RaiseRemote, Hold, Read, Release, Write, Leave, Crash, Reopen}
-use Rattle.machine.specs.Event.{Connection, World, new_connection, connection_of, changed_at, with_inbound, with_outbound, with_connections, on_inbound, is_open, asked, is_closed_by, open_changes, has_room, may_happen, fed_with, offered_next, taken_first, with_call, called, held_first, having_read, having_released, written, left, left_inbound, left_outbound, Happens, Step, Run, start, last_world}
+use Rattle.machine.specs.Event.{Connection, World, new_connection, connection_of, changed_at, with_inbound, with_outbound, with_connections, on_inbound, is_open, asked, is_closed_by, open_changes, has_room, may_happen, fed_with, offered_next, taken_first, with_call, called, held_first, having_read, having_released, written, left, left_inbound, left_outbound, Happens, Step, Run, start_with, last_world}
 use Rattle.machine.specs.Law.{StaysOver}
 use Rattle.machine.specs.Sound.{HasNothing, Sound}
 use Rattle.machine.proofs.ConnectionLemmas.{get-before, get-changed_other, length-changed_at}
@@ -110,10 +110,10 @@ stays-from w (event ∷ events) (did ∷ done) (new ∷ worlds) c lt shut sound 
     stays-trans s (stays-from new events done worlds c s.entered (ap (λ (x : Connection). x.is_open) s.connection ∙ shut) (sound-step w event did new run.0 sound) run.1)
 stays-from w events done worlds c lt shut sound run = absurd run
 
-pub stays-run : (n : ℕ) (events : List Event) (done : List Bool) (worlds : List World) → Run start events done worlds
-    → let old = last_world start (take n worlds) in
-    (c : ℕ) → c < length old.primary.connections → is_open old c ≡ false → StaysOver c old (last_world start worlds)
-stays-run n events done worlds run c lt shut =
-    let old = last_world start (take n worlds) in
-    subst (StaysOver c old) (last_world-split n start worlds) (stays-from old (drop n events) (drop n done) (drop n worlds) c lt shut
-    (sound-run (take n events) (take n done) (take n worlds) (run-take n start events done worlds run)) (run-drop n start events done worlds run))
+pub stays-run : (restarts : Bool) (n : ℕ) (events : List Event) (done : List Bool) (worlds : List World) → Run (start_with restarts) events done worlds
+    → let old = last_world (start_with restarts) (take n worlds) in
+    (c : ℕ) → c < length old.primary.connections → is_open old c ≡ false → StaysOver c old (last_world (start_with restarts) worlds)
+stays-run restarts n events done worlds run c lt shut =
+    let old = last_world (start_with restarts) (take n worlds) in
+    subst (StaysOver c old) (last_world-split n (start_with restarts) worlds) (stays-from old (drop n events) (drop n done) (drop n worlds) c lt shut
+    (sound-run restarts (take n events) (take n done) (take n worlds) (run-take n (start_with restarts) events done worlds run)) (run-drop n (start_with restarts) events done worlds run))

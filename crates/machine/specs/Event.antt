@@ -1,6 +1,6 @@
 -- The pair of nodes as a machine (this project's profile): which event may happen, what it does, and what a run is. The state is defined in
 -- `World`, whose definitions this file re-exports.
-pub use Rattle.machine.specs.World.{Inbound, Outbound, Connection, Span, Frame, Acknowledgement, Stage, Ready, Durable, Shown, Committer, Link, Life, Running, Stopped, Crashed, Primary, Standby, Wire, World, no_connection, new_connection, new_committer, new_link, start_at, start, is_running, is_crashed, get_connection, connection_of, is_open, count_open, changed_at, with_inbound, with_outbound, with_primary, with_connections, on_inbound, on_outbound, with_committer, with_link, with_standby, with_sent, with_acknowledged, asked, is_closed_by, open_changes, has_room, is_ready, is_durable, is_shown, is_covered, covered_prefix, uncovered_rest, texts_of}
+pub use Rattle.machine.specs.World.{Inbound, Outbound, Connection, Span, Frame, Acknowledgement, Stage, Ready, Durable, Shown, Committer, Link, Life, Running, Stopped, Crashed, Primary, Standby, Wire, World, no_connection, new_connection, new_committer, new_link, start_at, start_with, start, is_running, is_crashed, get_connection, connection_of, is_open, count_open, changed_at, with_inbound, with_outbound, with_primary, with_connections, on_inbound, on_outbound, with_committer, with_link, with_standby, with_sent, with_acknowledged, asked, is_closed_by, open_changes, has_room, is_ready, is_durable, is_shown, is_covered, covered_prefix, uncovered_rest, texts_of}
 use Rattle.std.specs.Prelude.{◌≡◌, ◌⊎◌, ℕ, ◌+◌, ◌-◌, ◌<◌, ◌≤◌, Bool, true, false, not, ◌&&◌, ◌||◌, nat_lt, nat_le, nat_eq, if◌then◌else◌, max, List, [], ◌∷◌, ◌++◌, length, take, drop, map, filter, ◌≢◌, slice_get, Option, Some, None}
 use Rattle.kv_types.specs.declared.reply.Held.{Held}
 use Rattle.model.specs.declared.call.Call.{Call}
@@ -25,8 +25,8 @@ abbrev pub nodes_run : World → Event → Bool
 nodes_run w OpenLink = is_running w.primary.life && is_running w.standby.life
 nodes_run w (Deliver frame) = is_running w.standby.life
 nodes_run w Apply = is_running w.standby.life
-nodes_run w (Crash node picks) = not (is_crashed (life_of w node))
-nodes_run w (Reopen node) = is_crashed (life_of w node)
+nodes_run w (Crash node picks) = w.restarts && not (is_crashed (life_of w node))
+nodes_run w (Reopen node) = w.restarts && is_crashed (life_of w node)
 nodes_run w event = is_running w.primary.life
 
 -- there is something for the event to do, and room for what it makes

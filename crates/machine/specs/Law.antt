@@ -7,19 +7,19 @@ use Rattle.model.specs.declared.call.Call.{Call}
 use Rattle.model.specs.Call.{IsLegal, IsPrefix, Serves, calls_of, cut_at, items_of, keyspace_after, position_of, replies_to}
 use Rattle.machine.specs.declared.event.Event.{Event}
 use Rattle.machine.specs.declared.event.Event.TheVariants.{AckDelivered, Deliver, RaiseRemote}
-use Rattle.machine.specs.Event.{World, Step, Run, start, last_world, connection_of, is_open, count_open, asked, texts_of, is_enabled}
+use Rattle.machine.specs.Event.{World, Step, Run, start_with, last_world, connection_of, is_open, count_open, asked, texts_of, is_enabled}
 use Rattle.machine.specs.Promise.{IsReleased, released_in, fed_to}
 use Rattle.machine.specs.Sound.{HasNothing, IsChain, IsFrameWithin, Sound, answers_to}
 use Rattle.machine.specs.declared.event.TheConstants.{SEATS}
 
 -- `P` holds of the world after every run, and so of each world of a run, since a prefix of a run is a run
 abbrev pub AfterEveryRun : (World → Type 0) → Type 0
-AfterEveryRun P = (events : List Event) (done : List Bool) (worlds : List World) → Run start events done worlds → P (last_world start worlds)
+AfterEveryRun P = (restarts : Bool) (events : List Event) (done : List Bool) (worlds : List World) → Run (start_with restarts) events done worlds → P (last_world (start_with restarts) worlds)
 
 -- ---- runs
 
 abbrev pub EveryWorldIsSound : Type 0
-EveryWorldIsSound = (events : List Event) (done : List Bool) (worlds : List World) → Run start events done worlds → All Sound (start ∷ worlds)
+EveryWorldIsSound = (restarts : Bool) (events : List Event) (done : List Bool) (worlds : List World) → Run (start_with restarts) events done worlds → All Sound (start_with restarts ∷ worlds)
 
 -- a prefix of a run is a run, and the rest is a run from where the prefix ends
 abbrev pub PrefixesAreRuns : Type 0
@@ -44,14 +44,14 @@ pub record Grows (old new : World) : Type 0 where
 
 abbrev pub WorldsGrow : Type 0
 WorldsGrow =
-    (n : ℕ) (events : List Event) (done : List Bool) (worlds : List World) → Run start events done worlds → Grows (last_world start (take n worlds)) (last_world start worlds)
+    (restarts : Bool) (n : ℕ) (events : List Event) (done : List Bool) (worlds : List World) → Run (start_with restarts) events done worlds → Grows (last_world (start_with restarts) (take n worlds)) (last_world (start_with restarts) worlds)
 
 -- the keyspace at a position that the primary's image has reached stays the same, whatever happens later
 abbrev pub CutsStay : Type 0
 CutsStay =
-    (n : ℕ) (events : List Event) (done : List Bool) (worlds : List World) → Run start events done worlds
-    → let old = (last_world start (take n worlds)).primary in
-    let new = (last_world start worlds).primary in
+    (restarts : Bool) (n : ℕ) (events : List Event) (done : List Bool) (worlds : List World) → Run (start_with restarts) events done worlds
+    → let old = (last_world (start_with restarts) (take n worlds)).primary in
+    let new = (last_world (start_with restarts) worlds).primary in
     (p : ℕ) → p ≤ old.committer.position → keyspace_after (cut_at new.calls p) ≡ keyspace_after (cut_at old.calls p)
 
 -- ---- calls
@@ -62,8 +62,8 @@ EveryListIsLegal = AfterEveryRun (λ w. IsLegal w.primary.calls)
 -- each connection's calls take the requests of the bytes that were fed to it, in order
 abbrev pub EveryListServes : Type 0
 EveryListServes =
-    (events : List Event) (done : List Bool) (worlds : List World) → Run start events done worlds
-    → Serves (λ c. items_at REQUEST_LIMITS (fed_to c events done)) (last_world start worlds).primary.calls
+    (restarts : Bool) (events : List Event) (done : List Bool) (worlds : List World) → Run (start_with restarts) events done worlds
+    → Serves (λ c. items_at REQUEST_LIMITS (fed_to c events done)) (last_world (start_with restarts) worlds).primary.calls
 
 -- the items of an open connection that were handed to the sequencer are those of its calls and then those that wait
 abbrev pub ItemsComeInOrder : Type 0
@@ -105,9 +105,9 @@ pub record StaysOver (c : ℕ) (old new : World) : Type 0 where
 
 abbrev pub ConnectionsStayOver : Type 0
 ConnectionsStayOver =
-    (n : ℕ) (events : List Event) (done : List Bool) (worlds : List World) → Run start events done worlds
-    → let old = last_world start (take n worlds) in
-    (c : ℕ) → c < length old.primary.connections → is_open old c ≡ false → StaysOver c old (last_world start worlds)
+    (restarts : Bool) (n : ℕ) (events : List Event) (done : List Bool) (worlds : List World) → Run (start_with restarts) events done worlds
+    → let old = last_world (start_with restarts) (take n worlds) in
+    (c : ℕ) → c < length old.primary.connections → is_open old c ≡ false → StaysOver c old (last_world (start_with restarts) worlds)
 
 -- nothing of it waits
 abbrev pub NothingWaitsOver : Type 0
@@ -115,7 +115,7 @@ NothingWaitsOver = AfterEveryRun (λ w. (c : ℕ) → is_open w c ≡ false → 
 
 -- no more connections enter than events happen
 abbrev pub ConnectionsAreFew : Type 0
-ConnectionsAreFew = (events : List Event) (done : List Bool) (worlds : List World) → Run start events done worlds → length (last_world start worlds).primary.connections ≤ length events
+ConnectionsAreFew = (restarts : Bool) (events : List Event) (done : List Bool) (worlds : List World) → Run (start_with restarts) events done worlds → length (last_world (start_with restarts) worlds).primary.connections ≤ length events
 
 -- there is a seat for each open connection
 abbrev pub OpenOnesHaveSeats : Type 0
@@ -164,8 +164,8 @@ RaisesNoRemote events done = Unit {0}
 -- unless one did, no reply is released that rests on a change
 abbrev pub NothingIsReleasedUnacknowledged : Type 0
 NothingIsReleasedUnacknowledged =
-    (events : List Event) (done : List Bool) (worlds : List World) → Run start events done worlds → RaisesNoRemote events done
-    → let w = last_world start worlds in
+    (restarts : Bool) (events : List Event) (done : List Bool) (worlds : List World) → Run (start_with restarts) events done worlds → RaisesNoRemote events done
+    → let w = last_world (start_with restarts) worlds in
     (prefix : List Call) (call : Call) → IsReleased w.primary.calls (released_in w) prefix call → position_of (prefix ++ call ∷ []) ≡ 0
 
 -- a frame that was not sent is not delivered, and neither is an acknowledgement that was not made

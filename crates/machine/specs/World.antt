@@ -127,6 +127,8 @@ pub record Wire : Type 0 where
   pub acknowledgements : List Acknowledgement
 
 pub record World : Type 0 where
+  -- the nodes may crash between two events, and be opened again
+  pub restarts : Bool
   pub primary : Primary
   pub standby : Standby
   pub wire : Wire
@@ -153,8 +155,9 @@ abbrev pub new_link : Link
 new_link = record { waiting = []; kept = []; again = []; known = 0; remote = 0 }
 
 -- two nodes that were formatted together, with this epoch
-abbrev pub start_at : ℕ → World
-start_at epoch = record {
+abbrev pub start_at : ℕ → Bool → World
+start_at epoch restarts = record {
+  restarts = restarts;
   primary = record {
     life = Running;
     epoch = epoch;
@@ -168,8 +171,12 @@ start_at epoch = record {
   wire = record { frames = []; acknowledgements = [] };
 }
 
+abbrev pub start_with : Bool → World
+start_with restarts = start_at FIRST_EPOCH restarts
+
+-- two nodes that do not crash
 abbrev pub start : World
-start = start_at FIRST_EPOCH
+start = start_with false
 
 -- ---- definitions on it
 
