@@ -1,14 +1,13 @@
 -- Nodes that do not crash run on.
-use Rattle.std.proofs.Common.{◌≡◌, Bool, true, false, ◌&&◌, List, Option, slice_get, refl, sym, ap, subst, ◌∙◌, inl, inr, true≢false}
+use Rattle.std.proofs.Common.{◌≡◌, Bool, true, false, ◌&&◌, List, Option, slice_get, refl, sym, ap, subst, ◌∙◌, inl, inr, true≢false, ℕ, ◌∷◌, []}
+use Rattle.std.specs.Global.{Vec}
+use Rattle.model.specs.Call.{IsPrefix}
+use Rattle.model.proofs.PrefixLemmas.{IsPrefix-itself, IsPrefix-of_append, IsPrefix-trans}
+use Rattle.machine.specs.declared.event.Node.{Node}
 use Rattle.machine.specs.declared.event.Event.{Event}
 use Rattle.machine.specs.declared.event.Event.TheVariants.{Enter, Feed, Offer, Turn, CloseGroup, Commit, RaiseLocal, Hand, OpenLink, Send, Deliver, Apply, AckDelivered, RaiseRemote, Hold, Read, Release, Write, Leave, Crash, Reopen}
-use Rattle.machine.specs.Event.{Acknowledgement, Frame, Running, Standby, World, Happens, Step, Takes, is_enabled, may_happen, nodes_run, start, told, with_link, without_first}
-
--- no node crashes, and both run
-pub record RunsOn (w : World) : Type 0 where
-  pub never : w.restarts ≡ false
-  pub primary : w.primary.life ≡ Running
-  pub standby : w.standby.life ≡ Running
+use Rattle.machine.specs.Sound.{RunsOn}
+use Rattle.machine.specs.Event.{Acknowledgement, Frame, Standby, World, Happens, Step, Takes, is_enabled, may_happen, nodes_run, Run, last_world, start, told, with_link, without_first}
 
 pub runs_on-start : RunsOn start
 runs_on-start = record { never = refl; primary = refl; standby = refl }
@@ -41,23 +40,24 @@ taken-life frame old new told takes =
       | inr (inr (inr (inr gap))) ↦ ap (λ (x : Standby). x.life) gap.3
     ]
 
--- the event is one of a running pair
-abbrev pub is_turn : Event → Bool
-is_turn (Crash node picks) = false
-is_turn (Reopen node) = false
-is_turn event = true
-
--- such an event is enabled where there is something to do, and another one never
-pub enabled-is : (w : World) (event : Event) → RunsOn w → is_enabled w event ≡ (is_turn event && may_happen w event)
+-- what has something to do is enabled
+pub enabled-is : (w : World) (event : Event) → RunsOn w → is_enabled w event ≡ may_happen w event
 enabled-is w event r = ap (λ b. b && may_happen w event) (lives w event r)
   where
-    lives : (w : World) (event : Event) → RunsOn w → nodes_run w event ≡ is_turn event
+    lives : (w : World) (event : Event) → RunsOn w → nodes_run w event ≡ true
     lives w OpenLink r = rw (r.primary, r.standby) refl
     lives w (Deliver frame) r = rw r.standby refl
     lives w Apply r = rw r.standby refl
-    lives w (Crash node picks) r = rw r.never refl
-    lives w (Reopen node) r = rw r.never refl
+    lives w (Crash node picks) r = refl
+    lives w (Reopen node) r = refl
     lives w event r = rw r.primary refl
+
+-- none crashes, and none is opened again
+pub crashes-not : (w : World) (node : Node) (picks : Vec ℕ) → RunsOn w → may_happen w (Crash node picks) ≡ false
+crashes-not w node picks r = rw r.never refl
+
+pub reopens-not : (w : World) (node : Node) → RunsOn w → may_happen w (Reopen node) ≡ false
+reopens-not w node r = rw r.never refl
 
 runs_on-happens : (w : World) (event : Event) (new : World) → is_enabled w event ≡ true → Happens w event new → RunsOn w → RunsOn new
 runs_on-happens w Enter new e h r = alike w new (of w _ new h (record { never = refl; primary = refl; standby = refl })) r
@@ -80,9 +80,42 @@ runs_on-happens w (Read c mark) new e h r = alike w new (of w _ new h (record { 
 runs_on-happens w (Release c) new e h r = alike w new (of w _ new h (record { never = refl; primary = refl; standby = refl })) r
 runs_on-happens w (Write c n) new e h r = alike w new (of w _ new h (record { never = refl; primary = refl; standby = refl })) r
 runs_on-happens w (Leave c) new e h r = alike w new (of w _ new h (record { never = refl; primary = refl; standby = refl })) r
-runs_on-happens w (Crash node picks) new e h r = absurd (true≢false (sym e ∙ enabled-is w (Crash node picks) r))
-runs_on-happens w (Reopen node) new e h r = absurd (true≢false (sym e ∙ enabled-is w (Reopen node) r))
+runs_on-happens w (Crash node picks) new e h r = absurd (true≢false (sym e ∙ crashes-not w node picks r))
+runs_on-happens w (Reopen node) new e h r = absurd (true≢false (sym e ∙ reopens-not w node r))
 
 pub runs_on-step : (old : World) (event : Event) (did : Bool) (new : World) → Step old event did new → RunsOn old → RunsOn new
 runs_on-step old event true new step r = runs_on-happens old event new (sym step.done) (step.happens refl) r
 runs_on-step old event false new step r = subst RunsOn (sym (step.stands refl)) r
+
+-- the list of calls grows at its end
+calls-happens : (w : World) (event : Event) (new : World) → is_enabled w event ≡ true → Happens w event new → RunsOn w → IsPrefix w.primary.calls new.primary.calls
+calls-happens w (Turn c) new e h r = subst (IsPrefix w.primary.calls) (sym (ap (λ x. x.primary.calls) h.now)) (IsPrefix-of_append w.primary.calls (h.call ∷ []))
+calls-happens w Apply new e h r = subst (IsPrefix w.primary.calls) (sym (ap (λ x. x.primary.calls) h.now)) (IsPrefix-itself w.primary.calls)
+calls-happens w (Crash node picks) new e h r = absurd (true≢false (sym e ∙ crashes-not w node picks r))
+calls-happens w (Reopen node) new e h r = absurd (true≢false (sym e ∙ reopens-not w node r))
+calls-happens w Enter new e h r = subst (IsPrefix w.primary.calls) (sym (ap (λ x. x.primary.calls) h)) (IsPrefix-itself w.primary.calls)
+calls-happens w (Feed c piece) new e h r = subst (IsPrefix w.primary.calls) (sym (ap (λ x. x.primary.calls) h)) (IsPrefix-itself w.primary.calls)
+calls-happens w (Offer c) new e h r = subst (IsPrefix w.primary.calls) (sym (ap (λ x. x.primary.calls) h)) (IsPrefix-itself w.primary.calls)
+calls-happens w CloseGroup new e h r = subst (IsPrefix w.primary.calls) (sym (ap (λ x. x.primary.calls) h)) (IsPrefix-itself w.primary.calls)
+calls-happens w Commit new e h r = subst (IsPrefix w.primary.calls) (sym (ap (λ x. x.primary.calls) h)) (IsPrefix-itself w.primary.calls)
+calls-happens w RaiseLocal new e h r = subst (IsPrefix w.primary.calls) (sym (ap (λ x. x.primary.calls) h)) (IsPrefix-itself w.primary.calls)
+calls-happens w Hand new e h r = subst (IsPrefix w.primary.calls) (sym (ap (λ x. x.primary.calls) h)) (IsPrefix-itself w.primary.calls)
+calls-happens w OpenLink new e h r = subst (IsPrefix w.primary.calls) (sym (ap (λ x. x.primary.calls) h)) (IsPrefix-itself w.primary.calls)
+calls-happens w Send new e h r = subst (IsPrefix w.primary.calls) (sym (ap (λ x. x.primary.calls) h)) (IsPrefix-itself w.primary.calls)
+calls-happens w (Deliver frame) new e h r = subst (IsPrefix w.primary.calls) (sym (ap (λ x. x.primary.calls) h)) (IsPrefix-itself w.primary.calls)
+calls-happens w (AckDelivered a) new e h r = subst (IsPrefix w.primary.calls) (sym (ap (λ x. x.primary.calls) h)) (IsPrefix-itself w.primary.calls)
+calls-happens w RaiseRemote new e h r = subst (IsPrefix w.primary.calls) (sym (ap (λ x. x.primary.calls) h)) (IsPrefix-itself w.primary.calls)
+calls-happens w (Hold c) new e h r = subst (IsPrefix w.primary.calls) (sym (ap (λ x. x.primary.calls) h)) (IsPrefix-itself w.primary.calls)
+calls-happens w (Read c mark) new e h r = subst (IsPrefix w.primary.calls) (sym (ap (λ x. x.primary.calls) h)) (IsPrefix-itself w.primary.calls)
+calls-happens w (Release c) new e h r = subst (IsPrefix w.primary.calls) (sym (ap (λ x. x.primary.calls) h)) (IsPrefix-itself w.primary.calls)
+calls-happens w (Write c n) new e h r = subst (IsPrefix w.primary.calls) (sym (ap (λ x. x.primary.calls) h)) (IsPrefix-itself w.primary.calls)
+calls-happens w (Leave c) new e h r = subst (IsPrefix w.primary.calls) (sym (ap (λ x. x.primary.calls) h)) (IsPrefix-itself w.primary.calls)
+
+calls-step : (old : World) (event : Event) (did : Bool) (new : World) → Step old event did new → RunsOn old → IsPrefix old.primary.calls new.primary.calls
+calls-step old event true new step r = calls-happens old event new (sym step.done) (step.happens refl) r
+calls-step old event false new step r = subst (IsPrefix old.primary.calls) (sym (ap (λ (x : World). x.primary.calls) (step.stands refl))) (IsPrefix-itself old.primary.calls)
+
+pub calls-from : (w : World) (events : List Event) (done : List Bool) (worlds : List World) → Run w events done worlds → RunsOn w → IsPrefix w.primary.calls (last_world w worlds).primary.calls
+calls-from w [] [] [] run r = IsPrefix-itself w.primary.calls
+calls-from w (event ∷ events) (did ∷ done) (new ∷ worlds) run r = IsPrefix-trans (calls-step w event did new run.0 r) (calls-from new events done worlds run.1 (runs_on-step w event did new run.0 r))
+calls-from w events done worlds run r = absurd run

@@ -20,13 +20,13 @@ abbrev pub life_of : World → Node → Life
 life_of w node.Primary = w.primary.life
 life_of w node.Standby = w.standby.life
 
--- the nodes that take part in the event are running; one that crashes runs or stopped, and one that is opened again crashed
+-- the nodes that take part in the event are running; to crash, or to be opened again, none needs to run
 abbrev pub nodes_run : World → Event → Bool
 nodes_run w OpenLink = is_running w.primary.life && is_running w.standby.life
 nodes_run w (Deliver frame) = is_running w.standby.life
 nodes_run w Apply = is_running w.standby.life
-nodes_run w (Crash node picks) = w.restarts && not (is_crashed (life_of w node))
-nodes_run w (Reopen node) = w.restarts && is_crashed (life_of w node)
+nodes_run w (Crash node picks) = true
+nodes_run w (Reopen node) = true
 nodes_run w event = is_running w.primary.life
 
 -- there is something for the event to do, and room for what it makes
@@ -56,8 +56,8 @@ may_happen w (Release c) =
     is_open w c && is_nonempty (covered_prefix outbound.local outbound.remote outbound.held)
 may_happen w (Write c n) = is_open w c && nat_le n (length (connection_of w c).outbound.pending)
 may_happen w (Leave c) = is_open w c
-may_happen w (Crash node picks) = true
-may_happen w (Reopen node) = true
+may_happen w (Crash node picks) = w.restarts && not (is_crashed (life_of w node))
+may_happen w (Reopen node) = w.restarts && is_crashed (life_of w node)
 
 abbrev pub is_enabled : World → Event → Bool
 is_enabled w event = nodes_run w event && may_happen w event

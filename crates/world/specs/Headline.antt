@@ -49,7 +49,7 @@ pub record IsKept (Last : World → Type 0) (first_last second_last : Stretch) (
   -- the positions of the two nodes at the end
   pub primary_at : ℕ
   pub standby_at : ℕ
-  pub promised : IsPromised events done calls (λ c. slice_index_or released c []) primary_at standby_at
+  pub promised : IsPromised false events done calls (λ c. slice_index_or released c []) primary_at standby_at
   pub last : Last (last_world start promised.worlds)
   -- the moments of either device, cut by the same events
   pub primary_moments : AreMoments first_last primary_position next_primary first calls start promised.worlds primary primary'
