@@ -99,10 +99,9 @@ no-items [] prefix = refl
 no-items (x ∷ items) prefix = let joined : x ∷ (items ++ prefix.rest) ≡ [] = prefix.joined ∙ asked-none in cc
 
 -- no call is of a connection that has not entered
-uncalled : (w : World) → Sound w → items_of (length w.primary.connections) w.primary.calls ≡ []
-uncalled w s =
-    let c = length w.primary.connections in
-    let past = get-past w.primary.connections c (le_refl c) in
+pub uncalled : (w : World) (c : ℕ) → Sound w → length w.primary.connections ≤ c → items_of c w.primary.calls ≡ []
+uncalled w c s beyond =
+    let past = get-past w.primary.connections c beyond in
     let none : SoundOver w.primary.calls c w.standby.position no_connection = subst (SoundOver w.primary.calls c w.standby.position) past (s.over c (ap (λ (x : Connection). x.is_open) past)) in
     no-items (items_of c w.primary.calls) none.items
 
@@ -114,8 +113,8 @@ sound-Enter w e s =
     record {
       connections = record { seats = omega (arith, count-entered connections, ltb-true (count_open connections) SEATS e) };
       legal = s.legal;
-      inbound = each-entered (ItemsStand w.primary.calls) connections s.inbound (λ is_one. inbound-new w.primary.calls (length connections) (uncalled w s));
-      outbound = each-entered (OpenStands w.primary.calls local remote) connections s.outbound (λ is_one. outbound-new w.primary.calls (length connections) local remote (uncalled w s));
+      inbound = each-entered (ItemsStand w.primary.calls) connections s.inbound (λ is_one. inbound-new w.primary.calls (length connections) (uncalled w (length connections) s (le_refl (length connections))));
+      outbound = each-entered (OpenStands w.primary.calls local remote) connections s.outbound (λ is_one. outbound-new w.primary.calls (length connections) local remote (uncalled w (length connections) s (le_refl (length connections))));
       over = each-entered (OverStands w.primary.calls w.standby.position) connections s.over (λ e. cc);
       committer = s.committer;
       sent = s.sent;

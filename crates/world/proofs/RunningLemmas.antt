@@ -1,5 +1,5 @@
 -- A run from event to event, and what is reported of it at its end.
-use Rattle.std.proofs.Common.{◌≡◌, ◌⊎◌, ℕ, ◌≤◌, Bool, List, [], ◌∷◌, ◌++◌, length, take, slice_index_or, Option, Some, None, refl, sym, ap, subst, ◌∙◌, arith, le_refl, append_assoc, length-take, inl, inr, true, cond, nat_eq, eqb-true, All, false}
+use Rattle.std.proofs.Common.{◌≡◌, ◌⊎◌, ℕ, ◌≤◌, Bool, List, [], ◌∷◌, ◌++◌, length, take, slice_index_or, Option, Some, None, refl, sym, ap, subst, ◌∙◌, arith, le_refl, length-take, inl, inr, true, cond, nat_eq, eqb-true, All, false}
 use Rattle.pmem.specs.Device.{State}
 use Rattle.kv_types.specs.declared.refusal.Refusal.{Refusal}
 use Rattle.kv_types.specs.declared.refusal.Refusal.TheVariants.{Memory, Fault, Exhausted}
@@ -14,7 +14,7 @@ use Rattle.machine.specs.declared.event.Event.{Event}
 use Rattle.machine.specs.declared.event.Event.TheVariants.{Commit, Apply}
 use Rattle.machine.specs.Event.{Run, World, Span, Frame as Sent, Committer, committed_first, start, last_world}
 use Rattle.machine.specs.Law.{Grows}
-use Rattle.machine.specs.Promise.{HasMarks, IsPromised, IsReleased, Tells, released_in}
+use Rattle.machine.specs.Promise.{IsPromised, IsReleased, Tells, released_in}
 use Rattle.machine.specs.Sound.{IsChain, IsFrameWithin, RunsOn, Sound}
 use Rattle.std.proofs.lemmas.List.Elements.{All-head}
 use Rattle.machine.proofs.GrowLemmas.{grows-step}
