@@ -2,12 +2,12 @@
 use Rattle.std.proofs.Common.{◌≡◌, ℕ, ◌+◌, ◌-◌, ◌<◌, ◌≤◌, true, List, [], ◌∷◌, length, refl, sym, ◌∙◌, arith, length-append, le_refl}
 use Rattle.model.specs.Call.{is_nonempty}
 use Rattle.machine.specs.declared.event.TheConstants.{PIPE_ITEMS, OPEN_CHANGES}
-use Rattle.machine.specs.Event.{Span, Stage, Ready, Durable, Shown, Committer, is_ready, is_shown, shown, closed_group, committed_first, raised_local, ready_again, start}
+use Rattle.machine.specs.Event.{Span, Stage, Ready, Durable, Shown, Committer, is_ready, is_shown, shown, closed_group, committed_first, raised_local, ready_again, new_committer}
 use Rattle.machine.specs.Sound.{IsChain, IsShownUpTo, SoundCommitter}
 use Rattle.machine.proofs.GroupLemmas.{chain-push}
 
-pub committer-start : SoundCommitter 0 start.primary.committer
-committer-start = record { waiting = refl; closed = omega arith; few_open = omega arith; few = omega arith; mark = omega arith; shown = refl }
+pub committer-new : (position : ℕ) → SoundCommitter position (new_committer position)
+committer-new position = record { waiting = refl; closed = omega arith; few_open = omega arith; few = omega arith; mark = omega arith; shown = refl }
 
 -- the list grows by at most one change, where fewer than 64 wait
 pub committer-called : (position position' : ℕ) (committer : Committer) → position ≤ position' → position' ≤ position + 1 → position - committer.closed < OPEN_CHANGES → SoundCommitter position committer → SoundCommitter position' committer

@@ -1,11 +1,13 @@
 -- No more connections enter than events happen.
 use Rattle.std.proofs.Common.{◌≡◌, ℕ, ◌+◌, ◌≤◌, Bool, true, false, List, [], ◌∷◌, ◌++◌, length, ◌∙◌, refl, ap, arith, length-append}
+use Rattle.std.proofs.lemmas.List.{length-map}
 use Rattle.kv_types.specs.declared.reply.Held.{Held}
 use Rattle.model.specs.declared.call.Call.{Call}
 use Rattle.model.specs.Call.{position_of}
+use Rattle.machine.specs.declared.event.Node.TheVariants as nodes
 use Rattle.machine.specs.declared.event.Event.{Event}
-use Rattle.machine.specs.declared.event.Event.TheVariants.{Enter, Feed, Offer, Turn, CloseGroup, Commit, RaiseLocal, Hand, OpenLink, Send, Deliver, Apply, AckDelivered, RaiseRemote, Hold, Read, Release, Write, Leave}
-use Rattle.machine.specs.Event.{Connection, World, new_connection, changed_at, with_inbound, with_outbound, with_made, called, fed_with, offered_next, taken_first, held_first, having_read, having_released, written, left, Happens, Step, Run, start, last_world}
+use Rattle.machine.specs.declared.event.Event.TheVariants.{Enter, Feed, Offer, Turn, CloseGroup, Commit, RaiseLocal, Hand, OpenLink, Send, Deliver, Apply, AckDelivered, RaiseRemote, Hold, Read, Release, Write, Leave, Crash, Reopen}
+use Rattle.machine.specs.Event.{Connection, World, new_connection, changed_at, with_inbound, with_outbound, with_made, called, fed_with, offered_next, taken_first, held_first, having_read, having_released, written, left, Happens, Step, Run, start_with, last_world}
 use Rattle.machine.proofs.ConnectionLemmas.{length-changed_at}
 
 abbrev pub count : World → ℕ
@@ -50,6 +52,10 @@ count-happens w (Read c mark) new h = changed w new c (with_outbound (having_rea
 count-happens w (Release c) new h = changed w new c (with_outbound having_released) (ap count h)
 count-happens w (Write c n) new h = changed w new c (with_outbound (written n)) (ap count h)
 count-happens w (Leave c) new h = changed w new c left (ap count h)
+count-happens w (Crash nodes.Primary picks) new h = same w new (ap count h ∙ length-map w.primary.connections left)
+count-happens w (Crash nodes.Standby picks) new h = same w new (ap count h)
+count-happens w (Reopen nodes.Primary) new h = same w new (ap count h)
+count-happens w (Reopen nodes.Standby) new h = same w new (ap count h)
 
 pub count-step : (old : World) (event : Event) (did : Bool) (new : World) → Step old event did new → Counts (count old) (count new)
 count-step old event true new step = count-happens old event new (step.happens refl)
@@ -60,5 +66,5 @@ count-from w [] [] [] run = omega arith
 count-from w (event ∷ events) (did ∷ done) (new ∷ worlds) run = omega (arith, (count-step w event did new run.0).one, count-from new events done worlds run.1)
 count-from w events done worlds run = absurd run
 
-pub few-connections : (events : List Event) (done : List Bool) (worlds : List World) → Run start events done worlds → length (last_world start worlds).primary.connections ≤ length events
-few-connections events done worlds run = omega (arith, count-from start events done worlds run)
+pub few-connections : (restarts : Bool) (events : List Event) (done : List Bool) (worlds : List World) → Run (start_with restarts) events done worlds → length (last_world (start_with restarts) worlds).primary.connections ≤ length events
+few-connections restarts events done worlds run = omega (arith, count-from (start_with restarts) events done worlds run)

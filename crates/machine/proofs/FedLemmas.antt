@@ -1,10 +1,12 @@
 -- The bytes fed to a connection are the pieces of the feeds that did their step.
 use Rattle.std.proofs.Common.{◌≡◌, ℕ, ◌<◌, Bool, true, false, not, cond, List, [], ◌∷◌, ◌++◌, length, refl, sym, ap, ◌∙◌, append_assoc, append-nil, eq-eqb, ne_eqb}
+use Rattle.machine.specs.declared.event.Node.TheVariants as nodes
 use Rattle.machine.specs.declared.event.Event.{Event}
-use Rattle.machine.specs.declared.event.Event.TheVariants.{Enter, Feed, Offer, Turn, CloseGroup, Commit, RaiseLocal, Hand, OpenLink, Send, Deliver, Apply, AckDelivered, RaiseRemote, Hold, Read, Release, Write, Leave}
-use Rattle.machine.specs.Event.{Inbound, Outbound, World, connection_of, with_inbound, with_outbound, on_inbound, on_outbound, is_closed_by, is_open, may_happen, with_call, fed_with, offered_next, taken_first, held_first, having_read, having_released, written, left, Happens, Step, Run, start, last_world}
+use Rattle.machine.specs.declared.event.Event.TheVariants.{Enter, Feed, Offer, Turn, CloseGroup, Commit, RaiseLocal, Hand, OpenLink, Send, Deliver, Apply, AckDelivered, RaiseRemote, Hold, Read, Release, Write, Leave, Crash, Reopen}
+use Rattle.machine.specs.Event.{Inbound, Outbound, Connection, World, connection_of, with_inbound, with_outbound, on_inbound, on_outbound, is_closed_by, is_open, may_happen, with_call, fed_with, offered_next, taken_first, held_first, having_read, having_released, written, left, Happens, Step, Run, start_with, last_world}
 use Rattle.machine.specs.Promise.{fed_by, fed_to}
 use Rattle.machine.proofs.ConnectionLemmas.{each-changed, get-entered, open-lt, same-changed}
+use Rattle.machine.proofs.CrashLemmas.{get-over}
 use Rattle.machine.proofs.SoundEvents.{enabled-may}
 use Rattle.machine.proofs.SoundConnection.{both}
 
@@ -54,6 +56,10 @@ fed-happens w (Read c mark) new d e h = nothing (ap (λ x. fed_in x d) h ∙ fed
 fed-happens w (Release c) new d e h = nothing (ap (λ x. fed_in x d) h ∙ fed-outbound w c d having_released)
 fed-happens w (Write c n) new d e h = nothing (ap (λ x. fed_in x d) h ∙ fed-outbound w c d (written n))
 fed-happens w (Leave c) new d e h = nothing (ap (λ x. fed_in x d) h ∙ same-changed (λ connection. connection.inbound.fed) c left w.primary.connections (λ connection. refl) d)
+fed-happens w (Crash nodes.Primary picks) new d e h = nothing (ap (λ x. fed_in x d) h ∙ ap (λ (x : Connection). x.inbound.fed) (get-over w.primary.connections d))
+fed-happens w (Crash nodes.Standby picks) new d e h = nothing (ap (λ x. fed_in x d) h)
+fed-happens w (Reopen nodes.Primary) new d e h = nothing (ap (λ x. fed_in x d) h)
+fed-happens w (Reopen nodes.Standby) new d e h = nothing (ap (λ x. fed_in x d) h)
 
 fed_by-not : (d : ℕ) (event : Event) → fed_by d event false ≡ []
 fed_by-not d (Feed c piece) = refl
@@ -70,5 +76,5 @@ fed-from w (event ∷ events) (did ∷ done) (new ∷ worlds) d run =
     ∙ append_assoc (fed_in w d) (fed_by d event did) (fed_to d events done)
 fed-from w events done worlds d run = absurd run
 
-pub fed-run : (events : List Event) (done : List Bool) (worlds : List World) (d : ℕ) → Run start events done worlds → (connection_of (last_world start worlds) d).inbound.fed ≡ fed_to d events done
-fed-run events done worlds d run = fed-from start events done worlds d run
+pub fed-run : (restarts : Bool) (events : List Event) (done : List Bool) (worlds : List World) (d : ℕ) → Run (start_with restarts) events done worlds → (connection_of (last_world (start_with restarts) worlds) d).inbound.fed ≡ fed_to d events done
+fed-run restarts events done worlds d run = fed-from (start_with restarts) events done worlds d run

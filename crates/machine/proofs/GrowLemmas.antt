@@ -2,46 +2,48 @@
 use Rattle.std.proofs.Common.{◌≡◌, ℕ, zero, suc, ◌≤◌, Bool, true, false, List, [], ◌∷◌, ◌++◌, take, drop, cond, nat_eq, Option, Some, None, slice_get, refl, sym, ap, subst, ◌∙◌, arith, le_refl, inl, inr}
 use Rattle.model.specs.declared.call.Call.{Call}
 use Rattle.model.specs.Call.{IsPrefix, cut_at, keyspace_after, position_of}
-use Rattle.model.proofs.PrefixLemmas.{IsPrefix-itself, IsPrefix-of_append, IsPrefix-trans}
-use Rattle.model.proofs.CallsLemmas.{keyspace_after-cut_at-append}
+use Rattle.model.proofs.PrefixLemmas.{IsPrefix-append, IsPrefix-itself, IsPrefix-of_append, IsPrefix-trans}
+use Rattle.model.proofs.CallsLemmas.{IsPrefix-cut_at, IsPrefix-into-cut_at, keyspace_after-cut_at-append, position_of-cut_at}
+use Rattle.machine.specs.declared.event.Node.TheVariants as nodes
 use Rattle.machine.specs.declared.event.Event.{Event}
-use Rattle.machine.specs.declared.event.Event.TheVariants.{Enter, Feed, Offer, Turn, CloseGroup, Commit, RaiseLocal, Hand, OpenLink, Send, Deliver, Apply, AckDelivered, RaiseRemote, Hold, Read, Release, Write, Leave}
+use Rattle.machine.specs.declared.event.Event.TheVariants.{Enter, Feed, Offer, Turn, CloseGroup, Commit, RaiseLocal, Hand, OpenLink, Send, Deliver, Apply, AckDelivered, RaiseRemote, Hold, Read, Release, Write, Leave, Crash, Reopen}
 use Rattle.machine.specs.declared.event.Mark.{Mark}
 use Rattle.machine.specs.declared.event.Mark.TheVariants.{Local, Remote}
-use Rattle.machine.specs.Event.{Inbound, Outbound, Connection, Span, Frame, Acknowledgement, Committer, Link, Standby, World, get_connection, changed_at, with_inbound, with_outbound, with_connections, on_inbound, on_outbound, with_call, with_committer, with_link, with_standby, with_acknowledged, fed_with, offered_next, taken_first, with_made, called, closed_group, committed_first, raised_local, ready_again, handed, handed_to, opened_link, acknowledgement_of, next_to_send, framed, delivered, without_first, Takes, told, knowing, raised_remote, held_first, having_read, having_released, written, left, option_items, Happens, Step, Run, start, last_world}
+use Rattle.machine.specs.Event.{Inbound, Outbound, Connection, Span, Frame, Acknowledgement, Committer, Life, Link, Running, Standby, World, crashed_standby, reopened_standby, with_primary, get_connection, changed_at, with_inbound, with_outbound, with_connections, on_inbound, on_outbound, with_call, with_committer, with_link, with_standby, with_acknowledged, fed_with, offered_next, taken_first, with_made, called, closed_group, committed_first, raised_local, ready_again, handed, handed_to, opened_link, acknowledgement_of, next_to_send, framed, delivered, without_first, Takes, told, knowing, raised_remote, held_first, having_read, having_released, written, left, option_items, Happens, Step, Run, start_with, last_world}
 use Rattle.machine.specs.Promise.{released_in}
 use Rattle.machine.specs.Sound.{IsChain, Sound}
 use Rattle.machine.specs.Law.{Grows}
 use Rattle.machine.proofs.ConnectionLemmas.{get-entered}
-use Rattle.machine.proofs.SoundEvents.{sent-known, sent-remote, sound-step}
+use Rattle.machine.proofs.CrashLemmas.{get-over}
+use Rattle.machine.proofs.GroupLemmas.{chain-le}
+use Rattle.machine.proofs.SoundEvents.{sound-step}
 use Rattle.machine.proofs.RunLemmas.{run-take, run-drop, sound-run}
 
 pub grows-itself : (w : World) → Grows w w
 grows-itself w =
     record {
-      calls = IsPrefix-itself w.primary.calls;
+      calls = IsPrefix-cut_at w.primary.calls w.primary.committer.position;
       released = λ c. IsPrefix-itself (released_in w c);
       frames = IsPrefix-itself w.wire.frames;
       acknowledgements = IsPrefix-itself w.wire.acknowledgements;
       primary_position = le_refl w.primary.committer.position;
       standby_position = le_refl w.standby.position;
-      local = le_refl w.primary.committer.local;
-      known = le_refl w.primary.link.known;
-      remote = le_refl w.primary.link.remote;
     }
 
+-- what an image held is in what a later one holds
+cut-later : (a b : World) → Grows a b → IsPrefix (cut_at a.primary.calls a.primary.committer.position) (cut_at b.primary.calls b.primary.committer.position)
+cut-later a b f =
+    IsPrefix-into-cut_at b.primary.committer.position f.calls (omega (arith, f.primary_position, position_of-cut_at a.primary.calls a.primary.committer.position))
+
 pub grows-trans : {a b c : World} → Grows a b → Grows b c → Grows a c
-grows-trans f g =
+grows-trans {a} {b} f g =
     record {
-      calls = IsPrefix-trans f.calls g.calls;
+      calls = IsPrefix-trans (cut-later a b f) g.calls;
       released = λ c. IsPrefix-trans (f.released c) (g.released c);
       frames = IsPrefix-trans f.frames g.frames;
       acknowledgements = IsPrefix-trans f.acknowledgements g.acknowledgements;
       primary_position = omega (arith, f.primary_position, g.primary_position);
       standby_position = omega (arith, f.standby_position, g.standby_position);
-      local = omega (arith, f.local, g.local);
-      known = omega (arith, f.known, g.known);
-      remote = omega (arith, f.remote, g.remote);
     }
 
 -- ---- connections
@@ -57,9 +59,6 @@ grows-connections w connections released =
       acknowledgements = g.acknowledgements;
       primary_position = g.primary_position;
       standby_position = g.standby_position;
-      local = g.local;
-      known = g.known;
-      remote = g.remote;
     }
 
 released-changed : (c : ℕ) (change : Connection → Connection) (connections : List Connection) → ((connection : Connection) → IsPrefix connection.outbound.released (change connection).outbound.released)
@@ -81,15 +80,12 @@ grows-outbound w c change each =
 grows-called : (w : World) (c : ℕ) (call : Call) → Grows w (called c call w)
 grows-called w c call =
     let first : Grows w (with_call call w) = record {
-      calls = IsPrefix-of_append w.primary.calls (call ∷ []);
+      calls = IsPrefix-append (call ∷ []) (IsPrefix-cut_at w.primary.calls w.primary.committer.position);
       released = (grows-itself w).released;
       frames = (grows-itself w).frames;
       acknowledgements = (grows-itself w).acknowledgements;
       primary_position = (grows-itself w).primary_position;
       standby_position = (grows-itself w).standby_position;
-      local = (grows-itself w).local;
-      known = (grows-itself w).known;
-      remote = (grows-itself w).remote;
     } in
     let taken = on_inbound c taken_first (with_call call w) in
     grows-trans first (grows-trans (grows-inbound (with_call call w) c taken_first)
@@ -97,8 +93,8 @@ grows-called w c call =
 
 -- ---- the committer, the link, the standby
 
-grows-committer : (w : World) (committer : Committer) → w.primary.committer.position ≤ committer.position → w.primary.committer.local ≤ committer.local → Grows w (with_committer committer w)
-grows-committer w committer le le' =
+grows-committer : (w : World) (committer : Committer) → w.primary.committer.position ≤ committer.position → Grows w (with_committer committer w)
+grows-committer w committer le =
     let g = grows-itself w in
     record {
       calls = g.calls;
@@ -107,18 +103,15 @@ grows-committer w committer le le' =
       acknowledgements = g.acknowledgements;
       primary_position = le;
       standby_position = g.standby_position;
-      local = le';
-      known = g.known;
-      remote = g.remote;
     }
 
 grows-committed : (w : World) (groups : List Span) → IsChain w.primary.committer.position groups w.primary.committer.closed → Grows w (with_committer (committed_first groups w.primary.committer) w)
 grows-committed w [] chain = grows-itself w
 grows-committed w (group ∷ groups) chain =
-    grows-committer w (committed_first (group ∷ groups) w.primary.committer) (omega (arith, chain.1)) (le_refl w.primary.committer.local)
+    grows-committer w (committed_first (group ∷ groups) w.primary.committer) (omega (arith, chain.1))
 
-grows-link : (w : World) (link : Link) → w.primary.link.known ≤ link.known → w.primary.link.remote ≤ link.remote → Grows w (with_link link w)
-grows-link w link le le' =
+grows-link : (w : World) (link : Link) → Grows w (with_link link w)
+grows-link w link =
     let g = grows-itself w in
     record {
       calls = g.calls;
@@ -127,9 +120,6 @@ grows-link w link le le' =
       acknowledgements = g.acknowledgements;
       primary_position = g.primary_position;
       standby_position = g.standby_position;
-      local = g.local;
-      known = le;
-      remote = le';
     }
 
 grows-told : (w : World) (ack : Option Acknowledgement) → Grows w (with_link (told w.primary.epoch ack w.primary.link) w)
@@ -137,7 +127,7 @@ grows-told w None = grows-itself w
 grows-told w (Some ack) =
     let link = w.primary.link in
     elim (nat_eq ack.epoch w.primary.epoch) as (λ b. Grows w (with_link (cond b (knowing ack.position link) link) w)) [
-      | true ↦ grows-link w (knowing ack.position link) (omega arith) (le_refl link.remote)
+      | true ↦ grows-link w (knowing ack.position link)
       | false ↦ grows-itself w
     ]
 
@@ -151,9 +141,6 @@ grows-delivered w standby le =
       acknowledgements = g.acknowledgements;
       primary_position = g.primary_position;
       standby_position = le;
-      local = g.local;
-      known = g.known;
-      remote = g.remote;
     }
 
 grows-standby : (w : World) (standby : Standby) (told : List Acknowledgement) → w.standby.position ≤ standby.position → Grows w (with_acknowledged told (with_standby standby w))
@@ -166,9 +153,6 @@ grows-standby w standby told le =
       acknowledgements = IsPrefix-of_append w.wire.acknowledgements told;
       primary_position = g.primary_position;
       standby_position = le;
-      local = g.local;
-      known = g.known;
-      remote = g.remote;
     }
 
 grows-takes : (frame : Frame) (old new : Standby) (told : List Acknowledgement) → Takes frame old new told → old.position ≤ new.position
@@ -182,6 +166,18 @@ grows-takes frame old new told takes =
       | inr (inr (inr (inr gap))) ↦ subst P (sym gap.3) (le_refl old.position)
     ]
 
+grows-life : (w : World) (life : Life) → Grows w (with_primary (record w.primary { life = life }) w)
+grows-life w life =
+    let g = grows-itself w in
+    record {
+      calls = g.calls;
+      released = g.released;
+      frames = g.frames;
+      acknowledgements = g.acknowledgements;
+      primary_position = g.primary_position;
+      standby_position = g.standby_position;
+    }
+
 -- ---- any event
 
 grows-read : (w : World) (mark : Mark) (outbound : Outbound) → IsPrefix outbound.released (having_read mark w outbound).released
@@ -194,17 +190,17 @@ grows-happens w Enter new h s =
 grows-happens w (Feed c piece) new h s = subst (Grows w) (sym h) (grows-inbound w c (fed_with piece))
 grows-happens w (Offer c) new h s = subst (Grows w) (sym h) (grows-inbound w c offered_next)
 grows-happens w (Turn c) new h s = subst (Grows w) (sym h.now) (grows-called w c h.call)
-grows-happens w CloseGroup new h s = subst (Grows w) (sym h) (grows-committer w (closed_group (position_of w.primary.calls) w.primary.committer) (le_refl w.primary.committer.position) (le_refl w.primary.committer.local))
+grows-happens w CloseGroup new h s = subst (Grows w) (sym h) (grows-committer w (closed_group (position_of w.primary.calls) w.primary.committer) (le_refl w.primary.committer.position))
 grows-happens w Commit new h s = subst (Grows w) (sym h) (grows-committed w w.primary.committer.waiting s.committer.waiting)
-grows-happens w RaiseLocal new h s = subst (Grows w) (sym h) (grows-committer w (raised_local w.primary.committer) (le_refl w.primary.committer.position) s.committer.mark)
+grows-happens w RaiseLocal new h s = subst (Grows w) (sym h) (grows-committer w (raised_local w.primary.committer) (le_refl w.primary.committer.position))
 grows-happens w Hand new h s =
     let middle = with_committer (ready_again w.primary.committer) w in
-    subst (Grows w) (sym h) (grows-trans (grows-committer w (ready_again w.primary.committer) (le_refl w.primary.committer.position) (le_refl w.primary.committer.local))
-    (grows-link middle (handed_to (handed w.primary.committer.stage) w.primary.link) (le_refl w.primary.link.known) (le_refl w.primary.link.remote)))
+    subst (Grows w) (sym h) (grows-trans (grows-committer w (ready_again w.primary.committer) (le_refl w.primary.committer.position))
+    (grows-link middle (handed_to (handed w.primary.committer.stage) w.primary.link)))
 grows-happens w OpenLink new h s =
     let told = acknowledgement_of w.standby ∷ [] in
     subst (Grows w) (sym h) (grows-trans (grows-standby w w.standby told (le_refl w.standby.position))
-    (grows-link (with_acknowledged told w) (opened_link w.primary.link) (le_refl w.primary.link.known) (le_refl w.primary.link.remote)))
+    (grows-link (with_acknowledged told w) (opened_link w.primary.link)))
 grows-happens w Send new h s =
     let link = w.primary.link in
     subst (Grows w) (sym h) (record {
@@ -214,20 +210,29 @@ grows-happens w Send new h s =
       acknowledgements = (grows-itself w).acknowledgements;
       primary_position = (grows-itself w).primary_position;
       standby_position = (grows-itself w).standby_position;
-      local = (grows-itself w).local;
-      known = omega (arith, sent-known link.again link);
-      remote = omega (arith, sent-remote link.again link);
     })
 grows-happens w (Deliver frame) new h s = subst (Grows w) (sym h) (grows-delivered w (delivered (option_items (slice_get w.wire.frames frame)) w.standby) (le_refl w.standby.position))
 grows-happens w Apply new h s = subst (Grows w) (sym h.now) (grows-standby w h.standby h.told (grows-takes h.frame (without_first w.standby) h.standby h.told h.takes))
 grows-happens w (AckDelivered a) new h s = subst (Grows w) (sym h) (grows-told w (slice_get w.wire.acknowledgements a))
-grows-happens w RaiseRemote new h s = subst (Grows w) (sym h) (grows-link w (raised_remote w.primary.link) (le_refl w.primary.link.known) s.link.remote)
+grows-happens w RaiseRemote new h s = subst (Grows w) (sym h) (grows-link w (raised_remote w.primary.link))
 grows-happens w (Hold c) new h s = subst (Grows w) (sym h) (grows-outbound w c held_first (λ outbound. IsPrefix-itself outbound.released))
 grows-happens w (Read c mark) new h s = subst (Grows w) (sym h) (grows-outbound w c (having_read mark w) (grows-read w mark))
 grows-happens w (Release c) new h s = subst (Grows w) (sym h) (grows-outbound w c having_released (λ outbound. IsPrefix-itself outbound.released))
 grows-happens w (Write c n) new h s = subst (Grows w) (sym h) (grows-outbound w c (written n) (λ outbound. IsPrefix-of_append outbound.released (take n outbound.pending)))
 grows-happens w (Leave c) new h s =
     subst (Grows w) (sym h) (grows-connections w (changed_at c left w.primary.connections) (released-changed c left w.primary.connections (λ connection. IsPrefix-itself connection.outbound.released)))
+grows-happens w (Crash nodes.Primary picks) new h s =
+    subst (Grows w) (sym h) (record {
+      calls = IsPrefix-itself (cut_at w.primary.calls w.primary.committer.position);
+      released = λ c. subst (λ (x : Connection). IsPrefix (released_in w c) x.outbound.released) (sym (get-over w.primary.connections c)) (IsPrefix-itself (released_in w c));
+      frames = IsPrefix-itself w.wire.frames;
+      acknowledgements = IsPrefix-itself w.wire.acknowledgements;
+      primary_position = le_refl w.primary.committer.position;
+      standby_position = le_refl w.standby.position;
+    })
+grows-happens w (Crash nodes.Standby picks) new h s = subst (Grows w) (sym h) (grows-delivered w (crashed_standby w.standby) (le_refl w.standby.position))
+grows-happens w (Reopen nodes.Primary) new h s = subst (Grows w) (sym h) (grows-life w Running)
+grows-happens w (Reopen nodes.Standby) new h s = subst (Grows w) (sym h) (grows-delivered w (reopened_standby w.standby) (le_refl w.standby.position))
 
 pub grows-step : (old : World) (event : Event) (did : Bool) (new : World) → Step old event did new → Sound old → Grows old new
 grows-step old event true new step s = grows-happens old event new (step.happens refl) s
@@ -243,11 +248,21 @@ last_world-split zero w worlds = refl
 last_world-split (suc n) w [] = refl
 last_world-split (suc n) w (new ∷ worlds) = last_world-split n new worlds
 
-pub grows-run : (n : ℕ) (events : List Event) (done : List Bool) (worlds : List World) → Run start events done worlds → Grows (last_world start (take n worlds)) (last_world start worlds)
-grows-run n events done worlds run =
-    let middle = last_world start (take n worlds) in
-    let s = sound-run (take n events) (take n done) (take n worlds) (run-take n start events done worlds run) in
-    subst (Grows middle) (last_world-split n start worlds) (grows-from middle (drop n events) (drop n done) (drop n worlds) (run-drop n start events done worlds run) s)
+pub grows-run : (restarts : Bool) (n : ℕ) (events : List Event) (done : List Bool) (worlds : List World) → Run (start_with restarts) events done worlds → Grows (last_world (start_with restarts) (take n worlds)) (last_world (start_with restarts) worlds)
+grows-run restarts n events done worlds run =
+    let middle = last_world (start_with restarts) (take n worlds) in
+    let s = sound-run restarts (take n events) (take n done) (take n worlds) (run-take n (start_with restarts) events done worlds run) in
+    subst (Grows middle) (last_world-split n (start_with restarts) worlds) (grows-from middle (drop n events) (drop n done) (drop n worlds) (run-drop n (start_with restarts) events done worlds run) s)
 
 pub cuts-stay : (old new : List Call) (p : ℕ) → IsPrefix old new → p ≤ position_of old → keyspace_after (cut_at new p) ≡ keyspace_after (cut_at old p)
 cuts-stay old new p prefix le = ap (λ calls. keyspace_after (cut_at calls p)) (sym prefix.joined) ∙ keyspace_after-cut_at-append old prefix.rest p le
+
+-- the keyspace at a position of the primary's image, in a later world
+pub image-stays : (old new : World) (p : ℕ) → Sound old → Grows old new → p ≤ old.primary.committer.position
+    → keyspace_after (cut_at new.primary.calls p) ≡ keyspace_after (cut_at old.primary.calls p)
+image-stays old new p s g le =
+    let position = old.primary.committer.position in
+    let calls = old.primary.calls in
+    let within : position ≤ position_of calls = omega (arith, s.committer.closed, chain-le _ _ _ s.committer.waiting) in
+    let there : p ≤ position_of (cut_at calls position) = omega (arith, position_of-cut_at calls position, within, le) in
+    cuts-stay (cut_at calls position) new.primary.calls p g.calls there ∙ sym (cuts-stay (cut_at calls position) calls p (IsPrefix-cut_at calls position) there)

@@ -1,15 +1,15 @@
 -- A connection's items after each event: those that were asked for come in order, each once.
-use Rattle.std.proofs.Common.{◌≡◌, ◌≢◌, ℕ, ◌<◌, false, List, [], ◌∷◌, ◌++◌, ◌-◌, length, take, drop, refl, sym, ap, ◌∙◌, arith, append_assoc, append-nil, length-append, length-take, length-drop, take-append-drop}
-use Rattle.std.proofs.Math.Seq.{take-add, take-append_seam}
+use Rattle.std.proofs.Common.{◌≡◌, ◌≢◌, ℕ, ◌<◌, false, List, [], ◌∷◌, ◌++◌, length, take, drop, sym, ap, ◌∙◌, arith, append_assoc, append-nil, length-append, length-take, length-drop, take-append-drop}
+use Rattle.std.proofs.Math.Seq.{take-add}
 use Rattle.std.proofs.lemmas.List.{take-append-le}
 use Rattle.kv_types.specs.declared.limits.TheConstants.{REQUEST_LIMITS}
 use Rattle.kv_types.specs.Reading.{items_at}
 use Rattle.kv_types.proofs.GrammarItems.{items_at-append, later_items, unread_at}
 use Rattle.model.specs.declared.call.Call.{Call}
-use Rattle.model.specs.Call.{items_of, up_to_closing}
+use Rattle.model.specs.Call.{IsPrefix, items_of, up_to_closing}
 use Rattle.model.proofs.ServesLemmas.{up_to_closing-open, up_to_closing-all, items_of-push_own, items_of-push_other}
 use Rattle.machine.specs.declared.event.TheConstants.{PIPE_ITEMS}
-use Rattle.machine.specs.Event.{Inbound, no_connection, asked, is_closed_by, fed_with, offered_next, taken_first, left_inbound}
+use Rattle.machine.specs.Event.{Inbound, no_connection, asked, is_closed_by, fed_with, offered_next, taken_first}
 use Rattle.machine.specs.Sound.{SoundInbound}
 
 -- what more bytes ask for comes after what was asked for, where nothing closes the connection
@@ -20,8 +20,9 @@ asked-append fed piece stays =
     ap up_to_closing (items_at-append REQUEST_LIMITS fed piece) ∙ up_to_closing-open items later stays
     ∙ ap (λ prefix. prefix ++ up_to_closing later) (sym (up_to_closing-all items stays))
 
-pub inbound-start : (c : ℕ) → SoundInbound [] c no_connection.inbound
-inbound-start c = record { offered = omega arith; order = refl; few = omega arith }
+-- of a connection that enters no item was run
+pub inbound-new : (calls : List Call) (c : ℕ) → items_of c calls ≡ [] → SoundInbound calls c no_connection.inbound
+inbound-new calls c none = record { offered = omega arith; order = append-nil (items_of c calls) ∙ none; few = omega arith }
 
 pub inbound-fed : (calls : List Call) (c : ℕ) (inbound : Inbound) (piece : List ℕ) → is_closed_by inbound.fed ≡ false → SoundInbound calls c inbound → SoundInbound calls c (fed_with piece inbound)
 inbound-fed calls c inbound piece stays s =
@@ -59,16 +60,11 @@ pub inbound-called_other : (calls : List Call) (c : ℕ) (inbound : Inbound) (ca
 inbound-called_other calls c inbound call differ s =
     record { offered = s.offered; order = ap (λ items. items ++ inbound.waiting) (items_of-push_other c calls call differ) ∙ s.order; few = s.few }
 
--- what waits is dropped: the items that were handed over and not dropped are those of the calls
-pub inbound-left : (calls : List Call) (c : ℕ) (inbound : Inbound) → SoundInbound calls c inbound → SoundInbound calls c (left_inbound inbound)
-inbound-left calls c inbound s =
-    let items = items_of c calls in
-    let all = asked inbound.fed in
-    let rest = drop inbound.offered all in
-    let few : length items ≡ inbound.offered - length inbound.waiting = omega (arith, s.offered, ap length s.order, length-append items inbound.waiting, length-take inbound.offered all) in
-    let joined : items ++ (inbound.waiting ++ rest) ≡ all = sym (append_assoc items inbound.waiting rest) ∙ ap (λ prefix. prefix ++ rest) s.order ∙ take-append-drop inbound.offered all in
+-- the items of its calls come first among those that were asked for
+pub inbound-items : (calls : List Call) (c : ℕ) (inbound : Inbound) → SoundInbound calls c inbound → IsPrefix (items_of c calls) (asked inbound.fed)
+inbound-items calls c inbound s =
     record {
-      offered = omega (arith, s.offered);
-      order = append-nil items ∙ sym (take-append_seam items (inbound.waiting ++ rest)) ∙ ap (take (length items)) joined ∙ ap (λ n. take n all) few;
-      few = omega arith;
+      rest = inbound.waiting ++ drop inbound.offered (asked inbound.fed);
+      joined = sym (append_assoc (items_of c calls) inbound.waiting (drop inbound.offered (asked inbound.fed)))
+          ∙ ap (λ prefix. prefix ++ drop inbound.offered (asked inbound.fed)) s.order ∙ take-append-drop inbound.offered (asked inbound.fed);
     }

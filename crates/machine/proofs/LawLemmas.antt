@@ -1,19 +1,21 @@
 -- The laws of every run, from what holds between any two events.
-use Rattle.std.proofs.Common.{◌≡◌, ℕ, ◌+◌, ◌≤◌, Bool, true, false, ◌&&◌, cond, nat_eq, List, [], ◌∷◌, ◌++◌, length, refl, sym, ap, ◌∙◌, arith, append_assoc, le-ltb, Option, Some, None, slice_get}
+use Rattle.std.proofs.Common.{◌≡◌, ℕ, ◌+◌, ◌≤◌, Bool, true, false, ◌&&◌, cond, nat_eq, List, [], ◌∷◌, ◌++◌, length, refl, sym, ap, ◌∙◌, arith, append_assoc, le-ltb, inl, inr, Option, Some, None, slice_get}
 use Rattle.std.proofs.lemmas.List.Elements.{All-weaker}
 use Rattle.model.specs.State.{start_state}
 use Rattle.model.specs.Call.{state_after, position_of}
 use Rattle.machine.specs.declared.event.Event.{Event}
-use Rattle.machine.specs.declared.event.Event.TheVariants.{Enter, Feed, Offer, Turn, CloseGroup, Commit, RaiseLocal, Hand, OpenLink, Send, Deliver, Apply, AckDelivered, RaiseRemote, Hold, Read, Release, Write, Leave}
-use Rattle.machine.specs.Event.{World, Frame, Acknowledgement, Link, told, knowing, nodes_run, may_happen, is_enabled, Happens, Step, Run, start, last_world}
+use Rattle.machine.specs.declared.event.Event.TheVariants.{Enter, Feed, Offer, Turn, CloseGroup, Commit, RaiseLocal, Hand, OpenLink, Send, Deliver, Apply, AckDelivered, RaiseRemote, Hold, Read, Release, Write, Leave, Crash, Reopen}
+use Rattle.machine.specs.Event.{World, Frame, Acknowledgement, Link, told, knowing, nodes_run, may_happen, is_enabled, Happens, Step, Run, start_with, last_world}
 use Rattle.machine.specs.Sound.{IsFrameWithin, IsToldWithin, Sound, answers_from, answers_to}
 use Rattle.machine.specs.Law.{IsInOrder, FramesAreCommitted, AnswersBearPositions, RaisesNoRemote, NothingIsReleasedUnacknowledged, OnlyWhatWasMadeIsDelivered}
 use Rattle.machine.proofs.AnswerLemmas.{answers_from-append, answers_to-push_own}
-use Rattle.machine.proofs.OverLemmas.{sound-released}
 use Rattle.machine.proofs.GroupLemmas.{chain-le, frames_within-weaker}
 use Rattle.machine.proofs.SoundEvents.{sent-remote}
 use Rattle.machine.proofs.RunLemmas.{sound-run}
-use Rattle.machine.proofs.PromiseLemmas.{released-covered}
+use Rattle.machine.specs.Promise.{SomeWorld, HasMarks}
+use Rattle.model.specs.declared.call.Call.{Call}
+use Rattle.machine.specs.declared.event.Node.TheVariants as nodes
+use Rattle.machine.proofs.CoverLemmas.{covered-run}
 
 pub in_order : (w : World) → Sound w → IsInOrder w
 in_order w s =
@@ -28,14 +30,14 @@ in_order w s =
       epoch = s.standby.epoch_is;
       frames = All-weaker (IsFrameWithin w.primary.epoch s.sent) (λ (frame : Frame). frame.epoch ≡ w.primary.epoch) (λ frame h. h.epoch_is) w.wire.frames s.wire.frames;
       told = All-weaker (IsToldWithin w.primary.epoch w.standby.position) (λ (ack : Acknowledgement). ack.epoch ≡ w.primary.epoch) (λ ack h. h.epoch_is) w.wire.acknowledgements s.wire.acknowledged;
-      read_local = λ c. (sound-released w s c).local_read;
-      read_remote = λ c. (sound-released w s c).remote_read;
+      read_local = λ c is_one. (s.outbound c is_one).local_read;
+      read_remote = λ c is_one. (s.outbound c is_one).remote_read;
     }
 
 pub frames_are_committed : FramesAreCommitted
-frames_are_committed events done worlds run =
-    let w = last_world start worlds in
-    let s = sound-run events done worlds run in
+frames_are_committed restarts events done worlds run =
+    let w = last_world (start_with restarts) worlds in
+    let s = sound-run restarts events done worlds run in
     let le = chain-le _ _ _ s.link.waiting in
     (frames_within-weaker w.primary.epoch s.sent w.primary.committer.position w.wire.frames le s.wire.frames, frames_within-weaker w.primary.epoch s.sent w.primary.committer.position w.standby.waiting le s.standby.frames)
 
@@ -55,49 +57,59 @@ told-remote : (epoch : ℕ) (ack : Option Acknowledgement) (link : Link) → (to
 told-remote epoch None link = refl
 told-remote epoch (Some ack) link = elim (nat_eq ack.epoch epoch) as (λ b. (cond b (knowing ack.position link) link).remote ≡ link.remote) [ true ↦ refl | false ↦ refl ]
 
--- no other event moves the remote mark
-remote-happens : (w : World) (event : Event) (new : World) → RaisesNoRemote (event ∷ []) (true ∷ []) → Happens w event new → new.primary.link.remote ≡ w.primary.link.remote
-remote-happens w Enter new none h = ap (λ x. x.primary.link.remote) h
-remote-happens w (Feed c piece) new none h = ap (λ x. x.primary.link.remote) h
-remote-happens w (Offer c) new none h = ap (λ x. x.primary.link.remote) h
-remote-happens w (Turn c) new none h = ap (λ x. x.primary.link.remote) h.now
-remote-happens w CloseGroup new none h = ap (λ x. x.primary.link.remote) h
-remote-happens w Commit new none h = ap (λ x. x.primary.link.remote) h
-remote-happens w RaiseLocal new none h = ap (λ x. x.primary.link.remote) h
-remote-happens w Hand new none h = ap (λ x. x.primary.link.remote) h
-remote-happens w OpenLink new none h = ap (λ x. x.primary.link.remote) h
-remote-happens w Send new none h = ap (λ x. x.primary.link.remote) h ∙ sent-remote w.primary.link.again w.primary.link
-remote-happens w (Deliver frame) new none h = ap (λ x. x.primary.link.remote) h
-remote-happens w Apply new none h = ap (λ x. x.primary.link.remote) h.now
-remote-happens w (AckDelivered a) new none h = ap (λ x. x.primary.link.remote) h ∙ told-remote w.primary.epoch (slice_get w.wire.acknowledgements a) w.primary.link
+le_of : {m n : ℕ} → m ≡ n → m ≤ n
+le_of e = omega (arith, e)
+
+-- no other event raises the remote mark
+remote-happens : (w : World) (event : Event) (new : World) → RaisesNoRemote (event ∷ []) (true ∷ []) → Happens w event new → new.primary.link.remote ≤ w.primary.link.remote
+remote-happens w Enter new none h = le_of (ap (λ x. x.primary.link.remote) h)
+remote-happens w (Feed c piece) new none h = le_of (ap (λ x. x.primary.link.remote) h)
+remote-happens w (Offer c) new none h = le_of (ap (λ x. x.primary.link.remote) h)
+remote-happens w (Turn c) new none h = le_of (ap (λ x. x.primary.link.remote) h.now)
+remote-happens w CloseGroup new none h = le_of (ap (λ x. x.primary.link.remote) h)
+remote-happens w Commit new none h = le_of (ap (λ x. x.primary.link.remote) h)
+remote-happens w RaiseLocal new none h = le_of (ap (λ x. x.primary.link.remote) h)
+remote-happens w Hand new none h = le_of (ap (λ x. x.primary.link.remote) h)
+remote-happens w OpenLink new none h = le_of (ap (λ x. x.primary.link.remote) h)
+remote-happens w Send new none h = le_of (ap (λ x. x.primary.link.remote) h ∙ sent-remote w.primary.link.again w.primary.link)
+remote-happens w (Deliver frame) new none h = le_of (ap (λ x. x.primary.link.remote) h)
+remote-happens w Apply new none h = le_of (ap (λ x. x.primary.link.remote) h.now)
+remote-happens w (AckDelivered a) new none h = le_of (ap (λ x. x.primary.link.remote) h ∙ told-remote w.primary.epoch (slice_get w.wire.acknowledgements a) w.primary.link)
 remote-happens w RaiseRemote new none h = absurd none
-remote-happens w (Hold c) new none h = ap (λ x. x.primary.link.remote) h
-remote-happens w (Read c mark) new none h = ap (λ x. x.primary.link.remote) h
-remote-happens w (Release c) new none h = ap (λ x. x.primary.link.remote) h
-remote-happens w (Write c n) new none h = ap (λ x. x.primary.link.remote) h
-remote-happens w (Leave c) new none h = ap (λ x. x.primary.link.remote) h
+remote-happens w (Hold c) new none h = le_of (ap (λ x. x.primary.link.remote) h)
+remote-happens w (Read c mark) new none h = le_of (ap (λ x. x.primary.link.remote) h)
+remote-happens w (Release c) new none h = le_of (ap (λ x. x.primary.link.remote) h)
+remote-happens w (Write c n) new none h = le_of (ap (λ x. x.primary.link.remote) h)
+remote-happens w (Leave c) new none h = le_of (ap (λ x. x.primary.link.remote) h)
+remote-happens w (Crash nodes.Primary picks) new none h = let zero : new.primary.link.remote ≡ 0 = ap (λ x. x.primary.link.remote) h in omega (arith, zero)
+remote-happens w (Crash nodes.Standby picks) new none h = le_of (ap (λ x. x.primary.link.remote) h)
+remote-happens w (Reopen nodes.Primary) new none h = le_of (ap (λ x. x.primary.link.remote) h)
+remote-happens w (Reopen nodes.Standby) new none h = le_of (ap (λ x. x.primary.link.remote) h)
 
 raises-parts : (event : Event) (did : Bool) (events : List Event) (done : List Bool) → RaisesNoRemote (event ∷ events) (did ∷ done) → RaisesNoRemote (event ∷ []) (did ∷ []) × RaisesNoRemote events done
 raises-parts RaiseRemote true events done none = absurd none
 raises-parts RaiseRemote false events done none = (tt, none)
 raises-parts event did events done none = (tt, none)
 
-remote-step : (old : World) (event : Event) (did : Bool) (new : World) → RaisesNoRemote (event ∷ []) (did ∷ []) → Step old event did new → new.primary.link.remote ≡ old.primary.link.remote
+remote-step : (old : World) (event : Event) (did : Bool) (new : World) → RaisesNoRemote (event ∷ []) (did ∷ []) → Step old event did new → new.primary.link.remote ≤ old.primary.link.remote
 remote-step old event true new none step = remote-happens old event new none (step.happens refl)
-remote-step old event false new none step = ap (λ x. x.primary.link.remote) (step.stands refl)
+remote-step old event false new none step = le_of (ap (λ x. x.primary.link.remote) (step.stands refl))
 
-remote-from : (w : World) (events : List Event) (done : List Bool) (worlds : List World) → Run w events done worlds → RaisesNoRemote events done → (last_world w worlds).primary.link.remote ≡ w.primary.link.remote
-remote-from w [] [] [] run none = refl
-remote-from w (event ∷ events) (did ∷ done) (new ∷ worlds) run none =
+-- what some world has is at most at the remote mark of the first
+low-marks : (w : World) (events : List Event) (done : List Bool) (worlds : List World) (prefix : List Call) (call : Call) → Run w events done worlds → RaisesNoRemote events done
+    → SomeWorld (HasMarks prefix call) (w ∷ worlds) → position_of (prefix ++ call ∷ []) ≤ w.primary.link.remote
+low-marks w [] [] [] prefix call run none some = elim some [ inl marks ↦ marks.remote | inr never ↦ absurd never ]
+low-marks w (event ∷ events) (did ∷ done) (new ∷ worlds) prefix call run none some =
     let parts = raises-parts event did events done none in
-    remote-from new events done worlds run.1 parts.1 ∙ remote-step w event did new parts.0 run.0
-remote-from w events done worlds run none = absurd run
+    elim some [
+      | inl marks ↦ marks.remote
+      | inr later ↦ omega (arith, low-marks new events done worlds prefix call run.1 parts.1 later, remote-step w event did new parts.0 run.0)
+    ]
+low-marks w events done worlds prefix call run none some = absurd run
 
 pub nothing_is_released_unacknowledged : NothingIsReleasedUnacknowledged
-nothing_is_released_unacknowledged events done worlds run none prefix call released =
-    let w = last_world start worlds in
-    let marks = released-covered w (sound-run events done worlds run) prefix call released in
-    omega (arith, marks.1, remote-from start events done worlds run none)
+nothing_is_released_unacknowledged restarts events done worlds run none prefix call released =
+    omega (arith, low-marks (start_with restarts) events done worlds prefix call run none (covered-run restarts events done worlds run prefix call released))
 
 -- ---- what was not made
 

@@ -5,13 +5,14 @@ use Rattle.std.proofs.lemmas.List.Elements.{All-nil, All-cons, All-head, All-tai
 use Rattle.std.proofs.lemmas.List.Filters.{length-filter_both}
 use Rattle.model.specs.Call.{is_nonempty}
 use Rattle.machine.specs.declared.event.TheConstants.{PIPE_ITEMS, KEPT_GROUPS}
-use Rattle.machine.specs.Event.{Span, Stage, Ready, Durable, Shown, Committer, Link, is_ready, is_shown, shown, handed, handed_to, opened_link, sent_waiting, sent_next, next_to_send, above, knowing, raised_remote, start}
+use Rattle.machine.specs.Event.{Span, Stage, Ready, Durable, Shown, Committer, Link, is_ready, is_shown, shown, handed, handed_to, opened_link, sent_waiting, sent_next, next_to_send, above, knowing, raised_remote, new_link}
 use Rattle.machine.specs.Sound.{IsChain, IsGroupWithin, in_hand, HasRoomFor, SoundLink}
 use Rattle.machine.proofs.GroupLemmas.{chain-push, chain-above, chain-within}
 
-pub link-start : SoundLink Ready 0 0 start.primary.link
-link-start =
-    record { kept_from = 0; known = omega arith; kept = refl; waiting = refl; sent_again = []; again = refl; remote = omega arith; few = omega arith; few_kept = omega arith }
+-- a link that has sent nothing, over a primary that is opened at this position
+pub link-new : (position : ℕ) → SoundLink position Ready position position new_link
+link-new position =
+    record { kept_from = position; known = omega arith; kept = refl; waiting = refl; sent_again = []; again = refl; remote = omega arith; few = omega arith; few_kept = omega arith }
 
 -- ---- the committer's turns
 
@@ -21,8 +22,8 @@ in_hand-ready (Durable group) e = cc
 in_hand-ready (Shown group) e = cc
 
 -- it takes a group, for which there is room
-pub link-committed : (committer : Committer) (group : Span) (sent : ℕ) (link : Link) → is_ready committer.stage ≡ true → length link.waiting < PIPE_ITEMS → group.before ≡ committer.position → committer.position < group.after
-    → SoundLink committer.stage committer.position sent link → SoundLink (Durable group) group.after sent link
+pub link-committed : {opened : ℕ} (committer : Committer) (group : Span) (sent : ℕ) (link : Link) → is_ready committer.stage ≡ true → length link.waiting < PIPE_ITEMS → group.before ≡ committer.position → committer.position < group.after
+    → SoundLink opened committer.stage committer.position sent link → SoundLink opened (Durable group) group.after sent link
 link-committed committer group sent link ready room before rising s =
     let none = in_hand-ready committer.stage ready in
     let chain : IsChain sent link.waiting committer.position = rw (none, append-nil link.waiting) at s.waiting in
@@ -48,7 +49,7 @@ room-shown Ready groups h = h
 room-shown (Durable group) groups h = h
 room-shown (Shown group) groups h = h
 
-pub link-raised : (stage : Stage) (position sent : ℕ) (link : Link) → SoundLink stage position sent link → SoundLink (shown stage) position sent link
+pub link-raised : {opened : ℕ} (stage : Stage) (position sent : ℕ) (link : Link) → SoundLink opened stage position sent link → SoundLink opened (shown stage) position sent link
 link-raised stage position sent link s =
     record {
       kept_from = s.kept_from;
@@ -72,7 +73,7 @@ room-handed Ready groups h = omega (arith, length-append groups [])
 room-handed (Durable group) groups h = omega (arith, length-append groups [])
 room-handed (Shown group) groups h = omega (arith, length-append groups (group ∷ []))
 
-pub link-handed : (stage : Stage) (position sent : ℕ) (link : Link) → is_shown stage ≡ true → SoundLink stage position sent link → SoundLink Ready position sent (handed_to (handed stage) link)
+pub link-handed : {opened : ℕ} (stage : Stage) (position sent : ℕ) (link : Link) → is_shown stage ≡ true → SoundLink opened stage position sent link → SoundLink opened Ready position sent (handed_to (handed stage) link)
 link-handed stage position sent link hand s =
     record {
       kept_from = s.kept_from;
@@ -88,7 +89,7 @@ link-handed stage position sent link hand s =
 
 -- ---- sending
 
-pub link-opened : (stage : Stage) (position sent : ℕ) (link : Link) → SoundLink stage position sent link → SoundLink stage position sent (opened_link link)
+pub link-opened : {opened : ℕ} (stage : Stage) (position sent : ℕ) (link : Link) → SoundLink opened stage position sent link → SoundLink opened stage position sent (opened_link link)
 link-opened stage position sent link s = record {
   kept_from = s.kept_from;
   known = s.known;
@@ -111,16 +112,16 @@ all-middle P [] group ys all = All-head P group ys all
 all-middle P (x ∷ xs) group ys all = all-middle P xs group ys (All-tail P x (xs ++ group ∷ ys) all)
 
 -- The link sent these groups: all groups sent so far end at `after`, which is the position up to which groups were sent before, or a later one.
-pub record Sends (stage : Stage) (position sent : ℕ) (new : Link) (groups : List Span) : Type 0 where
+pub record Sends (opened : ℕ) (stage : Stage) (position sent : ℕ) (new : Link) (groups : List Span) : Type 0 where
   pub after : ℕ
   pub later : sent ≤ after
-  pub sound : SoundLink stage position after new
+  pub sound : SoundLink opened stage position after new
   pub within : All (IsGroupWithin after) groups
 
-module _ (stage : Stage) (position sent : ℕ) (link : Link) (s : SoundLink stage position sent link) where
+module _ (opened : ℕ) (stage : Stage) (position sent : ℕ) (link : Link) (s : SoundLink opened stage position sent link) where
   -- the next group that was never sent
   sent-first : (groups : List Span) → (is_nonempty groups && nat_lt (length link.kept) KEPT_GROUPS) ≡ true → IsChain sent (groups ++ in_hand stage) position → HasRoomFor stage groups
-      → Sends stage position sent (sent_waiting groups link) (take 1 groups)
+      → Sends opened stage position sent (sent_waiting groups link) (take 1 groups)
   sent-first [] some chain room = record { after = sent; later = le_refl sent; sound = s; within = All-nil (IsGroupWithin sent) }
   sent-first (group ∷ groups) some chain room =
       let one : IsGroupWithin group.after group = record { rising = omega (arith, chain.0, chain.1); within = le_refl group.after } in
@@ -143,7 +144,7 @@ module _ (stage : Stage) (position sent : ℕ) (link : Link) (s : SoundLink stag
 
   -- the next group that is to be sent, or else one that was never sent
   sent-again : (groups : List Span) → (is_nonempty groups || (is_nonempty link.waiting && nat_lt (length link.kept) KEPT_GROUPS)) ≡ true → s.sent_again ++ groups ≡ link.kept
-      → Sends stage position sent (sent_next groups link) (take 1 (groups ++ link.waiting))
+      → Sends opened stage position sent (sent_next groups link) (take 1 (groups ++ link.waiting))
   sent-again [] some joined = sent-first link.waiting some s.waiting s.few
   sent-again (group ∷ groups) some joined =
       let kept = subst (All (IsGroupWithin sent)) (sym joined) (chain-within s.kept_from link.kept sent s.kept) in
@@ -164,12 +165,12 @@ module _ (stage : Stage) (position sent : ℕ) (link : Link) (s : SoundLink stag
         within = All-cons (IsGroupWithin sent) group [] (all-middle (IsGroupWithin sent) s.sent_again group groups kept) (All-nil (IsGroupWithin sent));
       }
 
-  pub link-sent : (is_nonempty link.again || (is_nonempty link.waiting && nat_lt (length link.kept) KEPT_GROUPS)) ≡ true → Sends stage position sent (sent_next link.again link) (next_to_send link)
+  pub link-sent : (is_nonempty link.again || (is_nonempty link.waiting && nat_lt (length link.kept) KEPT_GROUPS)) ≡ true → Sends opened stage position sent (sent_next link.again link) (next_to_send link)
   link-sent some = sent-again link.again some s.again
 
   -- ---- acknowledgements
 
-  pub link-knowing : (acknowledged : ℕ) → acknowledged ≤ sent → SoundLink stage position sent (knowing acknowledged link)
+  pub link-knowing : (acknowledged : ℕ) → acknowledged ≤ sent → SoundLink opened stage position sent (knowing acknowledged link)
   link-knowing acknowledged le =
       let kept = chain-above s.kept_from link.kept sent acknowledged s.kept le in
       record {
@@ -184,7 +185,7 @@ module _ (stage : Stage) (position sent : ℕ) (link : Link) (s : SoundLink stag
         few_kept = omega (arith, s.few_kept, length-filter_both (λ (group : Span). nat_lt acknowledged group.after) (λ (group : Span). not (nat_lt acknowledged group.after)) (λ group. refl) link.kept);
       }
 
-  pub link-raised_remote : SoundLink stage position sent (raised_remote link)
+  pub link-raised_remote : SoundLink opened stage position sent (raised_remote link)
   link-raised_remote = record {
     kept_from = s.kept_from;
     known = s.known;

@@ -1,24 +1,18 @@
--- Every run keeps the promise.
-use Rattle.std.proofs.Common.{◌≡◌, ℕ, ◌+◌, ◌<◌, ◌≤◌, Bool, true, List, [], ◌∷◌, ◌++◌, length, drop, All, refl, sym, ap, subst, ◌∙◌, arith, append_assoc, length-append, take-append-drop}
+-- What was released: it begins the replies, and both images hold its calls.
+use Rattle.std.proofs.Common.{◌≡◌, ℕ, ◌+◌, ◌<◌, ◌≤◌, true, List, [], ◌∷◌, ◌++◌, length, All, refl, sym, ap, subst, ◌∙◌, arith, append_assoc, length-append}
 use Rattle.std.proofs.lemmas.List.Elements.{All-head, All-tail}
-use mathlib.Core.Path.{fun_ext}
-use Rattle.kv_types.specs.declared.limits.TheConstants.{REQUEST_LIMITS}
 use Rattle.kv_types.specs.declared.reply.Held.{Held}
-use Rattle.kv_types.specs.Reading.{items_at}
 use Rattle.kv_types.specs.Reply.{text_of}
 use Rattle.model.specs.declared.call.Call.{Call}
 use Rattle.model.specs.State.{start_state}
-use Rattle.model.specs.Call.{IsPrefix, Serves, items_of, position_of, replies_to, state_after}
+use Rattle.model.specs.Call.{IsPrefix, position_of, replies_to, state_after}
 use Rattle.model.proofs.PrefixLemmas.{IsPrefix-length, IsPrefix-trans}
-use Rattle.machine.specs.declared.event.Event.{Event}
-use Rattle.machine.specs.Event.{World, Run, start, last_world, connection_of, is_open, asked, texts_of}
-use Rattle.machine.specs.Promise.{Tells, IsReleased, HasMarks, IsPromised, EveryRunIsPromised, released_in, fed_to}
-use Rattle.machine.specs.Sound.{IsCoveredBy, Sound, answers_from, answers_to}
+use Rattle.machine.specs.Event.{World, connection_of, is_open, texts_of}
+use Rattle.machine.specs.Promise.{IsReleased, HasMarks, released_in}
+use Rattle.machine.specs.Sound.{IsCoveredBy, IsHeldAt, Sound, answers_from, answers_to}
 use Rattle.machine.proofs.AnswerLemmas.{answers_from-append, answers_to-push_own, texts_of-answers_to, texts_of-append}
 use Rattle.machine.proofs.OverLemmas.{sound-released}
 use Rattle.machine.proofs.GroupLemmas.{chain-le}
-use Rattle.machine.proofs.RunLemmas.{some-last, sound-run}
-use Rattle.machine.proofs.FedLemmas.{fed-run}
 
 -- ---- what was released
 
@@ -34,23 +28,40 @@ among P (x ∷ out) others (y ∷ prefix) reply more e lt all =
     let texts : length (text_of x.reply) ≡ length (text_of y.reply) = ap (λ (z : Held). length (text_of z.reply)) same in
     among P out others prefix reply more rest (omega arith) (All-tail P x out all)
 
-pub released-covered : (w : World) → Sound w → (prefix : List Call) (call : Call) → IsReleased w.primary.calls (released_in w) prefix call
-    → (position_of (prefix ++ call ∷ []) ≤ w.primary.committer.local) × (position_of (prefix ++ call ∷ []) ≤ w.primary.link.remote)
-released-covered w s prefix call released =
+-- what holds of each reply that was released holds of that of a released call
+released-reply : (P : Held → Type 0) (w : World) (prefix : List Call) (call : Call) (out : List Held) → IsReleased w.primary.calls (released_in w) prefix call
+    → IsPrefix out (answers_to call.connection w.primary.calls) → IsPrefix (released_in w call.connection) (texts_of out) → All P out → P (record { reply = call.reply; position = position_of (prefix ++ call ∷ []) })
+released-reply P w prefix call out released replies texts all_out =
     let c = call.connection in
-    let r = sound-released w s c in
     let reply : Held = record { reply = call.reply; position = position_of (prefix ++ call ∷ []) } in
     let more = answers_from (state_after (prefix ++ call ∷ [])) (0 + position_of (prefix ++ call ∷ [])) c released.rest in
-    let all : r.out ++ r.replies.rest ≡ answers_to c prefix ++ reply ∷ more =
-    r.replies.joined ∙ ap (answers_to c) (released.stands ∙ sym (append_assoc prefix (call ∷ []) released.rest)) ∙ answers_from-append start_state 0 c (prefix ++ call ∷ []) released.rest
+    let all : out ++ replies.rest ≡ answers_to c prefix ++ reply ∷ more =
+    replies.joined ∙ ap (answers_to c) (released.stands ∙ sym (append_assoc prefix (call ∷ []) released.rest)) ∙ answers_from-append start_state 0 c (prefix ++ call ∷ []) released.rest
     ∙ ap (λ answers. answers ++ more) (answers_to-push_own c prefix call refl) ∙ append_assoc (answers_to c prefix) (reply ∷ []) more in
     let before = ap length (texts_of-answers_to c prefix) in
-    let enough = IsPrefix-length r.texts in
-    let covered = among (IsCoveredBy w.primary.committer.local w.primary.link.remote) r.out r.replies.rest (answers_to c prefix) reply more all (omega (arith, released.written, enough, before)) r.covered in
-    (covered.on_primary, covered.on_standby)
+    let enough = IsPrefix-length texts in
+    among P out replies.rest (answers_to c prefix) reply more all (omega (arith, released.written, enough, before)) all_out
+
+-- both images hold a released call
+pub released-held : (w : World) → Sound w → (prefix : List Call) (call : Call) → IsReleased w.primary.calls (released_in w) prefix call
+    → (position_of (prefix ++ call ∷ []) ≤ w.primary.committer.position) × (position_of (prefix ++ call ∷ []) ≤ w.standby.position)
+released-held w s prefix call released =
+    let r = sound-released w s call.connection in
+    let low = released-reply (IsHeldAt w.standby.position) w prefix call r.out released r.replies r.texts r.held in
+    (omega (arith, low, s.standby.behind, chain-le _ _ _ s.link.waiting), low)
+
+-- while its connection is open, both marks are at least at its position
+pub released-covered : (w : World) → Sound w → (prefix : List Call) (call : Call) → is_open w call.connection ≡ true → IsReleased w.primary.calls (released_in w) prefix call → HasMarks prefix call w
+released-covered w s prefix call is_one released =
+    let c = call.connection in
+    let outbound = (connection_of w c).outbound in
+    let o = s.outbound c is_one in
+    let covered = released-reply (IsCoveredBy w.primary.committer.local w.primary.link.remote) w prefix call o.out released
+    (record { rest = outbound.held ++ outbound.made; joined = o.replies }) (record { rest = outbound.pending; joined = o.texts }) o.covered in
+    record { made = record { rest = released.rest; joined = append_assoc prefix (call ∷ []) released.rest ∙ sym released.stands }; local = covered.on_primary; remote = covered.on_standby }
 
 -- what was released begins the replies
-released-begins : (w : World) → Sound w → (c : ℕ) → IsPrefix (released_in w c) (replies_to c w.primary.calls)
+pub released-begins : (w : World) → Sound w → (c : ℕ) → IsPrefix (released_in w c) (replies_to c w.primary.calls)
 released-begins w s c =
     let r = sound-released w s c in
     IsPrefix-trans r.texts (record { rest = texts_of r.replies.rest; joined = sym (texts_of-append r.out r.replies.rest) ∙ ap texts_of r.replies.joined ∙ texts_of-answers_to c w.primary.calls })
@@ -65,48 +76,3 @@ replies-add_up w s c is_one =
     ∙ ap (λ prefix. prefix ++ (texts_of outbound.held ++ texts_of outbound.made)) o.texts
     ∙ ap (λ rest. texts_of o.out ++ rest) (sym (texts_of-append outbound.held outbound.made)) ∙ sym (texts_of-append o.out (outbound.held ++ outbound.made))
     ∙ ap texts_of o.replies ∙ texts_of-answers_to c w.primary.calls
-
--- ---- the promise
-
-pub serves-run : (events : List Event) (done : List Bool) (worlds : List World) → Run start events done worlds → Serves (λ c. items_at REQUEST_LIMITS (fed_to c events done)) (last_world start worlds).primary.calls
-serves-run events done worlds run = λ c.
-    let w = last_world start worlds in
-    let inbound = (connection_of w c).inbound in
-    let s = (sound-run events done worlds run).inbound c in
-    record {
-      rest = inbound.waiting ++ drop inbound.offered (asked inbound.fed);
-      joined = sym (append_assoc (items_of c w.primary.calls) inbound.waiting (drop inbound.offered (asked inbound.fed)))
-          ∙ ap (λ prefix. prefix ++ drop inbound.offered (asked inbound.fed)) s.order ∙ take-append-drop inbound.offered (asked inbound.fed)
-          ∙ ap asked (fed-run events done worlds c run);
-    }
-
-pub every_run_is_promised : EveryRunIsPromised
-every_run_is_promised events done worlds run =
-    let w = last_world start worlds in
-    let s = sound-run events done worlds run in
-    record {
-      worlds = worlds;
-      run = run;
-      tells = record { list = refl; bytes = λ c. refl; primary_position = refl; standby_position = refl };
-      legal = s.legal;
-      serves = serves-run events done worlds run;
-      begins = released-begins w s;
-      covered = λ prefix call released.
-          let marks = released-covered w s prefix call released in
-          some-last (HasMarks prefix call) start worlds
-          (record { made = record { rest = released.rest; joined = append_assoc prefix (call ∷ []) released.rest ∙ sym released.stands }; local = marks.0; remote = marks.1 });
-      held = λ prefix call released. let marks = released-covered w s prefix call released in omega (arith, marks.1, s.link.remote, s.standby.known);
-      behind = omega (arith, s.standby.behind, chain-le _ _ _ s.link.waiting);
-      within = omega (arith, s.committer.closed, chain-le _ _ _ s.committer.waiting);
-    }
-
--- the promise of whatever tells the last world of a run
-pub promised-told : (events : List Event) (done : List Bool) (worlds : List World) (calls : List Call) (released : ℕ → List ℕ) (primary standby : ℕ) → Run start events done worlds
-    → Tells (last_world start worlds) calls released primary standby → IsPromised events done calls released primary standby
-promised-told events done worlds calls released primary standby run tells =
-    let w = last_world start worlds in
-    let promised : IsPromised events done w.primary.calls (released_in w) w.primary.committer.position w.standby.position = every_run_is_promised events done worlds run in
-    subst (λ x. IsPromised events done x released primary standby) (sym tells.list)
-    (subst (λ x. IsPromised events done w.primary.calls x primary standby) (sym (fun_ext tells.bytes))
-    (subst (λ x. IsPromised events done w.primary.calls (released_in w) x standby) (sym tells.primary_position)
-    (subst (λ x. IsPromised events done w.primary.calls (released_in w) w.primary.committer.position x) (sym tells.standby_position) promised)))

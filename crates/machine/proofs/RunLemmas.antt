@@ -2,13 +2,12 @@
 use Rattle.std.proofs.Common.{◌≡◌, ℕ, zero, suc, Bool, true, false, List, [], ◌∷◌, ◌++◌, length, take, drop, All, refl, sym, ap, arith, inl, inr, true≢false}
 use Rattle.std.proofs.lemmas.List.Elements.{All-nil, All-cons}
 use Rattle.machine.specs.declared.event.Event.{Event}
-use Rattle.machine.specs.Event.{World, is_enabled, Happens, Step, Run, start, last_world}
+use Rattle.machine.specs.Event.{World, is_enabled, Happens, Step, Run, start_with, last_world}
 use Rattle.machine.specs.Promise.{SomeWorld}
 use Rattle.machine.specs.Sound.{Sound}
-use Rattle.machine.proofs.InboundLemmas.{inbound-start}
 use Rattle.machine.proofs.OverLemmas.{over-start}
-use Rattle.machine.proofs.CommitterLemmas.{committer-start}
-use Rattle.machine.proofs.LinkLemmas.{link-start}
+use Rattle.machine.proofs.CommitterLemmas.{committer-new}
+use Rattle.machine.proofs.LinkLemmas.{link-new}
 use Rattle.machine.proofs.StandbyLemmas.{standby-start, wire-start}
 use Rattle.machine.proofs.SoundEvents.{sound-step}
 
@@ -65,18 +64,17 @@ some-last P w (new ∷ worlds) h = inr (some-last P new worlds h)
 
 -- ---- what holds between any two events
 
-pub sound-start : Sound start
-sound-start =
+pub sound-start : (restarts : Bool) → Sound (start_with restarts)
+sound-start restarts =
     record {
-      nodes = record { primary = refl; standby = refl };
       connections = record { seats = omega arith };
       legal = tt;
-      inbound = inbound-start;
+      inbound = λ c is_one. cc;
       outbound = λ c is_one. cc;
       over = λ c shut. over-start c;
-      committer = committer-start;
+      committer = committer-new 0;
       sent = 0;
-      link = link-start;
+      link = link-new 0;
       standby = standby-start;
       wire = wire-start;
     }
@@ -92,8 +90,8 @@ sound-worlds_from w (event ∷ events) (did ∷ done) (new ∷ worlds) run s =
     All-cons Sound w (new ∷ worlds) s (sound-worlds_from new events done worlds run.1 (sound-step w event did new run.0 s))
 sound-worlds_from w events done worlds run s = absurd run
 
-pub sound-run : (events : List Event) (done : List Bool) (worlds : List World) → Run start events done worlds → Sound (last_world start worlds)
-sound-run events done worlds run = sound-from start events done worlds run sound-start
+pub sound-run : (restarts : Bool) (events : List Event) (done : List Bool) (worlds : List World) → Run (start_with restarts) events done worlds → Sound (last_world (start_with restarts) worlds)
+sound-run restarts events done worlds run = sound-from (start_with restarts) events done worlds run (sound-start restarts)
 
-pub sound-worlds : (events : List Event) (done : List Bool) (worlds : List World) → Run start events done worlds → All Sound (start ∷ worlds)
-sound-worlds events done worlds run = sound-worlds_from start events done worlds run sound-start
+pub sound-worlds : (restarts : Bool) (events : List Event) (done : List Bool) (worlds : List World) → Run (start_with restarts) events done worlds → All Sound (start_with restarts ∷ worlds)
+sound-worlds restarts events done worlds run = sound-worlds_from (start_with restarts) events done worlds run (sound-start restarts)

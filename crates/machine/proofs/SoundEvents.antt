@@ -1,20 +1,25 @@
 -- Each event keeps what holds of the pair of nodes.
-use Rattle.std.proofs.Common.{◌≡◌, ℕ, ◌<◌, ◌≤◌, max, Bool, true, false, cond, nat_lt, nat_eq, List, [], ◌∷◌, length, All, Option, Some, None, slice_get, refl, sym, subst, ◌∙◌, arith, le_refl}
+use Rattle.std.proofs.Common.{◌≡◌, ℕ, ◌<◌, ◌≤◌, max, Bool, true, false, cond, nat_lt, nat_eq, List, [], ◌∷◌, length, All, Option, Some, None, slice_get, refl, sym, subst, arith, le_refl}
 use Rattle.std.proofs.lemmas.Bool.{ltb-true}
 use Rattle.std.proofs.lemmas.List.Elements.{All-head}
-use Rattle.model.specs.Call.{is_nonempty, position_of}
+use Rattle.model.specs.Call.{IsPrefix, cut_at, is_nonempty, items_of, position_of}
+use Rattle.model.proofs.CallsLemmas.{IsLegal-cut_at, position_of-cut_at}
+use Rattle.machine.specs.declared.event.Node.{Node}
+use Rattle.machine.specs.declared.event.Node.TheVariants as nodes
 use Rattle.machine.specs.declared.event.TheConstants.{PIPE_ITEMS}
 use Rattle.machine.specs.declared.event.Event.{Event}
-use Rattle.machine.specs.declared.event.Event.TheVariants.{Enter, Feed, Offer, Turn, CloseGroup, Commit, RaiseLocal, Hand, OpenLink, Send, Deliver, Apply, AckDelivered, RaiseRemote, Hold, Read, Release, Write, Leave}
-use Rattle.machine.specs.Event.{Span, Acknowledgement, Link, Standby, World, connection_of, with_committer, with_link, with_standby, with_acknowledged, open_changes, has_room, is_ready, nodes_run, may_happen, is_enabled, closed_group, committed_first, raised_local, ready_again, handed, handed_to, opened_link, acknowledgement_of, sent_waiting, sent_next, next_to_send, framed, sent, delivered, without_first, Applies, told, knowing, raised_remote, option_items, Happens, Step}
+use Rattle.machine.specs.declared.event.Event.TheVariants.{Enter, Feed, Offer, Turn, CloseGroup, Commit, RaiseLocal, Hand, OpenLink, Send, Deliver, Apply, AckDelivered, RaiseRemote, Hold, Read, Release, Write, Leave, Crash, Reopen}
+use Rattle.machine.specs.Event.{Span, Acknowledgement, Link, Standby, World, connection_of, with_committer, with_link, with_standby, with_acknowledged, open_changes, has_room, is_ready, nodes_run, may_happen, is_enabled, closed_group, committed_first, raised_local, ready_again, handed, handed_to, opened_link, acknowledgement_of, sent_waiting, sent_next, next_to_send, framed, sent, delivered, without_first, Applies, told, knowing, raised_remote, option_items, Happens, Step, asked, crashed, is_open, new_committer, reopened}
 use Rattle.machine.specs.Sound.{IsChain, IsFrameWithin, IsToldWithin, SoundOutbound, SoundOver, SoundCommitter, SoundStandby, Sound}
-use Rattle.machine.proofs.GroupLemmas.{framed-within}
+use Rattle.machine.proofs.GroupLemmas.{chain-le, framed-within, frames_within-weaker}
 use Rattle.machine.proofs.OutboundLemmas.{outbound-marked}
-use Rattle.machine.proofs.OverLemmas.{over-marked}
-use Rattle.machine.proofs.CommitterLemmas.{committer-closed_group, committer-committed, committer-raised, committer-handed}
-use Rattle.machine.proofs.LinkLemmas.{link-committed, link-raised, link-handed, link-opened, link-sent, link-knowing, link-raised_remote}
-use Rattle.machine.proofs.StandbyLemmas.{all-at, standby-sent, standby-known, standby-delivered, standby-without_first, standby-first, standby-takes, TakesWell, told-one, wire-sent, wire-told}
-use Rattle.machine.proofs.SoundConnection.{both, sound-Enter, sound-Feed, sound-Hold, sound-Leave, sound-Offer, sound-Read, sound-Release, sound-Turn, sound-Write, three}
+use Rattle.machine.proofs.OverLemmas.{over-moved, sound-released}
+use Rattle.machine.proofs.InboundLemmas.{inbound-items}
+use Rattle.machine.proofs.CrashLemmas.{all-over, count-over, get-over, over-crashed}
+use Rattle.machine.proofs.CommitterLemmas.{committer-new, committer-closed_group, committer-committed, committer-raised, committer-handed}
+use Rattle.machine.proofs.LinkLemmas.{link-new, link-committed, link-raised, link-handed, link-opened, link-sent, link-knowing, link-raised_remote}
+use Rattle.machine.proofs.StandbyLemmas.{all-at, standby-crashed, standby-sent, standby-known, standby-delivered, standby-without_first, standby-first, standby-takes, TakesWell, told-one, wire-sent, wire-told}
+use Rattle.machine.proofs.SoundConnection.{both, both_ways, sound-Enter, sound-Feed, sound-Hold, sound-Leave, sound-Offer, sound-Read, sound-Release, sound-Turn, sound-Write, three}
 
 -- ---- the committer
 
@@ -23,7 +28,6 @@ sound-CloseGroup w e s =
     let committer = w.primary.committer in
     let parts = both (nat_lt 0 (open_changes w)) (has_room committer.waiting) e in
     record {
-      nodes = s.nodes;
       connections = s.connections;
       legal = s.legal;
       inbound = s.inbound;
@@ -41,7 +45,6 @@ sound-committed : (w : World) (groups : List Span) → is_nonempty groups ≡ tr
 sound-committed w [] some chain ready room committer s = cc
 sound-committed w (group ∷ groups) some chain ready room committer s =
     record {
-      nodes = s.nodes;
       connections = s.connections;
       legal = s.legal;
       inbound = s.inbound;
@@ -66,12 +69,11 @@ sound-RaiseLocal w s =
     let committer = w.primary.committer in
     let link = w.primary.link in
     record {
-      nodes = s.nodes;
       connections = s.connections;
       legal = s.legal;
       inbound = s.inbound;
       outbound = λ c is_one. outbound-marked w.primary.calls c committer.local link.remote committer.position link.remote (connection_of w c).outbound s.committer.mark (le_refl link.remote) (s.outbound c is_one);
-      over = λ c shut. over-marked w.primary.calls c committer.local link.remote committer.position link.remote (connection_of w c) s.committer.mark (le_refl link.remote) (s.over c shut);
+      over = s.over;
       committer = committer-raised (position_of w.primary.calls) committer s.committer;
       sent = s.sent;
       link = link-raised committer.stage committer.position s.sent link s.link;
@@ -84,7 +86,6 @@ sound-Hand : (w : World) → may_happen w Hand ≡ true → Sound w
 sound-Hand w e s =
     let committer = w.primary.committer in
     record {
-      nodes = s.nodes;
       connections = s.connections;
       legal = s.legal;
       inbound = s.inbound;
@@ -103,7 +104,6 @@ sound-OpenLink : (w : World) → Sound w → Sound (with_link (opened_link w.pri
 sound-OpenLink w s =
     let epoch = w.primary.epoch in
     record {
-      nodes = s.nodes;
       connections = s.connections;
       legal = s.legal;
       inbound = s.inbound;
@@ -137,14 +137,13 @@ sound-Send : (w : World) → may_happen w Send ≡ true → Sound w → Sound (s
 sound-Send w e s =
     let link = w.primary.link in
     let epoch = w.primary.epoch in
-    let sends = link-sent w.primary.committer.stage w.primary.committer.position s.sent link s.link e in
+    let sends = link-sent w.primary.opened w.primary.committer.stage w.primary.committer.position s.sent link s.link e in
     record {
-      nodes = s.nodes;
       connections = s.connections;
       legal = s.legal;
       inbound = s.inbound;
       outbound = λ c is_one. subst (λ remote. SoundOutbound w.primary.calls c w.primary.committer.local remote (connection_of w c).outbound) (sym (sent-remote link.again link)) (s.outbound c is_one);
-      over = λ c shut. subst (λ remote. SoundOver w.primary.calls c w.primary.committer.local remote (connection_of w c)) (sym (sent-remote link.again link)) (s.over c shut);
+      over = s.over;
       committer = s.committer;
       sent = sends.after;
       link = sends.sound;
@@ -156,7 +155,6 @@ sound-knowing : (w : World) (position : ℕ) → position ≤ w.standby.position
 sound-knowing w position le s =
     let link = w.primary.link in
     record {
-      nodes = s.nodes;
       connections = s.connections;
       legal = s.legal;
       inbound = s.inbound;
@@ -164,7 +162,7 @@ sound-knowing w position le s =
       over = s.over;
       committer = s.committer;
       sent = s.sent;
-      link = link-knowing w.primary.committer.stage w.primary.committer.position s.sent link s.link position (omega (arith, s.standby.behind));
+      link = link-knowing w.primary.opened w.primary.committer.stage w.primary.committer.position s.sent link s.link position (omega (arith, s.standby.behind));
       standby = standby-known w.primary.epoch s.sent link.known (max link.known position) w.standby (omega (arith, s.standby.known)) s.standby;
       wire = s.wire;
     }
@@ -183,15 +181,14 @@ sound-RaiseRemote w s =
     let local = w.primary.committer.local in
     let link = w.primary.link in
     record {
-      nodes = s.nodes;
       connections = s.connections;
       legal = s.legal;
       inbound = s.inbound;
       outbound = λ c is_one. outbound-marked w.primary.calls c local link.remote local link.known (connection_of w c).outbound (le_refl local) s.link.remote (s.outbound c is_one);
-      over = λ c shut. over-marked w.primary.calls c local link.remote local link.known (connection_of w c) (le_refl local) s.link.remote (s.over c shut);
+      over = s.over;
       committer = s.committer;
       sent = s.sent;
-      link = link-raised_remote w.primary.committer.stage w.primary.committer.position s.sent link s.link;
+      link = link-raised_remote w.primary.opened w.primary.committer.stage w.primary.committer.position s.sent link s.link;
       standby = s.standby;
       wire = s.wire;
     }
@@ -200,7 +197,6 @@ sound-Deliver : (w : World) (frame : ℕ) → Sound w → Sound (with_standby (d
 sound-Deliver w frame s =
     let epoch = w.primary.epoch in
     record {
-      nodes = s.nodes;
       connections = s.connections;
       legal = s.legal;
       inbound = s.inbound;
@@ -225,18 +221,89 @@ sound-Apply w new applies s =
         → Sound (with_acknowledged told (with_standby standby w))
     sound-taken w standby told s takes =
         record {
-          nodes = record { primary = s.nodes.primary; standby = takes.runs ∙ s.nodes.standby };
           connections = s.connections;
           legal = s.legal;
           inbound = s.inbound;
           outbound = s.outbound;
-          over = s.over;
+          over = λ c shut. over-moved w.primary.calls c w.standby.position standby.position (connection_of w c) takes.later (s.over c shut);
           committer = s.committer;
           sent = s.sent;
           link = s.link;
           standby = takes.standby;
           wire = wire-told w.primary.epoch s.sent w.standby.position standby.position told w.wire takes.later takes.told_within s.wire;
         }
+
+-- ---- crashes
+
+-- each connection's calls take its items in order
+pub sound-items : (w : World) → Sound w → (c : ℕ) → IsPrefix (items_of c w.primary.calls) (asked (connection_of w c).inbound.fed)
+sound-items w s c =
+    elim (is_open w c) as (λ b. is_open w c ≡ b → IsPrefix (items_of c w.primary.calls) (asked (connection_of w c).inbound.fed)) [
+      | true ↦ λ e. inbound-items w.primary.calls c (connection_of w c).inbound (s.inbound c e)
+      | false ↦ λ e. (s.over c e).items
+    ] refl
+
+sound-Crash : (w : World) (node : Node) → Sound w → Sound (crashed node w)
+sound-Crash w nodes.Standby s =
+    record {
+      connections = s.connections;
+      legal = s.legal;
+      inbound = s.inbound;
+      outbound = s.outbound;
+      over = s.over;
+      committer = s.committer;
+      sent = s.sent;
+      link = s.link;
+      standby = standby-crashed w.primary.epoch s.sent w.primary.link.known w.standby s.standby;
+      wire = s.wire;
+    }
+sound-Crash w nodes.Primary s =
+    let epoch = w.primary.epoch in
+    let position = w.primary.committer.position in
+    let calls = w.primary.calls in
+    let later : s.sent ≤ position = chain-le _ _ _ s.link.waiting in
+    let within : position ≤ position_of calls = omega (arith, s.committer.closed, chain-le _ _ _ s.committer.waiting) in
+    let held : w.standby.position ≤ position = omega (arith, s.standby.behind) in
+    record {
+      connections = record { seats = omega (arith, count-over w.primary.connections) };
+      legal = IsLegal-cut_at calls position s.legal;
+      inbound = λ c is_one. absurd (both_ways _ is_one (all-over w.primary.connections c));
+      outbound = λ c is_one. absurd (both_ways _ is_one (all-over w.primary.connections c));
+      over = λ c shut. subst (SoundOver (cut_at calls position) c w.standby.position) (sym (get-over w.primary.connections c)) (over-crashed calls c w.standby.position position (connection_of w c) held (sound-items w s c) (sound-released w s c));
+      committer = let there : position ≡ position_of (cut_at calls position) = omega (arith, position_of-cut_at calls position, within) in subst (λ p. SoundCommitter p (new_committer position)) there (committer-new position);
+      sent = position;
+      link = link-new position;
+      standby = standby-known epoch position w.primary.link.known 0 w.standby (omega arith) (standby-sent epoch s.sent position w.primary.link.known w.standby later s.standby);
+      wire = record { frames = frames_within-weaker epoch s.sent position w.wire.frames later s.wire.frames; acknowledged = s.wire.acknowledged };
+    }
+
+sound-Reopen : (w : World) (node : Node) → Sound w → Sound (reopened node w)
+sound-Reopen w nodes.Standby s =
+    record {
+      connections = s.connections;
+      legal = s.legal;
+      inbound = s.inbound;
+      outbound = s.outbound;
+      over = s.over;
+      committer = s.committer;
+      sent = s.sent;
+      link = s.link;
+      standby = record { epoch_is = s.standby.epoch_is; frames = s.standby.frames; behind = s.standby.behind; known = s.standby.known };
+      wire = s.wire;
+    }
+sound-Reopen w nodes.Primary s =
+    record {
+      connections = s.connections;
+      legal = s.legal;
+      inbound = s.inbound;
+      outbound = s.outbound;
+      over = s.over;
+      committer = s.committer;
+      sent = s.sent;
+      link = s.link;
+      standby = s.standby;
+      wire = s.wire;
+    }
 
 -- ---- any event
 
@@ -261,20 +328,12 @@ sound-may w (Read c mark) new e h s = subst Sound (sym h) (sound-Read w c mark e
 sound-may w (Release c) new e h s = subst Sound (sym h) (sound-Release w c e s)
 sound-may w (Write c n) new e h s = subst Sound (sym h) (sound-Write w c n e s)
 sound-may w (Leave c) new e h s = subst Sound (sym h) (sound-Leave w c e s)
+sound-may w (Crash node picks) new e h s = subst Sound (sym h) (sound-Crash w node s)
+sound-may w (Reopen node) new e h s = subst Sound (sym h) (sound-Reopen w node s)
 
 -- what is enabled has something to do
 pub enabled-may : (w : World) (event : Event) → is_enabled w event ≡ true → may_happen w event ≡ true
 enabled-may w event e = (both (nodes_run w event) (may_happen w event) e).1
-
--- where both nodes run, what has something to do is enabled
-pub enabled-is : (w : World) (event : Event) → Sound w → is_enabled w event ≡ may_happen w event
-enabled-is w event s = rw (runs-all w event s) refl
-  where
-    runs-all : (w : World) (event : Event) → Sound w → nodes_run w event ≡ true
-    runs-all w OpenLink s = rw (s.nodes.primary, s.nodes.standby) refl
-    runs-all w (Deliver frame) s = rw s.nodes.standby refl
-    runs-all w Apply s = rw s.nodes.standby refl
-    runs-all w event s = rw s.nodes.primary refl
 
 pub sound-happens : (w : World) (event : Event) (new : World) → is_enabled w event ≡ true → Happens w event new → Sound w → Sound new
 sound-happens w event new e h s = sound-may w event new (enabled-may w event e) h s

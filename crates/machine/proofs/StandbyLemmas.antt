@@ -1,7 +1,7 @@
 -- The standby and the wire after each event: frames tell committed changes, and no acknowledgement has a position above the standby's.
 use Rattle.std.proofs.Common.{◌≡◌, ℕ, zero, suc, ◌≤◌, List, [], ◌∷◌, ◌++◌, take, All, slice_get, sym, subst, arith, le_refl, refl, inl, inr}
 use Rattle.std.proofs.lemmas.List.Elements.{All-nil, All-cons, All-append, All-head, All-tail, All-take, All-drop, All-weaker}
-use Rattle.machine.specs.Event.{Frame, Acknowledgement, Standby, Wire, Takes, acknowledgement_of, delivered, moved_to, without_first, option_items, start}
+use Rattle.machine.specs.Event.{Frame, Acknowledgement, Standby, Wire, Takes, acknowledgement_of, delivered, moved_to, without_first, option_items, crashed_standby, start}
 use Rattle.machine.specs.Sound.{IsFrameWithin, IsToldWithin, SoundStandby, SoundWire}
 use Rattle.machine.proofs.GroupLemmas.{frames_within-weaker}
 
@@ -16,6 +16,10 @@ standby-start = record { epoch_is = refl; frames = All-nil (IsFrameWithin start.
 
 pub wire-start : SoundWire start.primary.epoch 0 0 start.wire
 wire-start = record { frames = All-nil (IsFrameWithin start.primary.epoch 0); acknowledged = All-nil (IsToldWithin start.primary.epoch 0) }
+
+-- what came and was not taken is gone
+pub standby-crashed : (epoch sent known : ℕ) (standby : Standby) → SoundStandby epoch sent known standby → SoundStandby epoch sent known (crashed_standby standby)
+standby-crashed epoch sent known standby s = record { epoch_is = s.epoch_is; frames = All-nil (IsFrameWithin epoch sent); behind = s.behind; known = s.known }
 
 -- the link sends more
 pub standby-sent : (epoch sent sent' known : ℕ) (standby : Standby) → sent ≤ sent' → SoundStandby epoch sent known standby → SoundStandby epoch sent' known standby

@@ -1,5 +1,5 @@
 -- The first worked case, world by world.
-use Rattle.std.proofs.Common.{◌≡◌, ℕ, true, List, [], ◌∷◌, take, map, codes, refl, arith, inl, inr}
+use Rattle.std.proofs.Common.{◌≡◌, ℕ, true, false, List, [], ◌∷◌, take, map, codes, refl, arith, inl, inr}
 use Rattle.std.proofs.lemmas.List.Elements.{All-from_recursion}
 use Rattle.kv_types.specs.declared.item.Item.{Item}
 use Rattle.kv_types.specs.declared.item.Item.TheVariants.{Request}
@@ -71,7 +71,8 @@ far waiting position frames positions = record { node = standby waiting position
 abbrev world : Inbound → Outbound → List Call → Committer → Link → Far → World
 world i o calls c l s =
     record {
-      primary = record { life = Running; epoch = FIRST_EPOCH; connections = record { is_open = true; inbound = i; outbound = o } ∷ []; calls = calls; committer = c; link = l };
+      restarts = false;
+      primary = record { life = Running; epoch = FIRST_EPOCH; opened = 0; connections = record { is_open = true; inbound = i; outbound = o } ∷ []; calls = calls; committer = c; link = l };
       standby = s.node;
       wire = s.between;
     }

@@ -1,23 +1,32 @@
 -- The pair of nodes as a machine (this project's profile): which event may happen, what it does, and what a run is. The state is defined in
 -- `World`, whose definitions this file re-exports.
-pub use Rattle.machine.specs.World.{Inbound, Outbound, Connection, Span, Frame, Acknowledgement, Stage, Ready, Durable, Shown, Committer, Link, Life, Running, Stopped, Crashed, Primary, Standby, Wire, World, no_connection, new_connection, start_at, start, is_running, get_connection, connection_of, is_open, count_open, changed_at, with_inbound, with_outbound, with_primary, with_connections, on_inbound, on_outbound, with_committer, with_link, with_standby, with_sent, with_acknowledged, asked, is_closed_by, open_changes, has_room, is_ready, is_durable, is_shown, is_covered, covered_prefix, uncovered_rest, texts_of}
+pub use Rattle.machine.specs.World.{Inbound, Outbound, Connection, Span, Frame, Acknowledgement, Stage, Ready, Durable, Shown, Committer, Link, Life, Running, Stopped, Crashed, Primary, Standby, Wire, World, no_connection, new_connection, new_committer, new_link, start_at, start_with, start, is_running, is_crashed, get_connection, connection_of, is_open, count_open, changed_at, with_inbound, with_outbound, with_primary, with_connections, on_inbound, on_outbound, with_committer, with_link, with_standby, with_sent, with_acknowledged, asked, is_closed_by, open_changes, has_room, is_ready, is_durable, is_shown, is_covered, covered_prefix, uncovered_rest, texts_of}
 use Rattle.std.specs.Prelude.{◌≡◌, ◌⊎◌, ℕ, ◌+◌, ◌-◌, ◌<◌, ◌≤◌, Bool, true, false, not, ◌&&◌, ◌||◌, nat_lt, nat_le, nat_eq, if◌then◌else◌, max, List, [], ◌∷◌, ◌++◌, length, take, drop, map, filter, ◌≢◌, slice_get, Option, Some, None}
 use Rattle.kv_types.specs.declared.reply.Held.{Held}
 use Rattle.model.specs.declared.call.Call.{Call}
-use Rattle.model.specs.Call.{MayReply, is_nonempty, position_of, state_after}
+use Rattle.model.specs.Call.{MayReply, cut_at, is_nonempty, position_of, state_after}
 use Rattle.machine.specs.declared.event.Event.{Event}
-use Rattle.machine.specs.declared.event.Event.TheVariants.{Enter, Feed, Offer, Turn, CloseGroup, Commit, RaiseLocal, Hand, OpenLink, Send, Deliver, Apply, AckDelivered, RaiseRemote, Hold, Read, Release, Write, Leave}
+use Rattle.machine.specs.declared.event.Event.TheVariants.{Enter, Feed, Offer, Turn, CloseGroup, Commit, RaiseLocal, Hand, OpenLink, Send, Deliver, Apply, AckDelivered, RaiseRemote, Hold, Read, Release, Write, Leave, Crash, Reopen}
+use Rattle.machine.specs.declared.event.Node.{Node}
+use Rattle.machine.specs.declared.event.Node.TheVariants as node
 use Rattle.machine.specs.declared.event.Mark.{Mark}
 use Rattle.machine.specs.declared.event.Mark.TheVariants.{Local, Remote}
 use Rattle.machine.specs.declared.event.TheConstants.{SEATS, OPEN_CHANGES, KEPT_GROUPS}
 
 -- ---- which event may happen
 
--- the nodes that take part in the event are running
+-- the condition of a node
+abbrev pub life_of : World → Node → Life
+life_of w node.Primary = w.primary.life
+life_of w node.Standby = w.standby.life
+
+-- the nodes that take part in the event are running; to crash, or to be opened again, none needs to run
 abbrev pub nodes_run : World → Event → Bool
 nodes_run w OpenLink = is_running w.primary.life && is_running w.standby.life
 nodes_run w (Deliver frame) = is_running w.standby.life
 nodes_run w Apply = is_running w.standby.life
+nodes_run w (Crash node picks) = true
+nodes_run w (Reopen node) = true
 nodes_run w event = is_running w.primary.life
 
 -- there is something for the event to do, and room for what it makes
@@ -47,6 +56,8 @@ may_happen w (Release c) =
     is_open w c && is_nonempty (covered_prefix outbound.local outbound.remote outbound.held)
 may_happen w (Write c n) = is_open w c && nat_le n (length (connection_of w c).outbound.pending)
 may_happen w (Leave c) = is_open w c
+may_happen w (Crash node picks) = w.restarts && not (is_crashed (life_of w node))
+may_happen w (Reopen node) = w.restarts && is_crashed (life_of w node)
 
 abbrev pub is_enabled : World → Event → Bool
 is_enabled w event = nodes_run w event && may_happen w event
@@ -222,6 +233,39 @@ abbrev pub option_items : {X : Type 0} → Option X → List X
 option_items None = []
 option_items (Some x) = x ∷ []
 
+-- ---- a crash, and what comes after it
+
+-- What is left of a primary is its image, which stands at the position of its record: the calls after that are gone, all connections are over, and
+-- whatever was on its way to the committer or the link is gone.
+abbrev pub crashed_primary : Primary → Primary
+crashed_primary primary =
+    record primary {
+      life = Crashed;
+      opened = primary.committer.position;
+      connections = map left primary.connections;
+      calls = cut_at primary.calls primary.committer.position;
+      committer = new_committer primary.committer.position;
+      link = new_link;
+    }
+
+-- what is left of a standby is its image
+abbrev pub crashed_standby : Standby → Standby
+crashed_standby standby = record standby { life = Crashed; waiting = [] }
+
+abbrev pub reopened_primary : Primary → Primary
+reopened_primary primary = record primary { life = Running }
+
+abbrev pub reopened_standby : Standby → Standby
+reopened_standby standby = record standby { life = Running }
+
+abbrev pub crashed : Node → World → World
+crashed node.Primary w = with_primary (crashed_primary w.primary) w
+crashed node.Standby w = with_standby (crashed_standby w.standby) w
+
+abbrev pub reopened : Node → World → World
+reopened node.Primary w = with_primary (reopened_primary w.primary) w
+reopened node.Standby w = with_standby (reopened_standby w.standby) w
+
 -- what an enabled event may do
 abbrev pub Happens : World → Event → World → Type 0
 Happens w Enter new = new ≡ entered w
@@ -243,6 +287,8 @@ Happens w (Read c mark) new = new ≡ on_outbound c (having_read mark w) w
 Happens w (Release c) new = new ≡ on_outbound c having_released w
 Happens w (Write c n) new = new ≡ on_outbound c (written n) w
 Happens w (Leave c) new = new ≡ with_connections (changed_at c left w.primary.connections) w
+Happens w (Crash node picks) new = new ≡ crashed node w
+Happens w (Reopen node) new = new ≡ reopened node w
 
 -- One event: it does its step exactly where it is enabled, and otherwise changes nothing.
 pub record Step (old : World) (event : Event) (did : Bool) (new : World) : Type 0 where

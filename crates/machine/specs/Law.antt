@@ -7,19 +7,19 @@ use Rattle.model.specs.declared.call.Call.{Call}
 use Rattle.model.specs.Call.{IsLegal, IsPrefix, Serves, calls_of, cut_at, items_of, keyspace_after, position_of, replies_to}
 use Rattle.machine.specs.declared.event.Event.{Event}
 use Rattle.machine.specs.declared.event.Event.TheVariants.{AckDelivered, Deliver, RaiseRemote}
-use Rattle.machine.specs.Event.{World, Step, Run, start, last_world, connection_of, is_open, count_open, asked, texts_of, is_enabled}
+use Rattle.machine.specs.Event.{World, Step, Run, start_with, last_world, connection_of, is_open, count_open, asked, texts_of, is_enabled}
 use Rattle.machine.specs.Promise.{IsReleased, released_in, fed_to}
 use Rattle.machine.specs.Sound.{HasNothing, IsChain, IsFrameWithin, Sound, answers_to}
 use Rattle.machine.specs.declared.event.TheConstants.{SEATS}
 
 -- `P` holds of the world after every run, and so of each world of a run, since a prefix of a run is a run
 abbrev pub AfterEveryRun : (World → Type 0) → Type 0
-AfterEveryRun P = (events : List Event) (done : List Bool) (worlds : List World) → Run start events done worlds → P (last_world start worlds)
+AfterEveryRun P = (restarts : Bool) (events : List Event) (done : List Bool) (worlds : List World) → Run (start_with restarts) events done worlds → P (last_world (start_with restarts) worlds)
 
 -- ---- runs
 
 abbrev pub EveryWorldIsSound : Type 0
-EveryWorldIsSound = (events : List Event) (done : List Bool) (worlds : List World) → Run start events done worlds → All Sound (start ∷ worlds)
+EveryWorldIsSound = (restarts : Bool) (events : List Event) (done : List Bool) (worlds : List World) → Run (start_with restarts) events done worlds → All Sound (start_with restarts ∷ worlds)
 
 -- a prefix of a run is a run, and the rest is a run from where the prefix ends
 abbrev pub PrefixesAreRuns : Type 0
@@ -33,29 +33,26 @@ RunsGoOn =
     (w : World) (events : List Event) (done : List Bool) (worlds : List World) (event : Event) (did : Bool) (new : World)
     → Run w events done worlds → Step (last_world w worlds) event did new → Run w (events ++ event ∷ []) (done ++ did ∷ []) (worlds ++ new ∷ [])
 
--- a later world: lists only grow at the end, and no number falls
+-- A later world: what the primary's image holds of the list of calls stays in it, and other lists only grow at the end; no position falls.
 pub record Grows (old new : World) : Type 0 where
-  pub calls : IsPrefix old.primary.calls new.primary.calls
+  pub calls : IsPrefix (cut_at old.primary.calls old.primary.committer.position) new.primary.calls
   pub released : (c : ℕ) → IsPrefix (released_in old c) (released_in new c)
   pub frames : IsPrefix old.wire.frames new.wire.frames
   pub acknowledgements : IsPrefix old.wire.acknowledgements new.wire.acknowledgements
   pub primary_position : old.primary.committer.position ≤ new.primary.committer.position
   pub standby_position : old.standby.position ≤ new.standby.position
-  pub local : old.primary.committer.local ≤ new.primary.committer.local
-  pub known : old.primary.link.known ≤ new.primary.link.known
-  pub remote : old.primary.link.remote ≤ new.primary.link.remote
 
 abbrev pub WorldsGrow : Type 0
 WorldsGrow =
-    (n : ℕ) (events : List Event) (done : List Bool) (worlds : List World) → Run start events done worlds → Grows (last_world start (take n worlds)) (last_world start worlds)
+    (restarts : Bool) (n : ℕ) (events : List Event) (done : List Bool) (worlds : List World) → Run (start_with restarts) events done worlds → Grows (last_world (start_with restarts) (take n worlds)) (last_world (start_with restarts) worlds)
 
--- the keyspace at a position that the list has reached stays the same, whatever happens later
+-- the keyspace at a position that the primary's image has reached stays the same, whatever happens later
 abbrev pub CutsStay : Type 0
 CutsStay =
-    (n : ℕ) (events : List Event) (done : List Bool) (worlds : List World) → Run start events done worlds
-    → let old = (last_world start (take n worlds)).primary.calls in
-    let new = (last_world start worlds).primary.calls in
-    (p : ℕ) → p ≤ position_of old → keyspace_after (cut_at new p) ≡ keyspace_after (cut_at old p)
+    (restarts : Bool) (n : ℕ) (events : List Event) (done : List Bool) (worlds : List World) → Run (start_with restarts) events done worlds
+    → let old = (last_world (start_with restarts) (take n worlds)).primary in
+    let new = (last_world (start_with restarts) worlds).primary in
+    (p : ℕ) → p ≤ old.committer.position → keyspace_after (cut_at new.calls p) ≡ keyspace_after (cut_at old.calls p)
 
 -- ---- calls
 
@@ -65,13 +62,13 @@ EveryListIsLegal = AfterEveryRun (λ w. IsLegal w.primary.calls)
 -- each connection's calls take the requests of the bytes that were fed to it, in order
 abbrev pub EveryListServes : Type 0
 EveryListServes =
-    (events : List Event) (done : List Bool) (worlds : List World) → Run start events done worlds
-    → Serves (λ c. items_at REQUEST_LIMITS (fed_to c events done)) (last_world start worlds).primary.calls
+    (restarts : Bool) (events : List Event) (done : List Bool) (worlds : List World) → Run (start_with restarts) events done worlds
+    → Serves (λ c. items_at REQUEST_LIMITS (fed_to c events done)) (last_world (start_with restarts) worlds).primary.calls
 
--- the items handed to the sequencer are those of the connection's calls and then those that wait
+-- the items of an open connection that were handed to the sequencer are those of its calls and then those that wait
 abbrev pub ItemsComeInOrder : Type 0
 ItemsComeInOrder =
-    AfterEveryRun (λ w. (c : ℕ) → let inbound = (connection_of w c).inbound in items_of c w.primary.calls ++ inbound.waiting ≡ take inbound.offered (asked inbound.fed))
+    AfterEveryRun (λ w. (c : ℕ) → is_open w c ≡ true → let inbound = (connection_of w c).inbound in items_of c w.primary.calls ++ inbound.waiting ≡ take inbound.offered (asked inbound.fed))
 
 -- ---- replies
 
@@ -92,25 +89,25 @@ AnswersBearPositions =
     (prefix : List Call) (call : Call) (rest : List Call)
     → IsPrefix (answers_to call.connection prefix ++ record { reply = call.reply; position = position_of (prefix ++ call ∷ []) } ∷ []) (answers_to call.connection (prefix ++ call ∷ rest))
 
--- both marks are at least at the position of each released call
-abbrev pub ReleasedIsCovered : Type 0
-ReleasedIsCovered =
+-- both images hold each released call
+abbrev pub ReleasedIsHeld : Type 0
+ReleasedIsHeld =
     AfterEveryRun (λ w. (prefix : List Call) (call : Call) → IsReleased w.primary.calls (released_in w) prefix call
-    → (position_of (prefix ++ call ∷ []) ≤ w.primary.committer.local) × (position_of (prefix ++ call ∷ []) ≤ w.primary.link.remote))
+    → (position_of (prefix ++ call ∷ []) ≤ w.primary.committer.position) × (position_of (prefix ++ call ∷ []) ≤ w.standby.position))
 
 -- ---- connections that are over
 
--- a connection that is over stays as it was: nothing is fed, called, released or written to it any more
+-- a connection that is over stays as it was: nothing is fed, called, released or written to it any more; of its calls those go that a crash took
 pub record StaysOver (c : ℕ) (old new : World) : Type 0 where
   pub entered : c < length new.primary.connections
   pub connection : connection_of new c ≡ connection_of old c
-  pub calls : calls_of c new.primary.calls ≡ calls_of c old.primary.calls
+  pub calls : IsPrefix (calls_of c new.primary.calls) (calls_of c old.primary.calls)
 
 abbrev pub ConnectionsStayOver : Type 0
 ConnectionsStayOver =
-    (n : ℕ) (events : List Event) (done : List Bool) (worlds : List World) → Run start events done worlds
-    → let old = last_world start (take n worlds) in
-    (c : ℕ) → c < length old.primary.connections → is_open old c ≡ false → StaysOver c old (last_world start worlds)
+    (restarts : Bool) (n : ℕ) (events : List Event) (done : List Bool) (worlds : List World) → Run (start_with restarts) events done worlds
+    → let old = last_world (start_with restarts) (take n worlds) in
+    (c : ℕ) → c < length old.primary.connections → is_open old c ≡ false → StaysOver c old (last_world (start_with restarts) worlds)
 
 -- nothing of it waits
 abbrev pub NothingWaitsOver : Type 0
@@ -118,7 +115,7 @@ NothingWaitsOver = AfterEveryRun (λ w. (c : ℕ) → is_open w c ≡ false → 
 
 -- no more connections enter than events happen
 abbrev pub ConnectionsAreFew : Type 0
-ConnectionsAreFew = (events : List Event) (done : List Bool) (worlds : List World) → Run start events done worlds → length (last_world start worlds).primary.connections ≤ length events
+ConnectionsAreFew = (restarts : Bool) (events : List Event) (done : List Bool) (worlds : List World) → Run (start_with restarts) events done worlds → length (last_world (start_with restarts) worlds).primary.connections ≤ length events
 
 -- there is a seat for each open connection
 abbrev pub OpenOnesHaveSeats : Type 0
@@ -139,9 +136,9 @@ pub record IsInOrder (w : World) : Type 0 where
   pub epoch : w.standby.epoch ≡ w.primary.epoch
   pub frames : All (λ frame. frame.epoch ≡ w.primary.epoch) w.wire.frames
   pub told : All (λ acknowledgement. acknowledgement.epoch ≡ w.primary.epoch) w.wire.acknowledgements
-  -- the numbers of a gate are at most the marks
-  pub read_local : (c : ℕ) → (connection_of w c).outbound.local ≤ w.primary.committer.local
-  pub read_remote : (c : ℕ) → (connection_of w c).outbound.remote ≤ w.primary.link.remote
+  -- the numbers of an open connection's gate are at most the marks
+  pub read_local : (c : ℕ) → is_open w c ≡ true → (connection_of w c).outbound.local ≤ w.primary.committer.local
+  pub read_remote : (c : ℕ) → is_open w c ≡ true → (connection_of w c).outbound.remote ≤ w.primary.link.remote
 
 abbrev pub PositionsAreInOrder : Type 0
 PositionsAreInOrder = AfterEveryRun IsInOrder
@@ -167,8 +164,8 @@ RaisesNoRemote events done = Unit {0}
 -- unless one did, no reply is released that rests on a change
 abbrev pub NothingIsReleasedUnacknowledged : Type 0
 NothingIsReleasedUnacknowledged =
-    (events : List Event) (done : List Bool) (worlds : List World) → Run start events done worlds → RaisesNoRemote events done
-    → let w = last_world start worlds in
+    (restarts : Bool) (events : List Event) (done : List Bool) (worlds : List World) → Run (start_with restarts) events done worlds → RaisesNoRemote events done
+    → let w = last_world (start_with restarts) worlds in
     (prefix : List Call) (call : Call) → IsReleased w.primary.calls (released_in w) prefix call → position_of (prefix ++ call ∷ []) ≡ 0
 
 -- a frame that was not sent is not delivered, and neither is an acknowledgement that was not made

@@ -1,11 +1,11 @@
 -- What holds of the pair of nodes between any two events (this project's profile): the facts from which the promise follows.
-use Rattle.std.specs.Prelude.{◌≡◌, ℕ, ◌+◌, ◌<◌, ◌≤◌, true, false, nat_eq, if◌then◌else◌, List, [], ◌∷◌, ◌++◌, length, take, All}
+use Rattle.std.specs.Prelude.{◌≡◌, ℕ, ◌+◌, ◌<◌, ◌≤◌, max, true, false, nat_eq, if◌then◌else◌, List, [], ◌∷◌, ◌++◌, length, take, All}
 use Rattle.kv_types.specs.declared.reply.Held.{Held}
 use Rattle.model.specs.declared.call.Call.{Call}
 use Rattle.model.specs.State.{State, start_state}
 use Rattle.model.specs.Call.{IsLegal, IsPrefix, after_call, is_changing, items_of, position_of}
 use Rattle.machine.specs.declared.event.TheConstants.{SEATS, PIPE_ITEMS, OPEN_CHANGES, KEPT_GROUPS}
-use Rattle.machine.specs.Event.{Span, Frame, Acknowledgement, Stage, Ready, Durable, Shown, Inbound, Outbound, Connection, Committer, Link, Life, Running, Standby, Wire, World, asked, connection_of, is_open, count_open, texts_of}
+use Rattle.machine.specs.Event.{Span, Frame, Acknowledgement, Stage, Ready, Durable, Shown, Inbound, Outbound, Connection, Committer, Link, Running, Standby, Wire, World, asked, connection_of, is_open, count_open, texts_of}
 
 -- ---- replies
 
@@ -89,15 +89,18 @@ pub record SoundOutbound (calls : List Call) (c : ℕ) (local remote : ℕ) (out
   pub remote_read : outbound.remote ≤ remote
   pub few : length outbound.made ≤ PIPE_ITEMS
 
--- of any connection: what was written to it is of the first replies to its calls, of the last of them perhaps a part only, and both marks cover these
-pub record SoundReleased (calls : List Call) (c : ℕ) (local remote : ℕ) (outbound : Outbound) : Type 0 where
+-- the call of the reply is in what an image at this position holds
+abbrev pub IsHeldAt : ℕ → Held → Type 0
+IsHeldAt position reply = reply.position ≤ position
+
+-- of any connection: what was written to it is of the first replies to its calls, of the last of them perhaps a part only, and the standby, at this
+-- position, holds these calls
+pub record SoundReleased (calls : List Call) (c : ℕ) (position : ℕ) (outbound : Outbound) : Type 0 where
   -- what was released
   pub out : List Held
   pub replies : IsPrefix out (answers_to c calls)
   pub texts : IsPrefix outbound.released (texts_of out)
-  pub covered : All (IsCoveredBy local remote) out
-  pub local_read : outbound.local ≤ local
-  pub remote_read : outbound.remote ≤ remote
+  pub held : All (IsHeldAt position) out
 
 -- nothing waits at the connection, on either side
 pub record HasNothing (connection : Connection) : Type 0 where
@@ -106,10 +109,12 @@ pub record HasNothing (connection : Connection) : Type 0 where
   pub held : connection.outbound.held ≡ []
   pub pending : connection.outbound.pending ≡ []
 
--- what holds of a connection that is over, and of a number that no connection has yet
-pub record SoundOver (calls : List Call) (c : ℕ) (local remote : ℕ) (connection : Connection) : Type 0 where
+-- what holds of a connection that is over, and of a number that no connection has yet, given the position of the standby's record
+pub record SoundOver (calls : List Call) (c : ℕ) (position : ℕ) (connection : Connection) : Type 0 where
   pub nothing : HasNothing connection
-  pub released : SoundReleased calls c local remote connection.outbound
+  -- its calls take its items in order
+  pub items : IsPrefix (items_of c calls) (asked connection.inbound.fed)
+  pub released : SoundReleased calls c position connection.outbound
 
 -- what holds of the committer, given the position of the list of calls
 pub record SoundCommitter (position : ℕ) (committer : Committer) : Type 0 where
@@ -120,11 +125,13 @@ pub record SoundCommitter (position : ℕ) (committer : Committer) : Type 0 wher
   pub mark : committer.local ≤ committer.position
   pub shown : IsShownUpTo committer.stage committer.position committer.local
 
--- what holds of the link, given the committer's stage, the position of the primary's record, and the one up to which groups were sent
-pub record SoundLink (stage : Stage) (position sent : ℕ) (link : Link) : Type 0 where
-  -- the kept groups lead from the position that the link knows, or one below it, to the one up to which groups were sent
+-- what holds of the link, given the position at which the primary was opened, the committer's stage, the position of the primary's record, and the one
+-- up to which groups were sent
+pub record SoundLink (opened : ℕ) (stage : Stage) (position sent : ℕ) (link : Link) : Type 0 where
+  -- The kept groups lead to the position up to which groups were sent: from the one that the link knows, or one below it, or from the one at which the
+  -- primary was opened.
   pub kept_from : ℕ
-  pub known : kept_from ≤ link.known
+  pub known : kept_from ≤ max link.known opened
   pub kept : IsChain kept_from link.kept sent
   -- those that wait and the one in the committer's hand are the other committed groups
   pub waiting : IsChain sent (link.waiting ++ in_hand stage) position
@@ -151,21 +158,21 @@ pub record SoundWire (epoch sent position : ℕ) (wire : Wire) : Type 0 where
 pub record SoundConnections (connections : List Connection) : Type 0 where
   pub seats : count_open connections ≤ SEATS
 
--- both nodes run
-pub record DoRun (primary_life standby_life : Life) : Type 0 where
-  pub primary : primary_life ≡ Running
-  pub standby : standby_life ≡ Running
+-- no node crashes, and both run
+pub record RunsOn (w : World) : Type 0 where
+  pub never : w.restarts ≡ false
+  pub primary : w.primary.life ≡ Running
+  pub standby : w.standby.life ≡ Running
 
 pub record Sound (w : World) : Type 0 where
-  pub nodes : DoRun w.primary.life w.standby.life
   pub connections : SoundConnections w.primary.connections
   pub legal : IsLegal w.primary.calls
-  pub inbound : (c : ℕ) → SoundInbound w.primary.calls c (connection_of w c).inbound
+  pub inbound : (c : ℕ) → is_open w c ≡ true → SoundInbound w.primary.calls c (connection_of w c).inbound
   pub outbound : (c : ℕ) → is_open w c ≡ true → SoundOutbound w.primary.calls c w.primary.committer.local w.primary.link.remote (connection_of w c).outbound
-  pub over : (c : ℕ) → is_open w c ≡ false → SoundOver w.primary.calls c w.primary.committer.local w.primary.link.remote (connection_of w c)
+  pub over : (c : ℕ) → is_open w c ≡ false → SoundOver w.primary.calls c w.standby.position (connection_of w c)
   pub committer : SoundCommitter (position_of w.primary.calls) w.primary.committer
   -- groups were sent up to this position
   pub sent : ℕ
-  pub link : SoundLink w.primary.committer.stage w.primary.committer.position sent w.primary.link
+  pub link : SoundLink w.primary.opened w.primary.committer.stage w.primary.committer.position sent w.primary.link
   pub standby : SoundStandby w.primary.epoch sent w.primary.link.known w.standby
   pub wire : SoundWire w.primary.epoch sent w.standby.position w.wire

@@ -104,6 +104,8 @@ pub data Life : Type 0 where
 pub record Primary : Type 0 where
   pub life : Life
   pub epoch : ℕ
+  -- the position of the list at which it was opened last or, once it crashed, will be
+  pub opened : ℕ
   pub connections : List Connection
   -- the list of calls
   pub calls : List Call
@@ -125,6 +127,8 @@ pub record Wire : Type 0 where
   pub acknowledgements : List Acknowledgement
 
 pub record World : Type 0 where
+  -- the nodes may crash between two events, and be opened again
+  pub restarts : Bool
   pub primary : Primary
   pub standby : Standby
   pub wire : Wire
@@ -142,23 +146,37 @@ no_connection = record {
 abbrev pub new_connection : Connection
 new_connection = record no_connection { is_open = true }
 
+-- a committer over an image at this position, to which nothing was handed yet
+abbrev pub new_committer : ℕ → Committer
+new_committer position = record { closed = position; waiting = []; stage = Ready; position = position; local = position }
+
+-- a link that has sent nothing and knows of no acknowledgement
+abbrev pub new_link : Link
+new_link = record { waiting = []; kept = []; again = []; known = 0; remote = 0 }
+
 -- two nodes that were formatted together, with this epoch
-abbrev pub start_at : ℕ → World
-start_at epoch = record {
+abbrev pub start_at : ℕ → Bool → World
+start_at epoch restarts = record {
+  restarts = restarts;
   primary = record {
     life = Running;
     epoch = epoch;
+    opened = 0;
     connections = [];
     calls = [];
-    committer = record { closed = 0; waiting = []; stage = Ready; position = 0; local = 0 };
-    link = record { waiting = []; kept = []; again = []; known = 0; remote = 0 };
+    committer = new_committer 0;
+    link = new_link;
   };
   standby = record { life = Running; epoch = epoch; waiting = []; position = 0 };
   wire = record { frames = []; acknowledgements = [] };
 }
 
+abbrev pub start_with : Bool → World
+start_with restarts = start_at FIRST_EPOCH restarts
+
+-- two nodes that do not crash
 abbrev pub start : World
-start = start_at FIRST_EPOCH
+start = start_with false
 
 -- ---- definitions on it
 
@@ -166,6 +184,11 @@ abbrev pub is_running : Life → Bool
 is_running Running = true
 is_running Stopped = false
 is_running Crashed = false
+
+abbrev pub is_crashed : Life → Bool
+is_crashed Running = false
+is_crashed Stopped = false
+is_crashed Crashed = true
 
 abbrev pub get_connection : List Connection → ℕ → Connection
 get_connection [] c = no_connection

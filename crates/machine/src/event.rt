@@ -24,6 +24,13 @@ pub enum Mark {
     Remote,
 }
 
+/// One of the two nodes.
+#[derive(Clone, Copy, Debug, PartialEq, Eq)]
+pub enum Node {
+    Primary,
+    Standby,
+}
+
 /// One turn of one actor. A connection is named by its number, which stays its own when it is over: connections count from 0, in the
 /// order in which they entered.
 #[derive(Debug, Drop)]
@@ -66,4 +73,9 @@ pub enum Event {
     Write(u64, u64),
     /// A connection is over. Its calls stay; what it asked for and was not called, and what was not written to it, is dropped. Its seat is free again.
     Leave(u64),
+    /// A node that runs, or that stopped, crashes between two events. What its device has not made durable is as these picks say, and all that the node
+    /// held elsewhere is gone.
+    Crash(Node, Vec<u64>),
+    /// A node that crashed opens its image again.
+    Reopen(Node),
 }

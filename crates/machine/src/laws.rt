@@ -12,7 +12,7 @@ ghost use Rattle.machine.specs.Law.{
   RepliesAddUp,
   RepliesBearPositions,
   AnswersBearPositions,
-  ReleasedIsCovered,
+  ReleasedIsHeld,
   ConnectionsStayOver,
   NothingWaitsOver,
   OpenOnesHaveSeats,
@@ -42,8 +42,8 @@ pub fn runs_are_made_of_steps()
     ensures longer { RunsGoOn }
 {}
 
-/// The list of calls, the released bytes, frames and acknowledgements only grow at the end; no position and no mark falls; and the keyspace at a
-/// position that the list has reached stays the same.
+/// The list of calls that the primary's image holds, the released bytes, frames and acknowledgements only grow at the end; no position falls; and the
+/// keyspace at a position that the image has reached stays the same.
 pub fn worlds_grow()
     ensures grows { WorldsGrow }
     ensures cuts { CutsStay }
@@ -61,7 +61,7 @@ pub fn replies_add_up()
     ensures texts { RepliesAddUp }
     ensures waiting { RepliesBearPositions }
     ensures positions { AnswersBearPositions }
-    ensures covered { ReleasedIsCovered }
+    ensures held { ReleasedIsHeld }
 {}
 
 /// A connection that is over stays over, as it was: its calls and what was released to it stay, and nothing of it waits. There is a seat for each open

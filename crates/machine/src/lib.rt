@@ -4,7 +4,7 @@
 mod event;
 mod laws;
 
-pub use event::{Event, KEPT_GROUPS, Mark, OPEN_CHANGES, PIPE_ITEMS, SEATS};
+pub use event::{Event, KEPT_GROUPS, Mark, Node, OPEN_CHANGES, PIPE_ITEMS, SEATS};
 pub use laws::{
     calls_take_requests_in_order, connections_stay_over, every_run_is_promised,
     every_world_is_sound, first_case_is_a_run, frames_are_committed_groups,

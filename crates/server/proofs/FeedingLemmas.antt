@@ -6,7 +6,9 @@ use Rattle.machine.specs.Event.{Connection, World, is_running, connection_of, is
 use Rattle.machine.specs.Promise.{fed_by, fed_to}
 use Rattle.machine.proofs.CountLemmas.{count-step}
 use Rattle.machine.proofs.FedLemmas.{fed-step}
-use Rattle.machine.proofs.SoundEvents.{enabled-may}
+use Rattle.machine.proofs.SoundEvents.{enabled-may, sound-step}
+use Rattle.machine.proofs.LifeLemmas.{runs_on-step}
+use Rattle.machine.specs.Sound.{RunsOn, Sound}
 use Rattle.machine.proofs.SoundConnection.{both, both_ways}
 use Rattle.machine.proofs.StayLemmas.{stays-step}
 use Rattle.model.specs.Call.{IsPrefix}
@@ -18,37 +20,16 @@ use Rattle.server.specs.Schedule.{given}
 abbrev fed_in : World → ℕ → List ℕ
 fed_in w c = (connection_of w c).inbound.fed
 
--- the node that serves runs, and the connection has entered
+-- the nodes run on, and the connection has entered
 abbrev pub IsServed : World → ℕ → Type 0
-IsServed w d = (is_running w.primary.life ≡ true) × (d < length w.primary.connections)
+IsServed w d = RunsOn w × (Sound w × (d < length w.primary.connections))
 
 abbrev runs_in : World → Bool
 runs_in w = is_running w.primary.life
 
-runs-happens : (w : World) (event : Event) (new : World) → Happens w event new → runs_in new ≡ runs_in w
-runs-happens w Enter new h = ap runs_in h
-runs-happens w (Feed c piece) new h = ap runs_in h
-runs-happens w (Offer c) new h = ap runs_in h
-runs-happens w (Turn c) new h = ap runs_in h.now
-runs-happens w CloseGroup new h = ap runs_in h
-runs-happens w Commit new h = ap runs_in h
-runs-happens w RaiseLocal new h = ap runs_in h
-runs-happens w Hand new h = ap runs_in h
-runs-happens w OpenLink new h = ap runs_in h
-runs-happens w Send new h = ap runs_in h
-runs-happens w (Deliver frame) new h = ap runs_in h
-runs-happens w Apply new h = ap runs_in h.now
-runs-happens w (AckDelivered a) new h = ap runs_in h
-runs-happens w RaiseRemote new h = ap runs_in h
-runs-happens w (Hold c) new h = ap runs_in h
-runs-happens w (Read c mark) new h = ap runs_in h
-runs-happens w (Release c) new h = ap runs_in h
-runs-happens w (Write c n) new h = ap runs_in h
-runs-happens w (Leave c) new h = ap runs_in h
-
 served-step : (old : World) (event : Event) (did : Bool) (new : World) (d : ℕ) → Step old event did new → IsServed old d → IsServed new d
-served-step old event true new d step served = (runs-happens old event new (step.happens refl) ∙ served.0, omega (arith, served.1, (count-step old event true new step).more))
-served-step old event false new d step served = (ap runs_in (step.stands refl) ∙ served.0, omega (arith, served.1, (count-step old event false new step).more))
+served-step old event did new d step served =
+    (runs_on-step old event did new step served.0, (sound-step old event did new step served.1.0, omega (arith, served.1.1, (count-step old event did new step).more)))
 
 -- ---- one event
 
@@ -87,7 +68,7 @@ open-by w (Feed c piece) false d e served is_one =
     elim (nat_eq c d) as (λ b. nat_eq c d ≡ b → ([] ≡ cond b piece []) ⊎ ((false ≡ false) × (is_closed_by (fed_in w d) ≡ true))) [
       | true ↦ λ same.
           let is_there : is_open w c ≡ true = ap (λ x. is_open w x) (eqb-true c d same) ∙ is_one in
-          inr (refl, ap (λ x. is_closed_by (fed_in w x)) (sym (eqb-true c d same)) ∙ not-false (runs_in w) (is_open w c) (is_closed_by (fed_in w c)) served.0 is_there (sym e))
+          inr (refl, ap (λ x. is_closed_by (fed_in w x)) (sym (eqb-true c d same)) ∙ not-false (runs_in w) (is_open w c) (is_closed_by (fed_in w c)) (ap is_running served.0.primary) is_there (sym e))
       | false ↦ λ other. inl refl
     ] refl
 open-by w event false d e served is_one = inl refl
@@ -114,13 +95,13 @@ closed-from w (event ∷ events) (did ∷ done) (new ∷ worlds) d run closed =
     ap (λ piece. piece ++ fed_to d events done) none ∙ closed-from new events done worlds d run.1 (ap is_closed_by same ∙ closed)
 closed-from w events done worlds d run closed = absurd run
 
-over-from : (w : World) (events : List Event) (done : List Bool) (worlds : List World) (d : ℕ) → Run w events done worlds → d < length w.primary.connections → is_open w d ≡ false → fed_to d events done ≡ []
-over-from w [] [] [] d run lt shut = refl
-over-from w (event ∷ events) (did ∷ done) (new ∷ worlds) d run lt shut =
-    let stays = stays-step w event did new d lt shut run.0 in
+over-from : (w : World) (events : List Event) (done : List Bool) (worlds : List World) (d : ℕ) → Run w events done worlds → Sound w → d < length w.primary.connections → is_open w d ≡ false → fed_to d events done ≡ []
+over-from w [] [] [] d run sound lt shut = refl
+over-from w (event ∷ events) (did ∷ done) (new ∷ worlds) d run sound lt shut =
+    let stays = stays-step w event did new d lt shut sound run.0 in
     ap (λ piece. piece ++ fed_to d events done) (over-by w event did d run.0.done shut)
-    ∙ over-from new events done worlds d run.1 stays.entered (ap (λ (x : Connection). x.is_open) stays.connection ∙ shut)
-over-from w events done worlds d run lt shut = absurd run
+    ∙ over-from new events done worlds d run.1 (sound-step w event did new run.0 sound) stays.entered (ap (λ (x : Connection). x.is_open) stays.connection ∙ shut)
+over-from w events done worlds d run sound lt shut = absurd run
 
 -- what is fed to a connection is a prefix of what the events have for it
 pub feeds-open : (w : World) (events : List Event) (done : List Bool) (worlds : List World) (d : ℕ) → Run w events done worlds → IsServed w d → IsPrefix (fed_to d events done) (given d events)
@@ -135,7 +116,7 @@ feeds-open w (event ∷ events) (did ∷ done) (new ∷ worlds) d run served =
             (IsPrefix-same_prefix (fed_by d event true) (feeds-open new events done worlds d run.1 (served-step w event did new d run.0 served)))
         | inr closed ↦ none (closed-from w (event ∷ events) (did ∷ done) (new ∷ worlds) d run closed.1)
       ]
-      | false ↦ λ shut. none (over-from w (event ∷ events) (did ∷ done) (new ∷ worlds) d run served.1 shut)
+      | false ↦ λ shut. none (over-from w (event ∷ events) (did ∷ done) (new ∷ worlds) d run served.1.0 served.1.1 shut)
     ] refl
 feeds-open w events done worlds d run served = absurd run
 

@@ -21,6 +21,7 @@ use Rattle.standby_stream.specs.Stream.{Stream, new_stream}
 use Rattle.standby.proofs.NewLemmas.{HasAll, new-table, left-new, new-consistent, follows-new}
 use Rattle.machine.specs.Event.{start}
 use Rattle.machine.proofs.RunLemmas.{sound-start}
+use Rattle.machine.proofs.LifeLemmas.{runs_on-start}
 use Rattle.kv_types.specs.declared.refusal.Refusal.{Refusal}
 use Rattle.kv_types.specs.declared.refusal.Refusal.TheVariants.{Exhausted, Fault, Memory, WrongSize}
 use Rattle.world.specs.Cause.{IsWrongSize, UnformedBy}
@@ -113,7 +114,8 @@ pub pair-starts : (first second : Holder) (pair : Pair) → SessionsRefine pair.
     → ((epoch : ℕ) → ArrivalsRefine epoch [] [] pair.arrivals [] []) → StandbyStands second pair.link.epoch [] 0 pair.standby → PairRefines first second pair start
 pair-starts first second pair sessions sequencer none ready mark engine ahead link no_group remote no_frame arrivals standby =
     record {
-      sound = sound-start;
+      sound = sound-start false;
+      runs = runs_on-start;
       parts = record {
         sessions = sessions;
         sequencer = sequencer;

@@ -11,9 +11,10 @@ use Rattle.redis_core.specs.Sequencing.{Sequencing, IsAheadOf}
 use Rattle.machine.specs.declared.event.Event.{Event}
 use Rattle.machine.specs.declared.event.Event.TheVariants as events
 use Rattle.machine.specs.Event.{Connection, World, Happens, Step, Turns, changed_at, left, new_connection, may_happen, called, with_connections}
-use Rattle.machine.specs.Sound.{Sound}
+use Rattle.machine.specs.Sound.{RunsOn, Sound}
 use Rattle.machine.proofs.GroupLemmas.{chain-le}
-use Rattle.machine.proofs.SoundEvents.{sound-step, enabled-is}
+use Rattle.machine.proofs.SoundEvents.{sound-step}
+use Rattle.machine.proofs.LifeLemmas.{runs_on-step, enabled-is}
 use Rattle.world.specs.Going.{Goes}
 use Rattle.world.specs.Cause.{Stretch, EndsBy, asks_memory}
 use Rattle.world.specs.Committing.{Rests, next_primary, next_standby}
@@ -43,21 +44,21 @@ untouched first second old new w w' device device' parts =
     }
 
 -- an event that touches no device
-pub goes-steps : (first second : Holder) (w w' : World) (event : Event) (did : Bool) (old new : Pair) → new.device ≡ old.device → new.standby.device ≡ old.standby.device → Sound w → Happens w event w'
+pub goes-steps : (first second : Holder) (w w' : World) (event : Event) (did : Bool) (old new : Pair) → new.device ≡ old.device → new.standby.device ≡ old.standby.device → Sound w → RunsOn w → Happens w event w'
     → Goes (may_happen w event) did (PartsRefine first second new w') (PartsRefine first second new w) → Steps first second w event did old new
-goes-steps first second w w' event true old new device device' sound happens goes =
-    let step : Step w event true w' = record { done = goes.done ∙ sym (enabled-is w event sound); happens = λ did. happens; stands = λ did. absurd (true≢false did) } in
+goes-steps first second w w' event true old new device device' sound runs happens goes =
+    let step : Step w event true w' = record { done = goes.done ∙ sym (enabled-is w event runs); happens = λ did. happens; stands = λ did. absurd (true≢false did) } in
     record {
       world = w';
       step = step;
-      stands = record { sound = sound-step w event true w' step sound; parts = goes.goes refl };
+      stands = record { sound = sound-step w event true w' step sound; runs = runs_on-step w event true w' step runs; parts = goes.goes refl };
       moves = untouched first second old new w w' device device' (goes.goes refl);
     }
-goes-steps first second w w' event false old new device device' sound happens goes =
+goes-steps first second w w' event false old new device device' sound runs happens goes =
     record {
       world = w;
-      step = record { done = goes.done ∙ sym (enabled-is w event sound); happens = λ did. absurd (true≢false (sym did)); stands = λ did. refl };
-      stands = record { sound = sound; parts = goes.stays refl };
+      step = record { done = goes.done ∙ sym (enabled-is w event runs); happens = λ did. absurd (true≢false (sym did)); stands = λ did. refl };
+      stands = record { sound = sound; runs = runs; parts = goes.stays refl };
       moves = untouched first second old new w w device device' (goes.stays refl);
     }
 
@@ -81,7 +82,7 @@ pub cut-for : (first second : Holder) (event : Event) (refusal : Refusal) (old n
 cut-for first second event refusal old new w stands same enabled cause =
     let sessions = stands.parts.sessions in
     record {
-      enabled = enabled-is w event stands.sound ∙ enabled;
+      enabled = enabled-is w event stands.runs ∙ enabled;
       calls = same.calls ∙ sessions.calls_are;
       released = λ c. ap (λ (all : List (List ℕ)). slice_index_or all c []) same.released
           ∙ released-told w.primary.calls old.sessions.connections.items w.primary.connections sessions.connections_stand c;
@@ -148,7 +149,7 @@ sessions-steps : (event : Event) (change : World → List Connection) → ((w : 
     → (old : Pair) (sessions : Sessions) (did : Bool) → SessionsGo event change did old.sessions sessions → KeepsSeats old.sessions.connections.items sessions.connections.items
     → (first second : Holder) (w : World) → PairRefines first second old w → Steps first second w event did old (with_sessions sessions old)
 sessions-steps event change happens old sessions did go keeps first second w stands =
-    goes-steps first second w (with_connections (change w) w) event did old (with_sessions sessions old) refl refl stands.sound (happens w)
+    goes-steps first second w (with_connections (change w) w) event did old (with_sessions sessions old) refl refl stands.sound stands.runs (happens w)
     (goes-map (go w stands.parts.sessions)
     (sessions-parts first second old sessions (change w) w stands.parts keeps)
     (sessions-parts first second old sessions w.primary.connections w stands.parts keeps))
@@ -184,7 +185,7 @@ pub read-does : (event : Event) (change : World → List Connection) → ((w : W
 read-does event change happens old sessions did go keeps calls =
     record {
       steps = λ first second w stands.
-          goes-steps first second w (with_connections (change w) w) event did old (with_sessions sessions old) refl refl stands.sound (happens w)
+          goes-steps first second w (with_connections (change w) w) event did old (with_sessions sessions old) refl refl stands.sound stands.runs (happens w)
           (goes-map (go w stands.parts.sessions stands.parts.committing.local_is stands.parts.link.remote_is)
           (sessions-parts first second old sessions (change w) w stands.parts keeps)
           (sessions-parts first second old sessions w.primary.connections w stands.parts keeps));
@@ -236,12 +237,13 @@ turn-steps first second old sessions sequencer w c true stands takes keeps goes_
     (subst (λ (x : World). SessionsRefine sessions x.primary.connections x.primary.calls) turns.now moved.2)
     (subst (λ (x : World). SequencerRefines x.primary.calls x.primary.committer.closed sequencer) turns.now moved.3)
     (subst (λ (x : World). SeatsFollow x.primary.calls (seats_of sessions.connections.items) sequencer) turns.now moved.4) goes_on in
-    let step : Step w (events.Turn c) true w' = record { done = takes.done ∙ sym (enabled-is w (events.Turn c) stands.sound); happens = λ did. subst (Turns w c) turns.now turns; stands = λ did. absurd (true≢false did) } in
+    let step : Step w (events.Turn c) true w' = record { done = takes.done ∙ sym (enabled-is w (events.Turn c) stands.runs); happens = λ did. subst (Turns w c) turns.now turns; stands = λ did. absurd (true≢false did) } in
     record {
       world = w';
       step = step;
       stands = record {
         sound = sound-step w (events.Turn c) true w' step stands.sound;
+        runs = runs_on-step w (events.Turn c) true w' step stands.runs;
         parts = parts;
       };
       moves = untouched first second old (with_turn sessions sequencer old) w w' refl refl parts;
@@ -266,8 +268,8 @@ turn-steps first second old sessions sequencer w c false stands takes keeps goes
     } in
     record {
       world = w;
-      step = record { done = takes.done ∙ sym (enabled-is w (events.Turn c) stands.sound); happens = λ did. absurd (true≢false (sym did)); stands = λ did. refl };
-      stands = record { sound = stands.sound; parts = parts };
+      step = record { done = takes.done ∙ sym (enabled-is w (events.Turn c) stands.runs); happens = λ did. absurd (true≢false (sym did)); stands = λ did. refl };
+      stands = record { sound = stands.sound; runs = stands.runs; parts = parts };
       moves = untouched first second old (with_turn sessions sequencer old) w w refl refl parts;
     }
 
@@ -319,7 +321,7 @@ seats-steps event change happens old sessions sequencer did go follows sequencer
     let parts = stands.parts in
     let follow = follows w stands.sound parts.sessions parts.follow in
     let table = sequencer_stands w.primary.calls w.primary.committer.closed parts.sequencer in
-    goes-steps first second w (with_connections (change w) w) event did old (with_turn sessions sequencer old) refl refl stands.sound (happens w)
+    goes-steps first second w (with_connections (change w) w) event did old (with_turn sessions sequencer old) refl refl stands.sound stands.runs (happens w)
     (goes-map (go w parts.sessions)
     (λ stand. seats-parts first second old sessions sequencer (change w) w parts stand table follow goes_on)
     (λ stand. seats-parts first second old sessions sequencer w.primary.connections w parts stand table follow goes_on))

@@ -17,7 +17,7 @@ use Rattle.machine.specs.Event.{World, Link as MachineLink, Frame as Sent, Span,
 use Rattle.std.proofs.lemmas.List.Elements.{All-head}
 use Rattle.machine.specs.Sound.{IsToldWithin, Sound}
 use Rattle.machine.proofs.StandbyLemmas.{all-at}
-use Rattle.machine.proofs.SoundEvents.{enabled-is}
+use Rattle.machine.proofs.LifeLemmas.{enabled-is}
 use Rattle.world.specs.Going.{Goes}
 use Rattle.world.specs.GroupSpan.{AreGroupsOf}
 use Rattle.world.specs.Committing.{Committing, CommittingRefines}
@@ -48,7 +48,7 @@ hand-does old committing waiting did go same =
       steps = λ first second w stands.
           let parts = stands.parts in
           goes-steps first second w (with_link (handed_to (handed w.primary.committer.stage) w.primary.link) (with_committer (ready_again w.primary.committer) w)) events.Hand did
-          old (with_handed committing waiting old) refl refl stands.sound refl
+          old (with_handed committing waiting old) refl refl stands.sound stands.runs refl
           (goes-map (go w stands.sound parts.committing parts.link.waiting)
           (λ moved.
           let shown = shown-parts first second old committing w (ready_again w.primary.committer) parts same moved.0 refl refl in
@@ -150,7 +150,7 @@ send-does old waiting link index frame copy frames answers there same more =
           subst (λ (fs : List Frame). PartsRefine first second (with_frames waiting link old.remote fs old) w') (sym more)
           (link-parts first second old waiting link old.remote (old.frames ++ copy ∷ []) w (sent_next machine.again machine) (w.wire.frames ++ framed epoch (next_to_send machine)) parts at.epoch_is at.link passed
           (ArrivalsRefine-frames epoch calls old.frames (copy ∷ []) old.arrivals w.standby.waiting w.wire.acknowledgements parts.arrivals)) in
-          goes-steps first second w w' events.Send true old (with_frames waiting link old.remote frames old) refl refl stands.sound
+          goes-steps first second w w' events.Send true old (with_frames waiting link old.remote frames old) refl refl stands.sound stands.runs
           (ap (λ e. with_sent (framed e (next_to_send machine)) (with_link (sent_next machine.again machine) w)) parts.epoch)
           (record { done = sym at.may; goes = λ did. moved; stays = λ did. absurd (true≢false did) });
       cut = tt;
@@ -163,7 +163,7 @@ send-none old waiting link answers =
       steps = λ first second w stands.
           let none = sends w.primary.calls old.link old.handed old.remote w.primary.link stands.parts.link (Ok None) link waiting answers in
           let stayed = link-alone first second old waiting link old.remote w w.primary.link stands.parts none.epoch_is none.link in
-          goes-steps first second w (sent w) events.Send false old (with_frames waiting link old.remote old.frames old) refl refl stands.sound refl
+          goes-steps first second w (sent w) events.Send false old (with_frames waiting link old.remote old.frames old) refl refl stands.sound stands.runs refl
           (record { done = sym none.may; goes = λ did. absurd (true≢false (sym did)); stays = λ did. stayed });
       cut = tt;
       calls = none-added _ _ refl;
@@ -205,7 +205,7 @@ raise-does old known did same is =
             known = link.known;
             remote_is = at;
           })) in
-          goes-steps first second w (with_link (raised_remote machine) w) events.RaiseRemote did old (with_frames old.handed old.link known old.frames old) refl refl stands.sound refl
+          goes-steps first second w (with_link (raised_remote machine) w) events.RaiseRemote did old (with_frames old.handed old.link known old.frames old) refl refl stands.sound stands.runs refl
           (record {
             done = is ∙ ap₂ nat_lt link.remote_is highest;
             goes = λ rose. raised machine.known highest;
@@ -243,7 +243,7 @@ ack-does old n ack link stands_there learns =
           (subst (λ (s : Stream). LinkRefines w.primary.calls s old.handed old.remote (knowing ack.position w.primary.link)) (sym learned)
           (knows w.primary.calls old.link old.handed old.remote ack.position w.primary.link chain.kept_from stands.sound.sent parts.link chain.kept)) in
           goes-steps first second w (with_link (told w.primary.epoch (slice_get w.wire.acknowledgements n) w.primary.link) w) (events.AckDelivered n) true old
-          (with_frames old.handed link old.remote old.frames old) refl refl stands.sound refl
+          (with_frames old.handed link old.remote old.frames old) refl refl stands.sound stands.runs refl
           (record {
             done = sym (lt-ltb n (length w.wire.acknowledgements) (slice_get_within w.wire.acknowledgements n (told_by ack) there));
             goes = λ did. link-alone first second old old.handed link old.remote w (told w.primary.epoch (slice_get w.wire.acknowledgements n) w.primary.link) parts
@@ -264,7 +264,7 @@ no-ack-does old n past =
           record {
             world = w;
             step = record {
-              done = sym (enabled-is w (events.AckDelivered n) stands.sound ∙ le-ltb n (length w.wire.acknowledgements) (omega (arith, past, ap length stands.parts.arrivals.acknowledged, length-map old.arrivals.acknowledgements.items told_by)));
+              done = sym (enabled-is w (events.AckDelivered n) stands.runs ∙ le-ltb n (length w.wire.acknowledgements) (omega (arith, past, ap length stands.parts.arrivals.acknowledged, length-map old.arrivals.acknowledgements.items told_by)));
               happens = λ did. absurd (true≢false (sym did));
               stands = λ did. refl;
             };

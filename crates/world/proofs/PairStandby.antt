@@ -10,7 +10,8 @@ use Rattle.standby_stream.specs.Stream.{Stream}
 use Rattle.machine.specs.declared.event.Event.TheVariants as events
 use Rattle.machine.specs.Event.{World, Standby as MachineStandby, Acknowledgement, Step, may_happen, opened_link, acknowledgement_of, delivered, option_items, told, with_link, with_standby, with_acknowledged}
 use Rattle.machine.specs.Sound.{Sound}
-use Rattle.machine.proofs.SoundEvents.{sound-step, enabled-is}
+use Rattle.machine.proofs.SoundEvents.{sound-step}
+use Rattle.machine.proofs.LifeLemmas.{runs_on-step, enabled-is}
 use Rattle.world.specs.Going.{Goes}
 use Rattle.world.specs.Cause.{Stretch, Breaks, RestsAtLimit, EndsBy, Resting}
 use Rattle.world.specs.Committing.{NearOnly, Moves, next_standby}
@@ -82,7 +83,7 @@ open-does old arrivals link ack is acknowledges reopened =
           } in
           let moved = link-alone first second (with_arrivals arrivals old) old.handed link old.remote w' (opened_link w.primary.link) heard (ap (λ (s : Stream). s.epoch) reopened)
           (subst (λ (s : Stream). LinkRefines w.primary.calls s old.handed old.remote (opened_link w.primary.link)) (sym reopened) opened) in
-          goes-steps first second w (with_link (opened_link w.primary.link) w') events.OpenLink true old (with_opened arrivals link old) refl refl stands.sound refl
+          goes-steps first second w (with_link (opened_link w.primary.link) w') events.OpenLink true old (with_opened arrivals link old) refl refl stands.sound stands.runs refl
           (record { done = refl; goes = λ did. moved; stays = λ did. absurd (true≢false did) });
       cut = tt;
       calls = none-added _ _ refl;
@@ -112,7 +113,7 @@ deliver-does old arrivals frames frame (Ok did) same go memory some =
           let epoch = old.link.epoch in
           let calls = w.primary.calls in
           let came = delivered (option_items (slice_get w.wire.frames frame)) w.standby in
-          goes-steps first second w (with_standby came w) (events.Deliver frame) did old (with_arrivals arrivals old) refl refl stands.sound refl
+          goes-steps first second w (with_standby came w) (events.Deliver frame) did old (with_arrivals arrivals old) refl refl stands.sound stands.runs refl
           (goes-map (go epoch w
           (subst (λ (all : List Frame). ArrivalsRefine epoch calls all old.arrivals w.standby.waiting w.wire.acknowledgements) (sym same) parts.arrivals)
           (subst (λ (all : List Frame). AreFramesSent epoch calls all w.wire.frames) (sym same) parts.frames))
@@ -143,12 +144,13 @@ apply-steps first second old arrivals node w true stands applies =
     let applied = moved.1 in
     let w' = with_acknowledged applied.told (with_standby applied.standby w) in
     let step : Step w events.Apply true w' =
-    record { done = applies.done ∙ sym (enabled-is w events.Apply stands.sound); happens = λ did. record { frame = applied.frame; first = applied.first; standby = applied.standby; told = applied.told; takes = applied.takes; now = refl }; stands = λ did. absurd (true≢false did) } in
+    record { done = applies.done ∙ sym (enabled-is w events.Apply stands.runs); happens = λ did. record { frame = applied.frame; first = applied.first; standby = applied.standby; told = applied.told; takes = applied.takes; now = refl }; stands = λ did. absurd (true≢false did) } in
     record {
       world = w';
       step = step;
       stands = record {
         sound = sound-step w events.Apply true w' step stands.sound;
+        runs = runs_on-step w events.Apply true w' step stands.runs;
         parts = record {
           sessions = parts.sessions;
           sequencer = parts.sequencer;
@@ -187,8 +189,8 @@ apply-steps first second old arrivals node w false stands applies =
     } in
     record {
       world = w;
-      step = record { done = applies.done ∙ sym (enabled-is w events.Apply stands.sound); happens = λ did. absurd (true≢false (sym did)); stands = λ did. refl };
-      stands = record { sound = stands.sound; parts = parts };
+      step = record { done = applies.done ∙ sym (enabled-is w events.Apply stands.runs); happens = λ did. absurd (true≢false (sym did)); stands = λ did. refl };
+      stands = record { sound = stands.sound; runs = stands.runs; parts = parts };
       moves = untouched first second old (with_node arrivals node old) w w refl (ap (λ (n : Node). n.device) stayed.1) parts;
     }
 

@@ -117,7 +117,7 @@ module _ {E : Type 0} (device : E → State) (contents : E → Contents) (is_fau
           let parts = stands.parts in
           let goes = commit-goes first w old.committing new.committing group waiting.items old.device new.device old.contents new.contents old.is_faulted new.is_faulted
           ready room waits commits.in_hand commits.local lawful (own parts.leads.epochs) commits.moved commits.durable commits.sound.0 parts.committing parts.engine parts.link.waiting in
-          commit-steps first second w old new refl stands.sound commits.sound.1
+          commit-steps first second w old new refl stands.sound stands.runs commits.sound.1
           (commit-moments first w old.committing group groups'.items old.device new.device old.contents old.is_faulted waits lawful (own parts.leads.epochs) commits.moments stands.sound parts.committing parts.engine)
           goes.done (parts-after first second w (committed_first w.primary.committer.waiting w.primary.committer) parts (goes.goes refl) (same_closed w.primary.committer.waiting w))
 

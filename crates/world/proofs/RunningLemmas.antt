@@ -1,5 +1,5 @@
 -- A run from event to event, and what is reported of it at its end.
-use Rattle.std.proofs.Common.{◌≡◌, ◌⊎◌, ℕ, ◌≤◌, Bool, List, [], ◌∷◌, ◌++◌, length, take, slice_index_or, Option, Some, None, refl, sym, ap, subst, ◌∙◌, arith, le_refl, append_assoc, length-take, inl, inr, true, cond, nat_eq, eqb-true, All, false}
+use Rattle.std.proofs.Common.{◌≡◌, ◌⊎◌, ℕ, ◌≤◌, Bool, List, [], ◌∷◌, ◌++◌, length, take, slice_index_or, Option, Some, None, refl, sym, ap, subst, ◌∙◌, arith, le_refl, length-take, inl, inr, true, cond, nat_eq, eqb-true, All, false}
 use Rattle.pmem.specs.Device.{State}
 use Rattle.kv_types.specs.declared.refusal.Refusal.{Refusal}
 use Rattle.kv_types.specs.declared.refusal.Refusal.TheVariants.{Memory, Fault, Exhausted}
@@ -14,13 +14,16 @@ use Rattle.machine.specs.declared.event.Event.{Event}
 use Rattle.machine.specs.declared.event.Event.TheVariants.{Commit, Apply}
 use Rattle.machine.specs.Event.{Run, World, Span, Frame as Sent, Committer, committed_first, start, last_world}
 use Rattle.machine.specs.Law.{Grows}
-use Rattle.machine.specs.Promise.{HasMarks, IsPromised, IsReleased, Tells, released_in}
-use Rattle.machine.specs.Sound.{IsChain, IsFrameWithin, Sound}
+use Rattle.machine.specs.Promise.{IsPromised, IsReleased, Tells, released_in}
+use Rattle.machine.specs.Sound.{IsChain, IsFrameWithin, RunsOn, Sound}
 use Rattle.std.proofs.lemmas.List.Elements.{All-head}
-use Rattle.machine.proofs.GrowLemmas.{grows-step, grows-from}
+use Rattle.machine.proofs.GrowLemmas.{grows-step}
+use Rattle.machine.proofs.CoverLemmas.{covered-run}
+use Rattle.machine.proofs.LifeLemmas.{calls-from, runs_on-start, runs_on-step}
 use Rattle.machine.proofs.CountLemmas.{few-connections}
-use Rattle.machine.proofs.PromiseLemmas.{promised-told, released-covered}
-use Rattle.machine.proofs.RunLemmas.{run-push, last_world-push, some-last, sound-start, sound-run}
+use Rattle.machine.proofs.PromiseLemmas.{released-held}
+use Rattle.machine.proofs.EveryRun.{promised-told}
+use Rattle.machine.proofs.RunLemmas.{run-push, last_world-push, sound-start}
 use Rattle.machine.proofs.SoundEvents.{sound-step}
 use Rattle.world.specs.Cause.{Stretch, UnformedBy, Breaks, RestsAtLimit, EndsBy, Resting}
 use Rattle.world.specs.Committing.{StandsAtEither, NearOnly, FromOnly, Moves, Rests, FormattingOnly, next_primary, next_from, next_standby}
@@ -84,13 +87,13 @@ few-played first second began events None done pair plays =
     let w = last_world start plays.reaches.worlds in
     omega (
       arith,
-      few-connections events done plays.reaches.worlds plays.reaches.run,
+      few-connections false events done plays.reaches.worlds plays.reaches.run,
       length-connections w.primary.calls pair.sessions.connections.items w.primary.connections plays.stands.parts.sessions.connections_stand,
     )
 few-played first second began events (Some (AtFormatting refusal)) done pair plays = absurd plays
 few-played first second began events (Some (AtEvent index refusal)) done pair plays =
     let reaches = plays.2.reaches in
-    omega (arith, few-connections (take index events) done reaches.worlds reaches.run, plays.2.cut.count, length-take index events)
+    omega (arith, few-connections false (take index events) done reaches.worlds reaches.run, plays.2.cut.count, length-take index events)
 
 -- ---- the position of a node
 
@@ -119,7 +122,7 @@ of_primary =
     record {
       rises = λ old new grows. grows.primary_position;
       within = primary-within;
-      holds = λ w s prefix call released. omega (arith, (released-covered w s prefix call released).0, s.committer.mark);
+      holds = λ w s prefix call released. (released-held w s prefix call released).0;
       onward = λ w s. next_of_groups w.primary.committer.position w.primary.committer.closed w.primary.committer.waiting w.primary.committer s.committer.waiting refl;
     }
 
@@ -128,7 +131,7 @@ of_standby =
     record {
       rises = λ old new grows. grows.standby_position;
       within = standby-within;
-      holds = λ w s prefix call released. omega (arith, (released-covered w s prefix call released).1, s.link.remote, s.standby.known);
+      holds = λ w s prefix call released. (released-held w s prefix call released).1;
       onward = λ w s. next_of_frames w.primary.epoch s.sent w.standby.position w.standby.waiting s.standby.frames;
     }
 
@@ -177,18 +180,19 @@ record MomentsFrom (last : Stretch) (position next : World → ℕ) (holder : Ho
   moments : AreMoments last position next holder calls w worlds old new
 
 moments-from : (last : Stretch) (position next : World → ℕ) (holder : Holder) (calls : List Call) → IsOfNode position next → ((p q : ℕ) (old new : State) → p ≤ q → last holder calls p q old new → FromOnly holder calls p old new)
-    → (w : World) (events : List Event) (done : List Bool) (worlds : List World) (old reached new : State) → Run w events done worlds → Sound w → (last_world w worlds).primary.calls ≡ calls
+    → (w : World) (events : List Event) (done : List Bool) (worlds : List World) (old reached new : State) → Run w events done worlds → Sound w → RunsOn w → (last_world w worlds).primary.calls ≡ calls
     → AreMoves position holder w worlds old reached → last holder calls (position (last_world w worlds)) (next (last_world w worlds)) reached new → MomentsFrom last position next holder calls w worlds old new
-moments-from last position next holder calls node from w [] [] [] old reached new run sound told are ends =
+moments-from last position next holder calls node from w [] [] [] old reached new run sound runs told are ends =
     let all : last holder calls (position w) (next w) old new = subst (λ (d : State). last holder calls (position w) (next w) d new) (sym are) ends in
     let onward = from (position w) (next w) old new (node.onward w sound) all in
     record { from = onward; moments = (λ prefix call released. from-lower holder calls _ (position w) old new (node.holds w sound prefix call released) onward, all) }
-moments-from last position next holder calls node from w (event ∷ events) (did ∷ done) (w' ∷ worlds) old reached new run sound told are ends =
+moments-from last position next holder calls node from w (event ∷ events) (did ∷ done) (w' ∷ worlds) old reached new run sound runs told are ends =
     let sound' = sound-step w event did w' run.0 sound in
+    let runs' = runs_on-step w event did w' run.0 runs in
     let rises = node.rises w w' (grows-step w event did w' run.0 sound) in
     let within = node.within w' sound' in
-    let prefix : IsPrefix w'.primary.calls calls = subst (IsPrefix w'.primary.calls) told (grows-from w' events done worlds run.1 sound').calls in
-    let rest = moments-from last position next holder calls node from w' events done worlds are.0 reached new run.1 sound' told are.2 ends in
+    let prefix : IsPrefix w'.primary.calls calls = subst (IsPrefix w'.primary.calls) told (calls-from w' events done worlds run.1 runs') in
+    let rest = moments-from last position next holder calls node from w' events done worlds are.0 reached new run.1 sound' runs' told are.2 ends in
     let moves = moves-grow holder w'.primary.calls calls (position w) (position w') old are.0 prefix (omega (arith, rises, within)) within are.1 in
     let onward : FromOnly holder calls (position w) old new =
     LeavesOnly-then (moves-from holder calls (position w) (position w') old are.0 rises moves) (from-lower holder calls (position w) (position w') are.0 new rises rest.from) in
@@ -196,16 +200,16 @@ moments-from last position next holder calls node from w (event ∷ events) (did
       from = onward;
       moments = (are.0, λ prefix call released. from-lower holder calls _ (position w) old new (node.holds w sound prefix call released) onward, moves, rest.moments);
     }
-moments-from last position next holder calls node from w events done worlds old reached new run sound told are ends = absurd run
+moments-from last position next holder calls node from w events done worlds old reached new run sound runs told are ends = absurd run
 
 -- ---- what is told at the end
 
 -- the promise of what tells the last world, by these very worlds
 promised-by : (events : List Event) (done : List Bool) (worlds : List World) (calls : List Call) (released : ℕ → List ℕ) (primary standby : ℕ) → Run start events done worlds
-    → Tells (last_world start worlds) calls released primary standby → (promised : IsPromised events done calls released primary standby) × (promised.worlds ≡ worlds)
+    → Tells (last_world start worlds) calls released primary standby → (promised : IsPromised false events done calls released primary standby) × (promised.worlds ≡ worlds)
 promised-by events done worlds calls released primary standby run tells =
     let w = last_world start worlds in
-    let promised = promised-told events done worlds calls released primary standby run tells in (
+    let promised = promised-told false events done worlds calls released primary standby run tells in (
       record {
         worlds = worlds;
         run = run;
@@ -216,9 +220,7 @@ promised-by events done worlds calls released primary standby run tells =
         covered = λ prefix call out.
             let in_last : IsReleased w.primary.calls (released_in w) prefix call =
             record { rest = out.rest; stands = sym tells.list ∙ out.stands; written = omega (arith, out.written, ap length (tells.bytes call.connection)) } in
-            let marks = released-covered w (sound-run events done worlds run) prefix call in_last in
-            some-last (HasMarks prefix call) start worlds
-            (record { made = record { rest = in_last.rest; joined = append_assoc prefix (call ∷ []) in_last.rest ∙ sym in_last.stands }; local = marks.0; remote = marks.1 });
+            covered-run false events done worlds run prefix call in_last;
         held = promised.held;
         behind = promised.behind;
         within = promised.within;
@@ -238,9 +240,9 @@ kept : (Last : World → Type 0) (first_last second_last : Stretch) (first secon
 kept Last first_last second_last first second began events done calls released primary standby primary' standby' first_from second_from reaches tells last primary_ends standby_ends =
     let w = last_world start reaches.worlds in
     let promised = promised-by events done reaches.worlds calls (λ c. slice_index_or released c []) (primary_position w) (standby_position w) reaches.run tells in
-    let primary_moments = moments-from first_last primary_position next_primary first calls of_primary first_from start events done reaches.worlds began.device primary primary' reaches.run sound-start (sym tells.list)
+    let primary_moments = moments-from first_last primary_position next_primary first calls of_primary first_from start events done reaches.worlds began.device primary primary' reaches.run (sound-start false) runs_on-start (sym tells.list)
     reaches.primary_moves primary_ends in
-    let standby_moments = moments-from second_last standby_position next_standby second calls of_standby second_from start events done reaches.worlds began.standby.device standby standby' reaches.run sound-start (sym tells.list)
+    let standby_moments = moments-from second_last standby_position next_standby second calls of_standby second_from start events done reaches.worlds began.standby.device standby standby' reaches.run (sound-start false) runs_on-start (sym tells.list)
     reaches.standby_moves standby_ends in
     record {
       primary_at = primary_position w;

@@ -1,5 +1,5 @@
 -- Seats are given and given back.
-use Rattle.std.proofs.Common.{◌≡◌, ◌≢◌, ℕ, zero, suc, ◌+◌, ◌<◌, ◌≤◌, ◌++◌, Bool, true, false, not, cond, nat_lt, List, [], ◌∷◌, length, take, Option, Some, None, is_some, All, inl, inr, ◌⊎◌, slice_get, slice_index_or, slice_set, refl, sym, ap, subst, ◌∙◌, arith, append-nil}
+use Rattle.std.proofs.Common.{◌≡◌, ◌≢◌, ℕ, zero, suc, ◌+◌, ◌<◌, ◌≤◌, ◌++◌, Bool, true, false, not, cond, nat_lt, List, [], ◌∷◌, length, Option, Some, None, is_some, All, inl, inr, ◌⊎◌, slice_get, slice_index_or, slice_set, refl, sym, ap, subst, ◌∙◌, arith}
 use Rattle.std.proofs.lemmas.Bool.{lt-ltb, le-ltb, both_ways}
 use Rattle.std.proofs.lemmas.List.{length-map, map-append}
 use Rattle.std.proofs.lemmas.List.Elements.{All-head, All-tail}
@@ -7,12 +7,11 @@ use Rattle.lobby.specs.Book.{Book, Status, Moves, free, taken}
 use Rattle.multi_watch.specs.Session.{Session, idle_session}
 use Rattle.multi_watch.specs.Sessions.{session_of, slot}
 use Rattle.model.specs.declared.call.Call.{Call}
-use Rattle.model.specs.Call.{items_of}
 use Rattle.model.proofs.SessionLemmas.{session_of_new}
 use Rattle.machine.specs.declared.event.TheConstants.{SEATS}
-use Rattle.machine.specs.Event.{Connection as MachineConnection, World, asked, new_connection, count_open, is_open, get_connection, changed_at, left}
+use Rattle.machine.specs.Event.{Connection as MachineConnection, World, new_connection, count_open, is_open, get_connection, changed_at, left}
 use Rattle.machine.specs.Sound.{Sound}
-use Rattle.machine.proofs.ConnectionLemmas.{get-past}
+use Rattle.machine.proofs.SoundConnection.{uncalled}
 use Rattle.redis_core.specs.Sequencing.{Sequencing, MovesSeat, is_closed}
 use Rattle.world.specs.declared.inbound.Inbound.{Inbound}
 use Rattle.world.specs.declared.outbound.Outbound.{Outbound}
@@ -208,12 +207,6 @@ seated-goes w old new seat inbound outbound stand moves inbound_stands outbound_
       stays = λ not_did. cc;
     }
 
--- a connection that has not entered yet has made no call
-none-called : (w : World) (c : ℕ) → Sound w → length w.primary.connections ≤ c → items_of c w.primary.calls ≡ []
-none-called w c sound past =
-    sym (append-nil (items_of c w.primary.calls))
-    ∙ subst (λ (machine : MachineConnection). items_of c w.primary.calls ++ machine.inbound.waiting ≡ take machine.inbound.offered (asked machine.inbound.fed)) (get-past w.primary.connections c past) (sound.inbound c).order
-
 -- and the sequencer finds its seat open, with an idle session, as it is before the first call of a connection
 pub seated-follow : (w : World) (old new : Sessions) (client : Client) (s s' : Sequencing) → Sound w → SessionsRefine old w.primary.connections w.primary.calls → Moves old.lobby client.seat free taken new.lobby
     → new.connections.items ≡ old.connections.items ++ Open client ∷ [] → MovesSeat s client.seat (Some idle_session) s'
@@ -226,7 +219,7 @@ seated-follow w old new client s s' sound stand moves connections opens follow =
       ];
       session = λ c other has. elim (has-pushed seats client.seat c other has) [
         | inl before ↦ ap session_of (kept c other before) ∙ follow.session c other before
-        | inr own ↦ ap session_of (moved other own.1) ∙ sym (session_of_new w.primary.calls c (none-called w c sound (omega (arith, own.0, length-map old.connections.items seat_of, entered))))
+        | inr own ↦ ap session_of (moved other own.1) ∙ sym (session_of_new w.primary.calls c (uncalled w c sound (omega (arith, own.0, length-map old.connections.items seat_of, entered))))
       ];
     })
   where

@@ -138,10 +138,11 @@ length-made calls [] (held ∷ helds) are = absurd are
 length-made calls (made ∷ mades) [] are = absurd are
 length-made calls (made ∷ mades) (held ∷ helds) are = ap suc (length-made calls mades helds are.1)
 
-open-while-waiting : (w : World) (c seat : ℕ) (seats : List (Option ℕ)) (s : Sequencing) → Sound w → SeatsFollow w.primary.calls seats s → HasSeat seats c seat → is_nonempty (connection_of w c).inbound.waiting ≡ true → is_closed s seat ≡ false
-open-while-waiting w c seat seats s sound follow own waits =
+open-while-waiting : (w : World) (c seat : ℕ) (seats : List (Option ℕ)) (s : Sequencing) → Sound w → SeatsFollow w.primary.calls seats s → HasSeat seats c seat → is_open w c ≡ true → is_nonempty (connection_of w c).inbound.waiting ≡ true
+    → is_closed s seat ≡ false
+open-while-waiting w c seat seats s sound follow own is_one waits =
     let inbound = (connection_of w c).inbound in
-    false_from_ne_true (is_closed s seat) (λ closed. both_ways (list_any closes (items_of c w.primary.calls)) (none inbound.waiting waits (sound.inbound c).order) (follow.by_call c seat own closed))
+    false_from_ne_true (is_closed s seat) (λ closed. both_ways (list_any closes (items_of c w.primary.calls)) (none inbound.waiting waits (sound.inbound c is_one).order) (follow.by_call c seat own closed))
   where
     none : (waiting : List Item) → is_nonempty waiting ≡ true → items_of c w.primary.calls ++ waiting ≡ take (connection_of w c).inbound.offered (asked (connection_of w c).inbound.fed) → list_any closes (items_of c w.primary.calls) ≡ false
     none [] some order = cc
@@ -161,7 +162,7 @@ enabled-runs w c code seats s sound stands follow own connection e =
       waits = λ h. is_nonempty-some machine.inbound.waiting parts.1 (sym connection.inbound.waits ∙ h);
       room = omega (arith, ltb-true (length machine.outbound.made) PIPE_ITEMS parts.2, length-made w.primary.calls code.outbound.made.items machine.outbound.made connection.outbound.made);
       few = omega (arith, ltb-true (open_changes w) OPEN_CHANGES parts.3, stands.count);
-      is_open = open-while-waiting w c code.seat seats s sound follow own parts.1;
+      is_open = open-while-waiting w c code.seat seats s sound follow own parts.0 parts.1;
     }
 
 enabled-open : (w : World) (c : ℕ) → may_happen w (Turn c) ≡ true → is_open w c ≡ true

@@ -12,7 +12,7 @@ use Rattle.standby_stream.specs.Stream.{Stream}
 use Rattle.machine.specs.declared.event.Event.{Event}
 use Rattle.machine.specs.Event.{World, Step, is_enabled}
 use Rattle.machine.specs.Promise.{released_in}
-use Rattle.machine.specs.Sound.{Sound}
+use Rattle.machine.specs.Sound.{RunsOn, Sound}
 use Rattle.world.specs.Cause.{EndsBy}
 use Rattle.world.specs.Committing.{Committing, EngineStands, Leads, Moves, CommittingRefines, next_primary, next_standby}
 use Rattle.world.specs.Link.{AreFramesSent, LinkRefines}
@@ -58,6 +58,8 @@ pub record PartsRefine (first second : Holder) (pair : Pair) (w : World) : Type 
 -- it refines a world that a run may reach
 pub record PairRefines (first second : Holder) (pair : Pair) (w : World) : Type 0 where
   pub sound : Sound w
+  -- its nodes do not crash
+  pub runs : RunsOn w
   pub parts : PartsRefine first second pair w
 
 -- there is a world that it refines

@@ -11,7 +11,7 @@ use crate::sessions::Sessions;
 use bytes::Bytes;
 use group_commit::{Committer, Done, Stage};
 use kv_types::Refusal;
-use machine::{Event, Mark};
+use machine::{Event, Mark, Node};
 use model::Group;
 use mv_keyspace::Keyspace;
 use pipes::LocalPipe;
@@ -94,6 +94,8 @@ impl<E: Durable, K: Keyspace> Stepper for Pair<E, K> {
             Event::Release(c) => self.release(*c),
             Event::Write(c, n) => self.write(*c, *n),
             Event::Leave(c) => self.leave(*c),
+            Event::Crash(node, picks) => self.crash(*node, picks),
+            Event::Reopen(node) => self.reopen(*node),
         }
     }
 }
@@ -247,5 +249,19 @@ impl<E: Durable, K: Keyspace> Pair<E, K> {
         ensures { Does (⟦<Pair<E, K> as Stepper>⟧.parts self.old) (events.Leave c) result (⟦<Pair<E, K> as Stepper>⟧.parts self.new) }
     {
         Ok(self.sessions.leave(self.alloc, c, &mut self.sequencer))
+    }
+
+    /// The nodes of this pair do not crash between two events.
+    fn crash(&mut self, _node: Node, _picks: &Vec<u64>) -> Result<bool, Refusal>
+        ensures { Does (⟦<Pair<E, K> as Stepper>⟧.parts self.old) (events.Crash _node _picks.now) result (⟦<Pair<E, K> as Stepper>⟧.parts self.new) }
+    {
+        Ok(false)
+    }
+
+    /// None of them has to be opened again.
+    fn reopen(&mut self, _node: Node) -> Result<bool, Refusal>
+        ensures { Does (⟦<Pair<E, K> as Stepper>⟧.parts self.old) (events.Reopen _node) result (⟦<Pair<E, K> as Stepper>⟧.parts self.new) }
+    {
+        Ok(false)
     }
 }

@@ -1,17 +1,17 @@
-use Rattle.machine.specs.Event.{start, last_world}
+use Rattle.machine.specs.Event.{start_with, last_world}
 use Rattle.machine.proofs.RunLemmas.{sound-run}
-use Rattle.machine.proofs.PromiseLemmas.{replies-add_up, released-covered}
+use Rattle.machine.proofs.PromiseLemmas.{replies-add_up, released-held}
 use Rattle.machine.proofs.LawLemmas.{answers_bear_positions}
 use Rattle.machine.proofs.laws.replies_add_up.Goals as goal
 
 pub returns-clause-texts : goal.returns-clause-texts
-returns-clause-texts c = λ events done worlds run. replies-add_up (last_world start worlds) (sound-run events done worlds run)
+returns-clause-texts c = λ restarts events done worlds run. replies-add_up (last_world (start_with restarts) worlds) (sound-run restarts events done worlds run)
 
 pub returns-clause-waiting : goal.returns-clause-waiting
-returns-clause-waiting c = λ events done worlds run d is_one. let o = (sound-run events done worlds run).outbound d is_one in (o.out, o.replies)
+returns-clause-waiting c = λ restarts events done worlds run d is_one. let o = (sound-run restarts events done worlds run).outbound d is_one in (o.out, o.replies)
 
 pub returns-clause-positions : goal.returns-clause-positions
 returns-clause-positions c = answers_bear_positions
 
-pub returns-clause-covered : goal.returns-clause-covered
-returns-clause-covered c = λ events done worlds run. released-covered (last_world start worlds) (sound-run events done worlds run)
+pub returns-clause-held : goal.returns-clause-held
+returns-clause-held c = λ restarts events done worlds run. released-held (last_world (start_with restarts) worlds) (sound-run restarts events done worlds run)
