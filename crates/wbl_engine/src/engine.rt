@@ -90,7 +90,11 @@ impl<P: Pmem> WblEngine<P> {
     /// `WrongSize`, `BadMagic`, `BadVersion` or `Damaged` by the rules of the format; `WrongRole` where the image is of the other role;
     /// `Exhausted` where a counter would reach 2^62; `Memory` if an allocation was refused: nothing is changed. `Fault` if a fence failed.
     /// Each hands the device back.
-    pub fn reopen(alloc: Global, device: P, role: Role) -> Result<(WblEngine<P>, Versions), (Refusal, P)>
+    pub fn reopen(
+        alloc: Global,
+        device: P,
+        role: Role,
+    ) -> Result<(WblEngine<P>, Versions), (Refusal, P)>
         requires settled { (word : ℕ) → Only ((P.state device).words word) (image_of (P.state device).words word) }
         ensures reopens { IfOk result (λ o. Reopens (P.state device).lines (image_of (P.state device).words) role
             (⟦<WblEngine<P> as Durable>⟧.contents o.0) o.1.counted.items o.1.gapped.items) }
