@@ -1,6 +1,6 @@
 -- No two live versions clash, whatever a group changes, and so they make up a keyspace.
-use Rattle.std.proofs.Common.{◌≡◌, ◌≢◌, ℕ, ◌<◌, Bool, true, false, cond, ◌&&◌, ◌||◌, ◌⊎◌, IsTrue, List, [], ◌∷◌, Option, None, Some, IsSome, is_some, nat_eq, inl, inr, refl, sym, ap, subst, ◌∙◌}
-use Rattle.std.proofs.lemmas.Bool.{cases_Bool, cases_eq, and_parts, and_from, both_ways, or_left, or_right, or_parts, eqb-true}
+use Rattle.std.proofs.Common.{◌≡◌, ◌≢◌, ℕ, ◌<◌, Bool, true, false, cond, ◌||◌, ◌⊎◌, List, [], ◌∷◌, Option, None, Some, IsSome, is_some, nat_eq, inl, inr, refl, sym, ap, subst, ◌∙◌}
+use Rattle.std.proofs.lemmas.Bool.{cases_Bool, cases_eq, and_parts, and_from, both_ways, or_left, or_right, eqb-true}
 use Rattle.kv_types.specs.declared.change.Change.{Change}
 use Rattle.kv_types.specs.declared.change.Change.TheVariants as change
 use Rattle.kv_types.specs.declared.record_id.RecordId.{RecordId}
@@ -15,7 +15,7 @@ use Rattle.model.specs.declared.group.Put.{Put}
 use Rattle.model.specs.Group.{Versions, change_of, ends_record, ended_by, ended_where_begun, version_of_put, change_versions, changes_versions, part_versions, parts_versions}
 use Rattle.model.specs.Image.{Version, IsLive, IsMapOf, map_below}
 use Rattle.model.specs.ReadImage.{is_clash}
-use Rattle.model.proofs.MapLemmas.{OnceBelow, IsMapOf-map_below, is_sorted-map_below}
+use Rattle.model.proofs.MapLemmas.{IsMapOf-map_below, is_sorted-map_below}
 
 -- no two live versions of these entries are of one record, or of a string and a field of one key
 abbrev pub AreDistinct : Versions → ℕ → Type 0

@@ -1,5 +1,5 @@
 -- The entries that a group ends are in the directory.
-use Rattle.std.proofs.Common.{◌≡◌, ℕ, ◌+◌, ◌<◌, ◌≤◌, Bool, true, false, ◌||◌, IsTrue, List, [], ◌∷◌, ◌++◌, ◌⊎◌, inl, inr, Option, None, Some, refl, sym, ap, arith}
+use Rattle.std.proofs.Common.{ℕ, ◌+◌, ◌<◌, ◌||◌, IsTrue, List, [], ◌∷◌, inl, inr, refl, ap, arith}
 use Rattle.std.specs.List.{AllByRecursion}
 use Rattle.std.proofs.lemmas.Bool.{cases_lt, or_cases, both_ways}
 use Rattle.kv_types.specs.declared.place.EntryNo.{EntryNo}
@@ -8,7 +8,7 @@ use Rattle.model.specs.declared.record.Record.{Record}
 use Rattle.model.specs.declared.group.Group.{Group}
 use Rattle.model.specs.declared.group.Part.{Part}
 use Rattle.model.specs.Image.{entries_of_lines}
-use Rattle.model.specs.Group.{Versions, IsGroup, IsPlaced, AreParts, is_put_at, is_live_version, puts_of_part, part_versions}
+use Rattle.model.specs.Group.{Versions, IsGroup, IsPlaced, AreParts, is_put_at, is_live_version, part_versions}
 use Rattle.wbl_engine.specs.AtRest.{contents_of, IsAtRest}
 use Rattle.wbl_engine.specs.Stage.{puts_of_parts, AreEndsWithin}
 use Rattle.wbl_engine.proofs.Beginning.{versions-beyond}

@@ -1,23 +1,22 @@
 -- The three steps of formatting leave an image from before, the new one, or one without the magic.
-use Rattle.std.proofs.Common.{◌≡◌, ◌≢◌, ℕ, zero, suc, ◌+◌, ◌-◌, ◌*◌, ◌/◌, ◌<◌, ◌≤◌, Bool, true, false, cond, ◌&&◌, ◌||◌, ◌==◌, IsTrue, List, [], ◌∷◌, ◌++◌, ◌⊎◌, inl, inr, Option, None, length, get_or, refl, sym, ap, subst, ◌∙◌, arith}
+use Rattle.std.proofs.Common.{◌≡◌, ◌≢◌, ℕ, ◌+◌, ◌*◌, ◌/◌, ◌<◌, ◌≤◌, Bool, ◌&&◌, ◌||◌, ◌==◌, IsTrue, List, [], ◌∷◌, inl, inr, None, get_or, refl, sym, ap, subst, ◌∙◌, arith}
 use Rattle.std.specs.Prelude.{nat_lt}
-use Rattle.std.proofs.lemmas.Bool.{cond-true, cond-false, cases_lt, lt-ltb, le-ltb, both_ways}
+use Rattle.std.proofs.lemmas.Bool.{cond-false, cases_lt, lt-ltb, both_ways}
 use Rattle.pmem.specs.Device.{Word, State, MayBe, Only}
-use Rattle.pmem.specs.Crash.{IsImage, image_of}
+use Rattle.pmem.specs.Crash.{image_of}
 use Rattle.pmem.specs.Runs.{LeavesOnly, Staged, StageFailed, IsPartlyStored, IsStored, IsOutside, written, lines_from}
 use Rattle.pmem.proofs.Leaving.{LeavesOnly-then, LeavesOnly-weaken}
-use Rattle.pmem.proofs.Staging.{written-outside, stored_or_outside, same_or_other, IsLine-lines_from}
-use Rattle.model.specs.declared.image.TheConstants.{MIN_LINES, MAX_LINES, COUNTER_LIMIT}
-use Rattle.model.specs.declared.record.Record.{Record}
+use Rattle.pmem.proofs.Staging.{same_or_other, IsLine-lines_from}
+use Rattle.model.specs.declared.image.TheConstants.{MIN_LINES, MAX_LINES}
 use Rattle.model.specs.declared.record.Role.{Role}
-use Rattle.model.specs.Image.{Image, HasSuperblock, HasRecord, magic_number, root_word, entry_word, entries_of_lines, first_extent_line, record_words, version_at, counts}
+use Rattle.model.specs.Image.{Image, HasSuperblock, HasRecord, magic_number, entry_word, entries_of_lines, first_extent_line, record_words, version_at, counts}
 use Rattle.wbl_engine.specs.AtRest.{contents_of, IsWhole, IsAtRest, Matters}
 use Rattle.wbl_engine.specs.Contents.{Keeps, IsNew}
 use Rattle.wbl_engine.specs.Formatting.{first_record, superblock_words, new_contents, new_pairs, IsFormatting}
 use Rattle.wbl_engine.proofs.Beginning.{versions-within, versions-beyond}
 use Rattle.wbl_engine.proofs.CountLemmas.{counts-zero}
 use Rattle.wbl_record.proofs.Mixing.{image_of-is}
-use Rattle.wbl_engine.proofs.NewImage.{magic_outside, new_covered, new_super, new_first, new_entry}
+use Rattle.wbl_engine.proofs.NewImage.{magic_outside, new_super, new_first, new_entry}
 use Rattle.wbl_record.specs.Current.{IsLawful}
 use Rattle.wbl_record.proofs.RecordLemmas.{record_is}
 

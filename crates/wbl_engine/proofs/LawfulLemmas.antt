@@ -1,28 +1,21 @@
 -- Contents that obey the rules, from the first to the next, and the images that hold them.
-use Rattle.std.proofs.Common.{◌≡◌, ◌≢◌, ℕ, ◌+◌, ◌<◌, ◌≤◌, Bool, true, false, not, cond, ◌&&◌, ◌||◌, IsTrue, List, [], length, ◌⊎◌, inl, inr, Option, None, Some, IsSome, is_some, nat_eq, refl, sym, ap, subst, ◌∙◌, arith}
-use Rattle.std.proofs.lemmas.Bool.{cond-true, cases_Bool, cases_lt, and_parts, both_ways, not-true}
-use Rattle.kv_types.specs.declared.record_id.RecordId.{RecordId}
-use Rattle.kv_types.specs.declared.record_id.RecordId.TheVariants.{Str, Field}
-use Rattle.kv_types.specs.Keyspace.{Keyspace, IsKeyspace, value_at, play_all}
-use Rattle.kv_types.proofs.LookUpLemmas.{is_same, is_same_key}
-use Rattle.kv_types.proofs.OrderLemmas.{same_key, same_record}
-use Rattle.kv_types.proofs.PlayLemmas.{is_keyspace-play_all, is_keyspace-empty}
+use Rattle.std.proofs.Common.{◌≡◌, ℕ, ◌+◌, ◌<◌, ◌≤◌, true, false, not, List, [], length, inl, inr, None, Some, refl, sym, ap, subst, ◌∙◌, arith}
+use Rattle.std.proofs.lemmas.Bool.{cond-true, cases_lt, and_parts, not-true}
+use Rattle.kv_types.proofs.PlayLemmas.{is_keyspace-empty}
 use Rattle.model.specs.declared.group.Group.{Group}
 use Rattle.model.specs.declared.image.TheConstants.{MIN_LINES, MAX_LINES, COUNTER_LIMIT}
 use Rattle.model.specs.declared.record.Gap.{Gap}
 use Rattle.model.specs.declared.record.Role.{Role}
-use Rattle.model.specs.Group.{Versions, Contents, IsGroup, IsConsistent, changes_of_group, next_record, after_group}
-use Rattle.model.specs.Image.{Image, Version, map_below, entries_of_lines, entry_word, version_at, version_in, counts}
-use Rattle.model.specs.ReadImage.{is_clash, record_in}
-use Rattle.model.proofs.GroupsLemmas.{IsMapOf-after_group}
-use Rattle.model.proofs.MapLemmas.{IsMapOf-none}
-use Rattle.heap_layout.specs.Versions.{is_counted, is_live, LieApart, AreVersions}
+use Rattle.model.specs.Group.{Versions, Contents, IsGroup, next_record, after_group}
+use Rattle.model.specs.Image.{Image, Version, IsMapOf, map_below, entries_of_lines, entry_word, version_in, counts}
+use Rattle.model.proofs.MapLemmas.{IsMapOf-none, IsMapOf-same}
+use Rattle.heap_layout.specs.Versions.{is_counted, is_live}
 use Rattle.wbl_record.specs.Current.{AreGaps, IsLawful}
-use Rattle.wbl_engine.specs.Contents.{Keeps, IsNew, Exhausts}
+use Rattle.wbl_engine.specs.Contents.{Keeps, IsNew, Same, Exhausts}
 use Rattle.wbl_engine.specs.Lawful.{AreLawful, IsUndamaged}
 use Rattle.wbl_engine.proofs.ApartLemmas.{group_apart}
 use Rattle.wbl_engine.proofs.ClashLemmas.{AreDistinct, parts_distinct, map_distinct, distinct_map, distinct_keyspace}
-use Rattle.wbl_engine.proofs.SuccessorLemmas.{AreBelowLimit, lawful_later}
+use Rattle.wbl_engine.proofs.SuccessorLemmas.{lawful_later}
 
 -- ---- a new image
 
@@ -98,6 +91,21 @@ group_lawful contents group are asked room =
       keyspace = map_below versions entries;
       lawful = distinct_keyspace versions entries distinct;
       map = distinct_map versions entries distinct;
+    }
+
+-- ---- contents that say the same
+
+pub same_lawful : (old new : Contents) → Same old new → AreLawful old → AreLawful new
+same_lawful old new same are =
+    record {
+      many = omega (arith, same.lines, are.many);
+      few = omega (arith, same.lines, are.few);
+      current = subst IsLawful (sym same.current) are.current;
+      apart = λ i j v w differ is_v is_w. are.apart i j v w differ (sym (same.versions i) ∙ is_v) (sym (same.versions j) ∙ is_w);
+      keyspace = are.keyspace;
+      lawful = are.lawful;
+      map = subst (λ (n : ℕ). IsMapOf new.versions (entries_of_lines n) are.keyspace) (sym same.lines)
+          (IsMapOf-same old.versions new.versions (entries_of_lines old.lines) are.keyspace (λ i within. sym (same.versions i)) are.map);
     }
 
 -- ---- an image

@@ -1,5 +1,5 @@
 -- What formatting writes, word by word.
-use Rattle.std.proofs.Common.{◌≡◌, ◌≢◌, ℕ, zero, suc, ◌+◌, ◌-◌, ◌*◌, ◌/◌, ◌<◌, ◌≤◌, List, [], ◌∷◌, ◌++◌, ◌⊎◌, inl, inr, length, get_or, refl, sym, ap, subst, ◌∙◌, arith}
+use Rattle.std.proofs.Common.{◌≡◌, ℕ, zero, suc, ◌+◌, ◌-◌, ◌*◌, ◌/◌, ◌<◌, ◌≤◌, List, ◌++◌, ◌⊎◌, inl, inr, length, get_or, refl, sym, ap, ◌∙◌, arith}
 use Rattle.std.specs.Prelude.{replicate}
 use Rattle.pmem.specs.Runs.{pairs_from, IsStored, IsOutside, IsLine, lines_from, written}
 use Rattle.pmem.proofs.Staging.{IsStored-append, IsStored-append_left, IsStored-append_right, IsStored-pairs_from, pairs_from-IsStored, written-stored, IsLine-lines_from}

@@ -1,15 +1,14 @@
 -- What the changes of a part do to the version of one entry.
-use Rattle.std.proofs.Common.{◌≡◌, ℕ, zero, suc, ◌+◌, ◌<◌, ◌≤◌, Bool, true, false, not, cond, ◌&&◌, ◌||◌, List, [], ◌∷◌, ◌++◌, ◌⊎◌, inl, inr, Option, None, Some, refl, sym, ap, subst, ◌∙◌, arith}
+use Rattle.std.proofs.Common.{◌≡◌, ℕ, Bool, true, false, ◌||◌, List, [], ◌∷◌, ◌++◌, ◌⊎◌, inl, inr, Option, None, Some, refl, sym, ap, subst, ◌∙◌}
 use Rattle.std.specs.Prelude.{nat_eq}
 use Rattle.std.specs.List.{flat_map, AllByRecursion}
-use Rattle.std.proofs.lemmas.Bool.{cond-true, cond-false, eq-eqb, eqb-true, ne_eqb, or_parts, or_cases, or_from, cases_Bool}
-use Rattle.kv_types.specs.declared.place.EntryNo.{EntryNo}
+use Rattle.std.proofs.lemmas.Bool.{cond-true, cond-false, eq-eqb, eqb-true, ne_eqb, or_parts, or_cases, or_from}
 use Rattle.kv_types.specs.declared.change.Change.{Change}
 use Rattle.model.specs.declared.group.Put.{Put}
 use Rattle.model.specs.declared.group.PlacedChange.{PlacedChange}
 use Rattle.model.specs.declared.group.PlacedChange.TheVariants as placed
 use Rattle.model.specs.Image.{Version}
-use Rattle.model.specs.Group.{Versions, change_of, put_of, ends_record, ended_by, ended_where_begun, version_of_put, with_puts, change_versions, changes_versions, AreApart, IsApartFrom, AreAllApart, is_put_at}
+use Rattle.model.specs.Group.{Versions, change_of, put_of, ends_record, ended_where_begun, version_of_put, change_versions, changes_versions, IsApartFrom, AreAllApart, is_put_at}
 
 -- the version, ended where the test says so
 abbrev pub end_if : Bool → Version → Version

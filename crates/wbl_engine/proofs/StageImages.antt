@@ -1,14 +1,12 @@
 -- What a crash leaves while a group is stored before the record.
-use Rattle.std.proofs.Common.{◌≡◌, ◌≢◌, ℕ, zero, suc, ◌+◌, ◌-◌, ◌*◌, ◌%◌, ◌<◌, ◌≤◌, Bool, true, false, List, [], ◌∷◌, ◌++◌, ◌⊎◌, inl, inr, Option, None, Some, length, refl, sym, ap, subst, ◌∙◌, arith}
-use Rattle.pmem.specs.Device.{Word, State, MayBe, Only}
-use Rattle.pmem.specs.Crash.{IsImage, image_of}
+use Rattle.std.proofs.Common.{◌≡◌, ℕ, ◌<◌, ◌≤◌, List, inl, inr, sym, ◌∙◌, arith}
+use Rattle.pmem.specs.Device.{State}
+use Rattle.pmem.specs.Crash.{image_of}
 use Rattle.pmem.specs.Runs.{IsStored, IsPartlyStored}
 use Rattle.model.specs.declared.record.Record.{Record}
-use Rattle.model.specs.declared.group.Group.{Group}
 use Rattle.model.specs.declared.group.Put.{Put}
-use Rattle.model.specs.Image.{Image, HasSuperblock, HasRecord, root_word, record_word, entry_word, entries_of_lines, version_at}
-use Rattle.model.specs.Group.{Contents, Versions}
-use Rattle.wbl_engine.specs.AtRest.{contents_of, IsAtRest, Matters}
+use Rattle.model.specs.Image.{Image, HasSuperblock, HasRecord, root_word}
+use Rattle.wbl_engine.specs.AtRest.{contents_of, IsAtRest}
 use Rattle.wbl_engine.specs.Contents.{Keeps}
 use Rattle.wbl_engine.proofs.Beginning.{versions-within, rest_made}
 use Rattle.wbl_record.proofs.Mixing.{IsMixed, mixed}

@@ -1,10 +1,9 @@
 -- What an engine holds and what its device holds.
-use Rattle.std.specs.Prelude.{◌≡◌, ℕ, ◌+◌, ◌<◌, ◌≤◌, ◌⊎◌, List, [], None, true}
+use Rattle.std.specs.Prelude.{◌≡◌, ℕ, ◌+◌, ◌<◌, ◌≤◌, ◌⊎◌, [], None, true}
 use Rattle.pmem.specs.Device.{State}
-use Rattle.pmem.specs.Crash.{IsImage, image_of}
+use Rattle.pmem.specs.Crash.{IsImage}
 use Rattle.model.specs.declared.group.Group.{Group}
 use Rattle.model.specs.declared.image.TheConstants.{COUNTER_LIMIT, STAMP_WINDOW}
-use Rattle.model.specs.declared.record.Record.{Record}
 use Rattle.model.specs.declared.record.TheConstants.{FIRST_EPOCH}
 use Rattle.model.specs.declared.record.Role.{Role}
 use Rattle.model.specs.Image.{Image, HasSuperblock, HasRecord, entries_of_lines, version_at}

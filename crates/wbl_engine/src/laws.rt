@@ -5,7 +5,7 @@ ghost use Rattle.model.specs.declared.image.TheConstants.{MIN_LINES, MAX_LINES};
 ghost use Rattle.model.specs.declared.record.Role.{Role};
 ghost use Rattle.model.specs.Group.{Contents, IsGroup, after_group};
 ghost use Rattle.model.specs.Image.{Image};
-ghost use Rattle.wbl_engine.specs.Contents.{Keeps, IsNew, Exhausts};
+ghost use Rattle.wbl_engine.specs.Contents.{Keeps, IsNew, Same, Exhausts};
 ghost use Rattle.wbl_engine.specs.Lawful.{AreLawful, IsUndamaged};
 
 /// The contents of a new image, of a size that an image may have, obey the rules.
@@ -18,6 +18,11 @@ pub fn new_contents_are_lawful()
 pub fn groups_keep_contents_lawful()
     ensures { (contents : Contents) (group : Group) → AreLawful contents → IsGroup contents group
         → ¬ Exhausts contents group → AreLawful (after_group contents group) }
+{}
+
+/// Contents that say the same as contents that obey the rules obey them too.
+pub fn same_contents_are_lawful()
+    ensures { (old new : Contents) → Same old new → AreLawful old → AreLawful new }
 {}
 
 /// An image that holds contents that obey the rules breaks no rule of the format: it is never refused as damaged.

@@ -17,5 +17,8 @@ pub use committed::Committed;
 pub use durable::Durable;
 pub use engine::WblEngine;
 pub use freeing::Freed;
-pub use laws::{groups_keep_contents_lawful, lawful_contents_are_undamaged, new_contents_are_lawful};
+pub use laws::{
+    groups_keep_contents_lawful, lawful_contents_are_undamaged, new_contents_are_lawful,
+    same_contents_are_lawful,
+};
 pub use model::{Gap, Record, Role};

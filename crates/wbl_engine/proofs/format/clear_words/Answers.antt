@@ -1,4 +1,4 @@
-use Rattle.std.proofs.Common.{ℕ, ◌≤◌, ◌<◌, length, subst, arith}
+use Rattle.std.proofs.Common.{ℕ, ◌<◌, length, subst, arith}
 use Rattle.pmem.specs.Device.{Steps, store_at}
 use Rattle.pmem.specs.Runs.{pairs_from}
 use Rattle.pmem.proofs.Chaining.{Runs-none, Runs-next_store, Runs-all_stored}

@@ -1,4 +1,3 @@
-use Rattle.std.proofs.Common.{ap}
 use Rattle.std.proofs.lemmas.Result.{on_ok_weaker, on_err_weaker}
 use Rattle.pmem.specs.Runs.{lines_from}
 use Rattle.pmem.proofs.Chaining.{Runs-flushes, stage_ok, stage_err}

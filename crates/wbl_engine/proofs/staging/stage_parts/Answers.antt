@@ -1,5 +1,3 @@
-use Rattle.std.proofs.Common.{ℕ, sym, subst}
-use Rattle.std.specs.List.{AllByRecursion}
 use Rattle.std.proofs.lemmas.Result.{on_ok_weaker, on_err_weaker}
 use Rattle.pmem.proofs.Chaining.{Runs-flushes, stage_ok, stage_err}
 use Rattle.wbl_engine.specs.Stage.{parts_pairs, parts_lines}

@@ -1,8 +1,7 @@
-use Rattle.std.proofs.Common.{ℕ, ◌+◌, ◌<◌, ◌*◌, arith, subst}
+use Rattle.std.proofs.Common.{ℕ, ◌+◌, ◌<◌, arith, subst}
 use Rattle.kv_types.specs.declared.place.EntryNo.{EntryNo}
 use Rattle.pmem.specs.Device.{Steps, store_at}
 use Rattle.pmem.proofs.Chaining.{Runs-none, Runs-step_store}
-use Rattle.model.specs.Image.{entry_word}
 use Rattle.wbl_engine.proofs.StagingLemmas.{all_at, ends_stored, no_entry}
 use Rattle.wbl_engine.proofs.staging.store_ends.Goals as goal
 

@@ -1,4 +1,4 @@
-use Rattle.std.proofs.Common.{ℕ, length, ap, sym, ◌∙◌}
+use Rattle.std.proofs.Common.{length, ap, sym, ◌∙◌}
 use Rattle.std.proofs.lemmas.Bool.{ltb-true}
 use Rattle.model.specs.declared.group.Part.{Part}
 use Rattle.wbl_engine.proofs.SuccessorLemmas.{last_position-get}

@@ -1,4 +1,4 @@
-use Rattle.std.proofs.Common.{◌+◌, ◌≤◌, refl, ap, arith}
+use Rattle.std.proofs.Common.{refl, ap, arith}
 use Rattle.wbl_engine.proofs.SuccessorLemmas.{lawful_later}
 use Rattle.wbl_engine.proofs.successor.next_record.Goals as goal
 
