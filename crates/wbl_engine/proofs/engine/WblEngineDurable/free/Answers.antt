@@ -1,4 +1,4 @@
-use Rattle.std.proofs.Common.{sym, ◌∙◌}
+use Rattle.std.proofs.Common.{◌∙◌}
 use Rattle.wbl_engine.proofs.Committing.{rest_keeps}
 use Rattle.wbl_engine.proofs.FreeingLemmas.{ended_extents, ended_lines, freed_map, freed_moments, freed_none, freed_rest, freed_same}
 use Rattle.wbl_engine.proofs.engine.WblEngineDurable.free.Goals as goal
