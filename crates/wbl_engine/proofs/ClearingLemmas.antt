@@ -168,10 +168,11 @@ begun_in_gap : {r : Record} {d : State} {gap : Gap} {begins ends : List EntryNo}
     → ((contents_of r d).is_free i ≡ false) × ((contents_of r d).versions i ≡ None)
 begun_in_gap {r} {d} {gap} {begins} {ends} clearing i listed =
     let begin : ℕ = image_of d.words (entry_word i 0) in
-    let at = begins_where clearing i listed in
-    (and_right (nat_lt i (entries_of_lines d.lines)) (begin == 0 || nat_lt r.cp begin) (inside_not_free r gap begin clearing.first at.1),
-    version_within r d i at.0
-    ∙ cond-false (counts r begin) (Some (version_in r (image_of d.words) i)) None (in_oldest r gap begin clearing.first at.1))
+    let at = begins_where clearing i listed in (
+      and_right (nat_lt i (entries_of_lines d.lines)) (begin == 0 || nat_lt r.cp begin) (inside_not_free r gap begin clearing.first at.1),
+      version_within r d i at.0
+          ∙ cond-false (counts r begin) (Some (version_in r (image_of d.words) i)) None (in_oldest r gap begin clearing.first at.1),
+    )
 
 pub clears : {r : Record} {d : State} {gap : Gap} {begins ends : List EntryNo} (c : State) → IsClearing r d gap begins ends → c.lines ≡ d.lines
     → AreErased r d begins ends (image_of c.words) → Clears (contents_of r d) begins (contents_of (record_after_clearing r) c)

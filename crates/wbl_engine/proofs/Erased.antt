@@ -167,10 +167,15 @@ erased_matters {r} {q} {lines} {gone} {base} {image} erased word (inr (inl direc
 erased_matters {r} {q} {lines} {gone} {base} {image} erased word (inr (inr (i, within, counted, at))) =
     let first = erased.words i 3 within (omega arith) (omega arith) in
     let count = erased.words i 4 within (omega arith) (omega arith) in
-    inr (inr (i, within, counted_before erased i within counted, record {
-      low = omega (arith, at.low, first);
-      high = omega (arith, at.high, first, count);
-    }))
+    inr (inr (
+      i,
+      within,
+      counted_before erased i within counted,
+      record {
+        low = omega (arith, at.low, first);
+        high = omega (arith, at.high, first, count);
+      },
+    ))
 
 -- no such word belongs to a record
 pub no_record_word : {r : Record} {lines : ℕ} {base : Image} (n word : ℕ) → IsWhole r lines base → Matters r lines base word → IsRecordWord n word → ⊥

@@ -131,9 +131,11 @@ freed_partly r d entries image rest ended partly =
       erased = λ i listed zeroed not.
           absurd (both_ways (gone i) not
           (and_from (is_listed i entries) (image (entry_word i 0) == 0) listed (eq-eqb (image (entry_word i 0)) 0 zeroed)));
-    } in
-    (gone, λ i is. (and_parts (is_listed i entries) (image (entry_word i 0) == 0) is).0,
-    partly_keeps entries [] gone image rest (ended_erasing r d entries ended) partly are)
+    } in (
+      gone,
+      λ i is. (and_parts (is_listed i entries) (image (entry_word i 0) == 0) is).0,
+      partly_keeps entries [] gone image rest (ended_erasing r d entries ended) partly are,
+    )
 
 pub freed_moments : (r : Record) (d b : State) (entries : List EntryNo) → IsAtRest r d → AreEnded (contents_of r d) entries
     → LeavesOnly d b (IsPartlyStored (erase_pairs entries []) d.words) → LeavesOnly d b (KeepsWithoutSome entries (contents_of r d))
@@ -180,6 +182,7 @@ was_live contents entries new i id value same live =
   where
     none_some : {X : Type 0} {x : X} → None ≡ Some x → ⊥
     none_some e = cc
+
     some_left : (b : Bool) (v : Option Version) (w : Version) → cond b None v ≡ Some w → v ≡ Some w
     some_left true v w e = absurd (none_some e)
     some_left false v w e = e
@@ -204,10 +207,12 @@ freed_map old new entries ended same s map =
     λ i below. subst (λ (n : ℕ). i < entries_of_lines n) same.lines below in
     record {
       held = λ id value at.
-          let found = map.held id value at in
-          (found.0, within found.0 found.1,
-          now_live (after_free entries old).versions new.versions found.0 id value same.versions
-          (still_live old entries found.0 id value ended found.2));
+          let found = map.held id value at in (
+            found.0,
+            within found.0 found.1,
+            now_live (after_free entries old).versions new.versions found.0 id value same.versions
+                (still_live old entries found.0 id value ended found.2),
+          );
       found = λ i id value below live. map.found i id value (back i below) (was_live old entries new i id value same.versions live);
       once = λ i j id v w below_i below_j live_i live_j.
           map.once i j id v w (back i below_i) (back j below_j) (was_live old entries new i id v same.versions live_i)
