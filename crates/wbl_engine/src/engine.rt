@@ -164,13 +164,11 @@ impl<P: Pmem> Durable for WblEngine<P> {
             return Err(Refusal::Fault);
         }
         let freed = freed_by(alloc, &self.device, entries)?;
-        match erase_stamps(&mut self.device, entries, &[]) {
-            Ok(()) => Ok(freed),
-            Err(Fault) => {
-                self.faulted = true;
-                Err(Refusal::Fault)
-            }
-        }
+        let Ok(()) = erase_stamps(&mut self.device, entries, &[]) else {
+            self.faulted = true;
+            return Err(Refusal::Fault);
+        };
+        Ok(freed)
     }
 
     fn clear_gap(&mut self, alloc: Global) -> Result<Freed, Refusal> {
@@ -184,19 +182,15 @@ impl<P: Pmem> Durable for WblEngine<P> {
             return Err(Refusal::Exhausted);
         }
         let stamped = stamped_in(alloc, &self.device, oldest_gap(&self.current))?;
-        match clear_oldest(&mut self.device, &self.current, &stamped) {
-            Ok(next) => {
-                self.current = next;
-                Ok(Freed {
-                    entries: stamped.begins,
-                    extents: Vec::new(alloc),
-                })
-            }
-            Err(Fault) => {
-                self.faulted = true;
-                Err(Refusal::Fault)
-            }
-        }
+        let Ok(next) = clear_oldest(&mut self.device, &self.current, &stamped) else {
+            self.faulted = true;
+            return Err(Refusal::Fault);
+        };
+        self.current = next;
+        Ok(Freed {
+            entries: stamped.begins,
+            extents: Vec::new(alloc),
+        })
     }
 
     fn record(&self) -> &Record {

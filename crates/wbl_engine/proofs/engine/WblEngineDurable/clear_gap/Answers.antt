@@ -28,8 +28,8 @@ returns-in_err-stamped-clause-moments g c sound =
 pub clear_oldest-requires-clause-rest : goal.clear_oldest-requires-clause-rest
 clear_oldest-requires-clause-rest g c = c.args.self.now.at_rest c.if-self.false
 
-pub returns-in-Ok-clause-durable : goal.returns-in-Ok-clause-durable
-returns-in-Ok-clause-durable g c = rest_keeps c.in-Ok.next (g.P.Pmem.state c.clear_oldest.new.device) c.in-Ok.ensures.rest
+pub returns-clause-durable : goal.returns-clause-durable
+returns-clause-durable g c = rest_keeps c.in-Ok.next (g.P.Pmem.state c.clear_oldest.new.device) c.in-Ok.ensures.rest
 
 pub returns-then-has_no_gap-clause-none : goal.returns-then-has_no_gap-clause-none
 returns-then-has_no_gap-clause-none g c sound none =
