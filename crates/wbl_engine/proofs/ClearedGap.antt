@@ -1,23 +1,22 @@
 -- The oldest gap leaves a full record, once no stamp in it is left.
-use Rattle.std.proofs.Common.{◌≡◌, ℕ, zero, suc, ◌+◌, ◌*◌, ◌<◌, ◌≤◌, Bool, true, false, not, cond, ◌&&◌, ◌||◌, ◌==◌, IsTrue, ◌⊎◌, inl, inr, List, [], ◌∷◌, length, drop, take, get_or, refl, sym, ap, subst, ◌∙◌, arith}
+use Rattle.std.proofs.Common.{◌≡◌, ℕ, ◌<◌, Bool, true, false, not, cond, ◌&&◌, ◌||◌, IsTrue, inl, inr, List, [], ◌∷◌, length, drop, get_or, refl, sym, ap, subst, ◌∙◌, arith}
 use Rattle.std.specs.Prelude.{nat_lt, nat_le}
 use Rattle.std.specs.List.{list_any}
-use Rattle.std.proofs.lemmas.Bool.{cases_Bool, cond-true, cond-false, or_left, both_ways, leb-true, and_parts, and_right}
+use Rattle.std.proofs.lemmas.Bool.{cases_Bool, cond-true, cond-false, or_left, leb-true, and_parts, and_right}
 use Rattle.pmem.specs.Device.{State}
 use Rattle.pmem.specs.Crash.{image_of}
-use Rattle.pmem.specs.Runs.{LeavesOnly, written}
+use Rattle.pmem.specs.Runs.{LeavesOnly}
 use Rattle.pmem.proofs.Leaving.{LeavesOnly-then, LeavesOnly-weaken}
 use Rattle.model.specs.declared.record.Gap.{Gap}
 use Rattle.model.specs.declared.record.Record.{Record}
 use Rattle.model.specs.Image.{Image, entry_word, entries_of_lines, counts, is_in_gap}
 use Rattle.wbl_record.specs.Current.{AreGaps, IsLawful}
-use Rattle.wbl_record.specs.Record.{IsRecorded, IsSucceeded, IsEitherRecord}
 use Rattle.wbl_engine.specs.Freeing.{record_after_clearing}
 use Rattle.wbl_engine.specs.Lawful.{IsUndamaged}
 use Rattle.wbl_engine.specs.Erasing.{oldest_gap}
-use Rattle.wbl_engine.specs.Reopening.{AreCleared, IsReadable, StaysReadable}
+use Rattle.wbl_engine.specs.Reopening.{StaysReadable}
 use Rattle.wbl_engine.proofs.ClearedStamps.{IsUncounted}
-use Rattle.wbl_engine.proofs.ReadsAs.{ReadsAs, ReadsAs-then, versions_as}
+use Rattle.wbl_engine.proofs.ReadsAs.{ReadsAs, versions_as}
 use Rattle.wbl_engine.proofs.Readable.{IsLater, CountAlike}
 
 -- no stamp of the oldest gap counts
@@ -71,6 +70,7 @@ cleared_alike r lines base image lawful some erased i k within low =
   where
     gap : Gap
     gap = oldest_gap r
+
     outside : (stamp : ℕ) → is_in_gap (cond (is_in_gap stamp gap) 0 stamp) gap ≡ false
     outside stamp =
         elim (cases_Bool (is_in_gap stamp gap)) [

@@ -1,24 +1,18 @@
 -- What a reopening erases: the stamps of a gap that is left out of the next record.
-use Rattle.std.proofs.Common.{◌≡◌, ℕ, zero, suc, ◌+◌, ◌*◌, ◌/◌, ◌<◌, ◌≤◌, Bool, true, false, not, cond, ◌&&◌, ◌||◌, IsTrue, ◌⊎◌, inl, inr, List, [], ◌∷◌, ◌++◌, length, drop, take, refl, sym, ap, subst, ◌∙◌, arith}
-use Rattle.std.specs.Prelude.{nat_eq, nat_lt, nat_le}
-use Rattle.std.specs.List.{list_any}
-use Rattle.std.proofs.lemmas.Bool.{cases_Bool, cond-true, cond-false, or_cases, or_left, or_right, eqb-true, eq-eqb, both_ways, leb-true, and_parts, and_right}
-use Rattle.std.proofs.lemmas.List.Folds.{list_any-append}
-use Rattle.kv_types.specs.declared.place.EntryNo.{EntryNo}
-use Rattle.pmem.specs.Device.{State, MayBe, Only}
+use Rattle.std.proofs.Common.{◌≡◌, ℕ, zero, suc, ◌<◌, ◌≤◌, false, cond, IsTrue, ◌⊎◌, inl, inr, List, refl, sym, ap, subst, ◌∙◌, arith}
+use Rattle.std.proofs.lemmas.Bool.{cases_Bool, cond-true, cond-false, both_ways}
+use Rattle.pmem.specs.Device.{State, MayBe}
 use Rattle.pmem.specs.Crash.{IsImage, image_of}
-use Rattle.pmem.specs.Runs.{LeavesOnly, Staged, IsPartlyStored, IsStored, IsOutside, IsLine, written}
+use Rattle.pmem.specs.Runs.{LeavesOnly, Staged, IsPartlyStored, IsStored, written}
 use Rattle.pmem.proofs.Leaving.{LeavesOnly-weaken}
 use Rattle.pmem.proofs.Staging.{IsStored-append, IsStored-append_left, IsStored-append_right, stored_or_outside, written-outside, written-stored}
 use Rattle.model.specs.declared.record.Gap.{Gap}
 use Rattle.model.specs.declared.record.Record.{Record}
 use Rattle.model.specs.Layout.{first_word}
 use Rattle.model.specs.Image.{Image, HasRecord, root_word, entry_word, entries_of_lines, first_extent_line, counts, is_in_gap}
-use Rattle.wbl_record.specs.Current.{IsCurrent, IsLawful}
 use Rattle.wbl_record.proofs.Mixing.{IsMixed, mixed, image_of-is}
 use Rattle.wbl_record.proofs.RecordWords.{HasRecord-same}
-use Rattle.wbl_engine.specs.Erasing.{zero_pairs, erase_pairs, erase_lines, stamped_at, stamped_below}
-use Rattle.wbl_engine.specs.Freeing.{is_listed}
+use Rattle.wbl_engine.specs.Erasing.{zero_pairs, erase_pairs, erase_lines, stamped_below}
 use Rattle.wbl_engine.specs.Lawful.{IsUndamaged}
 use Rattle.wbl_engine.specs.Reopening.{IsBesideRecords, IsReadable, StaysReadable}
 use Rattle.wbl_engine.proofs.CountLemmas.{counts-zero}
@@ -214,8 +208,7 @@ erased_readable {r} {d} {b} gap readable uncounted staged =
           inr (subst (λ (x : ℕ). IsStored pairs word x) (sym (staged.newest word ∙ stored_zero word stored.0 stored.1)) stored.1)
       | inr out ↦ inl (staged.newest word ∙ written-outside pairs base word out)
     ]) in
-    let recorded : (image : Image) → IsImage b.words image → HasRecord r image = λ image is. partly_recorded gap image readable (partly image is) in
-    (
+    let recorded : (image : Image) → IsImage b.words image → HasRecord r image = λ image is. partly_recorded gap image readable (partly image is) in (
       record {
         many = omega (arith, readable.many, staged.stays.lines);
         few = omega (arith, readable.few, staged.stays.lines);
@@ -245,6 +238,7 @@ erased_readable {r} {d} {b} gap readable uncounted staged =
         written-stored (gap_pairs gap (image_of d.words) d.lines) (image_of d.words) word x stored
         (λ y other.
         (gap_store gap (image_of d.words) d.lines word y other).zero_is ∙ sym (gap_store gap (image_of d.words) d.lines word x stored).zero_is)
+
     partly : (image : Image) → IsImage b.words image → (word : ℕ)
         → MayBe (d.words word) (image word) ⊎ IsStored (gap_pairs gap (image_of d.words) d.lines) word (image word)
     partly image is word =

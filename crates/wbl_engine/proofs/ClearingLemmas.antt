@@ -1,25 +1,25 @@
 -- The oldest gap is cleared, at every crash.
-use Rattle.std.proofs.Common.{◌≡◌, ℕ, ◌+◌, ◌<◌, ◌≤◌, Bool, true, false, cond, ◌&&◌, ◌||◌, ◌==◌, IsTrue, List, [], ◌∷◌, ◌⊎◌, inl, inr, Option, None, Some, length, refl, sym, ap, subst, ◌∙◌, arith}
+use Rattle.std.proofs.Common.{◌≡◌, ℕ, ◌+◌, ◌<◌, Bool, false, cond, ◌&&◌, ◌||◌, ◌==◌, IsTrue, List, [], ◌∷◌, ◌⊎◌, inl, inr, Option, None, Some, length, refl, sym, ap, subst, ◌∙◌, arith}
 use Rattle.std.specs.Prelude.{nat_eq, nat_lt}
 use Rattle.std.proofs.lemmas.Bool.{cond-true, cond-false, cases_Bool, and_right, or_left, or_right, eq-eqb, lt-ltb, le-ltb, cases_lt, both_ways}
 use Rattle.kv_types.specs.declared.place.EntryNo.{EntryNo}
-use Rattle.pmem.specs.Device.{State, Only, MayBe}
+use Rattle.pmem.specs.Device.{State, MayBe}
 use Rattle.pmem.specs.Crash.{IsImage, image_of}
-use Rattle.pmem.specs.Runs.{LeavesOnly, Staged, StageFailed, IsPartlyStored, written}
+use Rattle.pmem.specs.Runs.{LeavesOnly, Staged, IsPartlyStored}
 use Rattle.pmem.proofs.Leaving.{LeavesOnly-then, LeavesOnly-weaken, none_leaves}
 use Rattle.model.specs.declared.record.Gap.{Gap}
 use Rattle.model.specs.declared.record.Record.{Record}
-use Rattle.model.specs.Image.{Image, HasRecord, Version, counts, entry_line, entry_word, entries_of_lines, is_in_gap, version_at, version_in}
+use Rattle.model.specs.Image.{Image, Version, counts, entry_line, entry_word, entries_of_lines, is_in_gap, version_at, version_in}
 use Rattle.model.specs.Group.{Contents}
 use Rattle.wbl_record.specs.Current.{IsLawful}
-use Rattle.wbl_record.specs.Record.{IsRecorded, IsRecordFault, IsRecordWord, IsSucceeded, IsEitherRecord}
-use Rattle.wbl_engine.specs.AtRest.{IsAtRest, Matters, contents_of}
+use Rattle.wbl_record.specs.Record.{IsRecorded, IsRecordWord, IsSucceeded, IsEitherRecord}
+use Rattle.wbl_engine.specs.AtRest.{IsAtRest, contents_of}
 use Rattle.wbl_engine.specs.Contents.{Keeps}
 use Rattle.wbl_engine.specs.Erasing.{erase_pairs, erase_lines, oldest_gap, stamped_below}
 use Rattle.wbl_engine.specs.Freeing.{Clears, KeepsVersions, cleared_contents, is_listed, record_after_clearing, without}
 use Rattle.wbl_engine.specs.Stage.{AreWithin}
 use Rattle.wbl_engine.proofs.Erased.{IsErased, erased_keeps, erased_rest, erased_version, no_record_word, version_within}
-use Rattle.wbl_engine.proofs.ErasedStamps.{AreErased, AreGone, IsErasing, directory_matters, erased_over, listed_begin, listed_end, made_free, made_over, partly_keeps, staged_certain, staged_recorded, unlisted_begin, unlisted_end}
+use Rattle.wbl_engine.proofs.ErasedStamps.{AreErased, AreGone, IsErasing, erased_over, listed_begin, listed_end, made_free, made_over, partly_keeps, staged_certain, staged_recorded, unlisted_begin, unlisted_end}
 use Rattle.wbl_engine.proofs.GapLemmas.{IsOldest, in_oldest, inside_not_free, not_in_oldest, oldest, stamped_listed, stamped_where, zero_outside}
 
 -- no version is gone
@@ -168,10 +168,11 @@ begun_in_gap : {r : Record} {d : State} {gap : Gap} {begins ends : List EntryNo}
     → ((contents_of r d).is_free i ≡ false) × ((contents_of r d).versions i ≡ None)
 begun_in_gap {r} {d} {gap} {begins} {ends} clearing i listed =
     let begin : ℕ = image_of d.words (entry_word i 0) in
-    let at = begins_where clearing i listed in
-    (and_right (nat_lt i (entries_of_lines d.lines)) (begin == 0 || nat_lt r.cp begin) (inside_not_free r gap begin clearing.first at.1),
-    version_within r d i at.0
-    ∙ cond-false (counts r begin) (Some (version_in r (image_of d.words) i)) None (in_oldest r gap begin clearing.first at.1))
+    let at = begins_where clearing i listed in (
+      and_right (nat_lt i (entries_of_lines d.lines)) (begin == 0 || nat_lt r.cp begin) (inside_not_free r gap begin clearing.first at.1),
+      version_within r d i at.0
+          ∙ cond-false (counts r begin) (Some (version_in r (image_of d.words) i)) None (in_oldest r gap begin clearing.first at.1),
+    )
 
 pub clears : {r : Record} {d : State} {gap : Gap} {begins ends : List EntryNo} (c : State) → IsClearing r d gap begins ends → c.lines ≡ d.lines
     → AreErased r d begins ends (image_of c.words) → Clears (contents_of r d) begins (contents_of (record_after_clearing r) c)

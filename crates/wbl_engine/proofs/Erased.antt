@@ -1,5 +1,5 @@
 -- What is left of an image where stamps were erased, or where another record counts them.
-use Rattle.std.proofs.Common.{◌≡◌, ℕ, ◌+◌, ◌*◌, ◌/◌, ◌%◌, ◌<◌, ◌≤◌, Bool, true, false, cond, IsTrue, ◌⊎◌, inl, inr, Option, None, Some, refl, sym, ap, subst, ◌∙◌, arith}
+use Rattle.std.proofs.Common.{◌≡◌, ℕ, ◌+◌, ◌*◌, ◌/◌, ◌<◌, ◌≤◌, Bool, true, false, cond, IsTrue, ◌⊎◌, inl, inr, Option, None, Some, sym, ap, subst, ◌∙◌, arith}
 use Rattle.std.specs.Prelude.{nat_lt}
 use Rattle.std.proofs.lemmas.Bool.{cond-true, cond-false, cases_Bool, both_ways, lt-ltb}
 use Rattle.pmem.specs.Device.{State, Only}
@@ -167,10 +167,15 @@ erased_matters {r} {q} {lines} {gone} {base} {image} erased word (inr (inl direc
 erased_matters {r} {q} {lines} {gone} {base} {image} erased word (inr (inr (i, within, counted, at))) =
     let first = erased.words i 3 within (omega arith) (omega arith) in
     let count = erased.words i 4 within (omega arith) (omega arith) in
-    inr (inr (i, within, counted_before erased i within counted, record {
-      low = omega (arith, at.low, first);
-      high = omega (arith, at.high, first, count);
-    }))
+    inr (inr (
+      i,
+      within,
+      counted_before erased i within counted,
+      record {
+        low = omega (arith, at.low, first);
+        high = omega (arith, at.high, first, count);
+      },
+    ))
 
 -- no such word belongs to a record
 pub no_record_word : {r : Record} {lines : ℕ} {base : Image} (n word : ℕ) → IsWhole r lines base → Matters r lines base word → IsRecordWord n word → ⊥

@@ -1,5 +1,5 @@
 -- The stamps of the oldest gap are erased, and then the record is written without it.
-use Rattle.std.proofs.Common.{◌≡◌, ℕ, zero, suc, ◌+◌, ◌*◌, ◌/◌, ◌<◌, ◌≤◌, Bool, true, false, cond, IsTrue, ◌⊎◌, inl, inr, List, length, refl, sym, ap, subst, ◌∙◌, arith}
+use Rattle.std.proofs.Common.{◌≡◌, ℕ, ◌<◌, Bool, false, IsTrue, inl, inr, List, length, refl, sym, ap, subst, ◌∙◌, arith}
 use Rattle.std.proofs.lemmas.Bool.{cases_Bool, cond-true, cond-false}
 use Rattle.kv_types.specs.declared.place.EntryNo.{EntryNo}
 use Rattle.pmem.specs.Device.{State}
@@ -7,9 +7,7 @@ use Rattle.pmem.specs.Crash.{image_of}
 use Rattle.pmem.specs.Runs.{LeavesOnly, Staged, IsPartlyStored}
 use Rattle.model.specs.declared.record.Gap.{Gap}
 use Rattle.model.specs.declared.record.Record.{Record}
-use Rattle.model.specs.declared.layout.TheConstants.{LAYOUT}
-use Rattle.model.specs.Layout.{first_word}
-use Rattle.model.specs.Image.{Image, entry_word, entries_of_lines, first_extent_line, root_word, counts, is_in_gap}
+use Rattle.model.specs.Image.{Image, entry_word, entries_of_lines, counts, is_in_gap}
 use Rattle.wbl_record.specs.Current.{IsLawful}
 use Rattle.wbl_record.specs.Record.{IsRecorded, IsSucceeded, IsEitherRecord}
 use Rattle.wbl_engine.specs.Erasing.{erase_pairs, erase_lines, stamped_below, oldest_gap}
@@ -23,7 +21,7 @@ use Rattle.wbl_engine.proofs.ClearedStamps.{gap_pairs, erased_readable, erased_s
 use Rattle.wbl_engine.proofs.ClearingLemmas.{within_from}
 use Rattle.wbl_engine.proofs.GapLemmas.{stamped_where}
 use Rattle.wbl_engine.proofs.ReadsAs.{ReadsAs}
-use Rattle.wbl_engine.proofs.Readable.{IsLater, CountAlike, stamp_below, beside_record, recorded_as, recorded_readable, either_stays}
+use Rattle.wbl_engine.proofs.Readable.{CountAlike, stamp_below, beside_record, recorded_as, recorded_readable, either_stays}
 
 -- the entries with a begin, or an end, in the oldest gap
 pub record AreStamped (r : Record) (d : State) (begins ends : List EntryNo) : Type 0 where

@@ -1,24 +1,23 @@
 -- What erasing stamps leaves: of what loads return, and at each crash.
-use Rattle.std.proofs.Common.{◌≡◌, ℕ, ◌+◌, ◌*◌, ◌/◌, ◌<◌, ◌≤◌, Bool, true, false, cond, ◌&&◌, ◌||◌, ◌==◌, IsTrue, List, [], ◌∷◌, ◌++◌, ◌⊎◌, inl, inr, Option, None, refl, sym, ap, subst, ◌∙◌, arith}
+use Rattle.std.proofs.Common.{◌≡◌, ℕ, ◌+◌, ◌*◌, ◌/◌, ◌<◌, ◌≤◌, Bool, true, false, ◌&&◌, ◌||◌, ◌==◌, IsTrue, List, [], ◌∷◌, ◌++◌, ◌⊎◌, inl, inr, refl, sym, ap, subst, ◌∙◌, arith}
 use Rattle.std.specs.Prelude.{nat_eq, nat_lt}
-use Rattle.std.proofs.lemmas.Bool.{cond-true, cond-false, cases_Bool, or_cases, or_left, or_right, or_from, eqb-true, eq-eqb, lt-ltb, ltb-true, both_ways}
+use Rattle.std.proofs.lemmas.Bool.{cases_Bool, or_cases, or_left, or_right, eqb-true, eq-eqb, lt-ltb, ltb-true, both_ways}
 use Rattle.kv_types.specs.declared.place.EntryNo.{EntryNo}
-use Rattle.pmem.specs.Device.{State, Only, MayBe}
+use Rattle.pmem.specs.Device.{State, Only}
 use Rattle.pmem.specs.Crash.{IsImage, image_of}
-use Rattle.pmem.specs.Runs.{LeavesOnly, Staged, IsStored, IsOutside, IsPartlyStored, IsLine, written}
+use Rattle.pmem.specs.Runs.{Staged, IsStored, IsPartlyStored, IsLine, written}
 use Rattle.pmem.proofs.Staging.{IsStored-append, IsStored-append_left, IsStored-append_right, written-cases, written-outside, written-stored, stored_or_outside}
 use Rattle.model.specs.declared.record.Record.{Record}
 use Rattle.model.specs.Image.{Image, HasRecord, root_word, entry_word, entries_of_lines, counts}
-use Rattle.wbl_record.specs.Record.{IsRecordWord}
 use Rattle.wbl_record.proofs.Mixing.{IsMixed, mixed}
 use Rattle.wbl_record.proofs.RecordWords.{HasRecord-same}
-use Rattle.wbl_engine.specs.AtRest.{IsAtRest, IsInExtent, IsWhole, Matters, contents_of}
+use Rattle.wbl_engine.specs.AtRest.{IsAtRest, IsWhole, Matters, contents_of}
 use Rattle.wbl_engine.specs.Contents.{Keeps}
 use Rattle.wbl_engine.specs.Erasing.{zero_pairs, erase_pairs, erase_lines}
 use Rattle.wbl_engine.specs.Freeing.{is_listed, without}
 use Rattle.wbl_engine.specs.Stage.{end_lines}
 use Rattle.wbl_engine.proofs.CountLemmas.{counts-zero}
-use Rattle.wbl_engine.proofs.Erased.{IsErased, erased_keeps, erased_rest, no_record_word}
+use Rattle.wbl_engine.proofs.Erased.{IsErased, erased_keeps, erased_rest}
 
 -- ---- what is stored
 

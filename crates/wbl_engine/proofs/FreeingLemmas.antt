@@ -1,23 +1,21 @@
 -- Versions that have ended are freed.
-use Rattle.std.proofs.Common.{◌≡◌, ◌≢◌, ℕ, ◌+◌, ◌<◌, ◌≤◌, Bool, true, false, cond, ◌&&◌, ◌||◌, ◌==◌, IsTrue, List, [], ◌∷◌, ◌++◌, ◌⊎◌, inl, inr, Option, None, Some, map, refl, sym, ap, subst, ◌∙◌, arith}
+use Rattle.std.proofs.Common.{◌≡◌, ℕ, ◌<◌, Bool, true, false, cond, ◌&&◌, ◌||◌, ◌==◌, IsTrue, List, [], ◌∷◌, ◌++◌, inl, inr, Option, None, Some, map, refl, sym, ap, subst, ◌∙◌, arith}
 use Rattle.std.specs.Prelude.{nat_eq, nat_lt}
-use Rattle.std.specs.List.{flat_map}
-use Rattle.std.proofs.lemmas.Bool.{cond-true, cond-false, cases_Bool, or_cases, and_parts, and_from, and_right, eqb-true, eq-eqb, lt-ltb, le-ltb, cases_lt, both_ways}
-use Rattle.kv_types.specs.Keyspace.{Keyspace, value_at}
+use Rattle.std.proofs.lemmas.Bool.{cond-true, cond-false, cases_Bool, or_cases, and_parts, and_from, eqb-true, eq-eqb, lt-ltb, le-ltb, cases_lt, both_ways}
 use Rattle.kv_types.specs.declared.place.EntryNo.{EntryNo}
 use Rattle.kv_types.specs.declared.place.Extent.{Extent}
 use Rattle.kv_types.specs.declared.record_id.RecordId.{RecordId}
 use Rattle.pmem.specs.Device.{State}
-use Rattle.pmem.specs.Crash.{IsImage, image_of}
+use Rattle.pmem.specs.Crash.{image_of}
 use Rattle.pmem.specs.Runs.{LeavesOnly, Staged, IsPartlyStored, written}
 use Rattle.pmem.proofs.Leaving.{LeavesOnly-weaken, none_leaves}
 use Rattle.model.specs.declared.record.Record.{Record}
-use Rattle.model.specs.Image.{Image, IsLive, IsMapOf, Version, entry_word, entries_of_lines, counts, version_at, version_in}
+use Rattle.model.specs.Image.{Image, IsLive, Version, entry_word, entries_of_lines, counts, version_at, version_in}
 use Rattle.model.specs.Group.{Contents, Versions, is_ended_version}
 use Rattle.wbl_engine.specs.AtRest.{IsAtRest, contents_of}
-use Rattle.wbl_engine.specs.Contents.{Keeps, Same}
+use Rattle.wbl_engine.specs.Contents.{Same}
 use Rattle.wbl_engine.specs.Erasing.{erase_pairs, erase_lines, extent_in}
-use Rattle.wbl_engine.specs.Freeing.{AreEnded, KeepsMap, KeepsWithoutSome, after_free, extent_of, extents_of, is_listed, without}
+use Rattle.wbl_engine.specs.Freeing.{AreEnded, KeepsMap, KeepsWithoutSome, after_free, extent_of, extents_of, is_listed}
 use Rattle.wbl_engine.specs.Stage.{AreWithin}
 use Rattle.wbl_engine.proofs.Erased.{IsErased, erased_version, version_within}
 use Rattle.wbl_engine.proofs.ErasedStamps.{AreErased, AreGone, IsErasing, erased_over, listed_begin, made_free, made_over, partly_keeps, staged_rest}
@@ -133,9 +131,11 @@ freed_partly r d entries image rest ended partly =
       erased = λ i listed zeroed not.
           absurd (both_ways (gone i) not
           (and_from (is_listed i entries) (image (entry_word i 0) == 0) listed (eq-eqb (image (entry_word i 0)) 0 zeroed)));
-    } in
-    (gone, λ i is. (and_parts (is_listed i entries) (image (entry_word i 0) == 0) is).0,
-    partly_keeps entries [] gone image rest (ended_erasing r d entries ended) partly are)
+    } in (
+      gone,
+      λ i is. (and_parts (is_listed i entries) (image (entry_word i 0) == 0) is).0,
+      partly_keeps entries [] gone image rest (ended_erasing r d entries ended) partly are,
+    )
 
 pub freed_moments : (r : Record) (d b : State) (entries : List EntryNo) → IsAtRest r d → AreEnded (contents_of r d) entries
     → LeavesOnly d b (IsPartlyStored (erase_pairs entries []) d.words) → LeavesOnly d b (KeepsWithoutSome entries (contents_of r d))
@@ -182,6 +182,7 @@ was_live contents entries new i id value same live =
   where
     none_some : {X : Type 0} {x : X} → None ≡ Some x → ⊥
     none_some e = cc
+
     some_left : (b : Bool) (v : Option Version) (w : Version) → cond b None v ≡ Some w → v ≡ Some w
     some_left true v w e = absurd (none_some e)
     some_left false v w e = e
@@ -206,10 +207,12 @@ freed_map old new entries ended same s map =
     λ i below. subst (λ (n : ℕ). i < entries_of_lines n) same.lines below in
     record {
       held = λ id value at.
-          let found = map.held id value at in
-          (found.0, within found.0 found.1,
-          now_live (after_free entries old).versions new.versions found.0 id value same.versions
-          (still_live old entries found.0 id value ended found.2));
+          let found = map.held id value at in (
+            found.0,
+            within found.0 found.1,
+            now_live (after_free entries old).versions new.versions found.0 id value same.versions
+                (still_live old entries found.0 id value ended found.2),
+          );
       found = λ i id value below live. map.found i id value (back i below) (was_live old entries new i id value same.versions live);
       once = λ i j id v w below_i below_j live_i live_j.
           map.once i j id v w (back i below_i) (back j below_j) (was_live old entries new i id v same.versions live_i)

@@ -1,7 +1,6 @@
 -- The entries that a reopening leaves neither free nor with a version.
-use Rattle.std.proofs.Common.{◌≡◌, ℕ, zero, suc, ◌+◌, ◌<◌, Bool, true, false, not, cond, ◌&&◌, ◌||◌, ◌==◌, IsTrue, ◌⊎◌, inl, inr, Option, Some, None, List, [], ◌∷◌, ◌++◌, length, refl, sym, ap, ◌∙◌, arith}
-use Rattle.std.specs.Prelude.{nat_eq, nat_lt, is_none}
-use Rattle.std.specs.List.{list_any}
+use Rattle.std.proofs.Common.{◌≡◌, ℕ, zero, suc, ◌+◌, Bool, true, false, not, cond, ◌&&◌, ◌||◌, ◌==◌, inl, inr, List, [], ◌∷◌, ◌++◌, refl, sym, ap, ◌∙◌, arith}
+use Rattle.std.specs.Prelude.{nat_eq, nat_lt}
 use Rattle.std.proofs.lemmas.Bool.{cases_eq, cases_lt, eq-eqb, ne_eqb, lt-ltb, le-ltb}
 use Rattle.std.proofs.lemmas.List.Folds.{list_any-append}
 use Rattle.kv_types.specs.declared.place.EntryNo.{EntryNo}
@@ -9,7 +8,7 @@ use Rattle.heap_layout.specs.Versions.{gapped_below, is_gapped}
 use Rattle.model.specs.declared.record.Record.{Record}
 use Rattle.model.specs.Image.{Image, entry_word, counts}
 use Rattle.wbl_engine.specs.Freeing.{is_listed}
-use Rattle.wbl_engine.specs.Reopening.{is_cleared, is_full, is_left, left_at, left_below}
+use Rattle.wbl_engine.specs.Reopening.{is_full, is_left, left_at, left_below}
 
 all_three : (a b f x : Bool) → f ≡ false → (a && b) ≡ (a && (b && not (f && x)))
 all_three true true false x e = refl
@@ -59,10 +58,12 @@ listed_left r image (suc n) i =
   where
     last : (a b c x y : Bool) → a ≡ false → b ≡ true → c ≡ true → x ≡ y → ((a && x) || (b && y)) ≡ (c && x)
     last a b c x y ea eb ec e = cc
+
     before : (a b c x y : Bool) → b ≡ false → c ≡ a → ((a && x) || (b && y)) ≡ (c && x)
     before true b c true y eb ec = cc
     before true b c false y eb ec = cc
     before false b c x y eb ec = cc
+
     lower : (i n : ℕ) → (i ≡ n → ⊥) → nat_lt i (suc n) ≡ nat_lt i n
     lower i n other =
         elim (cases_lt i n) [

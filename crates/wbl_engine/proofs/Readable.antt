@@ -1,26 +1,23 @@
 -- Images that stay readable while a record is written.
-use Rattle.std.proofs.Common.{◌≡◌, ℕ, zero, suc, ◌+◌, ◌*◌, ◌<◌, ◌≤◌, ◌⊎◌, inl, inr, Some, None, IsTrue, cond, refl, sym, ap, subst, ◌∙◌, arith}
+use Rattle.std.proofs.Common.{◌≡◌, ℕ, zero, suc, ◌<◌, ◌≤◌, inl, inr, refl, sym, ap, subst, ◌∙◌, arith}
 use Rattle.std.specs.Prelude.{nat_lt}
 use Rattle.std.proofs.lemmas.Bool.{cond-true, lt-ltb}
 use Rattle.pmem.specs.Device.{State, MayBe, Only}
 use Rattle.pmem.specs.Crash.{IsImage, image_of}
 use Rattle.pmem.specs.Runs.{LeavesOnly}
 use Rattle.pmem.proofs.Leaving.{LeavesOnly-weaken, none_leaves}
-use Rattle.heap_layout.specs.Versions.{AreVersions}
 use Rattle.model.specs.declared.image.TheConstants.{MIN_LINES, MAX_LINES}
-use Rattle.model.specs.declared.layout.TheConstants.{LAYOUT}
 use Rattle.model.specs.declared.record.Record.{Record}
-use Rattle.model.specs.Layout.{first_word}
-use Rattle.model.specs.Image.{Image, HasRecord, root_word, entry_word, entries_of_lines, counts, version_at}
+use Rattle.model.specs.Image.{Image, root_word, entry_word, entries_of_lines, counts}
 use Rattle.wbl_record.specs.Current.{IsCurrent, IsLawful}
 use Rattle.wbl_record.specs.Record.{IsRecordWord, IsRecorded, IsEitherRecord}
 use Rattle.wbl_record.proofs.Mixing.{image_of-is}
 use Rattle.wbl_record.proofs.RecordWords.{HasRecord-same}
 use Rattle.wbl_engine.specs.AtRest.{IsAtRest, Matters, contents_of}
-use Rattle.wbl_engine.specs.Contents.{Keeps, IsDurable}
+use Rattle.wbl_engine.specs.Contents.{IsDurable}
 use Rattle.wbl_engine.specs.Lawful.{IsUndamaged}
 use Rattle.wbl_engine.specs.Reopening.{IsBesideRecords, IsReadable, StaysReadable}
-use Rattle.wbl_engine.proofs.ReadsAs.{ReadsAs, ReadsAs-then, versions_as, undamaged_as}
+use Rattle.wbl_engine.proofs.ReadsAs.{ReadsAs, versions_as, undamaged_as}
 
 -- both stamps of an entry were given out
 pub stamp_below : {lines : ℕ} {r : Record} {image : Image} → IsUndamaged lines r image → (i k : ℕ) → i < entries_of_lines lines → k < 2

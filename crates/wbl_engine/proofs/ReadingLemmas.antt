@@ -1,5 +1,5 @@
 -- Why an image is not read.
-use Rattle.std.proofs.Common.{◌≡◌, ℕ, Bool, true, false, not, cond, ◌==◌, ◌⊎◌, inl, inr, Option, Some, None, Result, Err, ap, subst, ◌∙◌}
+use Rattle.std.proofs.Common.{◌≡◌, ℕ, Bool, true, false, not, cond, ◌==◌, ◌⊎◌, inl, inr, Some, None, Result, Err, ap, subst, ◌∙◌}
 use Rattle.kv_types.specs.declared.refusal.Refusal.{Refusal}
 use Rattle.kv_types.specs.declared.refusal.Refusal.TheVariants.{BadMagic, BadVersion, Damaged, Fault, Memory, WrongSize}
 use Rattle.heap_layout.specs.Superblock.{is_wrong_size, super_refusal}

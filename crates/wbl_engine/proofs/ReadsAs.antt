@@ -1,16 +1,14 @@
 -- Images that have the same versions, each under its own record.
-use Rattle.std.proofs.Common.{◌≡◌, ◌≢◌, ℕ, ◌+◌, ◌*◌, ◌/◌, ◌%◌, ◌<◌, ◌≤◌, Bool, true, false, not, cond, ◌&&◌, IsTrue, ◌⊎◌, inl, inr, Some, None, List, drop, refl, sym, ap, subst, ◌∙◌, arith}
+use Rattle.std.proofs.Common.{◌≡◌, ℕ, ◌+◌, ◌*◌, ◌/◌, ◌<◌, ◌≤◌, Bool, true, false, not, ◌&&◌, IsTrue, ◌⊎◌, inl, inr, Some, refl, sym, ap, ◌∙◌, arith}
 use Rattle.std.proofs.lemmas.Bool.{cases_Bool, cond-true, cond-false}
 use Rattle.heap_layout.specs.declared.entry.TheConstants.{STRING_KIND, FIELD_KIND}
 use Rattle.heap_layout.specs.Entry.{IsEntry}
-use Rattle.heap_layout.specs.Version.{IsUnder}
-use Rattle.heap_layout.specs.Versions.{AreVersions, LieApart, is_counted, is_live}
-use Rattle.heap_layout.proofs.ReadBack.{lines_enough}
+use Rattle.heap_layout.specs.Versions.{is_counted, is_live}
 use Rattle.heap_layout.proofs.SameWords.{bytes_at-same}
 use Rattle.model.specs.Layout.{first_word}
 use Rattle.model.specs.declared.record.Record.{Record}
 use Rattle.model.specs.Group.{AreApart}
-use Rattle.model.specs.Image.{Image, HasSuperblock, root_word, entry_word, entry_bytes, field_bytes, bytes_at, lines_of_bytes, entries_of_lines, first_extent_line, counts, version_in, version_at}
+use Rattle.model.specs.Image.{Image, root_word, entry_word, entry_bytes, field_bytes, bytes_at, lines_of_bytes, entries_of_lines, first_extent_line, counts, version_in, version_at}
 use Rattle.model.specs.ReadImage.{is_clash, record_in}
 use Rattle.wbl_record.specs.Current.{IsCurrent}
 use Rattle.wbl_engine.specs.Lawful.{IsUndamaged}
@@ -157,19 +155,23 @@ undamaged_as {lines} {r} {s} {image} {image'} whole reads current =
   where
     was : (i k : ℕ) → i < entries_of_lines lines → k < 2 → IsTrue (counts s (image' (entry_word i k))) → IsTrue (counts r (image (entry_word i k)))
     was i k within low begun = sym (reads.stamps i k within low) ∙ begun
+
     was_live : (i : ℕ) → i < entries_of_lines lines → IsTrue (is_live s image' i) → IsTrue (is_live r image i)
     was_live i within live =
         let begin = reads.stamps i 0 within (omega arith) in
         let end = reads.stamps i 1 within (omega arith) in
         let same : is_live s image' i ≡ is_live r image i = cc in
         sym same ∙ live
+
     begun_of : (a b : Bool) → IsTrue (a && b) → IsTrue a
     begun_of true b e = refl
     begun_of false b e = e
+
     record_as : (i : ℕ) → i < entries_of_lines lines → IsTrue (is_live r image i) → record_in image' i ≡ record_in image i
     record_as i within live =
         record_same image image' i
         (same_entry reads i within ((whole.versions.entries i within).whole (begun_of (is_counted r image i) (not (counts r (image (entry_word i 1)))) live)))
+
     lines_apart : (a b c d a' b' c' d' : ℕ) → a' ≡ a → b' ≡ b → c' ≡ c → d' ≡ d → AreApart a b c d → AreApart a' b' c' d'
     lines_apart a b c d a' b' c' d' ea eb ec ed (inl before) = inl (omega (arith, before, ea, eb, ec, ed))
     lines_apart a b c d a' b' c' d' ea eb ec ed (inr after) = inr (omega (arith, after, ea, eb, ec, ed))

@@ -1,26 +1,25 @@
 -- What an engine holds once its image is reopened.
-use Rattle.std.proofs.Common.{◌≡◌, ℕ, ◌+◌, ◌*◌, ◌/◌, ◌<◌, ◌≤◌, Bool, true, false, not, cond, ◌&&◌, ◌||◌, ◌==◌, IsTrue, ◌⊎◌, inl, inr, Option, Some, None, List, refl, sym, ap, subst, ◌∙◌, arith}
+use Rattle.std.proofs.Common.{◌≡◌, ℕ, ◌<◌, ◌≤◌, Bool, true, false, not, cond, ◌&&◌, ◌||◌, ◌==◌, inl, inr, Option, Some, None, List, refl, sym, ap, subst, ◌∙◌, arith}
 use Rattle.std.specs.Prelude.{nat_lt, is_none}
-use Rattle.std.proofs.lemmas.Bool.{cases_Bool, cond-true, cond-false, ltb-true, le-ltb}
+use Rattle.std.proofs.lemmas.Bool.{cases_Bool, cond-false, ltb-true, le-ltb}
 use Rattle.kv_types.specs.declared.place.EntryNo.{EntryNo}
 use Rattle.heap_layout.specs.declared.entry.Entry.{Entry}
 use Rattle.heap_layout.specs.Versions.{counted_below}
 use Rattle.pmem.specs.Device.{State}
 use Rattle.pmem.specs.Crash.{image_of}
-use Rattle.pmem.specs.Runs.{LeavesOnly}
 use Rattle.model.specs.declared.record.Record.{Record}
 use Rattle.model.specs.declared.record.Role.{Role}
-use Rattle.model.specs.Image.{Image, Version, entry_word, entries_of_lines, counts, version_at, version_in}
+use Rattle.model.specs.Image.{Version, entry_word, entries_of_lines, counts, version_at, version_in}
 use Rattle.wbl_engine.specs.AtRest.{IsAtRest, contents_of}
 use Rattle.wbl_engine.specs.Contents.{IsDurable}
 use Rattle.wbl_engine.specs.Freeing.{is_listed}
 use Rattle.wbl_engine.specs.Lawful.{IsUndamaged}
-use Rattle.wbl_engine.specs.Reopening.{AreCleared, IsReadable, Reopens, StaysReadable, is_cleared, is_left, left_below, reopened, with_open_gap, with_room}
+use Rattle.wbl_engine.specs.Reopening.{AreCleared, IsReadable, Reopens, is_cleared, left_below, reopened, with_room}
 use Rattle.wbl_engine.proofs.LeftEntries.{listed_left}
 use Rattle.wbl_engine.proofs.ReadsAs.{ReadsAs, versions_as}
 use Rattle.wbl_engine.proofs.Readable.{readable_rest, readable_durable}
 use Rattle.wbl_engine.proofs.Reopened.{counts-open}
-use Rattle.wbl_engine.proofs.RoomLemmas.{room_cases, room_reads}
+use Rattle.wbl_engine.proofs.RoomLemmas.{room_reads}
 
 -- the record was written over an undamaged image
 pub record IsReopenedOver (r : Record) (d c : State) : Type 0 where

@@ -1,22 +1,18 @@
 -- A record with room for one more gap, and what is read under it.
-use Rattle.std.proofs.Common.{◌≡◌, ℕ, zero, suc, ◌+◌, ◌-◌, ◌*◌, ◌/◌, ◌<◌, ◌≤◌, Bool, true, false, not, cond, ◌&&◌, ◌||◌, ◌==◌, IsTrue, ◌⊎◌, inl, inr, Option, Some, None, List, [], ◌∷◌, ◌++◌, length, drop, refl, sym, ap, subst, ◌∙◌, arith}
-use Rattle.std.specs.Prelude.{nat_eq, nat_lt, is_none}
+use Rattle.std.proofs.Common.{◌≡◌, ℕ, ◌+◌, ◌<◌, ◌≤◌, Bool, true, false, not, cond, ◌&&◌, ◌==◌, IsTrue, ◌⊎◌, inl, inr, length, drop, refl, sym, ap, subst, ◌∙◌, arith}
 use Rattle.std.proofs.lemmas.Bool.{cases_Bool, cases_lt, cond-true, cond-false, both_ways, eqb-true, eqb-false}
 use Rattle.std.proofs.lemmas.List.{length-drop}
-use Rattle.pmem.specs.Device.{State}
-use Rattle.pmem.specs.Crash.{image_of}
-use Rattle.pmem.specs.Runs.{LeavesOnly}
 use Rattle.model.specs.declared.image.TheConstants.{COUNTER_LIMIT, STAMP_WINDOW}
 use Rattle.model.specs.declared.record.Record.{Record}
 use Rattle.model.specs.declared.record.TheConstants.{MAX_GAPS}
-use Rattle.model.specs.Image.{Image, entry_word, entries_of_lines, counts, is_in_gap}
+use Rattle.model.specs.Image.{Image, entry_word, counts, is_in_gap}
 use Rattle.wbl_record.specs.Current.{IsLawful}
 use Rattle.wbl_engine.specs.Freeing.{record_after_clearing}
 use Rattle.wbl_engine.specs.Lawful.{IsUndamaged}
 use Rattle.wbl_engine.specs.Erasing.{oldest_gap}
-use Rattle.wbl_engine.specs.Reopening.{AreCleared, ExhaustsReopening, IsBesideRecords, IsReadable, StaysReadable, is_cleared, is_full, reopened, with_open_gap, with_room}
-use Rattle.wbl_engine.proofs.ClearedGap.{cleared_alike, moments_then, oldest_uncounted}
-use Rattle.wbl_engine.proofs.ErasedGap.{cleared_beside, cleared_reads}
+use Rattle.wbl_engine.specs.Reopening.{AreCleared, ExhaustsReopening, is_cleared, is_full, with_room}
+use Rattle.wbl_engine.proofs.ClearedGap.{cleared_alike, oldest_uncounted}
+use Rattle.wbl_engine.proofs.ErasedGap.{cleared_reads}
 use Rattle.wbl_engine.proofs.ReadsAs.{ReadsAs}
 
 -- the record is full and loses its oldest gap, or it stays
@@ -62,6 +58,7 @@ has_limits r lawful limits =
   where
     below : (a b : ℕ) → (b ≤ a → ⊥) → a < b
     below a b not = elim (cases_lt a b) [ inl less ↦ less | inr reached ↦ absurd (not reached) ]
+
     fewer : (n : ℕ) → n ≤ MAX_GAPS → (n == MAX_GAPS) ≡ false → n < MAX_GAPS
     fewer n le other = elim (cases_lt n MAX_GAPS) [ inl less ↦ less | inr reached ↦ absurd (eqb-false n MAX_GAPS other (omega (arith, le, reached))) ]
 

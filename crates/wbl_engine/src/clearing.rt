@@ -47,7 +47,11 @@ pub fn stamped_in<P: Pmem>(alloc: Global, device: &P, gap: Gap) -> Result<Stampe
 }
 
 /// Adds an entry to a list, if it is to be there.
-pub(crate) fn push_if(list: &mut Vec<EntryNo>, entry: EntryNo, listed: bool) -> Result<(), AllocError>
+pub(crate) fn push_if(
+    list: &mut Vec<EntryNo>,
+    entry: EntryNo,
+    listed: bool,
+) -> Result<(), AllocError>
     ensures { OnOk result (list.new.items ≡ list.old.items ++ (if listed then entry ∷ [] else [])) }
 {
     if listed {

@@ -50,7 +50,7 @@ pub trait Durable {
     /// Frees entries whose versions have ended: erases the begin of each. `Fault` if a fence failed, in this call or an earlier one; `Memory`
     /// if an allocation was refused, with nothing changed.
     ///
-    /// At any moment a crash leaves the contents without some of these versions, perhaps none and perhaps all; and so does a fault.
+    /// At any moment a crash leaves the contents without some of these versions, perhaps none and perhaps all.
     fn free(&mut self, alloc: Global, entries: &[EntryNo]) -> Result<Freed, Refusal>
         requires { AreEnded (contents self.old) entries.now }
         ensures entries { IfOk result (λ freed. freed.entries.items ≡ entries.now) }
@@ -62,7 +62,7 @@ pub trait Durable {
         ensures causes { IfErr result (λ refusal. (refusal ≡ Refusal.Fault) ⊎ (refusal ≡ Refusal.Memory)) }
         ensures fault { IsErrOf result Refusal.Fault → (is_faulted self.old ≡ true) ⊎ ((device self.old).failures < (device self.new).failures) }
         ensures stopped { IsErrOf result Refusal.Fault → is_faulted self.new ≡ true }
-        // a fence that failed loses nothing that loads return
+        // as loads return it
         ensures stays { IsErrOf result Refusal.Fault → is_faulted self.old ≡ false
             → Same (after_free entries.now (contents self.old)) (contents self.new) }
         ensures memory { IsErrOf result Refusal.Memory → self.new ≡ self.old }

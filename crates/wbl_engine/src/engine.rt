@@ -90,7 +90,11 @@ impl<P: Pmem> WblEngine<P> {
     /// `WrongSize`, `BadMagic`, `BadVersion` or `Damaged` by the rules of the format; `WrongRole` where the image is of the other role;
     /// `Exhausted` where a counter would reach 2^62; `Memory` if an allocation was refused: nothing is changed. `Fault` if a fence failed.
     /// Each hands the device back.
-    pub fn reopen(alloc: Global, device: P, role: Role) -> Result<(WblEngine<P>, Versions), (Refusal, P)>
+    pub fn reopen(
+        alloc: Global,
+        device: P,
+        role: Role,
+    ) -> Result<(WblEngine<P>, Versions), (Refusal, P)>
         requires settled { (word : ℕ) → Only ((P.state device).words word) (image_of (P.state device).words word) }
         ensures reopens { IfOk result (λ o. Reopens (P.state device).lines (image_of (P.state device).words) role
             (⟦<WblEngine<P> as Durable>⟧.contents o.0) o.1.counted.items o.1.gapped.items) }
@@ -160,13 +164,11 @@ impl<P: Pmem> Durable for WblEngine<P> {
             return Err(Refusal::Fault);
         }
         let freed = freed_by(alloc, &self.device, entries)?;
-        match erase_stamps(&mut self.device, entries, &[]) {
-            Ok(()) => Ok(freed),
-            Err(Fault) => {
-                self.faulted = true;
-                Err(Refusal::Fault)
-            }
-        }
+        let Ok(()) = erase_stamps(&mut self.device, entries, &[]) else {
+            self.faulted = true;
+            return Err(Refusal::Fault);
+        };
+        Ok(freed)
     }
 
     fn clear_gap(&mut self, alloc: Global) -> Result<Freed, Refusal> {
@@ -180,19 +182,15 @@ impl<P: Pmem> Durable for WblEngine<P> {
             return Err(Refusal::Exhausted);
         }
         let stamped = stamped_in(alloc, &self.device, oldest_gap(&self.current))?;
-        match clear_oldest(&mut self.device, &self.current, &stamped) {
-            Ok(next) => {
-                self.current = next;
-                Ok(Freed {
-                    entries: stamped.begins,
-                    extents: Vec::new(alloc),
-                })
-            }
-            Err(Fault) => {
-                self.faulted = true;
-                Err(Refusal::Fault)
-            }
-        }
+        let Ok(next) = clear_oldest(&mut self.device, &self.current, &stamped) else {
+            self.faulted = true;
+            return Err(Refusal::Fault);
+        };
+        self.current = next;
+        Ok(Freed {
+            entries: stamped.begins,
+            extents: Vec::new(alloc),
+        })
     }
 
     fn record(&self) -> &Record {

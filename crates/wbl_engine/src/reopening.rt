@@ -34,7 +34,11 @@ use wbl_record::write_next;
 ///
 /// `WrongSize`, `BadMagic`, `BadVersion` or `Damaged` as at `read_undamaged`; `WrongRole` where the image is to be served in the other role;
 /// `Exhausted` where a counter would reach 2^62; `Memory` if an allocation was refused: nothing is changed. `Fault` if a fence failed.
-pub fn reopen_device<P: Pmem>(alloc: Global, device: &mut P, role: Role) -> Result<(Record, Versions), Refusal>
+pub fn reopen_device<P: Pmem>(
+    alloc: Global,
+    device: &mut P,
+    role: Role,
+) -> Result<(Record, Versions), Refusal>
     requires settled { (word : ℕ) → Only ((P.state device.old).words word) (image_of (P.state device.old).words word) }
     ensures reopens { IfOk result (λ o. Reopens (P.state device.old).lines (image_of (P.state device.old).words) role
         (contents_of o.0 (P.state device.new)) o.1.counted.items o.1.gapped.items) }
@@ -56,7 +60,11 @@ pub fn reopen_device<P: Pmem>(alloc: Global, device: &mut P, role: Role) -> Resu
 
 /// Reads an image that is to be reopened in this role, with the entries that were begun and that the reopening does not free. Errors as at
 /// `reopen_device`, but for `Fault`.
-fn read_to_reopen<P: Pmem>(alloc: Global, device: &P, role: Role) -> Result<(Record, Versions), Refusal>
+fn read_to_reopen<P: Pmem>(
+    alloc: Global,
+    device: &P,
+    role: Role,
+) -> Result<(Record, Versions), Refusal>
     ensures undamaged { IfOk result (λ read. IsUndamaged (P.state device.now).lines read.0 (image_of (P.state device.now).words)) }
     ensures role { IfOk result (λ read. read.0.role ≡ role) }
     ensures limits { IfOk result (λ read. ¬ ExhaustsReopening read.0) }
@@ -108,7 +116,11 @@ fn left_by_clearing<P: Pmem>(
 }
 
 /// Lists the entries whose begin neither counts nor is in the gap that is cleared.
-fn list_left<P: Pmem>(alloc: Global, device: &P, current: &Record) -> Result<Vec<EntryNo>, AllocError>
+fn list_left<P: Pmem>(
+    alloc: Global,
+    device: &P,
+    current: &Record,
+) -> Result<Vec<EntryNo>, AllocError>
     requires { MIN_LINES ≤ (P.state device.now).lines }
     ensures { IfOk result (λ left.
         left.items ≡ left_below current.now (image_of (P.state device.now).words) (entries_of_lines (P.state device.now).lines)) }
@@ -137,7 +149,11 @@ fn is_cleared(current: &Record, stamp: u64) -> bool
 
 /// Writes the reopened record: with room for one more gap, and then with the gap of all stamps that were perhaps given out. Errors as at
 /// `make_room`.
-fn write_reopened<P: Pmem>(alloc: Global, device: &mut P, current: Record) -> Result<Record, Refusal>
+fn write_reopened<P: Pmem>(
+    alloc: Global,
+    device: &mut P,
+    current: Record,
+) -> Result<Record, Refusal>
     requires readable { IsReadable current (P.state device.old) }
     requires limits { ¬ ExhaustsReopening current }
     ensures next { IfOk result (λ next. next ≡ reopened current) }

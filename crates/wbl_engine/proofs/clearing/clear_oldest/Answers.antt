@@ -121,4 +121,3 @@ returns-clause-moments g c =
     clear_moments begun next.ensures.lawful staged
     (subst (λ (q : Record). (current : Record) → IsSucceeded b.words current q → LeavesOnly b after (IsEitherRecord b.words current q))
     next.ensures.next c.write_next.ensures.moments)
-

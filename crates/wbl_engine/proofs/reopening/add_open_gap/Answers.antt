@@ -1,4 +1,3 @@
-use Rattle.pmem.specs.Device.{State}
 use Rattle.wbl_engine.proofs.OpenGap.{HasRoom, open_succeeded, open_readable, open_moments, open_beside}
 use Rattle.wbl_engine.proofs.reopening.add_open_gap.Goals as goal
 

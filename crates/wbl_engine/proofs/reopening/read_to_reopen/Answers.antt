@@ -8,7 +8,7 @@ returns-then-not-has_role-clause-refused g c =
     inr (inl (
       refl,
       λ r whole is.
-      let same = undamaged_unique c.in_ok-current.current r c.in_ok-current.ensures.undamaged.current whole in
-      let e : c.in_ok-current.current.role ≡ c.args.role = sym (ap (λ (q : Record). q.role) same) ∙ is in
-      let right = c.if-not-has_role.ensures.1 e in cc,
+          let same = undamaged_unique c.in_ok-current.current r c.in_ok-current.ensures.undamaged.current whole in
+          let e : c.in_ok-current.current.role ≡ c.args.role = sym (ap (λ (q : Record). q.role) same) ∙ is in
+          let right = c.if-not-has_role.ensures.1 e in cc,
     ))

@@ -28,21 +28,26 @@ returns-in_err-stamped-clause-moments g c sound =
 pub clear_oldest-requires-clause-rest : goal.clear_oldest-requires-clause-rest
 clear_oldest-requires-clause-rest g c = c.args.self.now.at_rest c.if-self.false
 
-pub returns-in-Ok-clause-durable : goal.returns-in-Ok-clause-durable
-returns-in-Ok-clause-durable g c = rest_keeps c.in-Ok.next (g.P.Pmem.state c.clear_oldest.new.device) c.in-Ok.ensures.rest
+pub returns-clause-durable : goal.returns-clause-durable
+returns-clause-durable g c = rest_keeps c.in-Ok.next (g.P.Pmem.state c.clear_oldest.new.device) c.in-Ok.ensures.rest
 
 pub returns-then-has_no_gap-clause-none : goal.returns-then-has_no_gap-clause-none
 returns-then-has_no_gap-clause-none g c sound none =
-    let self = c.args.self.now in
-    (refl, c.none.ensures.entries, (ap (λ (x : self.faulted ≡ false → IsAtRest self.current (g.P.Pmem.state self.device)). record self { at_rest = x })
-    (at_rest_prop self.faulted self.current (g.P.Pmem.state self.device) _ self.at_rest)))
+    let self = c.args.self.now in (
+      refl,
+      c.none.ensures.entries,
+      (ap (λ (x : self.faulted ≡ false → IsAtRest self.current (g.P.Pmem.state self.device)). record self { at_rest = x })
+          (at_rest_prop self.faulted self.current (g.P.Pmem.state self.device) _ self.at_rest)),
+    )
 
 pub returns-then-is_last-clause-exhausted : goal.returns-then-is_last-clause-exhausted
 returns-then-is_last-clause-exhausted g c is_exhausted =
-    let self = c.args.self.now in
-    (some_gap (length self.current.gaps.items) c.has_no_gap.result c.has_no_gap.ensures c.if-has_no_gap.false, c.is_last.ensures.0 c.if-is_last.true,
-    (ap (λ (x : self.faulted ≡ false → IsAtRest self.current (g.P.Pmem.state self.device)). record self { at_rest = x })
-    (at_rest_prop self.faulted self.current (g.P.Pmem.state self.device) _ self.at_rest)))
+    let self = c.args.self.now in (
+      some_gap (length self.current.gaps.items) c.has_no_gap.result c.has_no_gap.ensures c.if-has_no_gap.false,
+      c.is_last.ensures.0 c.if-is_last.true,
+      (ap (λ (x : self.faulted ≡ false → IsAtRest self.current (g.P.Pmem.state self.device)). record self { at_rest = x })
+          (at_rest_prop self.faulted self.current (g.P.Pmem.state self.device) _ self.at_rest)),
+    )
 
 pub returns-in_err-stamped-clause-memory : goal.returns-in_err-stamped-clause-memory
 returns-in_err-stamped-clause-memory g c is_memory =

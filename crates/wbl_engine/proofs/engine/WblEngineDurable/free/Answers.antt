@@ -1,4 +1,4 @@
-use Rattle.std.proofs.Common.{sym, ◌∙◌}
+use Rattle.std.proofs.Common.{◌∙◌}
 use Rattle.wbl_engine.proofs.Committing.{rest_keeps}
 use Rattle.wbl_engine.proofs.FreeingLemmas.{ended_extents, ended_lines, freed_map, freed_moments, freed_none, freed_rest, freed_same}
 use Rattle.wbl_engine.proofs.engine.WblEngineDurable.free.Goals as goal
@@ -27,45 +27,45 @@ invariant_of-self g c =
           c.requires c.in-Ok.ensures.ok;
     }
 
-pub returns-in-Ok-clause-extents : goal.returns-in-Ok-clause-extents
-returns-in-Ok-clause-extents g c =
+pub returns-clause-extents : goal.returns-clause-extents
+returns-clause-extents g c =
     let self = c.args.self.now in
     c.in_ok-freed.ensures.extents ∙ ended_extents self.current (g.P.Pmem.state self.device) c.args.entries.now c.requires
 
-pub returns-in-Ok-clause-moved : goal.returns-in-Ok-clause-moved
-returns-in-Ok-clause-moved g c =
+pub returns-clause-moved : goal.returns-clause-moved
+returns-clause-moved g c =
     let self = c.args.self.now in
     let staged = c.in-Ok.ensures.ok in
     freed_same self.current (g.P.Pmem.state self.device) (g.P.Pmem.state c.erase_stamps.new.device) c.args.entries.now
     (self.at_rest c.if-self.false) c.requires staged.newest staged.stays.lines
 
-pub returns-in-Ok-clause-map : goal.returns-in-Ok-clause-map
-returns-in-Ok-clause-map g c =
+pub returns-clause-map : goal.returns-clause-map
+returns-clause-map g c =
     let self = c.args.self.now in
-    freed_map _ _ c.args.entries.now c.requires (returns-in-Ok-clause-moved g c)
+    freed_map _ _ c.args.entries.now c.requires (returns-clause-moved g c)
 
-pub returns-in-Ok-clause-durable : goal.returns-in-Ok-clause-durable
-returns-in-Ok-clause-durable g c =
+pub returns-clause-durable : goal.returns-clause-durable
+returns-clause-durable g c =
     let self = c.args.self.now in
     let new = g.P.Pmem.state c.erase_stamps.new.device in
     rest_keeps self.current new
     (freed_rest self.current (g.P.Pmem.state self.device) new c.args.entries.now (self.at_rest c.if-self.false) c.requires c.in-Ok.ensures.ok)
 
-pub returns-in-Ok-clause-moments : goal.returns-in-Ok-clause-moments
-returns-in-Ok-clause-moments g c sound =
+pub returns-clause-moments : goal.returns-clause-moments
+returns-clause-moments g c sound =
     let self = c.args.self.now in
     freed_moments self.current (g.P.Pmem.state self.device) (g.P.Pmem.state c.erase_stamps.new.device) c.args.entries.now (self.at_rest sound)
     c.requires c.in-Ok.ensures.ok.moments
 
-pub returns-in-Err-clause-stays : goal.returns-in-Err-clause-stays
-returns-in-Err-clause-stays g c is_fault sound =
+pub returns-in_default-clause-stays : goal.returns-in_default-clause-stays
+returns-in_default-clause-stays g c is_fault sound =
     let self = c.args.self.now in
-    let failed = c.in-Err.ensures.err in
+    let failed = c.in_default.ensures.err in
     freed_same self.current (g.P.Pmem.state self.device) (g.P.Pmem.state c.erase_stamps.new.device) c.args.entries.now (self.at_rest sound)
     c.requires failed.newest failed.stays.lines
 
-pub returns-in-Err-clause-moments : goal.returns-in-Err-clause-moments
-returns-in-Err-clause-moments g c sound =
+pub returns-in_default-clause-moments : goal.returns-in_default-clause-moments
+returns-in_default-clause-moments g c sound =
     let self = c.args.self.now in
     freed_moments self.current (g.P.Pmem.state self.device) (g.P.Pmem.state c.erase_stamps.new.device) c.args.entries.now (self.at_rest sound)
-    c.requires c.in-Err.ensures.err.moments
+    c.requires c.in_default.ensures.err.moments
