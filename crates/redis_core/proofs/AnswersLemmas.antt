@@ -20,6 +20,7 @@ use Rattle.model.specs.Command.{closes, outcome_of}
 use Rattle.model.specs.Group.{change_of, changes_of_part}
 use Rattle.model.proofs.CallsLemmas.{changes_for-error}
 use Rattle.model.proofs.SessionLemmas.{item-closed, replies_in-Array}
+use Rattle.extent_heap.specs.Room.{Room}
 use Rattle.mv_keyspace.specs.Table.{place_all, puts_of, records}
 use Rattle.mv_keyspace.proofs.TableLemmas.{records-place_all}
 use Rattle.placing.specs.Performs.{Performs}
@@ -29,10 +30,10 @@ use Rattle.redis_core.specs.Marking.{Marks}
 use Rattle.redis_core.specs.Sequencing.{Sequencing, MovesSeat, is_closed, state_of}
 use Rattle.redis_core.specs.Serving.{Runs, Acts, AnswersRequest, Finishes, RefusesMemory}
 use Rattle.redis_core.specs.Stored.{Stored, AreUnderWay}
-use Rattle.redis_core.specs.Turn.{AddsPart, Answers, Moves, call_of}
+use Rattle.redis_core.specs.Turn.{AddsPart, Answers, AreFullOnly, Moves, call_of}
 use Rattle.redis_core.proofs.RefusalLemmas.{memory_not_full}
-use Rattle.redis_core.proofs.AdmissionLemmas.{answers-known, run-unmoved, run-words}
-use Rattle.redis_core.proofs.RunningLemmas.{marks-none, ran-stand, ran-made}
+use Rattle.redis_core.proofs.AdmissionLemmas.{answers-known, run-unmoved, run-words, run_all-requests}
+use Rattle.redis_core.proofs.RunningLemmas.{marks-none, ran-full, ran-stand, ran-made}
 
 -- ---- what moves
 
@@ -96,6 +97,8 @@ module _ (old mid new : Sequencing) (requests : List (List (List ℕ))) (replies
   runs-finished =
       let same = ran-made (stored old) (old.position + 1) requests replies running (stored mid) under in
       record {
+        full = subst (λ (room : Room). AreFullOnly (records old.table) old.room requests replies room) (sym over.room)
+            (ran-full (stored old) (old.position + 1) requests replies running (stored mid) under);
         stand = ran-stand (stored old) (old.position + 1) requests replies running (stored mid) under;
         moves = subst (λ (cs : List Change). Moves cs old new) (sym same) (moved_by running.part.changes.items refl);
         marks = subst₂ (λ (cs : List Change) (sessions : Sessions). Marks (records old.table) cs old.sessions sessions) (sym same) (sym over.sessions) under.marks;
@@ -109,6 +112,7 @@ pub acts-answer : (old : Sequencing) (reply : Reply) → Acts old (Answer reply)
 acts-answer old reply = record {
   legal = inr refl;
   full_only = λ words e. cc;
+  each_full_only = λ requests replies e. cc;
   moves = record { table = refl; room = refl; position = refl; waiting = refl };
   marks = marks-none (records old.table) old.sessions;
   epoch = refl;
@@ -122,6 +126,7 @@ acts-run old words reply new runs full_only =
     record {
       legal = runs.stand.0;
       full_only = λ other e full. subst (λ w. ¬ HasRoomFor old.room (outcome_of (records old.table) w).changes) (run-words words other e) (full_only full);
+      each_full_only = λ requests replies e. cc;
       moves = subst (λ (cs : List Change). Moves cs old new) same runs.moves;
       marks = subst (λ (cs : List Change). Marks (records old.table) cs old.sessions new.sessions) same runs.marks;
       epoch = runs.epoch;
@@ -136,6 +141,9 @@ acts-run_all old requests replies reply new is runs =
     record {
       legal = inr (replies, is, runs.stand);
       full_only = λ words e. cc;
+      each_full_only = λ others texts e is_array.
+          subst₂ (λ (now : List (List (List ℕ))) (rs : List Reply). AreFullOnly (records old.table) old.room now rs new.room) (run_all-requests requests others e)
+          (sym (replies_in-Array replies) ∙ ap replies_in (sym is ∙ is_array) ∙ replies_in-Array texts) runs.full;
       moves = subst (λ (cs : List Change). Moves cs old new) same runs.moves;
       marks = subst (λ (cs : List Change). Marks (records old.table) cs old.sessions new.sessions) same runs.marks;
       epoch = runs.epoch;
@@ -173,12 +181,16 @@ may_refuse s (Answer proper) = inl refl
 may_refuse s (Run words) = inl refl
 may_refuse s (RunAll requests) = inl refl
 
+memory_no_array : (replies : List Reply) → memory_reply ≡ Array replies → ⊥
+memory_no_array replies e = cc
+
 pub acts-refused : (old : Sequencing) (admission : Admission) → Acts old admission memory_reply old
 acts-refused old admission =
     let none = changes_for-error (records old.table) admission (codes "ERR out of memory") in
     record {
       legal = may_refuse (records old.table) admission;
       full_only = λ words e full. absurd (memory_not_full full);
+      each_full_only = λ requests replies e is_array. absurd (memory_no_array replies is_array);
       moves = subst (λ (cs : List Change). Moves cs old old) (sym none) (record { table = refl; room = refl; position = refl; waiting = refl });
       marks = subst (λ (cs : List Change). Marks (records old.table) cs old.sessions old.sessions) (sym none) (marks-none (records old.table) old.sessions);
       epoch = refl;
@@ -191,6 +203,8 @@ acts-refused old admission =
 pub record Answered (old : Sequencing) (seat : ℕ) (item : Item) (reply : Reply) (left : Session) (mid : Sequencing) : Type 0 where
   pub legal : MayAnswer (records old.table) (admission_at (state_of old) seat item) reply
   pub full_only : (words : List (List ℕ)) → admission_at (state_of old) seat item ≡ Run words → reply ≡ full_reply → ¬ HasRoomFor old.room (outcome_of (records old.table) words).changes
+  pub each_full_only : (requests : List (List (List ℕ))) (replies : List Reply) → admission_at (state_of old) seat item ≡ RunAll requests → reply ≡ Array replies
+      → AreFullOnly (records old.table) old.room requests replies mid.room
   pub moves : Moves (changes_of (state_of old) (call_of seat item reply)) old mid
   pub epoch : mid.epoch ≡ old.epoch
   pub before : mid.before ≡ old.before
@@ -269,6 +283,7 @@ module _ (old : Sequencing) (seat : ℕ) (item : Item) (reply : Reply) (left : S
   answers-open stays same is = subst (Answers old seat item reply) (sym is) (record {
     legal = answered.legal;
     full_only = answered.full_only;
+    each_full_only = answered.each_full_only;
     keyspace = keyspace_moved changes old mid answered.moves;
     position = position_moved changes old mid answered.moves;
     moves = answered.moves;
@@ -288,6 +303,8 @@ module _ (old : Sequencing) (seat : ℕ) (item : Item) (reply : Reply) (left : S
       record {
         legal = answered.legal;
         full_only = answered.full_only;
+        each_full_only = λ requests replies e is.
+            subst (λ (room : Room). AreFullOnly (records old.table) old.room requests replies room) (sym over.room) (answered.each_full_only requests replies e is);
         keyspace = keyspace_moved changes old new moves;
         position = position_moved changes old new moves;
         moves = moves;
@@ -332,6 +349,8 @@ answered-request old seat words reply mid answers =
     record {
       legal = subst (λ (s : Keyspace). MayAnswer s admission reply) keyspace answers.acts.legal;
       full_only = λ run e full. subst₂ (λ (s : Keyspace) room. ¬ HasRoomFor room (outcome_of s run).changes) keyspace seated.room (answers.acts.full_only run e full);
+      each_full_only = λ requests replies e is.
+          subst₂ (λ (s : Keyspace) room. AreFullOnly s room requests replies mid.room) keyspace seated.room (answers.acts.each_full_only requests replies e is);
       moves = moves_like (changes_for (records old.table) admission reply) old between mid mid (seat-like old seat _ between seated) (like mid)
           (subst (λ (s : Keyspace). Moves (changes_for s admission reply) between mid) keyspace answers.acts.moves);
       epoch = answers.acts.epoch ∙ seated.epoch;
@@ -351,6 +370,7 @@ pub answered-fault : (old : Sequencing) (seat : ℕ) (fault : ProtocolFault) (re
 answered-fault old seat fault reply seated may = record {
   legal = may;
   full_only = λ words e. cc;
+  each_full_only = λ requests replies e. cc;
   moves = record { table = refl; room = refl; position = refl; waiting = refl };
   epoch = refl;
   before = refl;

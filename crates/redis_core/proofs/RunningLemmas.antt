@@ -24,6 +24,7 @@ use Rattle.placing.specs.Performs.{Performs, AddsTo, IsSamePart}
 use Rattle.placing.proofs.AddingLemmas.{performs-none, changes-added, performs-more}
 use Rattle.redis_core.specs.declared.running.Running.{Running}
 use Rattle.redis_core.specs.Marking.{Marks}
+use Rattle.redis_core.specs.Turn.{AreFullOnly, TakesRoom}
 use Rattle.redis_core.specs.Stored.{Stored, AreUnderWay, IsSame, Makes, RunsRequest}
 
 -- ---- marks
@@ -110,6 +111,7 @@ underway-begin start position requests running beside at changes ended all =
           let zero : used ≡ 0 = omega (arith, e, all) in
           subst (λ n. MayStandAll s n requests later) zero all_stand;
       made = λ later. sym (ap (λ (cs : List Change). cs ++ all_made s requests later) none);
+      full = λ later left all. all;
       most = omega (arith, all);
       beside = beside;
       performs = subst (λ (cs : List Change). Performs start.table start.room position cs running.part start.table start.room) (sym none)
@@ -159,6 +161,13 @@ module _ (start : Stored) (position : ℕ) (requests : List (List (List ℕ))) (
       ∙ sym (append_assoc before these (all_made (records new.table) rest later))
       ∙ ap (λ (cs : List Change). cs ++ all_made (records new.table) rest later) (sym part_now)
 
+  full_more : (later : List Reply) (left : Room) → AreFullOnly (records new.table) new.room rest later left → AreFullOnly s0 start.room requests ((replies ++ reply ∷ []) ++ later) left
+  full_more later left all =
+      let places = runs.makes.adds.places in
+      let takes : TakesRoom now.room these new.room = record { placed = places.placed; changes_are = places.changes_are; places = places.places } in
+      subst (λ (rs : List Reply). AreFullOnly s0 start.room requests rs left) (sym (append_assoc replies (reply ∷ []) later))
+      (under.full (reply ∷ later) left (runs.full_only, new.room, takes, subst (λ (s : Keyspace). AreFullOnly s new.room rest later left) keyspace_new all))
+
   performs_more : Performs start.table start.room position (changes_of_part after.part) after.part new.table new.room
   performs_more =
       let at = under.performs.position_is in
@@ -179,6 +188,7 @@ module _ (start : Stored) (position : ℕ) (requests : List (List (List ℕ))) (
   underway-more = record {
     stand = stands_more;
     made = made_more;
+    full = full_more;
     most = omega (arith, runs.left, under.most);
     beside = under.beside;
     performs = performs_more;
@@ -197,3 +207,6 @@ module _ (start : Stored) (position : ℕ) (requests : List (List (List ℕ))) (
 
   pub ran-made : all_made (records start.table) requests replies ≡ changes_of_part running.part
   ran-made = ap (all_made (records start.table) requests) (sym (append-nil replies)) ∙ under.made [] ∙ append-nil (changes_of_part running.part)
+
+  pub ran-full : AreFullOnly (records start.table) start.room requests replies now.room
+  ran-full = subst (λ (rs : List Reply). AreFullOnly (records start.table) start.room requests rs now.room) (append-nil replies) (under.full [] now.room refl)

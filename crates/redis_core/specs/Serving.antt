@@ -2,8 +2,8 @@
 use Rattle.std.specs.Prelude.{◌≡◌, ◌≢◌, ℕ, ◌⊎◌, true, if◌then◌else◌, List, [], ◌∷◌, ◌++◌, Some}
 use Rattle.kv_types.specs.declared.refusal.Refusal.{Refusal}
 use Rattle.kv_types.specs.declared.refusal.Refusal.TheVariants as refusal
-use Rattle.kv_types.specs.declared.reply.Reply.{Reply}
-use Rattle.multi_watch.specs.Admission.{Admission, Answer, Run, admit, session_after_refusal, session_after_request}
+use Rattle.kv_types.specs.declared.reply.Reply.{Reply, Array}
+use Rattle.multi_watch.specs.Admission.{Admission, Answer, Run, RunAll, admit, session_after_refusal, session_after_request}
 use Rattle.multi_watch.specs.Sessions.{session_at}
 use Rattle.model.specs.declared.group.Part.{Part}
 use Rattle.model.specs.Call.{is_memory, MayAnswer, MayStandAll, all_made, changes_for, full_reply, memory_reply}
@@ -12,7 +12,7 @@ use Rattle.mv_keyspace.specs.Table.{records}
 use Rattle.placing.specs.Place.{HasRoomFor}
 use Rattle.redis_core.specs.Marking.{Marks}
 use Rattle.redis_core.specs.Sequencing.{Sequencing, MovesSeat}
-use Rattle.redis_core.specs.Turn.{Moves}
+use Rattle.redis_core.specs.Turn.{AreFullOnly, Moves}
 
 -- the reply to a request that was refused
 abbrev pub refusal_reply : Refusal → Reply
@@ -22,6 +22,7 @@ refusal_reply _ = memory_reply
 -- The requests of a call were run and got these replies. What they changed is marked, and waits as one part.
 pub record Runs (old : Sequencing) (requests : List (List (List ℕ))) (replies : List Reply) (new : Sequencing) : Type 0 where
   pub stand : MayStandAll (records old.table) 0 requests replies
+  pub full : AreFullOnly (records old.table) old.room requests replies new.room
   pub moves : Moves (all_made (records old.table) requests replies) old new
   pub marks : Marks (records old.table) (all_made (records old.table) requests replies) old.sessions new.sessions
   pub epoch : new.epoch ≡ old.epoch
@@ -31,6 +32,8 @@ pub record Runs (old : Sequencing) (requests : List (List (List ℕ))) (replies 
 pub record Acts (old : Sequencing) (admission : Admission) (reply : Reply) (new : Sequencing) : Type 0 where
   pub legal : MayAnswer (records old.table) admission reply
   pub full_only : (words : List (List ℕ)) → admission ≡ Run words → reply ≡ full_reply → ¬ HasRoomFor old.room (outcome_of (records old.table) words).changes
+  pub each_full_only : (requests : List (List (List ℕ))) (replies : List Reply) → admission ≡ RunAll requests → reply ≡ Array replies
+      → AreFullOnly (records old.table) old.room requests replies new.room
   pub moves : Moves (changes_for (records old.table) admission reply) old new
   pub marks : Marks (records old.table) (changes_for (records old.table) admission reply) old.sessions new.sessions
   pub epoch : new.epoch ≡ old.epoch

@@ -17,6 +17,7 @@ use Rattle.placing.specs.Performs.{Performs, AddsTo, IsSamePart}
 use Rattle.placing.specs.Left.{IsBeside}
 use Rattle.placing.specs.Place.{HasRoomFor}
 use Rattle.redis_core.specs.Marking.{Marks}
+use Rattle.redis_core.specs.Turn.{AreFullOnly}
 use Rattle.redis_core.specs.declared.running.Running.{Running}
 
 pub record Stored : Type 0 where
@@ -64,6 +65,7 @@ pub record AreUnderWay (start : Stored) (position : ℕ) (requests : List (List 
   pub stand : (used : ℕ) (later : List Reply) → used + running.left ≡ MAX_CHANGE_TEXT_BYTES → MayStandAll (records now.table) used rest later
       → MayStandAll (records start.table) 0 requests (replies ++ later)
   pub made : (later : List Reply) → all_made (records start.table) requests (replies ++ later) ≡ changes_of_part running.part ++ all_made (records now.table) rest later
+  pub full : (later : List Reply) (left : Room) → AreFullOnly (records now.table) now.room rest later left → AreFullOnly (records start.table) start.room requests (replies ++ later) left
   pub most : running.left ≤ MAX_CHANGE_TEXT_BYTES
   pub beside : IsBeside start.table start.room
   pub performs : Performs start.table start.room position (changes_of_part running.part) running.part now.table now.room

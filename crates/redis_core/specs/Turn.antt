@@ -1,16 +1,20 @@
 -- What one turn of the sequencer does.
-use Rattle.std.specs.Prelude.{◌≡◌, ℕ, ◌+◌, nat_eq, List, [], ◌∷◌, ◌++◌, if◌then◌else◌}
+use Rattle.std.specs.Prelude.{◌≡◌, ℕ, ◌+◌, nat_eq, map, List, [], ◌∷◌, ◌++◌, if◌then◌else◌}
 use Rattle.kv_types.specs.declared.change.Change.{Change}
 use Rattle.kv_types.specs.declared.item.Item.{Item}
-use Rattle.kv_types.specs.declared.reply.Reply.{Reply}
+use Rattle.kv_types.specs.declared.reply.Reply.{Reply, Array}
+use Rattle.kv_types.specs.Keyspace.{Keyspace, play_all}
 use Rattle.model.specs.declared.call.Call.{Call}
 use Rattle.model.specs.declared.group.Part.{Part}
-use Rattle.multi_watch.specs.Admission.{Run}
+use Rattle.model.specs.declared.group.PlacedChange.{PlacedChange}
+use Rattle.multi_watch.specs.Admission.{Run, RunAll}
 use Rattle.multi_watch.specs.Sessions.{session_at}
-use Rattle.model.specs.Call.{MayReply, admission_at, after_call, changes_of, full_reply, is_changing}
+use Rattle.model.specs.Call.{MayReply, admission_at, after_call, changes_of, full_reply, is_changing, made}
+use Rattle.model.specs.Group.{change_of}
 use Rattle.model.specs.Command.{closes, outcome_of}
-use Rattle.mv_keyspace.specs.Table.{records}
-use Rattle.placing.specs.Place.{HasRoomFor}
+use Rattle.extent_heap.specs.Room.{Room}
+use Rattle.mv_keyspace.specs.Table.{puts_of, records}
+use Rattle.placing.specs.Place.{HasRoomFor, TakesPlaces}
 use Rattle.placing.specs.Performs.{Performs}
 use Rattle.redis_core.specs.Sequencing.{Sequencing, is_closed, state_of}
 use Rattle.redis_core.specs.declared.turn.Turn.{Turn}
@@ -38,12 +42,29 @@ abbrev pub Moves : List Change → Sequencing → Sequencing → Type 0
 Moves [] old new = Stays old new
 Moves (change ∷ changes) old new = (part : Part) × AddsPart old part (change ∷ changes) new
 
+-- Changes were made, and each put in turn has its place: this is left of the room.
+pub record TakesRoom (room : Room) (changes : List Change) (left : Room) : Type 0 where
+  pub placed : List PlacedChange
+  pub changes_are : map change_of placed ≡ changes
+  pub places : TakesPlaces room (puts_of placed) left
+
+-- Requests of an EXEC are run in order from this keyspace and this room: each is refused for want of room only where those before it left none.
+abbrev pub AreFullOnly : Keyspace → Room → List (List (List ℕ)) → List Reply → Room → Type 0
+AreFullOnly s room [] replies left = left ≡ room
+AreFullOnly s room (words ∷ requests) [] left = Unit {0}
+AreFullOnly s room (words ∷ requests) (reply ∷ replies) left =
+    (reply ≡ full_reply → ¬ HasRoomFor room (outcome_of s words).changes)
+    × (between : Room) × TakesRoom room (made s words reply) between × AreFullOnly (play_all s (made s words reply)) between requests replies left
+
 -- One legal entry of the list: the item with the reply that it got, called at what the sequencer held before it.
 pub record Answers (old : Sequencing) (seat : ℕ) (item : Item) (reply : Reply) (new : Sequencing) : Type 0 where
   pub legal : MayReply (state_of old) (call_of seat item reply)
   -- a request that is run by itself is refused for want of room only where there is none
   pub full_only : (words : List (List ℕ)) → admission_at (state_of old) seat item ≡ Run words → reply ≡ full_reply
       → ¬ HasRoomFor old.room (outcome_of (records old.table) words).changes
+  -- and so is each request of an EXEC, among the others
+  pub each_full_only : (requests : List (List (List ℕ))) (replies : List Reply) → admission_at (state_of old) seat item ≡ RunAll requests → reply ≡ Array replies
+      → AreFullOnly (records old.table) old.room requests replies new.room
   pub keyspace : records new.table ≡ (after_call (state_of old) (call_of seat item reply)).keyspace
   pub position : new.position ≡ old.position + (if is_changing (state_of old) (call_of seat item reply) then 1 else 0)
   pub moves : Moves (changes_of (state_of old) (call_of seat item reply)) old new

@@ -1,7 +1,6 @@
-use Rattle.std.proofs.Common.{◌≡◌, ◌≢◌, ◌≤◌, [], length, ◌&&◌, not, nat_eq, Some, rules, sym, ap, ◌∙◌}
-use Rattle.kv_types.specs.declared.limits.TheConstants.{MAX_KEY_BYTES}
+use Rattle.std.proofs.Common.{◌≡◌, ◌≢◌, [], ◌&&◌, not, nat_eq, Some, rules, sym, ap, ◌∙◌}
 use Rattle.multi_watch.specs.Watchers.{numbers_of, numbers_at, has_number}
-use Rattle.multi_watch.proofs.TableLemmas.{Becomes, becomes_at, removes, others_stay, still_watched}
+use Rattle.multi_watch.proofs.TableLemmas.{becomes_at, removes, others_stay, still_watched}
 use Rattle.multi_watch.proofs.watchers.take_out.Goals as goal
 
 pub returns-clause-removed : goal.returns-clause-removed

@@ -1,5 +1,4 @@
-use Rattle.std.proofs.Common.{◌≡◌, ◌≢◌, ◌≤◌, is_ok, cond, ◌++◌, ◌∷◌, [], length, ◌||◌, nat_eq, Some, None, rules, sym, ap, ap₂, ◌∙◌}
-use Rattle.kv_types.specs.declared.limits.TheConstants.{MAX_KEY_BYTES}
+use Rattle.std.proofs.Common.{◌≡◌, ◌≢◌, is_ok, cond, ◌++◌, ◌∷◌, [], ◌||◌, nat_eq, Some, None, rules, sym, ap, ap₂, ◌∙◌}
 use Rattle.cmd_core.specs.Contents.{same_bytes}
 use Rattle.multi_watch.specs.Watchers.{numbers_of, numbers_at, has_number, SaysSame, EachWatched}
 use Rattle.multi_watch.proofs.TableLemmas.{Becomes, becomes_at, pushed, says_same, adds, one_more, some_still, still_watched, watched_as_before, either_way}

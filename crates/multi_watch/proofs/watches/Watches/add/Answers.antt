@@ -1,4 +1,4 @@
-use Rattle.std.proofs.Common.{◌≡◌, ◌≤◌, false, [], ◌∷◌, ◌++◌, List, ℕ, length, rules, sym, ap, ap₂, subst, ◌∙◌}
+use Rattle.std.proofs.Common.{◌≡◌, ◌≤◌, false, [], ◌∷◌, ◌++◌, length, rules, sym, ap, ap₂, subst, ◌∙◌}
 use Rattle.kv_types.specs.declared.limits.TheConstants.{MAX_KEY_BYTES}
 use Rattle.multi_watch.specs.Session.{is_watched, unmodified}
 use Rattle.multi_watch.specs.Watches.{watches_of, keys_of, AreShort}
