@@ -7,7 +7,7 @@ use Rattle.model.specs.declared.call.Call.{Call}
 use Rattle.model.specs.Call.{IsLegal, IsPrefix, Serves, replies_to}
 use Rattle.server.specs.Schedule.{alone}
 use Rattle.server.specs.declared.serve.ServeError.{ServeError}
-use Rattle.server.specs.declared.serve.ServeError.TheVariants.{Read, Refused, Write}
+use Rattle.server.specs.declared.serve.ServeError.TheVariants.{Random, Read, Refused, Write}
 
 -- The answer is a prefix of the replies of one sequential Redis to the requests that the input asks for, in order, and to no others.
 pub record IsAnswer (input answer : List ℕ) : Type 0 where
@@ -29,12 +29,14 @@ AppendsPrefix before after bytes = (prefix : List ℕ) × IsPrefix prefix bytes 
 
 -- serving ended before anything was written
 abbrev pub IsEarly : ServeError → Type 0
+IsEarly (Random error) = Unit {0}
 IsEarly (Read error) = Unit {0}
 IsEarly (Refused refusal) = Unit {0}
 IsEarly (Write error) = ⊥
 
 -- If serving ended early, nothing was written if it ended before writing; otherwise a prefix of an answer was, which is an answer too.
 abbrev pub IsServedUpTo : ServeError → (input before after : Option (List ℕ)) → Type 0
+IsServedUpTo (Random error) input before after = Keeps before after
 IsServedUpTo (Read error) input before after = Keeps before after
 IsServedUpTo (Refused refusal) input before after = Keeps before after
 IsServedUpTo (Write error) input before after = IsServed input before after

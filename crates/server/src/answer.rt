@@ -8,19 +8,24 @@ use bytes::Bytes;
 use kv_types::Refusal;
 use pmem::SimPmem;
 use std::alloc::Global;
+use std::hash::RandomState;
 use world::{EarlyEnd, Trace, run};
 
 /// The bytes released to the connection that these pieces come from, served by a pair of new nodes.
 ///
 /// `Memory` if an allocation was refused, `Fault` if a fence failed, which happens on a simulated device only if it was refused memory.
-pub fn answer(alloc: Global, pieces: Vec<Bytes>) -> Result<Vec<u8>, Refusal>
+pub fn answer(
+    alloc: Global,
+    pieces: Vec<Bytes>,
+    hash_builder: RandomState,
+) -> Result<Vec<u8>, Refusal>
     ensures { IfOk result (λ answer. IsAnswer (concat pieces.items) answer.items) }
 {
     let events = schedule(alloc, pieces)?;
     let primary = SimPmem::new(alloc, IMAGE_LINES)?;
     let standby = SimPmem::new(alloc, IMAGE_LINES)?;
     let devices = vec![in alloc; primary, standby]?;
-    released(alloc, run(alloc, devices, &events))
+    released(alloc, run(alloc, devices, &events, hash_builder))
 }
 
 /// What the run released to the connection, if it did not end early.

@@ -8,6 +8,7 @@ mod serve;
 use crate::serve::{ServeError, serve};
 use kv_types::Refusal;
 use std::env;
+use std::hash::RandomState;
 use std::io::ErrorKind;
 use std::process::ExitCode;
 use std::rt::Env;
@@ -32,7 +33,8 @@ fn run(rt: &HostRuntime) -> Result<ExitCode, ServeError> {
         let _ = rt.eprintln(USAGE);
         return Ok(ExitCode::from(MISUSED));
     }
-    serve(rt.alloc(), &mut rt.stdin(), &mut rt.stdout())?;
+    let hash_builder = RandomState::new(rt).map_err(ServeError::Random)?;
+    serve(rt.alloc(), &mut rt.stdin(), &mut rt.stdout(), hash_builder)?;
     Ok(ExitCode::SUCCESS)
 }
 

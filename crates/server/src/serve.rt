@@ -9,6 +9,7 @@ use bytes::Bytes;
 use kv_types::Refusal;
 use std::alloc::{AllocError, AllocFailed, Global};
 use std::error::Error;
+use std::hash::RandomState;
 use std::io::{ErrorKind, Read, Write};
 use std::{fmt, io};
 
@@ -20,6 +21,8 @@ const PIECE_BYTES: usize = 7;
 pub enum ServeError {
     /// The requests could not be read to their end. Nothing was written.
     Read(io::Error),
+    /// There were no random numbers for the hashes. Nothing was read or written.
+    Random(io::Error),
     /// A call of the server was refused. Nothing was written.
     Refused(Refusal),
     /// The replies could not be written, or not all of them.
@@ -30,6 +33,7 @@ impl fmt::Display for ServeError {
     fn fmt<W: fmt::Write>(&self, f: &mut fmt::Formatter<W>) -> fmt::Result {
         match self {
             ServeError::Read(error) => write!(f, "reading failed: {error}"),
+            ServeError::Random(error) => write!(f, "no random numbers: {error}"),
             ServeError::Refused(refusal) => {
                 let number = refusal.number();
                 write!(f, "refusal {number}: {refusal}")
@@ -84,13 +88,14 @@ pub fn serve<R: Read, W: Write>(
     alloc: Global,
     reader: &mut R,
     writer: &mut W,
+    hash_builder: RandomState,
 ) -> Result<(), ServeError>
     ensures whole { OnOk result (IsAtEnd (R.remaining reader.new)) }
     ensures served { OnOk result (IsServed (R.remaining reader.old) (W.contents writer.old) (W.contents writer.new)) }
     ensures ended { IfErr result (λ error. IsServedUpTo error (R.remaining reader.old) (W.contents writer.old) (W.contents writer.new)) }
 {
     let pieces = read_pieces(alloc, reader)?;
-    let replies = answer(alloc, pieces)?;
+    let replies = answer(alloc, pieces, hash_builder)?;
     match write_replies(writer, &replies) {
         Ok(()) => Ok(()),
         Err(error) => Err(ServeError::Write(error)),

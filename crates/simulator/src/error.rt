@@ -22,6 +22,8 @@ pub enum SimulatorError {
     Line(u64, Cause),
     /// The events could not be read to their end.
     Read(io::Error),
+    /// There were no random numbers for the hashes. Nothing was played.
+    Random(io::Error),
     /// Memory was refused to the simulator.
     Memory,
     /// The report could not be written, or not all of it.
@@ -33,7 +35,10 @@ impl SimulatorError {
     pub fn status(&self) -> u8 {
         match self {
             SimulatorError::Usage | SimulatorError::Line(_, _) => MISUSED,
-            SimulatorError::Read(_) | SimulatorError::Memory | SimulatorError::Write(_) => FAILED,
+            SimulatorError::Read(_)
+            | SimulatorError::Random(_)
+            | SimulatorError::Memory
+            | SimulatorError::Write(_) => FAILED,
         }
     }
 
@@ -52,6 +57,7 @@ impl fmt::Display for SimulatorError {
             SimulatorError::Usage => f.write_str(USAGE),
             SimulatorError::Line(number, cause) => write!(f, "line {number}: {cause}"),
             SimulatorError::Read(error) => write!(f, "reading failed: {error}"),
+            SimulatorError::Random(error) => write!(f, "no random numbers: {error}"),
             SimulatorError::Memory => f.write_str("out of memory"),
             SimulatorError::Write(error) => write!(f, "writing failed: {error}"),
         }

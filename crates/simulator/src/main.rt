@@ -23,6 +23,7 @@ use crate::options::read_options;
 use crate::play::play;
 use crate::report::report;
 use crate::script::read_script;
+use std::hash::RandomState;
 use std::io::{BufWriter, Read, Write};
 use std::process::ExitCode;
 
@@ -45,7 +46,8 @@ fn run(rt: &HostRuntime) -> Result<(), SimulatorError> {
         .read_to_end(&mut text)
         .map_err(SimulatorError::Read)?;
     let script = read_script(alloc, &text)?;
-    let trace = play(alloc, &options, &script)?;
+    let hash_builder = RandomState::new(rt).map_err(SimulatorError::Random)?;
+    let trace = play(alloc, &options, &script, hash_builder)?;
     let mut out = BufWriter::new(alloc, rt.stdout())?;
     report(alloc, &mut out, &options, &script, &trace)?;
     out.flush()?;

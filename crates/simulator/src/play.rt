@@ -7,6 +7,7 @@ use crate::options::Options;
 use crate::script::{Crash, Failure, Script};
 use pmem::{Crashing, Pmem, SimPmem};
 use std::alloc::{AllocError, Global};
+use std::hash::RandomState;
 use world::{Trace, run};
 
 /// Plays the events over two new devices, and crashes those that are to crash once the run is over. An error if memory was refused to the
@@ -15,9 +16,10 @@ pub fn play(
     alloc: Global,
     options: &Options,
     script: &Script,
+    hash_builder: RandomState,
 ) -> Result<Trace<SimPmem>, AllocError> {
     let devices = new_devices(alloc, options, script.failures.as_slice())?;
-    let mut trace = run(alloc, devices, script.schedule.events());
+    let mut trace = run(alloc, devices, script.schedule.events(), hash_builder);
     crash_devices(alloc, &mut trace.devices, script.crashes.as_slice())?;
     Ok(trace)
 }

@@ -30,6 +30,7 @@ use redis_core::Sequencer;
 use standby::Standby;
 use standby_stream::Link;
 use std::alloc::Global;
+use std::hash::RandomState;
 use wbl_engine::{Durable, Role, WblEngine};
 
 /// What lies between two nodes and their clients, while there are no clients yet.
@@ -51,6 +52,7 @@ fn make_between<K: Keyspace + Drop>(
     keyspace: K,
     lines: (u64, u64),
     calls: usize,
+    hash_builder: RandomState,
 ) -> Result<Between<K>, Refusal>
     requires { K.table keyspace ≡ [] }
     ensures sessions { IfOk result (λ between. SessionsRefine between.sessions [] []) }
@@ -69,7 +71,7 @@ fn make_between<K: Keyspace + Drop>(
     let heap = heap_of(alloc, lines.1)?;
     Ok(Between {
         sessions: Sessions::new(alloc, calls)?,
-        sequencer: Sequencer::new(alloc, keyspace, own, 0, FIRST_EPOCH)?,
+        sequencer: Sequencer::new(alloc, keyspace, own, 0, FIRST_EPOCH, hash_builder)?,
         groups: LocalPipe::new(alloc)?,
         handed: LocalPipe::new(alloc)?,
         link: Link::new(alloc, FIRST_EPOCH)?,
@@ -102,6 +104,7 @@ pub(crate) fn form<P: Pmem, K: Keyspace + Drop>(
     standby: P,
     keyspaces: (K, K),
     calls: usize,
+    hash_builder: RandomState,
 ) -> Result<Pair<WblEngine<P>, K>, (Refusal, P, P)>
     requires serving { K.table keyspaces.0 ≡ [] }
     requires following { K.table keyspaces.1 ≡ [] }
@@ -115,7 +118,7 @@ pub(crate) fn form<P: Pmem, K: Keyspace + Drop>(
 {
     let (serving, following) = keyspaces;
     let lines = (primary.lines(), standby.lines());
-    let between = match make_between(alloc, serving, lines, calls) {
+    let between = match make_between(alloc, serving, lines, calls, hash_builder) {
         Ok(between) => between,
         Err(refusal) => return Err((refusal, primary, standby)),
     };

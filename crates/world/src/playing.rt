@@ -19,6 +19,7 @@ use mv_keyspace::{Keyspace, ListKeyspace};
 use pmem::{Crashing, Pmem};
 use standby::{Ack, Frame};
 use std::alloc::{AllocError, Global};
+use std::hash::RandomState;
 use wbl_engine::{Durable, WblEngine};
 
 /// Formats the first device as primary and the second as standby, and lets the events happen to them and to their connections, one after another: an
@@ -31,7 +32,14 @@ use wbl_engine::{Durable, WblEngine};
 /// connection's requests in order; the bytes released to each connection begin its replies; each released call was covered, and is in what both
 /// images hold; and a crash during an event leaves either image where its node stood in the list before the event or after it, with each call that was
 /// released by then.
-pub fn run<P: Crashing>(alloc: Global, devices: Vec<P>, events: &[Event]) -> Trace<P>
+///
+/// Watched keys are hashed with `hash_builder`. Nothing of this depends on it.
+pub fn run<P: Crashing>(
+    alloc: Global,
+    devices: Vec<P>,
+    events: &[Event],
+    hash_builder: RandomState,
+) -> Trace<P>
     requires { 2 ≤ vec_len devices }
     ensures kept { (primary standby : P) (others : List P) → devices.items ≡ primary ∷ standby ∷ others
         → (primary' : P) × (standby' : P) × (result.devices.items ≡ primary' ∷ standby' ∷ others)
@@ -50,7 +58,7 @@ pub fn run<P: Crashing>(alloc: Global, devices: Vec<P>, events: &[Event]) -> Tra
         ended,
         primary,
         standby,
-    } = play_over(alloc, primary, standby, events);
+    } = play_over(alloc, primary, standby, events, hash_builder);
     devices.push_reserved(primary);
     devices.push_reserved(standby);
     devices.rotate_right(2);
@@ -78,7 +86,13 @@ struct Played<P> {
 }
 
 /// Plays the events over a primary and a standby.
-fn play_over<P: Pmem>(alloc: Global, primary: P, standby: P, events: &[Event]) -> Played<P>
+fn play_over<P: Pmem>(
+    alloc: Global,
+    primary: P,
+    standby: P,
+    events: &[Event],
+    hash_builder: RandomState,
+) -> Played<P>
     ensures { KeepsItsWord events.now result.ended result.done.items result.calls.items (map (λ bytes. bytes.items) result.released.items)
         (P.state primary) (P.state standby) (P.state result.primary) (P.state result.standby) }
 {
@@ -87,7 +101,14 @@ fn play_over<P: Pmem>(alloc: Global, primary: P, standby: P, events: &[Event]) -
         Err(_) => return nothing(alloc, Refusal::Memory, primary, standby),
     };
     let keyspaces = (ListKeyspace::new(alloc), ListKeyspace::new(alloc));
-    match form(alloc, primary, standby, keyspaces, events.len()) {
+    match form(
+        alloc,
+        primary,
+        standby,
+        keyspaces,
+        events.len(),
+        hash_builder,
+    ) {
         Ok(pair) => play_on(pair, events, done, released),
         Err((refusal, primary, standby)) => nothing(alloc, refusal, primary, standby),
     }
