@@ -54,7 +54,7 @@ stays-happens w RaiseLocal new c lt shut e h = subst (StaysOver c w) (sym h) (re
 stays-happens w Hand new c lt shut e h = subst (StaysOver c w) (sym h) (record { entered = lt; connection = refl; calls = refl })
 stays-happens w OpenLink new c lt shut e h = subst (StaysOver c w) (sym h) (record { entered = lt; connection = refl; calls = refl })
 stays-happens w Send new c lt shut e h = subst (StaysOver c w) (sym h) (record { entered = lt; connection = refl; calls = refl })
-stays-happens w (Deliver frame) new c lt shut e h = subst (StaysOver c w) (sym h) (record { entered = lt; connection = refl; calls = refl })
+stays-happens w (Deliver frame piece) new c lt shut e h = subst (StaysOver c w) (sym h) (record { entered = lt; connection = refl; calls = refl })
 stays-happens w Apply new c lt shut e h = subst (StaysOver c w) (sym h.now) (record { entered = lt; connection = refl; calls = refl })
 stays-happens w (AckDelivered a) new c lt shut e h = subst (StaysOver c w) (sym h) (record { entered = lt; connection = refl; calls = refl })
 stays-happens w RaiseRemote new c lt shut e h = subst (StaysOver c w) (sym h) (record { entered = lt; connection = refl; calls = refl })
