@@ -192,3 +192,10 @@ ack_of_read read told same = ap told_in same
 pub found-there : {X : Type 0} (xs ys : List X) (n : ℕ) (x : X) → xs ≡ ys → true ≡ nat_lt n (length xs) → x ≡ slice_index_or xs n x → slice_get ys n ≡ Some x
 found-there {X} xs ys n x same within is =
     subst (λ (all : List X). slice_get all n ≡ Some x) same (slice_get-get_or xs n x (ltb-true n (length xs) (sym within)) ∙ ap Some (sym is))
+
+-- no frame reads as an acknowledgement, and no acknowledgement as a frame
+pub ack_is_no_frame : (ack : Ack) (frame : Frame) → sent_of_ack ack ≡ sent_of_frame frame → ⊥
+ack_is_no_frame ack frame same = cc
+
+pub frame_is_no_ack : (frame : Frame) (epoch position : ℕ) → sent_of_frame frame ≡ Acknowledged epoch position → ⊥
+frame_is_no_ack frame epoch position same = cc

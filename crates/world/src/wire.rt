@@ -1,5 +1,5 @@
 //! What passes between the two nodes: the bytes of their messages.
-ghost use Rattle.std.specs.Prelude.{◌≡◌, ◌≤◌, ◌×◌, [], IfOk, IfErr, OnOk, vec_capacity};
+ghost use Rattle.std.specs.Prelude.{◌≡◌, ◌≤◌, [], IfOk, IfErr, OnOk, vec_capacity};
 ghost use Rattle.stream_codec.specs.Message.{Sent, IsSent, IsWithinLimits, sent_of, sent_of_ack, sent_text};
 
 use kv_types::Refusal;
