@@ -1,5 +1,5 @@
 -- New images, and the tables and heaps with which they begin.
-use Rattle.std.proofs.Common.{◌≡◌, ℕ, ◌<◌, ◌≤◌, ◌⊎◌, Bool, false, List, [], ◌∷◌, refl, sym, ap, subst, arith, inl, inr}
+use Rattle.std.proofs.Common.{◌≡◌, ℕ, ◌<◌, ◌≤◌, ◌⊎◌, Bool, false, List, [], ◌∷◌, refl, sym, ap, subst, arith, inl, inr, Vec, Global}
 use Rattle.multi_watch.specs.Sessions.{Sessions}
 use Rattle.model.specs.Image.{entries_of_lines}
 use Rattle.model.specs.declared.image.TheConstants.{COUNTER_LIMIT}
