@@ -200,7 +200,7 @@ class Machine:
             return False
         return True
 
-    def deliver(self, frame):
+    def deliver(self, frame, piece=0):
         if int(frame) < len(self.frames):
             self.arrived.append(self.frames[int(frame)])
             return True

@@ -8,6 +8,7 @@ import common
 import plain_image
 import plain_keyspace
 import plain_machine
+import plain_wire
 import spelling
 
 NODES = ("primary", "standby")
@@ -17,8 +18,8 @@ STRING = r'"[^"\\]*(?:\\.[^"\\]*)*"'
 EVENT = re.compile(r"event (\d+), line (\d+): (done|not enabled)")
 CALL = re.compile(rf"call (\d+): connection (\d+), (fault|{STRING}(?: {STRING})*) -> ({STRING})")
 RELEASED = re.compile(rf"connection (\d+): released ({STRING})")
-FRAME = re.compile(r"frame (\d+): epoch (\d+), from (\d+) to (\d+), changes (\d+)")
-ACKNOWLEDGEMENT = re.compile(r"acknowledgement (\d+): epoch (\d+), position (\d+)")
+FRAME = re.compile(r"frame (\d+): epoch (\d+), from (\d+) to (\d+), changes (\d+), bytes ([0-9a-f]+)")
+ACKNOWLEDGEMENT = re.compile(r"acknowledgement (\d+): epoch (\d+), position (\d+), bytes ([0-9a-f]+)")
 POSITION = re.compile(
     r"(primary|standby): position (\d+), record (\d+), cp (\d+), cd (\d+), epoch (\d+), "
     r"role (primary|standby), gaps (\d+)"
@@ -142,8 +143,9 @@ class Trace:
         released = self._all(RELEASED)
         self.released = [common.unquoted(data) for _, data in released]
         frames, acknowledgements = self._all(FRAME), self._all(ACKNOWLEDGEMENT)
-        self.frames = [Frame(*map(int, fields)) for _, *fields in frames]
-        self.acknowledgements = [(int(epoch), int(position)) for _, epoch, position in acknowledgements]
+        self.frames = [Frame(*map(int, fields)) for _, *fields, _ in frames]
+        self.acknowledgements = [(int(epoch), int(position)) for _, epoch, position, _ in acknowledgements]
+        self.texts = [bytes.fromhex(row[-1]) for row in frames], [bytes.fromhex(row[-1]) for row in acknowledgements]
         numbered = {"event": events, "call": calls, "connection": released}
         numbered |= {"frame": frames, "acknowledgement": acknowledgements}
         for name, rows in numbered.items():
@@ -215,6 +217,13 @@ def told_between(machine):
     return frames, [(1, position) for position in machine.acknowledgements]
 
 
+def texts_between(machine):
+    """The same as bytes."""
+    groups = [plain_wire.Group(1, *group, tuple(machine.changes_of(*group))) for group in sorted(set(machine.frames))]
+    acknowledgements = [plain_wire.Acknowledgement(1, position) for position in machine.acknowledgements]
+    return [plain_wire.text(group) for group in groups], [plain_wire.text(ack) for ack in acknowledgements]
+
+
 def words_of(text):
     """The words of a request as they are printed, or None for a fault."""
     return None if text == "fault" else tuple(map(common.unquoted, re.findall(STRING, text)))
@@ -258,6 +267,7 @@ class Runs(common.Cases):
         for c, wanted in enumerate(released):
             self.assert_bytes(trace.released[c], wanted)
         self.assertEqual((trace.frames, trace.acknowledgements), told_between(machine))
+        self.assertEqual(trace.texts, texts_between(machine))
         at = f"at event {machine.ended}, line {machine.ended_line(skipped_lines)}: refusal 1: device fault"
         whole = {None: f"after all {events} events", "formatting": "at formatting: refusal 1: device fault"}
         self.assertEqual(trace.ended, whole.get(machine.ended, at))

@@ -8,7 +8,7 @@ import plain_machine
 import plain_redis
 import plain_replies
 import spelling
-from simulation import NODES, Runs, Schedule, simulate, told_between
+from simulation import NODES, Runs, Schedule, simulate, texts_between, told_between
 
 PROGRAMS = ["simulator"]
 IS_SLOW = True
@@ -24,6 +24,9 @@ REQUESTS_OF_EACH = (240, 200, 150, 100, 60)
 AMPLE_LINES, SCARCE_LINES = 65_536, 4_096
 
 NO_ROOM = plain_replies.error(plain_replies.NO_ROOM)
+
+# Frames come in pieces of fewer bytes than this.
+LONGEST_PIECE = 60
 
 # Pieces of a connection's bytes, and of what is written to it, are shorter than one of these.
 PIECES = [24, 24, 24, 24, 200, 2_000, 20_000]
@@ -81,7 +84,10 @@ class Order:
         self.acknowledgements += name == "apply"
         # frames and acknowledgements may be old, or not there yet
         bounds = {"deliver": self.frames, "ack-delivered": self.acknowledgements}
-        self.schedule.add(f"{name} {self.draws.randint(0, bounds[name])}" if name in bounds else name)
+        words = [name, str(self.draws.randint(0, bounds[name]))] if name in bounds else [name]
+        # a frame comes whole, or in pieces of a few bytes
+        words += [str(len(self.schedule.events) % LONGEST_PIECE)] if name == "deliver" else []
+        self.schedule.add(" ".join(words))
 
     def feed(self, c, count=None):
         self.schedule.feed(c, self.scripts[c].take(count) if c < self.entered else b"no such connection")
@@ -200,6 +206,7 @@ class Orders(Runs):
             self.assertEqual([call.reply for call in trace.calls], [reply for _, _, reply, _ in machine.calls])
             self.assertEqual(trace.released, [connection.released for connection in machine.connections])
             self.assertEqual((trace.frames, trace.acknowledgements), told_between(machine))
+            self.assertEqual(trace.texts, texts_between(machine))
             for node in NODES:
                 self.assert_image(trace, machine, node, lines)
 

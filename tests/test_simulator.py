@@ -20,8 +20,8 @@ FIRST_SET = [
 FIRST_SET_PRINTED = """\
 call 0: connection 0, "SET" "a" "1" -> "+OK\\r\\n"
 connection 0: released "+OK\\r\\n"
-frame 0: epoch 1, from 0 to 1, changes 1
-acknowledgement 0: epoch 1, position 1
+frame 0: epoch 1, from 0 to 1, changes 1, bytes 010000000000000001000000000000000000000000000000010000000000000009010001610000000131
+acknowledgement 0: epoch 1, position 1, bytes 0200000000000000010000000000000001
 primary: position 1, record 2, cp 1, cd 4098, epoch 1, role primary, gaps 0
 standby: position 1, record 2, cp 1, cd 4098, epoch 1, role standby, gaps 0
 primary record: "a" = "1"
@@ -43,7 +43,7 @@ BAD_LINES = [
     "hand 0", "open-link 0", "send 0", "apply 0", "raise-remote 0", "feed", "feed 0", "feed x a", "feed -1 a",
     "feed-bytes", "feed-bytes 0 0", "feed-bytes 0 0g", "feed-bytes 0 00 00", "feed-bytes 0 0x00", "feed-bytes x 00",
     "offer", "offer 0 0", "offer x", "offer +0", "offer -1", "offer 00", "offer 01", "offer 0x1", "offer 1.0",
-    "offer 1_0", f"offer {ABOVE_U64}", "turn", "turn 0 0", "deliver", "deliver 0 0", "ack-delivered",
+    "offer 1_0", f"offer {ABOVE_U64}", "turn", "turn 0 0", "deliver", "deliver 0 x", "deliver 0 0 0", "ack-delivered",
     "ack-delivered 0 0", "hold", "hold 0 0", "read", "read 0", "read 0 both", "read local 0", "read 0 local 0",
     "read 0 Local", "release", "release 0 0", "leave", "leave 0 0", "leave x", "write", "write 0", "write 0 0 0", "write 0 -1",
     f"write 0 {10 * ABOVE_U64}", "repeat", "repeat 2", "repeat x enter", "repeat 01 enter", "repeat enter",

@@ -211,7 +211,7 @@ grows-happens w Send new h s =
       primary_position = (grows-itself w).primary_position;
       standby_position = (grows-itself w).standby_position;
     })
-grows-happens w (Deliver frame) new h s = subst (Grows w) (sym h) (grows-delivered w (delivered (option_items (slice_get w.wire.frames frame)) w.standby) (le_refl w.standby.position))
+grows-happens w (Deliver frame piece) new h s = subst (Grows w) (sym h) (grows-delivered w (delivered (option_items (slice_get w.wire.frames frame)) w.standby) (le_refl w.standby.position))
 grows-happens w Apply new h s = subst (Grows w) (sym h.now) (grows-standby w h.standby h.told (grows-takes h.frame (without_first w.standby) h.standby h.told h.takes))
 grows-happens w (AckDelivered a) new h s = subst (Grows w) (sym h) (grows-told w (slice_get w.wire.acknowledgements a))
 grows-happens w RaiseRemote new h s = subst (Grows w) (sym h) (grows-link w (raised_remote w.primary.link))

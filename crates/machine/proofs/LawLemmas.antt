@@ -72,7 +72,7 @@ remote-happens w RaiseLocal new none h = le_of (ap (λ x. x.primary.link.remote)
 remote-happens w Hand new none h = le_of (ap (λ x. x.primary.link.remote) h)
 remote-happens w OpenLink new none h = le_of (ap (λ x. x.primary.link.remote) h)
 remote-happens w Send new none h = le_of (ap (λ x. x.primary.link.remote) h ∙ sent-remote w.primary.link.again w.primary.link)
-remote-happens w (Deliver frame) new none h = le_of (ap (λ x. x.primary.link.remote) h)
+remote-happens w (Deliver frame piece) new none h = le_of (ap (λ x. x.primary.link.remote) h)
 remote-happens w Apply new none h = le_of (ap (λ x. x.primary.link.remote) h.now)
 remote-happens w (AckDelivered a) new none h = le_of (ap (λ x. x.primary.link.remote) h ∙ told-remote w.primary.epoch (slice_get w.wire.acknowledgements a) w.primary.link)
 remote-happens w RaiseRemote new none h = absurd none
@@ -117,4 +117,4 @@ not-enabled : (w : World) (event : Event) → may_happen w event ≡ false → i
 not-enabled w event e = elim (nodes_run w event) as (λ b. (b && may_happen w event) ≡ false) [ true ↦ e | false ↦ refl ]
 
 pub only_what_was_made_is_delivered : OnlyWhatWasMadeIsDelivered
-only_what_was_made_is_delivered w n = (λ le. not-enabled w (Deliver n) (le-ltb n (length w.wire.frames) le), λ le. not-enabled w (AckDelivered n) (le-ltb n (length w.wire.acknowledgements) le))
+only_what_was_made_is_delivered w n piece = (λ le. not-enabled w (Deliver n piece) (le-ltb n (length w.wire.frames) le), λ le. not-enabled w (AckDelivered n) (le-ltb n (length w.wire.acknowledgements) le))

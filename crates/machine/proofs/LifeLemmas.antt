@@ -46,7 +46,7 @@ enabled-is w event r = ap (λ b. b && may_happen w event) (lives w event r)
   where
     lives : (w : World) (event : Event) → RunsOn w → nodes_run w event ≡ true
     lives w OpenLink r = rw (r.primary, r.standby) refl
-    lives w (Deliver frame) r = rw r.standby refl
+    lives w (Deliver frame piece) r = rw r.standby refl
     lives w Apply r = rw r.standby refl
     lives w (Crash node picks) r = refl
     lives w (Reopen node) r = refl
@@ -70,7 +70,7 @@ runs_on-happens w RaiseLocal new e h r = alike w new (of w _ new h (record { nev
 runs_on-happens w Hand new e h r = alike w new (of w _ new h (record { never = refl; primary = refl; standby = refl })) r
 runs_on-happens w OpenLink new e h r = alike w new (of w _ new h (record { never = refl; primary = refl; standby = refl })) r
 runs_on-happens w Send new e h r = alike w new (of w _ new h (record { never = refl; primary = refl; standby = refl })) r
-runs_on-happens w (Deliver frame) new e h r = alike w new (of w _ new h (record { never = refl; primary = refl; standby = refl })) r
+runs_on-happens w (Deliver frame piece) new e h r = alike w new (of w _ new h (record { never = refl; primary = refl; standby = refl })) r
 runs_on-happens w Apply new e h r =
     alike w new (of w _ new h.now (record { never = refl; primary = refl; standby = taken-life h.frame (without_first w.standby) h.standby h.told h.takes })) r
 runs_on-happens w (AckDelivered a) new e h r = alike w new (of w _ new h (told-lives w (slice_get w.wire.acknowledgements a))) r
@@ -102,7 +102,7 @@ calls-happens w RaiseLocal new e h r = subst (IsPrefix w.primary.calls) (sym (ap
 calls-happens w Hand new e h r = subst (IsPrefix w.primary.calls) (sym (ap (λ x. x.primary.calls) h)) (IsPrefix-itself w.primary.calls)
 calls-happens w OpenLink new e h r = subst (IsPrefix w.primary.calls) (sym (ap (λ x. x.primary.calls) h)) (IsPrefix-itself w.primary.calls)
 calls-happens w Send new e h r = subst (IsPrefix w.primary.calls) (sym (ap (λ x. x.primary.calls) h)) (IsPrefix-itself w.primary.calls)
-calls-happens w (Deliver frame) new e h r = subst (IsPrefix w.primary.calls) (sym (ap (λ x. x.primary.calls) h)) (IsPrefix-itself w.primary.calls)
+calls-happens w (Deliver frame piece) new e h r = subst (IsPrefix w.primary.calls) (sym (ap (λ x. x.primary.calls) h)) (IsPrefix-itself w.primary.calls)
 calls-happens w (AckDelivered a) new e h r = subst (IsPrefix w.primary.calls) (sym (ap (λ x. x.primary.calls) h)) (IsPrefix-itself w.primary.calls)
 calls-happens w RaiseRemote new e h r = subst (IsPrefix w.primary.calls) (sym (ap (λ x. x.primary.calls) h)) (IsPrefix-itself w.primary.calls)
 calls-happens w (Hold c) new e h r = subst (IsPrefix w.primary.calls) (sym (ap (λ x. x.primary.calls) h)) (IsPrefix-itself w.primary.calls)

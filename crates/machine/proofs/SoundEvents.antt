@@ -318,7 +318,7 @@ sound-may w RaiseLocal new e h s = subst Sound (sym h) (sound-RaiseLocal w s)
 sound-may w Hand new e h s = subst Sound (sym h) (sound-Hand w e s)
 sound-may w OpenLink new e h s = subst Sound (sym h) (sound-OpenLink w s)
 sound-may w Send new e h s = subst Sound (sym h) (sound-Send w e s)
-sound-may w (Deliver frame) new e h s = subst Sound (sym h) (sound-Deliver w frame s)
+sound-may w (Deliver frame piece) new e h s = subst Sound (sym h) (sound-Deliver w frame s)
 sound-may w Apply new e h s = sound-Apply w new h s
 sound-may w (AckDelivered a) new e h s =
     subst Sound (sym h) (sound-told w (slice_get w.wire.acknowledgements a) (all-at (IsToldWithin w.primary.epoch w.standby.position) w.wire.acknowledgements a s.wire.acknowledged) s)

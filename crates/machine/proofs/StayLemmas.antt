@@ -78,7 +78,7 @@ stays-happens w RaiseLocal new c nothing lt shut e h = subst (StaysOver c w) (sy
 stays-happens w Hand new c nothing lt shut e h = subst (StaysOver c w) (sym h) (record { entered = lt; connection = refl; calls = IsPrefix-itself (calls_of c w.primary.calls) })
 stays-happens w OpenLink new c nothing lt shut e h = subst (StaysOver c w) (sym h) (record { entered = lt; connection = refl; calls = IsPrefix-itself (calls_of c w.primary.calls) })
 stays-happens w Send new c nothing lt shut e h = subst (StaysOver c w) (sym h) (record { entered = lt; connection = refl; calls = IsPrefix-itself (calls_of c w.primary.calls) })
-stays-happens w (Deliver frame) new c nothing lt shut e h = subst (StaysOver c w) (sym h) (record { entered = lt; connection = refl; calls = IsPrefix-itself (calls_of c w.primary.calls) })
+stays-happens w (Deliver frame piece) new c nothing lt shut e h = subst (StaysOver c w) (sym h) (record { entered = lt; connection = refl; calls = IsPrefix-itself (calls_of c w.primary.calls) })
 stays-happens w Apply new c nothing lt shut e h = subst (StaysOver c w) (sym h.now) (record { entered = lt; connection = refl; calls = IsPrefix-itself (calls_of c w.primary.calls) })
 stays-happens w (AckDelivered a) new c nothing lt shut e h = subst (StaysOver c w) (sym h) (record { entered = lt; connection = refl; calls = IsPrefix-itself (calls_of c w.primary.calls) })
 stays-happens w RaiseRemote new c nothing lt shut e h = subst (StaysOver c w) (sym h) (record { entered = lt; connection = refl; calls = IsPrefix-itself (calls_of c w.primary.calls) })

@@ -23,7 +23,7 @@ life_of w node.Standby = w.standby.life
 -- the nodes that take part in the event are running; to crash, or to be opened again, none needs to run
 abbrev pub nodes_run : World → Event → Bool
 nodes_run w OpenLink = is_running w.primary.life && is_running w.standby.life
-nodes_run w (Deliver frame) = is_running w.standby.life
+nodes_run w (Deliver frame piece) = is_running w.standby.life
 nodes_run w Apply = is_running w.standby.life
 nodes_run w (Crash node picks) = true
 nodes_run w (Reopen node) = true
@@ -45,7 +45,7 @@ may_happen w RaiseLocal = is_durable w.primary.committer.stage
 may_happen w Hand = is_shown w.primary.committer.stage
 may_happen w OpenLink = true
 may_happen w Send = is_nonempty w.primary.link.again || (is_nonempty w.primary.link.waiting && nat_lt (length w.primary.link.kept) KEPT_GROUPS)
-may_happen w (Deliver frame) = nat_lt frame (length w.wire.frames)
+may_happen w (Deliver frame piece) = nat_lt frame (length w.wire.frames)
 may_happen w Apply = is_nonempty w.standby.waiting
 may_happen w (AckDelivered a) = nat_lt a (length w.wire.acknowledgements)
 may_happen w RaiseRemote = nat_lt w.primary.link.remote w.primary.link.known
@@ -278,7 +278,7 @@ Happens w RaiseLocal new = new ≡ with_committer (raised_local w.primary.commit
 Happens w Hand new = new ≡ with_link (handed_to (handed w.primary.committer.stage) w.primary.link) (with_committer (ready_again w.primary.committer) w)
 Happens w OpenLink new = new ≡ with_link (opened_link w.primary.link) (with_acknowledged (acknowledgement_of w.standby ∷ []) w)
 Happens w Send new = new ≡ sent w
-Happens w (Deliver frame) new = new ≡ with_standby (delivered (option_items (slice_get w.wire.frames frame)) w.standby) w
+Happens w (Deliver frame piece) new = new ≡ with_standby (delivered (option_items (slice_get w.wire.frames frame)) w.standby) w
 Happens w Apply new = Applies w new
 Happens w (AckDelivered a) new = new ≡ with_link (told w.primary.epoch (slice_get w.wire.acknowledgements a) w.primary.link) w
 Happens w RaiseRemote new = new ≡ with_link (raised_remote w.primary.link) w

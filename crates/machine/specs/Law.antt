@@ -171,4 +171,4 @@ NothingIsReleasedUnacknowledged =
 -- a frame that was not sent is not delivered, and neither is an acknowledgement that was not made
 abbrev pub OnlyWhatWasMadeIsDelivered : Type 0
 OnlyWhatWasMadeIsDelivered =
-    (w : World) (n : ℕ) → (length w.wire.frames ≤ n → is_enabled w (Deliver n) ≡ false) × (length w.wire.acknowledgements ≤ n → is_enabled w (AckDelivered n) ≡ false)
+    (w : World) (n piece : ℕ) → (length w.wire.frames ≤ n → is_enabled w (Deliver n piece) ≡ false) × (length w.wire.acknowledgements ≤ n → is_enabled w (AckDelivered n) ≡ false)

@@ -18,7 +18,7 @@ worked_events =
     -- it is durable on the primary: the remote mark does not cover it yet
     ∷ CloseGroup ∷ Commit ∷ RaiseLocal ∷ Read 0 Local ∷ Release 0 ∷ Write 0 5
     -- the standby takes it and acknowledges it; its first acknowledgement told its position when the link opened
-    ∷ Hand ∷ OpenLink ∷ Send ∷ Deliver 0 ∷ Apply ∷ AckDelivered 1 ∷ RaiseRemote
+    ∷ Hand ∷ OpenLink ∷ Send ∷ Deliver 0 0 ∷ Apply ∷ AckDelivered 1 ∷ RaiseRemote
     -- both marks cover it
     ∷ Read 0 Remote ∷ Release 0 ∷ Write 0 5
     -- the connection leaves, and what it was told stays

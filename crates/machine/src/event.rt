@@ -55,8 +55,9 @@ pub enum Event {
     OpenLink,
     /// The link sends one frame.
     Send,
-    /// A frame that was sent arrives at the standby. Frames are numbered from 0, in the order in which they were sent.
-    Deliver(u64),
+    /// A frame that was sent arrives at the standby. Frames are numbered from 0, in the order in which they were sent. Its bytes come in pieces of the
+    /// second number of bytes, the last of them with what is left; 0: whole.
+    Deliver(u64, u64),
     /// The standby takes the first waiting frame.
     Apply,
     /// An acknowledgement that was made arrives at the link. Acknowledgements are numbered from 0.

@@ -1,6 +1,7 @@
 pub mod PrefixLemmas
 pub mod CallsLemmas
 pub mod PositionsLemmas
+pub mod SizeLemmas
 pub mod ServesLemmas
 pub mod MapLemmas
 pub mod VersionsLemmas

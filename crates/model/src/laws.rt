@@ -1,8 +1,9 @@
 //! Laws of the definitions, each the contract of a function that does nothing.
-ghost use Rattle.std.specs.Prelude.{◌≡◌, ◌≢◌, ℕ, ◌+◌, ◌<◌, ◌≤◌, ◌⊎◌, min, true, false, if◌then◌else◌, List, [], ◌∷◌, ◌++◌, length, Option, None};
+ghost use Rattle.std.specs.Prelude.{◌≡◌, ◌≢◌, ℕ, ◌+◌, ◌*◌, ◌<◌, ◌≤◌, ◌⊎◌, min, true, false, if◌then◌else◌, List, [], ◌∷◌, ◌++◌, length, Option, None};
 ghost use Rattle.kv_types.specs.declared.item.Item.TheVariants.{Request};
 ghost use Rattle.kv_types.specs.declared.reply.Reply.{Reply, Error, Array};
 ghost use Rattle.kv_types.specs.Keyspace.{Keyspace, IsKeyspace, play_all};
+ghost use Rattle.kv_types.specs.Change.{changes_size};
 ghost use Rattle.model.specs.declared.call.Call.{Call};
 ghost use Rattle.model.specs.declared.group.Group.{Group};
 ghost use Rattle.model.specs.declared.record.Record.{Record};
@@ -13,11 +14,13 @@ ghost use Rattle.model.specs.Command.{closes};
 ghost use Rattle.model.specs.State.{State};
 ghost use Rattle.model.specs.Call.{MayReply, MayAnswer, admission_at, memory_reply, replies_in, all_made, changes_for, changes_of, is_memory, after_call, is_changing, AreAlike};
 ghost use Rattle.model.specs.Call.{IsLegal, state_after, keyspace_after, position_of, cut_at, items_of, IsPrefix};
-ghost use Rattle.model.specs.Position.{changes_at};
+ghost use Rattle.model.specs.Position.{changes_at, changes_since};
 ghost use Rattle.model.specs.Image.{Image, Version, IsMapOf, map_below, Holds, entries_of_lines};
 ghost use Rattle.model.specs.Group.{Contents, IsGroup, IsConsistent, after_group, changes_of_group};
 ghost use Rattle.model.specs.Standing.{Holder, StandsAt};
 
+use crate::call::MAX_CHANGE_TEXT_BYTES;
+use crate::group::MAX_PARTS;
 use crate::record::MAX_GAPS;
 
 /// A list with one more call: it is legal where the call's reply may be given at its end, its state is that after the call, its keyspace the one
@@ -91,6 +94,15 @@ pub fn changes_lead_from_position_to_position()
     ensures next { (calls : List Call) (p : ℕ) → p < position_of calls
         → keyspace_after (cut_at calls (p + 1)) ≡ play_all (keyspace_after (cut_at calls p)) (changes_at calls p) }
     ensures stable { (calls more : List Call) (p : ℕ) → p < position_of calls → changes_at (calls ++ more) p ≡ changes_at calls p }
+{}
+
+/// The changes of a call that may be answered have at most `MAX_CHANGE_TEXT_BYTES` bytes as text: one that would have more is refused and makes none. So have,
+/// in a legal list, those of each position; and those of as many positions as one group has have at most `MAX_PARTS` times as many.
+pub fn changes_stay_within_limits()
+    ensures call { (state : State) (call : Call) → MayReply state call → changes_size (changes_of state call) ≤ MAX_CHANGE_TEXT_BYTES }
+    ensures position { (calls : List Call) (p : ℕ) → IsLegal calls → changes_size (changes_at calls p) ≤ MAX_CHANGE_TEXT_BYTES }
+    ensures group { (calls : List Call) (p count : ℕ) → IsLegal calls → count ≤ MAX_PARTS
+        → changes_size (changes_since calls p count) ≤ MAX_PARTS * MAX_CHANGE_TEXT_BYTES }
 {}
 
 /// A list of calls leaves a keyspace: its records are in order, each once, and no key is both a string and a hash.

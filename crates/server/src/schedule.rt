@@ -128,7 +128,7 @@ fn deliver_all(events: &mut Vec<Event>, frames: usize) -> Result<(), AllocError>
     ensures { OnOk result (FeedsNothing events.old.items events.new.items) }
 {
     for frame in 0..frames as u64 {
-        events.push(Event::Deliver(frame))?;
+        events.push(Event::Deliver(frame, 0))?;
         events.push(Event::Apply)?;
     }
     Ok(())

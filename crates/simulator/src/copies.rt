@@ -19,7 +19,7 @@ pub fn copy_of(event: &Event) -> Result<Event, AllocError>
         Event::Hand => Event::Hand,
         Event::OpenLink => Event::OpenLink,
         Event::Send => Event::Send,
-        Event::Deliver(frame) => Event::Deliver(*frame),
+        Event::Deliver(frame, piece) => Event::Deliver(*frame, *piece),
         Event::Apply => Event::Apply,
         Event::AckDelivered(number) => Event::AckDelivered(*number),
         Event::RaiseRemote => Event::RaiseRemote,

@@ -21,6 +21,7 @@ pub fn read_event(
         b"feed-bytes" => read_piece(alloc, words)?,
         b"read" => read_mark(words)?,
         b"write" => read_write(words)?,
+        b"deliver" => read_deliver(words)?,
         _ => match event_alone(name) {
             Some(event) => event,
             None => event_with_number(name, words)?,
@@ -46,12 +47,11 @@ fn event_alone(name: &[u8]) -> Option<Event> {
     }
 }
 
-/// The event whose name takes a number: a connection, a frame or an acknowledgement.
+/// The event whose name takes a number: a connection or an acknowledgement.
 fn event_with_number(name: &[u8], words: &mut LineWords<'_>) -> Result<Event, Cause> {
     match name {
         b"offer" => Ok(Event::Offer(words.number()?)),
         b"turn" => Ok(Event::Turn(words.number()?)),
-        b"deliver" => Ok(Event::Deliver(words.number()?)),
         b"ack-delivered" => Ok(Event::AckDelivered(words.number()?)),
         b"hold" => Ok(Event::Hold(words.number()?)),
         b"release" => Ok(Event::Release(words.number()?)),
@@ -68,6 +68,12 @@ fn read_mark(words: &mut LineWords<'_>) -> Result<Event, Cause> {
 fn read_write(words: &mut LineWords<'_>) -> Result<Event, Cause> {
     let connection = words.number()?;
     Ok(Event::Write(connection, words.number()?))
+}
+
+/// A frame, and in how many bytes at a time it comes: whole, where no number says so.
+fn read_deliver(words: &mut LineWords<'_>) -> Result<Event, Cause> {
+    let frame = words.number()?;
+    Ok(Event::Deliver(frame, words.number_or(0)?))
 }
 
 /// A connection, and the words of a request.

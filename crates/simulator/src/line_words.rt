@@ -45,6 +45,14 @@ impl<'a> LineWords<'a> {
         read_number(self.word()?).ok_or(Cause::NotNumber)
     }
 
+    /// The next word, a number; `missing` where there is no next word.
+    pub fn number_or(&mut self, missing: u64) -> Result<u64, Cause> {
+        match self.next() {
+            Some(word) => read_number(word).ok_or(Cause::NotNumber),
+            None => Ok(missing),
+        }
+    }
+
     /// The next word, a mark.
     pub fn mark(&mut self) -> Result<Mark, Cause> {
         match self.word()? {

@@ -17,6 +17,7 @@ mod report;
 mod schedule;
 mod script;
 mod spelling;
+mod wire_report;
 
 use crate::error::SimulatorError;
 use crate::options::read_options;

@@ -4,11 +4,11 @@ use crate::node_report::write_nodes;
 use crate::options::Options;
 use crate::quoted::Quoted;
 use crate::script::Script;
+use crate::wire_report::write_messages;
 use kv_types::{Item, Refusal, Reply};
 use model::Call;
 use pmem::SimPmem;
 use resp_codec::write_reply;
-use standby::{Ack, Frame};
 use std::alloc::{AllocError, Global};
 use std::io;
 use std::io::Write;
@@ -29,8 +29,8 @@ pub fn report<W: Write>(
         let quoted = Quoted(bytes.as_slice());
         writeln!(out, "connection {number}: released {quoted}")?;
     }
-    write_frames(out, trace.frames.as_slice())?;
-    write_acknowledgements(out, trace.acknowledgements.as_slice())?;
+    write_messages(alloc, out, "frame", trace.frames.as_slice())?;
+    write_messages(alloc, out, "acknowledgement", trace.acknowledgements.as_slice())?;
     write_nodes(alloc, out, options, trace.devices.as_slice())?;
     write_end(out, lines, trace.ended)?;
     Ok(())
@@ -68,34 +68,6 @@ fn write_item<W: Write>(out: &mut W, item: &Item) -> io::Result<()> {
         }
         Item::Fault(_) => write!(out, " fault"),
     }
-}
-
-/// The frames of the link, one for each group that was sent.
-fn write_frames<W: Write>(out: &mut W, frames: &[Frame]) -> io::Result<()> {
-    for (number, frame) in frames.iter().enumerate() {
-        let epoch = frame.epoch;
-        let before = frame.before;
-        let after = frame.after;
-        let changes = frame.changes.len();
-        writeln!(
-            out,
-            "frame {number}: epoch {epoch}, from {before} to {after}, changes {changes}"
-        )?;
-    }
-    Ok(())
-}
-
-/// The acknowledgements that the standby made.
-fn write_acknowledgements<W: Write>(out: &mut W, acknowledgements: &[Ack]) -> io::Result<()> {
-    for (number, ack) in acknowledgements.iter().enumerate() {
-        let epoch = ack.epoch;
-        let position = ack.position;
-        writeln!(
-            out,
-            "acknowledgement {number}: epoch {epoch}, position {position}"
-        )?;
-    }
-    Ok(())
 }
 
 /// The bytes of a reply.

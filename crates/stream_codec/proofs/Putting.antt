@@ -1,5 +1,5 @@
 -- Bytes that are put one after the other.
-use Rattle.std.proofs.Common.{◌≡◌, ℕ, ◌+◌, ◌^◌, ◌<◌, ◌≤◌, List, ◌++◌, length, Option, None, Some, Result, Ok, Err, ap, sym, ◌∙◌, arith}
+use Rattle.std.proofs.Common.{◌≡◌, ℕ, ◌+◌, ◌^◌, ◌<◌, ◌≤◌, List, ◌++◌, length, Option, None, Some, Result, Ok, Err, OnOk, ap, sym, ◌∙◌, arith}
 use Rattle.std.proofs.lemmas.List.{append_assoc, length-append}
 use Rattle.std.specs.Option.{SomeIff}
 use Rattle.stream_codec.specs.Puts.{Puts}
@@ -13,3 +13,7 @@ puts_after (Err t) old mid new spare0 spare1 spare2 x y e s p = omega (arith, s,
 pub some_size : (found : Option ℕ) (n size : ℕ) → SomeIff found (n < 2 ^ 64) n → found ≡ Some size → size ≡ n
 some_size None n size h e = absurd cc
 some_size (Some x) n size h e = let same : x ≡ size = cc in sym same ∙ h.1
+
+pub OnOk-weaken : {T E P Q : Type 0} (result : Result T E) → (P → Q) → OnOk result P → OnOk result Q
+OnOk-weaken (Ok x) into h = into h
+OnOk-weaken (Err e) into h = tt

@@ -41,6 +41,11 @@ IsChange (Drop id) = IsRecordId id
 IsChange (DropKey key) = length key ≤ MAX_KEY_BYTES
 IsChange Clear = Unit {0}
 
+-- what every message that the code holds keeps: its numbers fit eight bytes, and each of its changes is within the limits
+abbrev pub IsWithinLimits : Sent → Type 0
+IsWithinLimits (Changes epoch before after changes) = (epoch < 2 ^ 64) × (after < 2 ^ 64) × AllByRecursion IsChange changes
+IsWithinLimits (Acknowledged epoch position) = (epoch < 2 ^ 64) × (position < 2 ^ 64)
+
 -- the changes of a group, which may be none: the position rises, and the body is not too long
 pub record IsGroup (epoch before after : ℕ) (changes : List Change) : Type 0 where
   pub epoch_fits : epoch < 2 ^ 64

@@ -1,26 +1,28 @@
 //! Frames as bytes.
 ghost use Rattle.std.specs.Prelude.{◌≡◌, ◌+◌, ◌^◌, ◌<◌, ◌≤◌, [], ◌∷◌, ◌++◌, length, OnOk, OnErr, IsOk};
-ghost use Rattle.std.specs.List.{flat_map};
+ghost use Rattle.std.specs.List.{flat_map, AllByRecursion};
 ghost use Rattle.std.specs.Option.{SomeIff};
 ghost use Rattle.kv_types.specs.Change.{short_bytes, long_bytes, change_text, changes_text, changes_size};
-ghost use Rattle.stream_codec.specs.Message.{long, sent_of, sent_of_frame, sent_of_ack, sent_text};
+ghost use Rattle.stream_codec.specs.Message.{IsChange, IsWithinLimits, long, sent_of, sent_of_frame, sent_of_ack, sent_text};
 ghost use Rattle.stream_codec.specs.Puts.{Puts};
 
 use crate::message::Message;
 use bytes::BufMut;
-use kv_types::{Change, Key, RecordId, Value};
+use kv_types::{Change, Key, MAX_KEY_BYTES, MAX_VALUE_BYTES, RecordId, Value};
 use standby::{Ack, Frame};
 use std::alloc::AllocError;
 
 /// How many bytes the numbers of a group's frame have, its first byte among them.
 const GROUP_HEAD_BYTES: u64 = 1 + 8 + 8 + 8 + 8;
 
-/// Appends the bytes of a frame to `out`. It fails only if `out` had no room for them and could not make it, and then nothing is written.
+/// Appends the bytes of a frame to `out`. It fails only if `out` had no room for them and could not make it, and then nothing is written. Keys, fields
+/// and values hold their limits, so each change that is written is within them.
 pub fn write_frame<W: BufMut>(message: &Message, out: &mut W) -> Result<(), AllocError>
     ensures ok { OnOk result (W.written out.new ≡ W.written out.old ++ sent_text (sent_of message.now)) }
     ensures err { OnErr result (W.written out.new ≡ W.written out.old) }
     ensures succeeds { let text = sent_text (sent_of message.now) in length text < 2 ^ 64 → length text ≤ W.spare out.old → IsOk result }
     ensures spare { OnOk result (W.spare out.old ≤ W.spare out.new + length (sent_text (sent_of message.now))) }
+    ensures within { OnOk result (IsWithinLimits (sent_of message.now)) }
 {
     let len = frame_len(message).ok_or(AllocError)?;
     out.reserve(len)?;
@@ -55,7 +57,8 @@ fn body_len(changes: &[Change]) -> Option<u64>
 }
 
 fn put_ack<W: BufMut>(ack: Ack, out: &mut W) -> Result<(), AllocError>
-    ensures { Puts result (W.written out.old) (W.written out.new) (W.spare out.old) (W.spare out.new) (sent_text (sent_of_ack ack)) }
+    ensures puts { Puts result (W.written out.old) (W.written out.new) (W.spare out.old) (W.spare out.new) (sent_text (sent_of_ack ack)) }
+    ensures within { IsWithinLimits (sent_of_ack ack) }
 {
     out.put_u8(2)?;
     put_numbers(&[ack.epoch, ack.position], out)
@@ -63,11 +66,14 @@ fn put_ack<W: BufMut>(ack: Ack, out: &mut W) -> Result<(), AllocError>
 
 fn put_group<W: BufMut>(frame: &Frame, out: &mut W) -> Result<(), AllocError>
     requires { changes_size frame.now.changes.items < 2 ^ 64 }
-    ensures { Puts result (W.written out.old) (W.written out.new) (W.spare out.old) (W.spare out.new) (sent_text (sent_of_frame frame.now)) }
+    ensures puts { Puts result (W.written out.old) (W.written out.new) (W.spare out.old) (W.spare out.new) (sent_text (sent_of_frame frame.now)) }
+    ensures fits { (frame.now.epoch < 2 ^ 64) × (frame.now.after < 2 ^ 64) }
+    ensures within { OnOk result (AllByRecursion IsChange frame.now.changes.items) }
 {
+    let (epoch, after) = (frame.epoch, frame.after);
     let size = body_len(frame.changes.as_slice()).unwrap();
     out.put_u8(1)?;
-    put_numbers(&[frame.epoch, frame.before, frame.after, size], out)?;
+    put_numbers(&[epoch, frame.before, after, size], out)?;
     put_changes(frame.changes.as_slice(), out)
 }
 
@@ -82,7 +88,8 @@ fn put_numbers<W: BufMut>(numbers: &[u64], out: &mut W) -> Result<(), AllocError
 }
 
 fn put_changes<W: BufMut>(changes: &[Change], out: &mut W) -> Result<(), AllocError>
-    ensures { Puts result (W.written out.old) (W.written out.new) (W.spare out.old) (W.spare out.new) (changes_text changes.now) }
+    ensures puts { Puts result (W.written out.old) (W.written out.new) (W.spare out.old) (W.spare out.new) (changes_text changes.now) }
+    ensures within { OnOk result (AllByRecursion IsChange changes.now) }
 {
     for change in changes {
         put_change(change, out)?;
@@ -91,7 +98,8 @@ fn put_changes<W: BufMut>(changes: &[Change], out: &mut W) -> Result<(), AllocEr
 }
 
 fn put_change<W: BufMut>(change: &Change, out: &mut W) -> Result<(), AllocError>
-    ensures { Puts result (W.written out.old) (W.written out.new) (W.spare out.old) (W.spare out.new) (change_text change.now) }
+    ensures puts { Puts result (W.written out.old) (W.written out.new) (W.spare out.old) (W.spare out.new) (change_text change.now) }
+    ensures within { OnOk result (IsChange change.now) }
 {
     match change {
         Change::Put(RecordId::Str(key), value) => {
@@ -115,7 +123,8 @@ fn put_change<W: BufMut>(change: &Change, out: &mut W) -> Result<(), AllocError>
 
 /// Puts the first byte of a change, and its key.
 fn put_first<W: BufMut>(first: u8, key: &Key, out: &mut W) -> Result<(), AllocError>
-    ensures { Puts result (W.written out.old) (W.written out.new) (W.spare out.old) (W.spare out.new) (first ∷ short_bytes key.now) }
+    ensures puts { Puts result (W.written out.old) (W.written out.new) (W.spare out.old) (W.spare out.new) (first ∷ short_bytes key.now) }
+    ensures within { OnOk result (length key.now ≤ MAX_KEY_BYTES) }
 {
     out.put_u8(first)?;
     put_name(key, out)
@@ -123,7 +132,8 @@ fn put_first<W: BufMut>(first: u8, key: &Key, out: &mut W) -> Result<(), AllocEr
 
 /// Puts the length of a key or a field, and its bytes.
 fn put_name<W: BufMut>(name: &Key, out: &mut W) -> Result<(), AllocError>
-    ensures { Puts result (W.written out.old) (W.written out.new) (W.spare out.old) (W.spare out.new) (short_bytes name.now) }
+    ensures puts { Puts result (W.written out.old) (W.written out.new) (W.spare out.old) (W.spare out.new) (short_bytes name.now) }
+    ensures within { length name.now ≤ MAX_KEY_BYTES }
 {
     out.put_u16(name.len() as u16)?;
     out.put_slice(name.as_slice())
@@ -131,7 +141,8 @@ fn put_name<W: BufMut>(name: &Key, out: &mut W) -> Result<(), AllocError>
 
 /// Puts the length of a value, and its bytes.
 fn put_value<W: BufMut>(value: &Value, out: &mut W) -> Result<(), AllocError>
-    ensures { Puts result (W.written out.old) (W.written out.new) (W.spare out.old) (W.spare out.new) (long_bytes value.now) }
+    ensures puts { Puts result (W.written out.old) (W.written out.new) (W.spare out.old) (W.spare out.new) (long_bytes value.now) }
+    ensures within { length value.now ≤ MAX_VALUE_BYTES }
 {
     out.put_u32(value.len() as u32)?;
     out.put_slice(value.as_slice())

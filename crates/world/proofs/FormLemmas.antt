@@ -1,5 +1,5 @@
 -- New images, and the tables and heaps with which they begin.
-use Rattle.std.proofs.Common.{◌≡◌, ℕ, ◌<◌, ◌≤◌, ◌⊎◌, Bool, false, List, [], ◌∷◌, refl, sym, ap, subst, arith, inl, inr}
+use Rattle.std.proofs.Common.{◌≡◌, ℕ, ◌<◌, ◌≤◌, ◌⊎◌, Bool, false, List, [], ◌∷◌, refl, sym, ap, subst, arith, inl, inr, Vec, Global}
 use Rattle.multi_watch.specs.Sessions.{Sessions}
 use Rattle.model.specs.Image.{entries_of_lines}
 use Rattle.model.specs.declared.image.TheConstants.{COUNTER_LIMIT}
@@ -16,7 +16,6 @@ use Rattle.mv_keyspace.specs.Table.{Table, records}
 use Rattle.wbl_engine.specs.Contents.{IsNew, IsDurable}
 use Rattle.wbl_engine.specs.Formatting.{IsFormatting}
 use Rattle.redis_core.specs.Sequencing.{Sequencing, IsAheadOf, Underlies, starts}
-use Rattle.standby.specs.declared.frame.Frame.{Frame}
 use Rattle.standby_stream.specs.Stream.{Stream, new_stream}
 use Rattle.standby.proofs.NewLemmas.{HasAll, new-table, left-new, new-consistent, follows-new}
 use Rattle.machine.specs.Event.{start}
@@ -111,7 +110,7 @@ none-seated (code ∷ codes) stand s = absurd stand
 pub pair-starts : (first second : Holder) (pair : Pair) → SessionsRefine pair.sessions [] [] → SequencerRefines [] 0 pair.sequencer
     → pair.committing.waiting.items ≡ [] → pair.committing.stage ≡ Ready → pair.committing.local ≡ 0 → EngineStands first [] 0 pair.device pair.contents pair.is_faulted
     → IsAheadOf pair.sequencer pair.contents → pair.link ≡ new_stream FIRST_EPOCH → pair.handed.items ≡ [] → pair.remote ≡ 0 → pair.frames ≡ []
-    → ((epoch : ℕ) → ArrivalsRefine epoch [] [] pair.arrivals [] []) → StandbyStands second pair.link.epoch [] 0 pair.standby → PairRefines first second pair start
+    → ((epoch : ℕ) → ArrivalsRefine epoch [] pair.arrivals [] []) → StandbyStands second pair.link.epoch [] 0 pair.standby → PairRefines first second pair start
 pair-starts first second pair sessions sequencer none ready mark engine ahead link no_group remote no_frame arrivals standby =
     record {
       sound = sound-start false;
@@ -138,8 +137,8 @@ pair-starts first second pair sessions sequencer none ready mark engine ahead li
               known = refl;
               remote_is = remote;
             });
-        frames = subst (λ (frames : List Frame). AreFramesSent pair.link.epoch [] frames []) (sym no_frame) tt;
-        arrivals = subst (λ (frames : List Frame). ArrivalsRefine pair.link.epoch [] frames pair.arrivals [] []) (sym no_frame) (arrivals pair.link.epoch);
+        frames = subst (λ (texts : List (Vec ℕ Global)). AreFramesSent pair.link.epoch [] texts []) (sym no_frame) tt;
+        arrivals = arrivals pair.link.epoch;
         standby = standby;
       };
     }

@@ -1,14 +1,21 @@
 -- Frames, the spans of the groups that they carry, and the list of calls that both are of.
-use Rattle.std.proofs.Common.{◌≡◌, ℕ, zero, suc, ◌<◌, List, [], ◌∷◌, ◌++◌, length, Some, refl, sym, ap, ◌∙◌, arith}
+use Rattle.std.proofs.Common.{◌≡◌, ℕ, zero, suc, ◌<◌, List, [], ◌∷◌, ◌++◌, length, Some, Vec, Global, true, nat_lt, slice_index_or, refl, sym, ap, subst, ◌∙◌, arith}
+use Rattle.std.proofs.lemmas.Bool.{ltb-true}
+use Rattle.std.proofs.lemmas.Option.{slice_get-get_or}
 use Rattle.std.specs.Prelude.{slice_get}
 use Rattle.model.specs.declared.call.Call.{Call}
+use Rattle.kv_types.specs.declared.change.Change.{Change}
+use Rattle.kv_types.specs.Change.{changes_size}
 use Rattle.kv_types.specs.Keyspace.{play_all}
 use Rattle.model.specs.Call.{cut_at, keyspace_after}
 use Rattle.model.proofs.CallsLemmas.{keyspace_after-cut_at-append}
-use Rattle.machine.specs.Event.{Span, Frame as Sent}
+use Rattle.machine.specs.Event.{Span, Frame as Sent, Acknowledgement}
 use Rattle.standby.specs.declared.frame.Frame.{Frame}
 use Rattle.standby.specs.Following.{IsCopy}
-use Rattle.world.specs.Link.{IsFrameOf, AreFramesOf, IsFrameSent, AreFramesSent, IsFrameAt, AreFramesAt}
+use Rattle.stream_codec.specs.Message.{Sent as Told, Changes, Acknowledged, IsSent, IsWithinLimits, sent_of_frame, sent_of_ack}
+use Rattle.standby.specs.declared.frame.Ack.{Ack}
+use Rattle.world.specs.Standby.{told_by}
+use Rattle.world.specs.Link.{IsFrameOf, AreFramesOf, IsFrameRead, AreFramesRead, IsFrameSent, AreFramesSent, IsAckSent, AreAcksSent}
 use Rattle.world.proofs.GroupSpanLemmas.{IsWithin-grows}
 
 -- ---- the list of calls grows
@@ -23,6 +30,7 @@ IsFrameOf-grows epoch calls more frame span is =
       after = is.after;
       plays = ap (λ s. play_all s frame.changes.items) (keyspace_after-cut_at-append calls more span.before (omega (arith, within.rising, within.within))) ∙ is.plays
           ∙ sym (keyspace_after-cut_at-append calls more span.after within.within);
+      size = is.size;
     }
 
 pub AreFramesOf-grows : (epoch : ℕ) (calls more : List Call) (frames : List Frame) (spans : List Span) → AreFramesOf epoch calls frames spans → AreFramesOf epoch (calls ++ more) frames spans
@@ -31,35 +39,23 @@ AreFramesOf-grows epoch calls more [] (span ∷ spans) are = absurd are
 AreFramesOf-grows epoch calls more (frame ∷ frames) [] are = absurd are
 AreFramesOf-grows epoch calls more (frame ∷ frames) (span ∷ spans) are = (IsFrameOf-grows epoch calls more frame span are.0, AreFramesOf-grows epoch calls more frames spans are.1)
 
-IsFrameSent-grows : (epoch : ℕ) (calls more : List Call) (frame : Frame) (sent : Sent) → IsFrameSent epoch calls frame sent → IsFrameSent epoch (calls ++ more) frame sent
-IsFrameSent-grows epoch calls more frame sent is = record { epoch_is = is.epoch_is; has = IsFrameOf-grows epoch calls more frame sent.span is.has }
+IsFrameRead-grows : (epoch : ℕ) (calls more : List Call) (frame : Frame) (sent : Sent) → IsFrameRead epoch calls frame sent → IsFrameRead epoch (calls ++ more) frame sent
+IsFrameRead-grows epoch calls more frame sent is = record { epoch_is = is.epoch_is; has = IsFrameOf-grows epoch calls more frame sent.span is.has }
 
-pub AreFramesSent-grows : (epoch : ℕ) (calls more : List Call) (frames : List Frame) (sent : List Sent) → AreFramesSent epoch calls frames sent → AreFramesSent epoch (calls ++ more) frames sent
+pub AreFramesRead-grows : (epoch : ℕ) (calls more : List Call) (frames : List Frame) (sent : List Sent) → AreFramesRead epoch calls frames sent → AreFramesRead epoch (calls ++ more) frames sent
+AreFramesRead-grows epoch calls more [] [] are = tt
+AreFramesRead-grows epoch calls more [] (one ∷ sent) are = absurd are
+AreFramesRead-grows epoch calls more (frame ∷ frames) [] are = absurd are
+AreFramesRead-grows epoch calls more (frame ∷ frames) (one ∷ sent) are = (IsFrameRead-grows epoch calls more frame one are.0, AreFramesRead-grows epoch calls more frames sent are.1)
+
+pub AreFramesSent-grows : (epoch : ℕ) (calls more : List Call) (texts : List (Vec ℕ Global)) (sent : List Sent) → AreFramesSent epoch calls texts sent → AreFramesSent epoch (calls ++ more) texts sent
 AreFramesSent-grows epoch calls more [] [] are = tt
 AreFramesSent-grows epoch calls more [] (one ∷ sent) are = absurd are
-AreFramesSent-grows epoch calls more (frame ∷ frames) [] are = absurd are
-AreFramesSent-grows epoch calls more (frame ∷ frames) (one ∷ sent) are = (IsFrameSent-grows epoch calls more frame one are.0, AreFramesSent-grows epoch calls more frames sent are.1)
-
-pub AreFramesAt-grows : (epoch : ℕ) (calls more : List Call) (frames : List Frame) (numbers : List ℕ) (sent : List Sent) → AreFramesAt epoch calls frames numbers sent → AreFramesAt epoch (calls ++ more) frames numbers sent
-AreFramesAt-grows epoch calls more frames [] [] are = tt
-AreFramesAt-grows epoch calls more frames [] (one ∷ sent) are = absurd are
-AreFramesAt-grows epoch calls more frames (number ∷ numbers) [] are = absurd are
-AreFramesAt-grows epoch calls more frames (number ∷ numbers) (one ∷ sent) are =
-    (record { frame = are.0.frame; stands = are.0.stands; is = IsFrameSent-grows epoch calls more are.0.frame one are.0.is }, AreFramesAt-grows epoch calls more frames numbers sent are.1)
+AreFramesSent-grows epoch calls more (bytes ∷ texts) [] are = absurd are
+AreFramesSent-grows epoch calls more (bytes ∷ texts) (one ∷ sent) are =
+    (record { frame = are.0.frame; text = are.0.text; may = are.0.may; is = IsFrameRead-grows epoch calls more are.0.frame one are.0.is }, AreFramesSent-grows epoch calls more texts sent are.1)
 
 -- ---- frames are sent
-
-slice_get-grows : {X : Type 0} (xs more : List X) (i : ℕ) (x : X) → slice_get xs i ≡ Some x → slice_get (xs ++ more) i ≡ Some x
-slice_get-grows [] more i x e = cc
-slice_get-grows (y ∷ xs) more zero x e = e
-slice_get-grows (y ∷ xs) more (suc i) x e = slice_get-grows xs more i x e
-
-pub AreFramesAt-frames : (epoch : ℕ) (calls : List Call) (frames more : List Frame) (numbers : List ℕ) (sent : List Sent) → AreFramesAt epoch calls frames numbers sent → AreFramesAt epoch calls (frames ++ more) numbers sent
-AreFramesAt-frames epoch calls frames more [] [] are = tt
-AreFramesAt-frames epoch calls frames more [] (one ∷ sent) are = absurd are
-AreFramesAt-frames epoch calls frames more (number ∷ numbers) [] are = absurd are
-AreFramesAt-frames epoch calls frames more (number ∷ numbers) (one ∷ sent) are =
-    (record { frame = are.0.frame; stands = slice_get-grows frames more number are.0.frame are.0.stands; is = are.0.is }, AreFramesAt-frames epoch calls frames more numbers sent are.1)
 
 pub AreFramesOf-push : (epoch : ℕ) (calls : List Call) (frames : List Frame) (spans : List Span) (frame : Frame) (span : Span) → AreFramesOf epoch calls frames spans → IsFrameOf epoch calls frame span
     → AreFramesOf epoch calls (frames ++ frame ∷ []) (spans ++ span ∷ [])
@@ -68,12 +64,19 @@ AreFramesOf-push epoch calls [] (s ∷ spans) frame span are is = absurd are
 AreFramesOf-push epoch calls (f ∷ frames) [] frame span are is = absurd are
 AreFramesOf-push epoch calls (f ∷ frames) (s ∷ spans) frame span are is = (are.0, AreFramesOf-push epoch calls frames spans frame span are.1 is)
 
-pub AreFramesSent-push : (epoch : ℕ) (calls : List Call) (frames : List Frame) (sent : List Sent) (frame : Frame) (one : Sent) → AreFramesSent epoch calls frames sent → IsFrameSent epoch calls frame one
-    → AreFramesSent epoch calls (frames ++ frame ∷ []) (sent ++ one ∷ [])
-AreFramesSent-push epoch calls [] [] frame one are is = (is, tt)
-AreFramesSent-push epoch calls [] (s ∷ sent) frame one are is = absurd are
-AreFramesSent-push epoch calls (f ∷ frames) [] frame one are is = absurd are
-AreFramesSent-push epoch calls (f ∷ frames) (s ∷ sent) frame one are is = (are.0, AreFramesSent-push epoch calls frames sent frame one are.1 is)
+pub AreFramesSent-push : (epoch : ℕ) (calls : List Call) (texts : List (Vec ℕ Global)) (sent : List Sent) (bytes : Vec ℕ Global) (one : Sent) → AreFramesSent epoch calls texts sent → IsFrameSent epoch calls bytes.items one
+    → AreFramesSent epoch calls (texts ++ bytes ∷ []) (sent ++ one ∷ [])
+AreFramesSent-push epoch calls [] [] bytes one are is = (is, tt)
+AreFramesSent-push epoch calls [] (s ∷ sent) bytes one are is = absurd are
+AreFramesSent-push epoch calls (t ∷ texts) [] bytes one are is = absurd are
+AreFramesSent-push epoch calls (t ∷ texts) (s ∷ sent) bytes one are is = (are.0, AreFramesSent-push epoch calls texts sent bytes one are.1 is)
+
+pub AreFramesRead-push : (epoch : ℕ) (calls : List Call) (frames : List Frame) (sent : List Sent) (frame : Frame) (one : Sent) → AreFramesRead epoch calls frames sent → IsFrameRead epoch calls frame one
+    → AreFramesRead epoch calls (frames ++ frame ∷ []) (sent ++ one ∷ [])
+AreFramesRead-push epoch calls [] [] frame one are is = (is, tt)
+AreFramesRead-push epoch calls [] (s ∷ sent) frame one are is = absurd are
+AreFramesRead-push epoch calls (f ∷ frames) [] frame one are is = absurd are
+AreFramesRead-push epoch calls (f ∷ frames) (s ∷ sent) frame one are is = (are.0, AreFramesRead-push epoch calls frames sent frame one are.1 is)
 
 -- what is true of a frame is true of a copy
 pub IsFrameOf-copy : (epoch : ℕ) (calls : List Call) (frame copy : Frame) (span : Span) → IsFrameOf epoch calls frame span → IsCopy frame copy → IsFrameOf epoch calls copy span
@@ -84,7 +87,38 @@ IsFrameOf-copy epoch calls frame copy span is same =
       before = same.before ∙ is.before;
       after = same.after ∙ is.after;
       plays = ap (play_all (keyspace_after (cut_at calls span.before))) same.changes ∙ is.plays;
+      size = omega (arith, is.size, ap changes_size same.changes);
     }
+
+-- what was written of such a frame may be sent
+pub may_be_sent : (epoch : ℕ) (calls : List Call) (frame : Frame) (span : Span) → IsFrameOf epoch calls frame span → IsWithinLimits (sent_of_frame frame) → IsSent (sent_of_frame frame)
+may_be_sent epoch calls frame span is within = record {
+  epoch_fits = within.0;
+  rises = omega (arith, is.before, is.after, is.span_within.rising);
+  after_fits = within.1;
+  each = within.2;
+  body = is.size;
+}
+
+-- and what reads as it is a copy of it
+pub copy_of_read : (frame read : Frame) → sent_of_frame read ≡ sent_of_frame frame → IsCopy frame read
+copy_of_read frame read same = record { epoch = ap epoch_in same; before = ap before_in same; after = ap after_in same; changes = ap changes_in same }
+  where
+    epoch_in : Told → ℕ
+    epoch_in (Changes epoch before after changes) = epoch
+    epoch_in (Acknowledged epoch position) = epoch
+
+    before_in : Told → ℕ
+    before_in (Changes epoch before after changes) = before
+    before_in (Acknowledged epoch position) = position
+
+    after_in : Told → ℕ
+    after_in (Changes epoch before after changes) = after
+    after_in (Acknowledged epoch position) = position
+
+    changes_in : Told → List Change
+    changes_in (Changes epoch before after changes) = changes
+    changes_in (Acknowledged epoch position) = []
 
 -- ---- frames and their spans
 
@@ -94,22 +128,74 @@ length-frames epoch calls [] (span ∷ spans) are = absurd are
 length-frames epoch calls (frame ∷ frames) [] are = absurd are
 length-frames epoch calls (frame ∷ frames) (span ∷ spans) are = ap suc (length-frames epoch calls frames spans are.1)
 
-pub length-sent : (epoch : ℕ) (calls : List Call) (frames : List Frame) (sent : List Sent) → AreFramesSent epoch calls frames sent → length frames ≡ length sent
+pub length-sent : (epoch : ℕ) (calls : List Call) (texts : List (Vec ℕ Global)) (sent : List Sent) → AreFramesSent epoch calls texts sent → length texts ≡ length sent
 length-sent epoch calls [] [] are = refl
 length-sent epoch calls [] (one ∷ sent) are = absurd are
-length-sent epoch calls (frame ∷ frames) [] are = absurd are
-length-sent epoch calls (frame ∷ frames) (one ∷ sent) are = ap suc (length-sent epoch calls frames sent are.1)
+length-sent epoch calls (bytes ∷ texts) [] are = absurd are
+length-sent epoch calls (bytes ∷ texts) (one ∷ sent) are = ap suc (length-sent epoch calls texts sent are.1)
 
--- the frame and the span of a number belong together
-pub record FrameOfNumber (epoch : ℕ) (calls : List Call) (frames : List Frame) (sent : List Sent) (number : ℕ) : Type 0 where
+-- the bytes and the span of a number belong together
+pub record FrameOfNumber (epoch : ℕ) (calls : List Call) (texts : List (Vec ℕ Global)) (sent : List Sent) (number : ℕ) : Type 0 where
   pub one : Sent
   pub stands : slice_get sent number ≡ Some one
-  pub at : IsFrameAt epoch calls frames number one
+  pub bytes : Vec ℕ Global
+  pub bytes_stand : slice_get texts number ≡ Some bytes
+  pub is : IsFrameSent epoch calls bytes.items one
 
-pub frame_of_number : (epoch : ℕ) (calls : List Call) (frames : List Frame) (sent : List Sent) (number : ℕ) → AreFramesSent epoch calls frames sent → number < length frames → FrameOfNumber epoch calls frames sent number
+pub frame_of_number : (epoch : ℕ) (calls : List Call) (texts : List (Vec ℕ Global)) (sent : List Sent) (number : ℕ) → AreFramesSent epoch calls texts sent → number < length texts → FrameOfNumber epoch calls texts sent number
 frame_of_number epoch calls [] sent number are lt = absurd (omega arith)
-frame_of_number epoch calls (frame ∷ frames) [] number are lt = absurd are
-frame_of_number epoch calls (frame ∷ frames) (one ∷ sent) zero are lt = record { one = one; stands = refl; at = record { frame = frame; stands = refl; is = are.0 } }
-frame_of_number epoch calls (frame ∷ frames) (one ∷ sent) (suc number) are lt =
-    let rest = frame_of_number epoch calls frames sent number are.1 (omega arith) in
-    record { one = rest.one; stands = rest.stands; at = record { frame = rest.at.frame; stands = rest.at.stands; is = rest.at.is } }
+frame_of_number epoch calls (bytes ∷ texts) [] number are lt = absurd are
+frame_of_number epoch calls (bytes ∷ texts) (one ∷ sent) zero are lt = record { one = one; stands = refl; bytes = bytes; bytes_stand = refl; is = are.0 }
+frame_of_number epoch calls (bytes ∷ texts) (one ∷ sent) (suc number) are lt =
+    let rest = frame_of_number epoch calls texts sent number are.1 (omega arith) in
+    record { one = rest.one; stands = rest.stands; bytes = rest.bytes; bytes_stand = rest.bytes_stand; is = rest.is }
+
+-- ---- acknowledgements
+
+pub AreAcksSent-push : (texts : List (Vec ℕ Global)) (told : List Acknowledgement) (bytes : Vec ℕ Global) (one : Acknowledgement) → AreAcksSent texts told → IsAckSent bytes.items one → AreAcksSent (texts ++ bytes ∷ []) (told ++ one ∷ [])
+AreAcksSent-push [] [] bytes one are is = (is, tt)
+AreAcksSent-push [] (a ∷ told) bytes one are is = absurd are
+AreAcksSent-push (t ∷ texts) [] bytes one are is = absurd are
+AreAcksSent-push (t ∷ texts) (a ∷ told) bytes one are is = (are.0, AreAcksSent-push texts told bytes one are.1 is)
+
+pub length-acks : (texts : List (Vec ℕ Global)) (told : List Acknowledgement) → AreAcksSent texts told → length texts ≡ length told
+length-acks [] [] are = refl
+length-acks [] (one ∷ told) are = absurd are
+length-acks (bytes ∷ texts) [] are = absurd are
+length-acks (bytes ∷ texts) (one ∷ told) are = ap suc (length-acks texts told are.1)
+
+-- the bytes and the acknowledgement of a number belong together
+pub record AckOfNumber (texts : List (Vec ℕ Global)) (told : List Acknowledgement) (number : ℕ) : Type 0 where
+  pub one : Acknowledgement
+  pub stands : slice_get told number ≡ Some one
+  pub bytes : Vec ℕ Global
+  pub bytes_stand : slice_get texts number ≡ Some bytes
+  pub is : IsAckSent bytes.items one
+
+pub ack_of_number : (texts : List (Vec ℕ Global)) (told : List Acknowledgement) (number : ℕ) → AreAcksSent texts told → number < length texts → AckOfNumber texts told number
+ack_of_number [] told number are lt = absurd (omega arith)
+ack_of_number (bytes ∷ texts) [] number are lt = absurd are
+ack_of_number (bytes ∷ texts) (one ∷ told) zero are lt = record { one = one; stands = refl; bytes = bytes; bytes_stand = refl; is = are.0 }
+ack_of_number (bytes ∷ texts) (one ∷ told) (suc number) are lt =
+    let rest = ack_of_number texts told number are.1 (omega arith) in
+    record { one = rest.one; stands = rest.stands; bytes = rest.bytes; bytes_stand = rest.bytes_stand; is = rest.is }
+
+-- what reads as an acknowledgement tells it
+pub ack_of_read : (read : Ack) (told : Acknowledgement) → sent_of_ack read ≡ Acknowledged told.epoch told.position → told_by read ≡ told
+ack_of_read read told same = ap told_in same
+  where
+    told_in : Told → Acknowledgement
+    told_in (Changes epoch before after changes) = record { epoch = epoch; position = before }
+    told_in (Acknowledged epoch position) = record { epoch = epoch; position = position }
+
+-- what a look-up found
+pub found-there : {X : Type 0} (xs ys : List X) (n : ℕ) (x : X) → xs ≡ ys → true ≡ nat_lt n (length xs) → x ≡ slice_index_or xs n x → slice_get ys n ≡ Some x
+found-there {X} xs ys n x same within is =
+    subst (λ (all : List X). slice_get all n ≡ Some x) same (slice_get-get_or xs n x (ltb-true n (length xs) (sym within)) ∙ ap Some (sym is))
+
+-- no frame reads as an acknowledgement, and no acknowledgement as a frame
+pub ack_is_no_frame : (ack : Ack) (frame : Frame) → sent_of_ack ack ≡ sent_of_frame frame → ⊥
+ack_is_no_frame ack frame same = cc
+
+pub frame_is_no_ack : (frame : Frame) (epoch position : ℕ) → sent_of_frame frame ≡ Acknowledged epoch position → ⊥
+frame_is_no_ack frame epoch position same = cc

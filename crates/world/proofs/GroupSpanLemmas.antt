@@ -9,7 +9,7 @@ use Rattle.machine.specs.Event.{Span}
 use Rattle.world.specs.GroupSpan.{IsWithin, IsGroupOf, AreGroupsOf}
 
 pub IsWithin-grows : (calls more : List Call) (span : Span) → IsWithin calls span → IsWithin (calls ++ more) span
-IsWithin-grows calls more span is = record { rising = is.rising; within = omega (arith, is.within, position_of_grows calls more) }
+IsWithin-grows calls more span is = record { rising = is.rising; within = omega (arith, is.within, position_of_grows calls more); few = is.few }
 
 -- the changes of a span stay
 pub changes_of_span-grow : (calls more : List Call) (span : Span) → IsWithin calls span

@@ -8,6 +8,7 @@ pub mod SeatLemmas
 pub mod SequencerLemmas
 pub mod TurnLemmas
 pub mod CommittingLemmas
+pub mod WireLemmas
 pub mod FrameLemmas
 pub mod LinkLemmas
 pub mod AckLemmas

@@ -7,11 +7,13 @@ use Rattle.std.proofs.lemmas.List.{drop_all}
 use Rattle.std.specs.Prelude.{slice_get}
 use Rattle.kv_types.specs.declared.refusal.Refusal.{Refusal}
 use Rattle.kv_types.specs.declared.refusal.Refusal.TheVariants.{Memory}
+use Rattle.kv_types.specs.Change.{changes_size}
 use Rattle.kv_types.specs.Keyspace.{play_all}
 use Rattle.model.specs.declared.group.Group.{Group}
 use Rattle.model.specs.declared.call.Call.{Call}
-use Rattle.model.specs.Call.{cut_at, is_nonempty, keyspace_after}
+use Rattle.model.specs.Call.{cut_at, is_nonempty, keyspace_after, IsLegal}
 use Rattle.model.proofs.PositionsLemmas.{keyspace_after-cut_at-since}
+use Rattle.model.proofs.SizeLemmas.{changes_of_group_within}
 use Rattle.machine.specs.declared.event.TheConstants.{KEPT_GROUPS}
 use Rattle.machine.specs.Event.{Link as Machine, Span, sent_next, sent_waiting, next_to_send}
 use Rattle.pipes.specs.Waiting.{Waiting, LocalTakes}
@@ -70,8 +72,8 @@ no_group : (calls : List Call) (spans : List Span) → AreGroupsOf calls [] span
 no_group calls [] are = refl
 no_group calls (span ∷ spans) are = absurd are
 
-frame_of_group : (epoch : ℕ) (calls : List Call) (group : Group) (frame : Frame) (span : Span) → IsFramed epoch group frame → IsGroupOf calls group span → IsFrameOf epoch calls frame span
-frame_of_group epoch calls group frame span of is =
+frame_of_group : (epoch : ℕ) (calls : List Call) (group : Group) (frame : Frame) (span : Span) → IsLegal calls → IsFramed epoch group frame → IsGroupOf calls group span → IsFrameOf epoch calls frame span
+frame_of_group epoch calls group frame span legal of is =
     let count = span.after - span.before in
     let end : span.before + count ≡ span.after = omega (arith, is.span_within.rising) in
     record {
@@ -82,6 +84,7 @@ frame_of_group epoch calls group frame span of is =
       plays = ap (play_all (keyspace_after (cut_at calls span.before))) (of.changes ∙ is.changes)
           ∙ sym (keyspace_after-cut_at-since calls span.before count (omega (arith, end, is.span_within.within)))
           ∙ ap (λ n. keyspace_after (cut_at calls n)) end;
+      size = omega (arith, changes_of_group_within calls span.before count legal (omega (arith, is.span_within.few)), ap changes_size (of.changes ∙ is.changes));
     }
 
 slice_get-last : {X : Type 0} (xs : List X) (x : X) → slice_get (xs ++ x ∷ []) (length xs) ≡ Some x
@@ -120,7 +123,7 @@ pub record Answers (code : Stream) (handed : Waiting Group) (result : Result (Op
   pub next : IsDue code → IfOk result (λ given. (found : Option Group) × TakesNext LocalTakes code.pending handed found after × Frames code found given new)
   pub refused : IfErr result (λ refusal. (refusal ≡ Memory) × IsDue code × ((group : Group) × TakesNext LocalTakes code.pending handed (Some group) after × (new ≡ record code { pending = Some group })))
 
-module _ (calls : List Call) (code : Stream) (handed : Waiting Group) (remote : ℕ) (machine : Machine) (stands : LinkRefines calls code handed remote machine) where
+module _ (calls : List Call) (code : Stream) (handed : Waiting Group) (remote : ℕ) (machine : Machine) (legal : IsLegal calls) (stands : LinkRefines calls code handed remote machine) where
   count : length code.kept ≡ length machine.kept
   count = length-frames code.epoch calls code.kept machine.kept stands.kept
 
@@ -169,7 +172,7 @@ module _ (calls : List Call) (code : Stream) (handed : Waiting Group) (remote : 
       → SendsAt code.epoch calls machine code.next (record code { kept = code.kept ++ frame ∷ []; next = code.next + 1; pending = None }) after remote
   sends-first group frame after due first of =
       let one = first_group calls group after.items machine.waiting (subst (λ groups. AreGroupsOf calls groups machine.waiting) first stands.waiting) in
-      let is : IsFrameOf code.epoch calls frame one.span = frame_of_group code.epoch calls group frame one.span of one.is in
+      let is : IsFrameOf code.epoch calls frame one.span = frame_of_group code.epoch calls group frame one.span legal of one.is in
       let new : Stream = record code { kept = code.kept ++ frame ∷ []; next = code.next + 1; pending = None } in
       let more : length (code.kept ++ frame ∷ []) ≡ length code.kept + 1 = length-append code.kept (frame ∷ []) in
       let more_spans : length (machine.kept ++ one.span ∷ []) ≡ length machine.kept + 1 = length-append machine.kept (one.span ∷ []) in

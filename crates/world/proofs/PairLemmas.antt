@@ -220,7 +220,7 @@ called-parts first second old sessions sequencer w c call stands sessions_stand 
       epoch = parts.epoch;
       link = LinkRefines-grows w.primary.calls (call ∷ []) old.link old.handed old.remote w.primary.link parts.link;
       frames = AreFramesSent-grows old.link.epoch w.primary.calls (call ∷ []) old.frames w.wire.frames parts.frames;
-      arrivals = ArrivalsRefine-grows old.link.epoch w.primary.calls (call ∷ []) old.frames old.arrivals w.standby.waiting w.wire.acknowledgements parts.arrivals;
+      arrivals = ArrivalsRefine-grows old.link.epoch w.primary.calls (call ∷ []) old.arrivals w.standby.waiting w.wire.acknowledgements parts.arrivals;
       standby = StandbyStands-grows second old.link.epoch w.primary.calls (call ∷ []) w.standby.position old.standby (standby-within w stands.sound) parts.standby;
     }
 

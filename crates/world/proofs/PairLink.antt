@@ -1,5 +1,5 @@
 -- What the events of the link and its acknowledgements do to the pair, of what they do to its parts.
-use Rattle.std.proofs.Common.{◌≡◌, ℕ, ◌≤◌, Bool, true, false, nat_lt, List, [], ◌∷◌, ◌++◌, length, option_map, slice_get, slice_index_or, Option, Some, None, Result, Ok, Err, refl, sym, ap, ap₂, subst, ◌∙◌, arith, true≢false, cond, eq-eqb, All}
+use Rattle.std.proofs.Common.{◌≡◌, ℕ, ◌≤◌, Bool, true, false, nat_lt, List, [], ◌∷◌, ◌++◌, length, option_map, slice_get, slice_index_or, Option, Some, None, Result, Ok, Err, Vec, Global, ◌<◌, refl, sym, ap, ap₂, subst, ◌∙◌, arith, true≢false, cond, eq-eqb, All}
 use Rattle.std.proofs.lemmas.Bool.{lt-ltb, le-ltb, ltb-true, ltb-false}
 use Rattle.std.proofs.lemmas.List.{length-map}
 use Rattle.std.proofs.lemmas.Option.{slice_get-get_or, slice_get-map, slice_get_within}
@@ -7,11 +7,13 @@ use Rattle.kv_types.specs.declared.refusal.Refusal.{Refusal}
 use Rattle.kv_types.specs.declared.refusal.Refusal.TheVariants.{Memory}
 use Rattle.pipes.specs.Waiting.{Waiting}
 use Rattle.model.specs.declared.group.Group.{Group}
+use Rattle.model.specs.Call.{IsLegal}
 use Rattle.model.specs.Standing.{Holder}
 use Rattle.standby.specs.declared.frame.Ack.{Ack}
 use Rattle.standby.specs.declared.frame.Frame.{Frame}
 use Rattle.standby.specs.Following.{IsCopy}
 use Rattle.standby_stream.specs.Stream.{Stream}
+use Rattle.stream_codec.specs.Message.{Acknowledged, IsWithinLimits, sent_of_ack, sent_of_frame, sent_text}
 use Rattle.machine.specs.declared.event.Event.TheVariants as events
 use Rattle.machine.specs.Event.{World, Link as MachineLink, Frame as Sent, Span, Acknowledgement, may_happen, next_to_send, framed, sent, sent_next, ready_again, handed, handed_to, option_items, knowing, raised_remote, told, with_link, with_committer, with_sent}
 use Rattle.std.proofs.lemmas.List.Elements.{All-head}
@@ -21,13 +23,13 @@ use Rattle.machine.proofs.LifeLemmas.{enabled-is}
 use Rattle.world.specs.Going.{Goes}
 use Rattle.world.specs.GroupSpan.{AreGroupsOf}
 use Rattle.world.specs.Committing.{Committing, CommittingRefines}
-use Rattle.world.specs.Link.{IsFrameOf, AreFramesSent, LinkRefines}
+use Rattle.world.specs.Link.{IsFrameOf, IsFrameSent, IsAckSent, AreFramesSent, LinkRefines}
 use Rattle.world.specs.Standby.{StandbyStands, ArrivalsRefine, told_by}
 use Rattle.world.specs.Pair.{Pair, PartsRefine, Does}
-use Rattle.world.proofs.FrameLemmas.{AreFramesSent-push, IsFrameOf-copy}
+use Rattle.world.proofs.FrameLemmas.{AreFramesSent-push, IsFrameOf-copy, may_be_sent, ack_of_read, ack_of_number, length-acks}
 use Rattle.world.proofs.LinkLemmas.{Answers as LinkAnswers, sends}
 use Rattle.world.proofs.AckLemmas.{known_at, knows}
-use Rattle.world.proofs.ArrivalLemmas.{ArrivalsRefine-frames}
+use Rattle.world.proofs.ArrivalLemmas.{ReadsAs, same_found}
 use Rattle.world.proofs.PairLemmas.{cut-same, goes-map, goes-steps, none-added, tells, untouched}
 use Rattle.world.proofs.PairCommitting.{shown-parts}
 
@@ -99,14 +101,13 @@ hand-does old committing waiting did go same =
         })
 
 -- the link with what waits for it, the remote mark, and the frames that passed
-abbrev pub with_frames : Waiting Group → Stream → ℕ → List Frame → Pair → Pair
+abbrev pub with_frames : Waiting Group → Stream → ℕ → List (Vec ℕ Global) → Pair → Pair
 with_frames waiting link remote frames pair = record pair { handed = waiting; link = link; remote = remote; frames = frames }
 
-pub link-parts : (first second : Holder) (old : Pair) (waiting : Waiting Group) (link : Stream) (remote : ℕ) (frames : List Frame) (w : World) (machine : MachineLink) (passed : List Sent)
+pub link-parts : (first second : Holder) (old : Pair) (waiting : Waiting Group) (link : Stream) (remote : ℕ) (frames : List (Vec ℕ Global)) (w : World) (machine : MachineLink) (passed : List Sent)
     → PartsRefine first second old w → link.epoch ≡ old.link.epoch → LinkRefines w.primary.calls link waiting remote machine → AreFramesSent old.link.epoch w.primary.calls frames passed
-    → ArrivalsRefine old.link.epoch w.primary.calls frames old.arrivals w.standby.waiting w.wire.acknowledgements
     → PartsRefine first second (with_frames waiting link remote frames old) (record w { primary = record w.primary { link = machine }; wire = record w.wire { frames = passed } })
-link-parts first second old waiting link remote frames w machine passed parts same link_stands frames_passed arrivals_stand =
+link-parts first second old waiting link remote frames w machine passed parts same link_stands frames_passed =
     record {
       sessions = parts.sessions;
       sequencer = parts.sequencer;
@@ -117,7 +118,7 @@ link-parts first second old waiting link remote frames w machine passed parts sa
       epoch = same ∙ parts.epoch;
       link = link_stands;
       frames = subst (λ e. AreFramesSent e w.primary.calls frames passed) (sym same) frames_passed;
-      arrivals = subst (λ e. ArrivalsRefine e w.primary.calls frames old.arrivals w.standby.waiting w.wire.acknowledgements) (sym same) arrivals_stand;
+      arrivals = subst (λ e. ArrivalsRefine e w.primary.calls old.arrivals w.standby.waiting w.wire.acknowledgements) (sym same) parts.arrivals;
       standby = subst (λ e. StandbyStands second e w.primary.calls w.standby.position old.standby) (sym same) parts.standby;
     }
 
@@ -125,31 +126,33 @@ link-parts first second old waiting link remote frames w machine passed parts sa
 pub link-alone : (first second : Holder) (old : Pair) (waiting : Waiting Group) (link : Stream) (remote : ℕ) (w : World) (machine : MachineLink) → PartsRefine first second old w
     → link.epoch ≡ old.link.epoch → LinkRefines w.primary.calls link waiting remote machine → PartsRefine first second (with_frames waiting link remote old.frames old) (with_link machine w)
 link-alone first second old waiting link remote w machine parts same link_stands =
-    link-parts first second old waiting link remote old.frames w machine w.wire.frames parts same link_stands parts.frames parts.arrivals
+    link-parts first second old waiting link remote old.frames w machine w.wire.frames parts same link_stands parts.frames
 
 -- ---- sending
 
--- a frame that was kept is sent, and a copy of it passes
-pub send-does : (old : Pair) (waiting : Waiting Group) (link : Stream) (index : ℕ) (frame copy : Frame) (frames : List Frame) → LinkAnswers old.link old.handed (Ok (Some index)) link waiting
-    → slice_get link.kept index ≡ Some frame → IsCopy frame copy → frames ≡ old.frames ++ copy ∷ [] → Does old events.Send (Ok true) (with_frames waiting link old.remote frames old)
-send-does old waiting link index frame copy frames answers there same more =
+-- a frame that was kept is sent, and the bytes of a copy of it pass
+pub send-does : (old : Pair) (waiting : Waiting Group) (link : Stream) (index : ℕ) (frame copy : Frame) (bytes : Vec ℕ Global) (frames : List (Vec ℕ Global)) → LinkAnswers old.link old.handed (Ok (Some index)) link waiting
+    → slice_get link.kept index ≡ Some frame → IsCopy frame copy → bytes.items ≡ sent_text (sent_of_frame copy) → IsWithinLimits (sent_of_frame copy) → frames ≡ old.frames ++ bytes ∷ []
+    → Does old events.Send (Ok true) (with_frames waiting link old.remote frames old)
+send-does old waiting link index frame copy bytes frames answers there same text within more =
     record {
       steps = λ first second w stands.
           let parts = stands.parts in
           let machine = w.primary.link in
           let epoch = old.link.epoch in
           let calls = w.primary.calls in
-          let at = sends calls old.link old.handed old.remote machine parts.link (Ok (Some index)) link waiting answers in
+          let at = sends calls old.link old.handed old.remote machine stands.sound.legal parts.link (Ok (Some index)) link waiting answers in
           let own : at.frame ≡ frame = cc in
           let is : IsFrameOf epoch calls copy at.span = IsFrameOf-copy epoch calls frame copy at.span (subst (λ (f : Frame). IsFrameOf epoch calls f at.span) own at.is) same in
-          let passed : AreFramesSent epoch calls (old.frames ++ copy ∷ []) (w.wire.frames ++ framed epoch (next_to_send machine)) =
-          subst (λ (spans : List Span). AreFramesSent epoch calls (old.frames ++ copy ∷ []) (w.wire.frames ++ framed epoch spans)) (sym at.next)
-          (AreFramesSent-push epoch calls old.frames w.wire.frames copy (record { epoch = epoch; span = at.span }) parts.frames (record { epoch_is = refl; has = is })) in
+          let passes : IsFrameSent epoch calls bytes.items (record { epoch = epoch; span = at.span }) =
+          record { frame = copy; text = text; may = may_be_sent epoch calls copy at.span is within; is = record { epoch_is = refl; has = is } } in
+          let passed : AreFramesSent epoch calls (old.frames ++ bytes ∷ []) (w.wire.frames ++ framed epoch (next_to_send machine)) =
+          subst (λ (spans : List Span). AreFramesSent epoch calls (old.frames ++ bytes ∷ []) (w.wire.frames ++ framed epoch spans)) (sym at.next)
+          (AreFramesSent-push epoch calls old.frames w.wire.frames bytes (record { epoch = epoch; span = at.span }) parts.frames passes) in
           let w' = record w { primary = record w.primary { link = sent_next machine.again machine }; wire = record w.wire { frames = w.wire.frames ++ framed epoch (next_to_send machine) } } in
           let moved : PartsRefine first second (with_frames waiting link old.remote frames old) w' =
-          subst (λ (fs : List Frame). PartsRefine first second (with_frames waiting link old.remote fs old) w') (sym more)
-          (link-parts first second old waiting link old.remote (old.frames ++ copy ∷ []) w (sent_next machine.again machine) (w.wire.frames ++ framed epoch (next_to_send machine)) parts at.epoch_is at.link passed
-          (ArrivalsRefine-frames epoch calls old.frames (copy ∷ []) old.arrivals w.standby.waiting w.wire.acknowledgements parts.arrivals)) in
+          subst (λ (fs : List (Vec ℕ Global)). PartsRefine first second (with_frames waiting link old.remote fs old) w') (sym more)
+          (link-parts first second old waiting link old.remote (old.frames ++ bytes ∷ []) w (sent_next machine.again machine) (w.wire.frames ++ framed epoch (next_to_send machine)) parts at.epoch_is at.link passed) in
           goes-steps first second w w' events.Send true old (with_frames waiting link old.remote frames old) refl refl stands.sound stands.runs
           (ap (λ e. with_sent (framed e (next_to_send machine)) (with_link (sent_next machine.again machine) w)) parts.epoch)
           (record { done = sym at.may; goes = λ did. moved; stays = λ did. absurd (true≢false did) });
@@ -161,7 +164,7 @@ pub send-none : (old : Pair) (waiting : Waiting Group) (link : Stream) → LinkA
 send-none old waiting link answers =
     record {
       steps = λ first second w stands.
-          let none = sends w.primary.calls old.link old.handed old.remote w.primary.link stands.parts.link (Ok None) link waiting answers in
+          let none = sends w.primary.calls old.link old.handed old.remote w.primary.link stands.sound.legal stands.parts.link (Ok None) link waiting answers in
           let stayed = link-alone first second old waiting link old.remote w w.primary.link stands.parts none.epoch_is none.link in
           goes-steps first second w (sent w) events.Send false old (with_frames waiting link old.remote old.frames old) refl refl stands.sound stands.runs refl
           (record { done = sym none.may; goes = λ did. absurd (true≢false (sym did)); stays = λ did. stayed });
@@ -170,15 +173,15 @@ send-none old waiting link answers =
     }
 
 -- memory was refused for a frame that there is
-pub send-cut : (old : Pair) (waiting : Waiting Group) (link : Stream) (frames : List Frame) (result : Result Bool Refusal) (refusal : Refusal) → result ≡ Err refusal → refusal ≡ Memory
-    → ((w : World) → LinkRefines w.primary.calls old.link old.handed old.remote w.primary.link → may_happen w events.Send ≡ true)
+pub send-cut : (old : Pair) (waiting : Waiting Group) (link : Stream) (frames : List (Vec ℕ Global)) (result : Result Bool Refusal) (refusal : Refusal) → result ≡ Err refusal → refusal ≡ Memory
+    → ((w : World) → IsLegal w.primary.calls → LinkRefines w.primary.calls old.link old.handed old.remote w.primary.link → may_happen w events.Send ≡ true)
     → Does old events.Send result (with_frames waiting link old.remote frames old)
 send-cut old waiting link frames result refusal is memory enabled =
     subst (λ (r : Result Bool Refusal). Does old events.Send r (with_frames waiting link old.remote frames old)) (sym is)
     (record {
       steps = tt;
       cut = λ first second w stands.
-          cut-same first second events.Send refusal old (with_frames waiting link old.remote frames old) w refl memory refl refl (tells old.sessions) (enabled w stands.parts.link) stands;
+          cut-same first second events.Send refusal old (with_frames waiting link old.remote frames old) w refl memory refl refl (tells old.sessions) (enabled w stands.sound.legal stands.parts.link) stands;
       calls = none-added _ _ refl;
     })
 
@@ -219,20 +222,17 @@ raise-does old known did same is =
 
 -- ---- acknowledgements
 
--- what a look-up found
-pub found-there : (xs ys : List Ack) (n : ℕ) (x : Ack) → xs ≡ ys → true ≡ nat_lt n (length xs) → x ≡ slice_index_or xs n x → slice_get ys n ≡ Some x
-found-there xs ys n x same within is =
-    subst (λ (all : List Ack). slice_get all n ≡ Some x) same (slice_get-get_or xs n x (ltb-true n (length xs) (sym within)) ∙ ap Some (sym is))
-
-pub ack-does : (old : Pair) (n : ℕ) (ack : Ack) (link : Stream) → slice_get old.arrivals.acknowledgements.items n ≡ Some ack → (ack.epoch ≡ old.link.epoch → link ≡ known_at ack.position old.link)
+-- an acknowledgement arrives: its bytes are read
+pub ack-does : (old : Pair) (n : ℕ) (bytes : Vec ℕ Global) (ack : Ack) (link : Stream) → n < length old.arrivals.acknowledgements.items → slice_get old.arrivals.acknowledgements.items n ≡ Some bytes
+    → ReadsAs bytes.items (sent_of_ack ack) → (ack.epoch ≡ old.link.epoch → link ≡ known_at ack.position old.link)
     → Does old (events.AckDelivered n) (Ok true) (with_frames old.handed link old.remote old.frames old)
-ack-does old n ack link stands_there learns =
+ack-does old n bytes ack link within found reads learns =
     record {
       steps = λ first second w stands.
           let parts = stands.parts in
-          let there : slice_get w.wire.acknowledgements n ≡ Some (told_by ack) =
-          ap (λ (all : List Acknowledgement). slice_get all n) (sym parts.arrivals.acknowledged)
-          ∙ slice_get-map told_by old.arrivals.acknowledgements.items n ∙ ap (option_map told_by) stands_there in
+          let of = ack_of_number old.arrivals.acknowledgements.items w.wire.acknowledgements n parts.arrivals.acknowledged within in
+          let is : IsAckSent bytes.items of.one = subst (λ (b : Vec ℕ Global). IsAckSent b.items of.one) (same_found of.bytes_stand found) of.is in
+          let there : slice_get w.wire.acknowledgements n ≡ Some (told_by ack) = of.stands ∙ ap Some (sym (ack_of_read ack of.one (reads (Acknowledged of.one.epoch of.one.position) is.may is.text))) in
           let own : ack.epoch ≡ w.primary.epoch = told-epoch w.primary.epoch w.standby.position w.wire.acknowledgements n (told_by ack) stands.sound.wire.acknowledged there in
           let learned : link ≡ known_at ack.position old.link = learns (own ∙ sym parts.epoch) in
           let knows_now : told w.primary.epoch (slice_get w.wire.acknowledgements n) w.primary.link ≡ knowing ack.position w.primary.link =
@@ -257,6 +257,21 @@ ack-does old n ack link stands_there learns =
     told-epoch : (epoch position : ℕ) (told : List Acknowledgement) (i : ℕ) (one : Acknowledgement) → All (IsToldWithin epoch position) told → slice_get told i ≡ Some one → one.epoch ≡ epoch
     told-epoch epoch position told i one all is = (All-head (IsToldWithin epoch position) one [] (subst (λ (o : Option Acknowledgement). All (IsToldWithin epoch position) (option_items o)) is (all-at (IsToldWithin epoch position) told i all))).epoch_is
 
+pub ack-cut : (old : Pair) (n : ℕ) (bytes : Vec ℕ Global) (result : Result Bool Refusal) (refusal : Refusal) → result ≡ Err refusal → n < length old.arrivals.acknowledgements.items
+    → slice_get old.arrivals.acknowledgements.items n ≡ Some bytes → ((ack : Acknowledgement) → IsAckSent bytes.items ack → refusal ≡ Memory) → Does old (events.AckDelivered n) result old
+ack-cut old n bytes result refusal is within found memory =
+    subst (λ (r : Result Bool Refusal). Does old (events.AckDelivered n) r old) (sym is)
+    (record {
+      steps = tt;
+      cut = λ first second w stands.
+          let told = stands.parts.arrivals.acknowledged in
+          let of = ack_of_number old.arrivals.acknowledgements.items w.wire.acknowledgements n told within in
+          let one : IsAckSent bytes.items of.one = subst (λ (b : Vec ℕ Global). IsAckSent b.items of.one) (same_found of.bytes_stand found) of.is in
+          let few : n < length w.wire.acknowledgements = omega (arith, within, length-acks old.arrivals.acknowledgements.items w.wire.acknowledgements told) in
+          cut-same first second (events.AckDelivered n) refusal old old w refl (memory of.one one) refl refl (tells old.sessions) (lt-ltb n (length w.wire.acknowledgements) few) stands;
+      calls = none-added _ _ refl;
+    })
+
 pub no-ack-does : (old : Pair) (n : ℕ) → length old.arrivals.acknowledgements.items ≤ n → Does old (events.AckDelivered n) (Ok false) old
 no-ack-does old n past =
     record {
@@ -264,7 +279,7 @@ no-ack-does old n past =
           record {
             world = w;
             step = record {
-              done = sym (enabled-is w (events.AckDelivered n) stands.runs ∙ le-ltb n (length w.wire.acknowledgements) (omega (arith, past, ap length stands.parts.arrivals.acknowledged, length-map old.arrivals.acknowledgements.items told_by)));
+              done = sym (enabled-is w (events.AckDelivered n) stands.runs ∙ le-ltb n (length w.wire.acknowledgements) (omega (arith, past, length-acks old.arrivals.acknowledgements.items w.wire.acknowledgements stands.parts.arrivals.acknowledged)));
               happens = λ did. absurd (true≢false (sym did));
               stands = λ did. refl;
             };

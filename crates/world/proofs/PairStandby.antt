@@ -1,10 +1,9 @@
 -- What the events of the standby do to the pair, of what they do to its parts.
-use Rattle.std.proofs.Common.{◌≡◌, ℕ, Bool, true, false, List, [], ◌∷◌, ◌++◌, length, slice_get, Result, Ok, Err, IfOk, IfErr, OnErr, ◌<◌, refl, sym, ap, subst, ◌∙◌, arith, true≢false, ap₂}
+use Rattle.std.proofs.Common.{◌≡◌, ℕ, Bool, true, false, List, [], ◌∷◌, ◌++◌, length, slice_get, Result, Ok, Err, IfOk, IfErr, OnErr, Vec, Global, ◌<◌, refl, sym, ap, subst, ◌∙◌, arith, true≢false, ap₂}
 use Rattle.std.proofs.lemmas.Bool.{lt-ltb}
 use Rattle.kv_types.specs.declared.refusal.Refusal.{Refusal}
 use Rattle.kv_types.specs.declared.refusal.Refusal.TheVariants.{Memory, Fault, Exhausted}
 use Rattle.model.specs.Standing.{Holder}
-use Rattle.standby.specs.declared.frame.Frame.{Frame}
 use Rattle.standby.specs.declared.frame.Ack.{Ack}
 use Rattle.standby_stream.specs.Stream.{Stream}
 use Rattle.machine.specs.declared.event.Event.TheVariants as events
@@ -33,7 +32,7 @@ abbrev pub with_opened : Arrivals → Stream → Pair → Pair
 with_opened arrivals link pair = record pair { arrivals = arrivals; link = link }
 
 arrivals-parts : (first second : Holder) (old : Pair) (arrivals : Arrivals) (w : World) (machine : MachineStandby) (told : List Acknowledgement) → PartsRefine first second old w → machine.position ≡ w.standby.position
-    → ArrivalsRefine old.link.epoch w.primary.calls old.frames arrivals machine.waiting told
+    → ArrivalsRefine old.link.epoch w.primary.calls arrivals machine.waiting told
     → PartsRefine first second (with_arrivals arrivals old) (record w { standby = machine; wire = record w.wire { acknowledgements = told } })
 arrivals-parts first second old arrivals w machine told parts position arrivals_stand =
     record {
@@ -57,8 +56,8 @@ own-epoch first second old w stands = stands.parts.standby.epoch_is ∙ stands.p
 -- the standby told its position
 abbrev pub Acknowledges : Ack → Arrivals → Arrivals → Type 0
 Acknowledges ack old new =
-    (epoch : ℕ) (frames : List Frame) (w : World) → ArrivalsRefine epoch w.primary.calls frames old w.standby.waiting w.wire.acknowledgements → told_by ack ≡ acknowledgement_of w.standby
-    → ArrivalsRefine epoch w.primary.calls frames new w.standby.waiting (w.wire.acknowledgements ++ acknowledgement_of w.standby ∷ [])
+    (epoch : ℕ) (w : World) → ArrivalsRefine epoch w.primary.calls old w.standby.waiting w.wire.acknowledgements → told_by ack ≡ acknowledgement_of w.standby
+    → ArrivalsRefine epoch w.primary.calls new w.standby.waiting (w.wire.acknowledgements ++ acknowledgement_of w.standby ∷ [])
 
 pub open-does : (old : Pair) (arrivals : Arrivals) (link : Stream) (ack : Ack) → ack ≡ record { epoch = old.standby.epoch; position = old.standby.contents.current.position } → Acknowledges ack old.arrivals arrivals
     → link ≡ record old.link { next = 0 } → Does old events.OpenLink (Ok true) (with_opened arrivals link old)
@@ -69,7 +68,7 @@ open-does old arrivals link ack is acknowledges reopened =
           let epoch : ack.epoch ≡ w.standby.epoch = ap (λ (a : Ack). a.epoch) is ∙ own-epoch first second old w stands in
           let position : ack.position ≡ w.standby.position = ap (λ (a : Ack). a.position) is ∙ parts.standby.engine.contents_at.at in
           let own : told_by ack ≡ acknowledgement_of w.standby = ap₂ (λ e p. record { epoch = e; position = p }) epoch position in
-          let told = acknowledges old.link.epoch old.frames w parts.arrivals own in
+          let told = acknowledges old.link.epoch w parts.arrivals own in
           let w' = with_acknowledged (acknowledgement_of w.standby ∷ []) w in
           let heard : PartsRefine first second (with_arrivals arrivals old) w' = arrivals-parts first second old arrivals w w.standby (w.wire.acknowledgements ++ acknowledgement_of w.standby ∷ []) parts refl told in
           let opened : LinkRefines w.primary.calls (record old.link { next = 0 }) old.handed old.remote (opened_link w.primary.link) = record {
@@ -99,37 +98,36 @@ open-cut old arrivals result refusal is memory =
       calls = none-added _ _ refl;
     })
 
-pub deliver-does : (old : Pair) (arrivals : Arrivals) (frames : List Frame) (frame : ℕ) (result : Result Bool Refusal) → frames ≡ old.frames
-    → IfOk result (λ did. (epoch : ℕ) (w : World) → ArrivalsRefine epoch w.primary.calls frames old.arrivals w.standby.waiting w.wire.acknowledgements
-    → AreFramesSent epoch w.primary.calls frames w.wire.frames
-    → Goes (may_happen w (events.Deliver frame)) did
-    (ArrivalsRefine epoch w.primary.calls frames arrivals (delivered (option_items (slice_get w.wire.frames frame)) w.standby).waiting w.wire.acknowledgements)
-    (ArrivalsRefine epoch w.primary.calls frames arrivals w.standby.waiting w.wire.acknowledgements))
-    → IfErr result (λ refusal. refusal ≡ Memory) → OnErr result (frame < length frames) → Does old (events.Deliver frame) result (with_arrivals arrivals old)
-deliver-does old arrivals frames frame (Ok did) same go memory some =
+pub deliver-does : (old : Pair) (arrivals : Arrivals) (texts : List (Vec ℕ Global)) (frame piece : ℕ) (result : Result Bool Refusal) → texts ≡ old.frames
+    → IfOk result (λ did. (epoch : ℕ) (w : World) → ArrivalsRefine epoch w.primary.calls old.arrivals w.standby.waiting w.wire.acknowledgements
+    → AreFramesSent epoch w.primary.calls texts w.wire.frames
+    → Goes (may_happen w (events.Deliver frame piece)) did
+    (ArrivalsRefine epoch w.primary.calls arrivals (delivered (option_items (slice_get w.wire.frames frame)) w.standby).waiting w.wire.acknowledgements)
+    (ArrivalsRefine epoch w.primary.calls arrivals w.standby.waiting w.wire.acknowledgements))
+    → IfErr result (λ refusal. (epoch : ℕ) (w : World) → AreFramesSent epoch w.primary.calls texts w.wire.frames → refusal ≡ Memory) → OnErr result (frame < length texts)
+    → Does old (events.Deliver frame piece) result (with_arrivals arrivals old)
+deliver-does old arrivals texts frame piece (Ok did) same go memory some =
     record {
       steps = λ first second w stands.
           let parts = stands.parts in
           let epoch = old.link.epoch in
           let calls = w.primary.calls in
           let came = delivered (option_items (slice_get w.wire.frames frame)) w.standby in
-          goes-steps first second w (with_standby came w) (events.Deliver frame) did old (with_arrivals arrivals old) refl refl stands.sound stands.runs refl
-          (goes-map (go epoch w
-          (subst (λ (all : List Frame). ArrivalsRefine epoch calls all old.arrivals w.standby.waiting w.wire.acknowledgements) (sym same) parts.arrivals)
-          (subst (λ (all : List Frame). AreFramesSent epoch calls all w.wire.frames) (sym same) parts.frames))
-          (λ moved. arrivals-parts first second old arrivals w came w.wire.acknowledgements parts refl
-          (subst (λ (all : List Frame). ArrivalsRefine epoch calls all arrivals came.waiting w.wire.acknowledgements) same moved))
-          (λ stayed. arrivals-parts first second old arrivals w w.standby w.wire.acknowledgements parts refl
-          (subst (λ (all : List Frame). ArrivalsRefine epoch calls all arrivals w.standby.waiting w.wire.acknowledgements) same stayed)));
+          goes-steps first second w (with_standby came w) (events.Deliver frame piece) did old (with_arrivals arrivals old) refl refl stands.sound stands.runs refl
+          (goes-map (go epoch w parts.arrivals (subst (λ (all : List (Vec ℕ Global)). AreFramesSent epoch calls all w.wire.frames) (sym same) parts.frames))
+          (λ moved. arrivals-parts first second old arrivals w came w.wire.acknowledgements parts refl moved)
+          (λ stayed. arrivals-parts first second old arrivals w w.standby w.wire.acknowledgements parts refl stayed));
       cut = tt;
       calls = none-added _ _ refl;
     }
-deliver-does old arrivals frames frame (Err refusal) same go memory some =
+deliver-does old arrivals texts frame piece (Err refusal) same go memory some =
     record {
       steps = tt;
       cut = λ first second w stands.
-          let is : frame < length w.wire.frames = omega (arith, some, ap length same, length-sent old.link.epoch w.primary.calls old.frames w.wire.frames stands.parts.frames) in
-          cut-same first second (events.Deliver frame) refusal old (with_arrivals arrivals old) w refl memory refl refl (tells old.sessions) (lt-ltb frame (length w.wire.frames) is) stands;
+          let sent = stands.parts.frames in
+          let is : frame < length w.wire.frames = omega (arith, some, ap length same, length-sent old.link.epoch w.primary.calls old.frames w.wire.frames sent) in
+          let refused : refusal ≡ Memory = memory old.link.epoch w (subst (λ (all : List (Vec ℕ Global)). AreFramesSent old.link.epoch w.primary.calls all w.wire.frames) (sym same) sent) in
+          cut-same first second (events.Deliver frame piece) refusal old (with_arrivals arrivals old) w refl refused refl refl (tells old.sessions) (lt-ltb frame (length w.wire.frames) is) stands;
       calls = none-added _ _ refl;
     }
 
@@ -137,7 +135,7 @@ abbrev pub with_node : Arrivals → Node → Pair → Pair
 with_node arrivals node pair = record pair { arrivals = arrivals; standby = node }
 
 apply-steps : (first second : Holder) (old : Pair) (arrivals : Arrivals) (node : Node) (w : World) (did : Bool) → PairRefines first second old w
-    → AppliesFirst second old.link.epoch old.frames w did arrivals old.standby node → Steps first second w events.Apply did old (with_node arrivals node old)
+    → AppliesFirst second old.link.epoch w did arrivals old.standby node → Steps first second w events.Apply did old (with_node arrivals node old)
 apply-steps first second old arrivals node w true stands applies =
     let parts = stands.parts in
     let moved = applies.goes refl in
@@ -161,7 +159,7 @@ apply-steps first second old arrivals node w true stands applies =
           epoch = parts.epoch;
           link = parts.link;
           frames = parts.frames;
-          arrivals = subst (λ (x : World). ArrivalsRefine old.link.epoch w.primary.calls old.frames arrivals x.standby.waiting x.wire.acknowledgements) applied.now moved.2;
+          arrivals = subst (λ (x : World). ArrivalsRefine old.link.epoch w.primary.calls arrivals x.standby.waiting x.wire.acknowledgements) applied.now moved.2;
           standby = subst (λ (x : World). StandbyStands second old.link.epoch w.primary.calls x.standby.position node) applied.now moved.3;
         };
       };
@@ -201,32 +199,31 @@ ends-apply Fault P Q both ends = both Breaks ends
 ends-apply Exhausted P Q both ends = both RestsAtLimit ends
 ends-apply refusal P Q both ends = absurd ends
 
-pub apply-does : (old : Pair) (arrivals : Arrivals) (node : Node) (frames : List Frame) (result : Result Bool Refusal) → frames ≡ old.frames
-    → IfOk result (λ did. (holder : Holder) (w : World) → Sound w → old.standby.epoch ≡ w.standby.epoch → ArrivalsRefine old.standby.epoch w.primary.calls frames old.arrivals w.standby.waiting w.wire.acknowledgements
+pub apply-does : (old : Pair) (arrivals : Arrivals) (node : Node) (result : Result Bool Refusal)
+    → IfOk result (λ did. (holder : Holder) (w : World) → Sound w → old.standby.epoch ≡ w.standby.epoch → ArrivalsRefine old.standby.epoch w.primary.calls old.arrivals w.standby.waiting w.wire.acknowledgements
     → StandbyStands holder old.standby.epoch w.primary.calls w.standby.position old.standby
-    → AppliesFirst holder old.standby.epoch frames w did arrivals old.standby node)
-    → ((holder : Holder) (w : World) → Sound w → old.standby.epoch ≡ w.standby.epoch → ArrivalsRefine old.standby.epoch w.primary.calls frames old.arrivals w.standby.waiting w.wire.acknowledgements
+    → AppliesFirst holder old.standby.epoch w did arrivals old.standby node)
+    → ((holder : Holder) (w : World) → Sound w → old.standby.epoch ≡ w.standby.epoch → ArrivalsRefine old.standby.epoch w.primary.calls old.arrivals w.standby.waiting w.wire.acknowledgements
     → StandbyStands holder old.standby.epoch w.primary.calls w.standby.position old.standby → NearOnly holder w.primary.calls w.standby.position (next_standby w) old.standby.device node.device)
-    → IfErr result (λ refusal. (holder : Holder) (w : World) → Sound w → old.standby.epoch ≡ w.standby.epoch → ArrivalsRefine old.standby.epoch w.primary.calls frames old.arrivals w.standby.waiting w.wire.acknowledgements
+    → IfErr result (λ refusal. (holder : Holder) (w : World) → Sound w → old.standby.epoch ≡ w.standby.epoch → ArrivalsRefine old.standby.epoch w.primary.calls old.arrivals w.standby.waiting w.wire.acknowledgements
     → StandbyStands holder old.standby.epoch w.primary.calls w.standby.position old.standby
     → (may_happen w events.Apply ≡ true) × EndsBy refusal events.Apply (λ _ last. last holder w.primary.calls w.standby.position (next_standby w) old.standby.device node.device))
     → Does old events.Apply result (with_node arrivals node old)
-apply-does old arrivals node frames result same applies only cuts = go result applies cuts
+apply-does old arrivals node result applies only cuts = go result applies cuts
   where
-    arrive : (first second : Holder) (w : World) → PairRefines first second old w → ArrivalsRefine old.standby.epoch w.primary.calls frames old.arrivals w.standby.waiting w.wire.acknowledgements
+    arrive : (first second : Holder) (w : World) → PairRefines first second old w → ArrivalsRefine old.standby.epoch w.primary.calls old.arrivals w.standby.waiting w.wire.acknowledgements
     arrive first second w stands =
-        subst (λ e. ArrivalsRefine e w.primary.calls frames old.arrivals w.standby.waiting w.wire.acknowledgements) (sym stands.parts.standby.epoch_is)
-        (subst (λ (all : List Frame). ArrivalsRefine old.link.epoch w.primary.calls all old.arrivals w.standby.waiting w.wire.acknowledgements) (sym same) stands.parts.arrivals)
+        subst (λ e. ArrivalsRefine e w.primary.calls old.arrivals w.standby.waiting w.wire.acknowledgements) (sym stands.parts.standby.epoch_is) stands.parts.arrivals
 
     stand : (first second : Holder) (w : World) → PairRefines first second old w → StandbyStands second old.standby.epoch w.primary.calls w.standby.position old.standby
     stand first second w stands =
         subst (λ e. StandbyStands second e w.primary.calls w.standby.position old.standby) (sym stands.parts.standby.epoch_is) stands.parts.standby
 
     go : (result : Result Bool Refusal)
-        → IfOk result (λ did. (holder : Holder) (w : World) → Sound w → old.standby.epoch ≡ w.standby.epoch → ArrivalsRefine old.standby.epoch w.primary.calls frames old.arrivals w.standby.waiting w.wire.acknowledgements
+        → IfOk result (λ did. (holder : Holder) (w : World) → Sound w → old.standby.epoch ≡ w.standby.epoch → ArrivalsRefine old.standby.epoch w.primary.calls old.arrivals w.standby.waiting w.wire.acknowledgements
         → StandbyStands holder old.standby.epoch w.primary.calls w.standby.position old.standby
-        → AppliesFirst holder old.standby.epoch frames w did arrivals old.standby node)
-        → IfErr result (λ refusal. (holder : Holder) (w : World) → Sound w → old.standby.epoch ≡ w.standby.epoch → ArrivalsRefine old.standby.epoch w.primary.calls frames old.arrivals w.standby.waiting w.wire.acknowledgements
+        → AppliesFirst holder old.standby.epoch w did arrivals old.standby node)
+        → IfErr result (λ refusal. (holder : Holder) (w : World) → Sound w → old.standby.epoch ≡ w.standby.epoch → ArrivalsRefine old.standby.epoch w.primary.calls old.arrivals w.standby.waiting w.wire.acknowledgements
         → StandbyStands holder old.standby.epoch w.primary.calls w.standby.position old.standby
         → (may_happen w events.Apply ≡ true) × EndsBy refusal events.Apply (λ _ last. last holder w.primary.calls w.standby.position (next_standby w) old.standby.device node.device))
         → Does old events.Apply result (with_node arrivals node old)
@@ -235,8 +232,7 @@ apply-does old arrivals node frames result same applies only cuts = go result ap
           steps = λ first second w stands.
               let applied = applies second w stands.sound (own-epoch first second old w stands) (arrive first second w stands) (stand first second w stands) in
               apply-steps first second old arrivals node w did stands
-              (subst (λ (all : List Frame). AppliesFirst second old.link.epoch all w did arrivals old.standby node) same
-              (subst (λ e. AppliesFirst second e frames w did arrivals old.standby node) stands.parts.standby.epoch_is applied));
+              (subst (λ e. AppliesFirst second e w did arrivals old.standby node) stands.parts.standby.epoch_is applied);
           cut = tt;
           calls = none-added _ _ refl;
         }

@@ -1,5 +1,5 @@
 -- What the turns of the committer do to the pair: its own clauses refine the machine's events.
-use Rattle.std.proofs.Common.{◌≡◌, ◌⊎◌, ◌-◌, ◌<◌, ◌≤◌, ℕ, Bool, true, false, not, List, [], ◌∷◌, ◌++◌, length, Some, None, Result, Ok, Err, inl, inr, refl, sym, ap, subst, ◌∙◌, arith}
+use Rattle.std.proofs.Common.{◌≡◌, ◌⊎◌, ◌-◌, ◌<◌, ◌≤◌, ℕ, Bool, true, false, not, List, [], ◌∷◌, ◌++◌, length, Some, None, Result, Ok, Err, inl, inr, refl, sym, ap, subst, ◌∙◌, arith, Vec, Global}
 use Rattle.std.specs.Coded.{le_prop}
 use denote.Enum.Bare.{sameb}
 use Rattle.pmem.specs.Device.{State}
@@ -11,7 +11,6 @@ use Rattle.model.specs.declared.record.Record.{Record}
 use Rattle.model.specs.Group.{Contents, IsGroup}
 use Rattle.model.specs.Standing.{Holder}
 use Rattle.redis_core.specs.Sequencing.{Sequencing, IsAheadOf}
-use Rattle.standby.specs.declared.frame.Frame.{Frame}
 use Rattle.standby_stream.specs.Stream.{Stream}
 use Rattle.group_commit.specs.Committing.{Commits, raised, ready_again}
 use Rattle.group_commit.specs.Group.{AreGroups, after_groups}
@@ -52,7 +51,7 @@ Waiting-same : (a b : Waiting Group) → a.items ≡ b.items → a ≡ b
 Waiting-same a b same =
     subst (λ items. (within : length items ≤ limits.PIPE_ITEMS) → a ≡ record { items = items; within = within }) same (λ within. ap (λ w. record a { within = w }) (le_prop a.within within)) b.within
 
-module _ {E : Type 0} (device : E → State) (contents : E → Contents) (is_faulted : E → Bool) (sessions : Sessions) (sequencer : Sequencing) (link : Stream) (remote : ℕ) (frames : List Frame) (arrivals : Arrivals) (standby : Node) where
+module _ {E : Type 0} (device : E → State) (contents : E → Contents) (is_faulted : E → Bool) (sessions : Sessions) (sequencer : Sequencing) (link : Stream) (remote : ℕ) (frames : List (Vec ℕ Global)) (arrivals : Arrivals) (standby : Node) where
   -- a pair with this committer, with these groups waiting for it, and with these at the link
   abbrev pub pair_of : Committer E → Waiting Group → Waiting Group → Pair
   pair_of committer groups waiting = record {

@@ -244,7 +244,7 @@ pub IsGroupOf-handed : (calls : List Call) (closed : ℕ) (old new : Sequencing)
 IsGroupOf-handed calls closed old new group stands hands =
     let count : position_of calls - closed ≡ length old.waiting = omega (arith, stands.count) in
     record {
-      span_within = record { rising = omega (arith, stands.count, hands.some); within = le_refl (position_of calls) };
+      span_within = record { rising = omega (arith, stands.count, hands.some); within = le_refl (position_of calls); few = omega (arith, stands.count, hands.few) };
       before = hands.before ∙ stands.before;
       after = ap₂ last_position (hands.before ∙ stands.before) hands.all ∙ last-open calls closed old.waiting stands.waiting ∙ stands.count;
       changes = ap (flat_map changes_of_part) hands.all ∙ changes-open calls closed old.waiting stands.waiting ∙ sym (ap (changes_since calls closed) count);

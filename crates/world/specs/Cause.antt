@@ -10,7 +10,7 @@ use Rattle.model.specs.declared.record.Record.{Record}
 use Rattle.model.specs.Image.{Image, HasRecord}
 use Rattle.model.specs.Standing.{Holder}
 use Rattle.machine.specs.declared.event.Event.{Event}
-use Rattle.machine.specs.declared.event.Event.TheVariants.{Enter, Feed, Offer, CloseGroup, Commit, OpenLink, Send, Deliver, Apply, Hold, Write}
+use Rattle.machine.specs.declared.event.Event.TheVariants.{Enter, Feed, Offer, CloseGroup, Commit, OpenLink, Send, Deliver, Apply, AckDelivered, Hold, Write}
 use Rattle.world.specs.Committing.{Rests, NearOnly}
 
 -- a relation between two states of a holder's device, given the list of calls, a position in it, and the position that the node goes to next
@@ -63,8 +63,9 @@ asks_memory (Offer c) = true
 asks_memory CloseGroup = true
 asks_memory OpenLink = true
 asks_memory Send = true
-asks_memory (Deliver frame) = true
+asks_memory (Deliver frame piece) = true
 asks_memory Apply = true
+asks_memory (AckDelivered a) = true
 asks_memory (Hold c) = true
 asks_memory (Write c n) = true
 asks_memory event = false

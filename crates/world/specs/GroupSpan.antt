@@ -1,16 +1,18 @@
 -- Groups and frames of the machine, and those of the code that refine them.
-use Rattle.std.specs.Prelude.{◌≡◌, ◌-◌, ◌≤◌, ◌<◌, List, [], ◌∷◌}
+use Rattle.std.specs.Prelude.{◌≡◌, ◌+◌, ◌-◌, ◌≤◌, ◌<◌, List, [], ◌∷◌}
 use Rattle.model.specs.declared.call.Call.{Call}
 use Rattle.model.specs.declared.group.Group.{Group}
+use Rattle.model.specs.declared.group.TheConstants.{MAX_PARTS}
 use Rattle.model.specs.Call.{position_of}
 use Rattle.model.specs.Position.{changes_since}
 use Rattle.model.specs.Group.{changes_of_group, last_position}
 use Rattle.machine.specs.Event.{Span}
 
--- the span lies within the list
+-- the span lies within the list, and has no more calls than one group
 pub record IsWithin (calls : List Call) (span : Span) : Type 0 where
   pub rising : span.before < span.after
   pub within : span.after ≤ position_of calls
+  pub few : span.after ≤ span.before + MAX_PARTS
 
 -- the group has the changes of the list between the positions of the span
 pub record IsGroupOf (calls : List Call) (group : Group) (span : Span) : Type 0 where

@@ -1,48 +1,68 @@
--- How the link, and the frames that passed over it, refine the machine's.
-use Rattle.std.specs.Prelude.{◌≡◌, ℕ, ◌≤◌, List, [], ◌∷◌, drop, length, slice_get, Some, None}
+-- How the link, and the bytes that passed over it both ways, refine the machine's.
+use Rattle.std.specs.Prelude.{◌≡◌, ℕ, ◌≤◌, List, [], ◌∷◌, drop, length, None, Vec}
+use Rattle.std.specs.Global.{Global}
 use Rattle.model.specs.declared.call.Call.{Call}
 use Rattle.model.specs.declared.group.Group.{Group}
 use Rattle.kv_types.specs.Keyspace.{play_all}
+use Rattle.kv_types.specs.Change.{changes_size}
 use Rattle.model.specs.Call.{cut_at, keyspace_after}
-use Rattle.machine.specs.Event.{Link as Machine, Span, Frame as Sent}
+use Rattle.machine.specs.Event.{Link as Machine, Span, Frame as Sent, Acknowledgement}
 use Rattle.pipes.specs.Waiting.{Waiting}
 use Rattle.standby.specs.declared.frame.Frame.{Frame}
 use Rattle.standby_stream.specs.Stream.{Stream}
+use Rattle.stream_codec.specs.declared.message.TheConstants.{MAX_BODY_BYTES}
+use Rattle.stream_codec.specs.Message.{Acknowledged, IsSent, sent_of_frame, sent_text}
 use Rattle.world.specs.GroupSpan.{IsWithin, AreGroupsOf}
 
--- the frame's changes lead from the keyspace before the span to the one after it
+-- The frame's changes lead from the keyspace before the span to the one after it, and have no more bytes than one frame.
 pub record IsFrameOf (epoch : ℕ) (calls : List Call) (frame : Frame) (span : Span) : Type 0 where
   pub span_within : IsWithin calls span
   pub epoch_is : frame.epoch ≡ epoch
   pub before : frame.before ≡ span.before
   pub after : frame.after ≡ span.after
   pub plays : play_all (keyspace_after (cut_at calls span.before)) frame.changes.items ≡ keyspace_after (cut_at calls span.after)
+  pub size : changes_size frame.changes.items ≤ MAX_BODY_BYTES
 
 abbrev pub AreFramesOf : ℕ → List Call → List Frame → List Span → Type 0
 AreFramesOf epoch calls [] [] = Unit {0}
 AreFramesOf epoch calls (frame ∷ frames) (span ∷ spans) = IsFrameOf epoch calls frame span × AreFramesOf epoch calls frames spans
 AreFramesOf epoch calls _ _ = ⊥
 
--- the frame is the one that was sent, of this epoch
-pub record IsFrameSent (epoch : ℕ) (calls : List Call) (frame : Frame) (sent : Sent) : Type 0 where
+-- ---- on the way
+
+-- the frame, as it was read from bytes, is the one that was sent, of this epoch
+pub record IsFrameRead (epoch : ℕ) (calls : List Call) (frame : Frame) (sent : Sent) : Type 0 where
   pub epoch_is : sent.epoch ≡ epoch
   pub has : IsFrameOf epoch calls frame sent.span
 
-abbrev pub AreFramesSent : ℕ → List Call → List Frame → List Sent → Type 0
+abbrev pub AreFramesRead : ℕ → List Call → List Frame → List Sent → Type 0
+AreFramesRead epoch calls [] [] = Unit {0}
+AreFramesRead epoch calls (frame ∷ frames) (sent ∷ others) = IsFrameRead epoch calls frame sent × AreFramesRead epoch calls frames others
+AreFramesRead epoch calls _ _ = ⊥
+
+-- these are the bytes of the frame that was sent, which is within the limits of what may be sent
+pub record IsFrameSent (epoch : ℕ) (calls : List Call) (bytes : List ℕ) (sent : Sent) : Type 0 where
+  pub frame : Frame
+  pub text : bytes ≡ sent_text (sent_of_frame frame)
+  pub may : IsSent (sent_of_frame frame)
+  pub is : IsFrameRead epoch calls frame sent
+
+abbrev pub AreFramesSent : ℕ → List Call → List (Vec ℕ Global) → List Sent → Type 0
 AreFramesSent epoch calls [] [] = Unit {0}
-AreFramesSent epoch calls (frame ∷ frames) (sent ∷ others) = IsFrameSent epoch calls frame sent × AreFramesSent epoch calls frames others
+AreFramesSent epoch calls (bytes ∷ texts) (sent ∷ others) = IsFrameSent epoch calls bytes.items sent × AreFramesSent epoch calls texts others
 AreFramesSent epoch calls _ _ = ⊥
 
--- the frame of this number is the one that was sent
-pub record IsFrameAt (epoch : ℕ) (calls : List Call) (frames : List Frame) (number : ℕ) (sent : Sent) : Type 0 where
-  pub frame : Frame
-  pub stands : slice_get frames number ≡ Some frame
-  pub is : IsFrameSent epoch calls frame sent
+-- these are the bytes of the acknowledgement that was made
+pub record IsAckSent (bytes : List ℕ) (told : Acknowledgement) : Type 0 where
+  pub text : bytes ≡ sent_text (Acknowledged told.epoch told.position)
+  pub may : IsSent (Acknowledged told.epoch told.position)
 
-abbrev pub AreFramesAt : ℕ → List Call → List Frame → List ℕ → List Sent → Type 0
-AreFramesAt epoch calls frames [] [] = Unit {0}
-AreFramesAt epoch calls frames (number ∷ numbers) (sent ∷ others) = IsFrameAt epoch calls frames number sent × AreFramesAt epoch calls frames numbers others
-AreFramesAt epoch calls frames _ _ = ⊥
+abbrev pub AreAcksSent : List (Vec ℕ Global) → List Acknowledgement → Type 0
+AreAcksSent [] [] = Unit {0}
+AreAcksSent (bytes ∷ texts) (told ∷ others) = IsAckSent bytes.items told × AreAcksSent texts others
+AreAcksSent _ _ = ⊥
+
+-- ---- the link
 
 -- the link, the groups that were handed on to it, and the remote mark
 pub record LinkRefines (calls : List Call) (code : Stream) (handed : Waiting Group) (remote : ℕ) (machine : Machine) : Type 0 where

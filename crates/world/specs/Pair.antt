@@ -1,5 +1,6 @@
 -- How a pair of nodes with its connections refines the machine's.
-use Rattle.std.specs.Prelude.{◌≡◌, ℕ, ◌<◌, Bool, true, List, [], length, slice_index_or, vec_capacity, Result, IfOk, IfErr}
+use Rattle.std.specs.Prelude.{◌≡◌, ℕ, ◌<◌, Bool, true, List, [], length, slice_index_or, Vec, vec_capacity, Result, IfOk, IfErr}
+use Rattle.std.specs.Global.{Global}
 use Rattle.pmem.specs.Device.{State}
 use Rattle.kv_types.specs.declared.refusal.Refusal.{Refusal}
 use Rattle.model.specs.declared.group.Group.{Group}
@@ -7,7 +8,6 @@ use Rattle.model.specs.Group.{Contents}
 use Rattle.model.specs.Standing.{Holder}
 use Rattle.pipes.specs.Waiting.{Waiting}
 use Rattle.redis_core.specs.Sequencing.{Sequencing}
-use Rattle.standby.specs.declared.frame.Frame.{Frame}
 use Rattle.standby_stream.specs.Stream.{Stream}
 use Rattle.machine.specs.declared.event.Event.{Event}
 use Rattle.machine.specs.Event.{World, Step, is_enabled}
@@ -36,8 +36,8 @@ pub record Pair : Type 0 where
   pub link : Stream
   -- the remote mark
   pub remote : ℕ
-  -- all frames that passed over the link
-  pub frames : List Frame
+  -- the bytes of all frames that passed over the link
+  pub frames : List (Vec ℕ Global)
   pub arrivals : Arrivals
   pub standby : Node
 
@@ -52,7 +52,7 @@ pub record PartsRefine (first second : Holder) (pair : Pair) (w : World) : Type 
   pub epoch : pair.link.epoch ≡ w.primary.epoch
   pub link : LinkRefines w.primary.calls pair.link pair.handed pair.remote w.primary.link
   pub frames : AreFramesSent pair.link.epoch w.primary.calls pair.frames w.wire.frames
-  pub arrivals : ArrivalsRefine pair.link.epoch w.primary.calls pair.frames pair.arrivals w.standby.waiting w.wire.acknowledgements
+  pub arrivals : ArrivalsRefine pair.link.epoch w.primary.calls pair.arrivals w.standby.waiting w.wire.acknowledgements
   pub standby : StandbyStands second pair.link.epoch w.primary.calls w.standby.position pair.standby
 
 -- it refines a world that a run may reach

@@ -1,5 +1,5 @@
 -- How the standby, and what waits for it, refine the machine's.
-use Rattle.std.specs.Prelude.{◌≡◌, ℕ, Bool, true, false, List, map}
+use Rattle.std.specs.Prelude.{◌≡◌, ℕ, Bool, true, false, List}
 use Rattle.pmem.specs.Device.{State}
 use Rattle.extent_heap.specs.Room.{Room}
 use Rattle.model.specs.declared.call.Call.{Call}
@@ -10,10 +10,9 @@ use Rattle.mv_keyspace.specs.Table.{Table, records}
 use Rattle.machine.specs.declared.event.Event.TheVariants.{Apply}
 use Rattle.machine.specs.Event.{Acknowledgement, World, Frame as Sent, Applies, may_happen}
 use Rattle.standby.specs.declared.frame.Ack.{Ack}
-use Rattle.standby.specs.declared.frame.Frame.{Frame}
 use Rattle.standby.specs.Following.{Follows}
 use Rattle.world.specs.Committing.{EngineStands, Moves}
-use Rattle.world.specs.Link.{AreFramesAt}
+use Rattle.world.specs.Link.{AreFramesRead, AreAcksSent}
 use Rattle.world.specs.declared.arrivals.Arrivals.{Arrivals}
 
 -- what a standby is made of
@@ -42,14 +41,14 @@ pub record StandbyStands (holder : Holder) (epoch : ℕ) (calls : List Call) (po
 abbrev pub told_by : Ack → Acknowledgement
 told_by ack = record { epoch = ack.epoch; position = ack.position }
 
--- the frames that came, by their indices, and the acknowledgements that were made
-pub record ArrivalsRefine (epoch : ℕ) (calls : List Call) (frames : List Frame) (code : Arrivals) (waiting : List Sent) (told : List Acknowledgement) : Type 0 where
-  pub delivered : AreFramesAt epoch calls frames code.delivered.items waiting
-  pub acknowledged : map told_by code.acknowledgements.items ≡ told
+-- the frames that came, and the acknowledgements that were made, as bytes
+pub record ArrivalsRefine (epoch : ℕ) (calls : List Call) (code : Arrivals) (waiting : List Sent) (told : List Acknowledgement) : Type 0 where
+  pub delivered : AreFramesRead epoch calls code.delivered.items waiting
+  pub acknowledged : AreAcksSent code.acknowledgements.items told
 
 -- the standby took the first frame that came, or there was none
-pub record AppliesFirst (holder : Holder) (epoch : ℕ) (frames : List Frame) (w : World) (did : Bool) (arrivals : Arrivals) (old new : Node) : Type 0 where
+pub record AppliesFirst (holder : Holder) (epoch : ℕ) (w : World) (did : Bool) (arrivals : Arrivals) (old new : Node) : Type 0 where
   pub done : did ≡ may_happen w Apply
-  pub goes : did ≡ true → (w' : World) × Applies w w' × ArrivalsRefine epoch w.primary.calls frames arrivals w'.standby.waiting w'.wire.acknowledgements × StandbyStands holder epoch w.primary.calls w'.standby.position new
+  pub goes : did ≡ true → (w' : World) × Applies w w' × ArrivalsRefine epoch w.primary.calls arrivals w'.standby.waiting w'.wire.acknowledgements × StandbyStands holder epoch w.primary.calls w'.standby.position new
       × Moves holder w.primary.calls w.standby.position w'.standby.position old.device new.device
-  pub stays : did ≡ false → ArrivalsRefine epoch w.primary.calls frames arrivals w.standby.waiting w.wire.acknowledgements × (new ≡ old)
+  pub stays : did ≡ false → ArrivalsRefine epoch w.primary.calls arrivals w.standby.waiting w.wire.acknowledgements × (new ≡ old)

@@ -5,7 +5,6 @@ ghost use Rattle.model.specs.Standing.{Holder};
 ghost use Rattle.machine.specs.Event.{World, may_happen, acknowledgement_of, delivered, option_items};
 ghost use Rattle.machine.specs.Sound.{Sound};
 ghost use Rattle.wbl_engine.specs.Contents.{IsDurable};
-ghost use Rattle.standby.specs.declared.frame.Frame.{Frame};
 ghost use Rattle.standby.specs.Following.{Follows};
 ghost use Rattle.world.specs.Going.{Goes};
 ghost use Rattle.world.specs.Cause.{EndsBy};
@@ -13,25 +12,27 @@ ghost use Rattle.world.specs.Committing.{NearOnly, next_standby};
 ghost use Rattle.world.specs.Link.{AreFramesSent};
 ghost use Rattle.world.specs.Standby.{StandbyStands, ArrivalsRefine, AppliesFirst, node_at, told_by};
 
+use crate::wire::{ACK_BYTES, decode, encode, encode_ack};
 use kv_types::Refusal;
 use mv_keyspace::Keyspace;
 use standby::{Ack, Frame, Standby};
 use std::alloc::Global;
 use std::collections::VecDeque;
+use stream_codec::Message;
 use wbl_engine::Durable;
 
 /// Frames on their way into the standby, and acknowledgements on their way out.
 #[derive(Drop)]
 pub(crate) struct Arrivals {
-    /// The indices, among the frames that were sent, of those that came to the standby and were not taken yet.
-    pub(crate) delivered: VecDeque<usize>,
-    /// All acknowledgements that the standby ever made.
-    pub(crate) acknowledgements: Vec<Ack>,
+    /// The frames that came to the standby and were not taken yet.
+    pub(crate) delivered: VecDeque<Frame>,
+    /// The bytes of all acknowledgements that the standby ever made.
+    pub(crate) acknowledgements: Vec<Vec<u8>>,
 }
 
 impl Arrivals {
     pub(crate) fn new(alloc: Global) -> Arrivals
-        ensures { (epoch : ℕ) → ArrivalsRefine epoch [] [] result [] [] }
+        ensures { (epoch : ℕ) → ArrivalsRefine epoch [] result [] [] }
     {
         Arrivals {
             delivered: VecDeque::new(alloc),
@@ -40,30 +41,40 @@ impl Arrivals {
     }
 
     /// Adds an acknowledgement, with which the standby tells its position.
-    pub(crate) fn acknowledge(&mut self, ack: Ack) -> Result<(), Refusal>
-        ensures stands { OnOk result ((epoch : ℕ) (frames : List Frame) (w : World) → ArrivalsRefine epoch w.primary.calls frames self.old w.standby.waiting w.wire.acknowledgements → told_by ack ≡ acknowledgement_of w.standby
-            → ArrivalsRefine epoch w.primary.calls frames self.new w.standby.waiting (w.wire.acknowledgements ++ acknowledgement_of w.standby ∷ [])) }
+    pub(crate) fn acknowledge(&mut self, alloc: Global, ack: Ack) -> Result<(), Refusal>
+        ensures stands { OnOk result ((epoch : ℕ) (w : World) → ArrivalsRefine epoch w.primary.calls self.old w.standby.waiting w.wire.acknowledgements → told_by ack ≡ acknowledgement_of w.standby
+            → ArrivalsRefine epoch w.primary.calls self.new w.standby.waiting (w.wire.acknowledgements ++ acknowledgement_of w.standby ∷ [])) }
         ensures cause { IfErr result (λ refusal. refusal ≡ Refusal.Memory) }
     {
-        self.acknowledgements.push(ack)?;
+        let bytes = encode(alloc, &Message::Ack(ack))?;
+        self.acknowledgements.push(bytes)?;
         Ok(())
     }
 
-    /// Delivers the sent frame with the index `frame` to the standby. Returns whether there is such a frame.
-    pub(crate) fn deliver(&mut self, frames: &[Frame], frame: u64) -> Result<bool, Refusal>
-        ensures goes { IfOk result (λ did. (epoch : ℕ) (w : World) → ArrivalsRefine epoch w.primary.calls frames.now self.old w.standby.waiting w.wire.acknowledgements
+    /// Delivers the sent frame with the index `frame` to the standby, which reads it from its bytes as they come: in pieces of `piece` bytes, or whole
+    /// where `piece` is 0. Returns whether there is such a frame.
+    pub(crate) fn deliver(
+        &mut self,
+        alloc: Global,
+        frames: &[Vec<u8>],
+        frame: u64,
+        piece: u64,
+    ) -> Result<bool, Refusal>
+        ensures goes { IfOk result (λ did. (epoch : ℕ) (w : World) → ArrivalsRefine epoch w.primary.calls self.old w.standby.waiting w.wire.acknowledgements
             → AreFramesSent epoch w.primary.calls frames.now w.wire.frames
-            → Goes (may_happen w (Deliver frame)) did
-            (ArrivalsRefine epoch w.primary.calls frames.now self.new (delivered (option_items (slice_get w.wire.frames frame)) w.standby).waiting w.wire.acknowledgements)
-            (ArrivalsRefine epoch w.primary.calls frames.now self.new w.standby.waiting w.wire.acknowledgements)) }
-        ensures cause { IfErr result (λ refusal. refusal ≡ Refusal.Memory) }
+            → Goes (may_happen w (Deliver frame piece)) did
+            (ArrivalsRefine epoch w.primary.calls self.new (delivered (option_items (slice_get w.wire.frames frame)) w.standby).waiting w.wire.acknowledgements)
+            (ArrivalsRefine epoch w.primary.calls self.new w.standby.waiting w.wire.acknowledgements)) }
+        ensures cause { IfErr result (λ refusal. (epoch : ℕ) (w : World) → AreFramesSent epoch w.primary.calls frames.now w.wire.frames → refusal ≡ Refusal.Memory) }
         ensures some { OnErr result (frame < length frames.now) }
     {
-        let number = frame as usize;
-        if number >= frames.len() {
+        let Some(bytes) = frames.get(frame as usize) else {
             return Ok(false);
-        }
-        self.delivered.push_back(number)?;
+        };
+        let Message::Group(frame) = decode(alloc, bytes.as_slice(), piece)? else {
+            return Err(Refusal::FrameFault);
+        };
+        self.delivered.push_back(frame)?;
         Ok(true)
     }
 
@@ -74,40 +85,40 @@ impl Arrivals {
         &mut self,
         alloc: Global,
         standby: &mut Standby<E, K>,
-        frames: &[Frame],
     ) -> Result<bool, Refusal>
         requires follows { Follows (E.contents standby.old.engine) (K.table standby.old.keyspace) standby.old.heap }
         requires sound { E.is_faulted standby.old.engine ≡ false }
         requires durable { IsDurable (E.device standby.old.engine) (E.contents standby.old.engine) }
         ensures applies { IfOk result (λ did. (holder : Holder) (w : World) → Sound w
             → (E.contents standby.old.engine).current.epoch ≡ w.standby.epoch
-            → ArrivalsRefine (E.contents standby.old.engine).current.epoch w.primary.calls frames.now self.old w.standby.waiting w.wire.acknowledgements
+            → ArrivalsRefine (E.contents standby.old.engine).current.epoch w.primary.calls self.old w.standby.waiting w.wire.acknowledgements
             → StandbyStands holder (E.contents standby.old.engine).current.epoch w.primary.calls w.standby.position (node_at (E.device standby.old.engine) (E.contents standby.old.engine) (E.is_faulted standby.old.engine) (K.table standby.old.keyspace) standby.old.heap)
-            → AppliesFirst holder (E.contents standby.old.engine).current.epoch frames.now w did self.new
+            → AppliesFirst holder (E.contents standby.old.engine).current.epoch w did self.new
             (node_at (E.device standby.old.engine) (E.contents standby.old.engine) (E.is_faulted standby.old.engine) (K.table standby.old.keyspace) standby.old.heap)
             (node_at (E.device standby.new.engine) (E.contents standby.new.engine) (E.is_faulted standby.new.engine) (K.table standby.new.keyspace) standby.new.heap)) }
         ensures cut { IfErr result (λ refusal. (holder : Holder) (w : World) → Sound w
             → (E.contents standby.old.engine).current.epoch ≡ w.standby.epoch
-            → ArrivalsRefine (E.contents standby.old.engine).current.epoch w.primary.calls frames.now self.old w.standby.waiting w.wire.acknowledgements
+            → ArrivalsRefine (E.contents standby.old.engine).current.epoch w.primary.calls self.old w.standby.waiting w.wire.acknowledgements
             → StandbyStands holder (E.contents standby.old.engine).current.epoch w.primary.calls w.standby.position (node_at (E.device standby.old.engine) (E.contents standby.old.engine) (E.is_faulted standby.old.engine) (K.table standby.old.keyspace) standby.old.heap)
             → (may_happen w Apply ≡ true)
             × EndsBy refusal Apply (λ _ last. last holder w.primary.calls w.standby.position (next_standby w) (E.device standby.old.engine) (E.device standby.new.engine))) }
         // at any moment of the call
         ensures moments { (holder : Holder) (w : World) → Sound w
             → (E.contents standby.old.engine).current.epoch ≡ w.standby.epoch
-            → ArrivalsRefine (E.contents standby.old.engine).current.epoch w.primary.calls frames.now self.old w.standby.waiting w.wire.acknowledgements
+            → ArrivalsRefine (E.contents standby.old.engine).current.epoch w.primary.calls self.old w.standby.waiting w.wire.acknowledgements
             → StandbyStands holder (E.contents standby.old.engine).current.epoch w.primary.calls w.standby.position (node_at (E.device standby.old.engine) (E.contents standby.old.engine) (E.is_faulted standby.old.engine) (K.table standby.old.keyspace) standby.old.heap)
             → NearOnly holder w.primary.calls w.standby.position (next_standby w) (E.device standby.old.engine) (E.device standby.new.engine) }
     {
-        let Some(place) = self.delivered.front() else {
+        let Some(frame) = self.delivered.front() else {
             return Ok(false);
         };
-        let Some(frame) = frames.get(*place) else {
-            return Ok(false);
-        };
+        // An acknowledgement that is owed takes no more memory.
+        let room = Vec::with_capacity(alloc, ACK_BYTES)?;
         self.acknowledgements.reserve(1)?;
         match standby.on_frame(alloc, frame) {
-            Ok(ack) => self.acknowledgements.push_reserved(ack),
+            Ok(ack) => self
+                .acknowledgements
+                .push_reserved(encode_ack(ack, room)),
             Err(refusal) if goes_on(refusal) => {}
             Err(refusal) => return Err(refusal),
         }

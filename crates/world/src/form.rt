@@ -62,7 +62,7 @@ fn make_between<K: Keyspace + Drop>(
     ensures no_group { IfOk result (λ between. between.groups.items ≡ []) }
     ensures link { IfOk result (λ between. between.link ≡ new_stream FIRST_EPOCH) }
     ensures handed { IfOk result (λ between. between.handed.items ≡ []) }
-    ensures arrivals { IfOk result (λ between. (epoch : ℕ) → ArrivalsRefine epoch [] [] between.arrivals [] []) }
+    ensures arrivals { IfOk result (λ between. (epoch : ℕ) → ArrivalsRefine epoch [] between.arrivals [] []) }
     ensures free_lines { IfOk result (λ between. (line : ℕ) → IsTrue (is_free_line between.heap line) ↔ ((first_extent_line lines.1 ≤ line) × (line < lines.1))) }
     ensures free_entries { IfOk result (λ between. (i : ℕ) → IsTrue (is_free_entry between.heap i) ↔ (i < entries_of_lines lines.1)) }
     ensures cause { IfErr result (λ refusal. refusal ≡ Refusal.Memory) }

@@ -11,6 +11,7 @@ mod pair;
 mod playing;
 mod sessions;
 mod trace;
+mod wire;
 
 pub use machine::{Event, Mark};
 pub use playing::run;

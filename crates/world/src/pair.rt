@@ -8,6 +8,7 @@ ghost use Rattle.world.specs.Standby.{node_at};
 use crate::arrivals::Arrivals;
 use crate::closing::close_group;
 use crate::sessions::Sessions;
+use crate::wire::{decode, encode};
 use bytes::Bytes;
 use group_commit::{Committer, Done, Stage};
 use kv_types::Refusal;
@@ -17,9 +18,10 @@ use mv_keyspace::Keyspace;
 use pipes::LocalPipe;
 use redis_core::Sequencer;
 use reply_gate::Seen;
-use standby::{Frame, Standby};
+use standby::Standby;
 use standby_stream::Link;
 use std::alloc::Global;
+use stream_codec::Message;
 use wbl_engine::Durable;
 
 /// What events happen to, one at a time.
@@ -51,8 +53,8 @@ pub(crate) struct Pair<E: Durable, K: Keyspace> {
     pub(crate) link: Link,
     /// The remote mark.
     pub(crate) remote: u64,
-    /// All frames that ever passed over the link, in the order of their sending.
-    pub(crate) frames: Vec<Frame>,
+    /// The bytes of all frames that ever passed over the link, in the order of their sending.
+    pub(crate) frames: Vec<Vec<u8>>,
     pub(crate) arrivals: Arrivals,
     pub(crate) standby: Standby<E, K>,
 }
@@ -85,7 +87,7 @@ impl<E: Durable, K: Keyspace> Stepper for Pair<E, K> {
             Event::Hand => self.hand(),
             Event::OpenLink => self.open_link(),
             Event::Send => self.send(),
-            Event::Deliver(frame) => self.deliver(*frame),
+            Event::Deliver(frame, piece) => self.deliver(*frame, *piece),
             Event::Apply => self.apply(),
             Event::AckDelivered(ack) => self.ack_delivered(*ack),
             Event::RaiseRemote => self.raise_remote(),
@@ -166,7 +168,8 @@ impl<E: Durable, K: Keyspace> Pair<E, K> {
     fn open_link(&mut self) -> Result<bool, Refusal>
         ensures { Does (⟦<Pair<E, K> as Stepper>⟧.parts self.old) events.OpenLink result (⟦<Pair<E, K> as Stepper>⟧.parts self.new) }
     {
-        self.arrivals.acknowledge(self.standby.ack())?;
+        self.arrivals
+            .acknowledge(self.alloc, self.standby.ack())?;
         self.link.reopen();
         Ok(true)
     }
@@ -178,34 +181,36 @@ impl<E: Durable, K: Keyspace> Pair<E, K> {
             return Ok(false);
         };
         let frame = self.link.frame(index).clone()?;
-        self.frames.push(frame)?;
+        let bytes = encode(self.alloc, &Message::Group(frame))?;
+        self.frames.push(bytes)?;
         Ok(true)
     }
 
-    fn deliver(&mut self, frame: u64) -> Result<bool, Refusal>
-        ensures { Does (⟦<Pair<E, K> as Stepper>⟧.parts self.old) (events.Deliver frame) result (⟦<Pair<E, K> as Stepper>⟧.parts self.new) }
+    fn deliver(&mut self, frame: u64, piece: u64) -> Result<bool, Refusal>
+        ensures { Does (⟦<Pair<E, K> as Stepper>⟧.parts self.old) (events.Deliver frame piece) result (⟦<Pair<E, K> as Stepper>⟧.parts self.new) }
     {
-        self.arrivals.deliver(self.frames.as_slice(), frame)
+        self.arrivals
+            .deliver(self.alloc, self.frames.as_slice(), frame, piece)
     }
 
     fn apply(&mut self) -> Result<bool, Refusal>
         requires { HasWorld (⟦<Pair<E, K> as Stepper>⟧.parts self.old) }
         ensures { Does (⟦<Pair<E, K> as Stepper>⟧.parts self.old) events.Apply result (⟦<Pair<E, K> as Stepper>⟧.parts self.new) }
     {
-        self.arrivals
-            .apply(self.alloc, &mut self.standby, self.frames.as_slice())
+        self.arrivals.apply(self.alloc, &mut self.standby)
     }
 
     fn ack_delivered(&mut self, ack: u64) -> Result<bool, Refusal>
         ensures { Does (⟦<Pair<E, K> as Stepper>⟧.parts self.old) (events.AckDelivered ack) result (⟦<Pair<E, K> as Stepper>⟧.parts self.new) }
     {
-        match self.arrivals.acknowledgements.get(ack as usize) {
-            Some(ack) => {
-                self.link.on_ack(*ack);
-                Ok(true)
-            }
-            None => Ok(false),
-        }
+        let Some(bytes) = self.arrivals.acknowledgements.get(ack as usize) else {
+            return Ok(false);
+        };
+        let Message::Ack(ack) = decode(self.alloc, bytes.as_slice(), 0)? else {
+            return Err(Refusal::FrameFault);
+        };
+        self.link.on_ack(ack);
+        Ok(true)
     }
 
     fn raise_remote(&mut self) -> Result<bool, Refusal>

@@ -12,12 +12,12 @@ use crate::form::form;
 use crate::pair::{Pair, Stepper};
 use crate::sessions::Sessions;
 use crate::trace::{EarlyEnd, Trace};
+use crate::wire::end_of_frame;
 use kv_types::Refusal;
 use machine::Event;
 use model::Call;
 use mv_keyspace::{Keyspace, ListKeyspace};
 use pmem::{Crashing, Pmem};
-use standby::{Ack, Frame};
 use std::alloc::{AllocError, Global};
 use std::hash::RandomState;
 use wbl_engine::{Durable, WblEngine};
@@ -77,8 +77,8 @@ pub fn run<P: Crashing>(
 struct Played<P> {
     calls: Vec<Call>,
     released: Vec<Vec<u8>>,
-    frames: Vec<Frame>,
-    acknowledgements: Vec<Ack>,
+    frames: Vec<Vec<u8>>,
+    acknowledgements: Vec<Vec<u8>>,
     done: Vec<bool>,
     ended: Option<EarlyEnd>,
     primary: P,
@@ -228,11 +228,12 @@ fn take_released(connections: Vec<Connection>, released: &mut Vec<Vec<u8>>)
 }
 
 /// Drops the frames that were sent before: each group's frame ends above all earlier ones.
-fn drop_repeats(frames: &mut Vec<Frame>) {
+fn drop_repeats(frames: &mut Vec<Vec<u8>>) {
     let mut last = 0;
     frames.retain(|frame| {
-        let is_new = frame.after > last;
-        last = last.max(frame.after);
+        let after = end_of_frame(frame.as_slice());
+        let is_new = after > last;
+        last = last.max(after);
         is_new
     });
 }

@@ -1,7 +1,6 @@
 //! What a run reports.
 use kv_types::Refusal;
 use model::Call;
-use standby::{Ack, Frame};
 
 /// Where a run ended before its last event, and why: `Memory` where a growth was refused, `Fault` where a fence failed, `Exhausted` where a
 /// counter of an image would reach 2^62.
@@ -20,10 +19,10 @@ pub struct Trace<P> {
     pub calls: Vec<Call>,
     /// The bytes that were released to each connection, by its number.
     pub released: Vec<Vec<u8>>,
-    /// The frames of the link, one for each group that was sent, in order.
-    pub frames: Vec<Frame>,
-    /// The acknowledgements that the standby made, in order.
-    pub acknowledgements: Vec<Ack>,
+    /// The bytes of the frames of the link, one for each group that was sent, in order.
+    pub frames: Vec<Vec<u8>>,
+    /// The bytes of the acknowledgements that the standby made, in order.
+    pub acknowledgements: Vec<Vec<u8>>,
     /// For each event that was reached, whether it did its step.
     pub done: Vec<bool>,
     /// Where the run ended early, if it did.

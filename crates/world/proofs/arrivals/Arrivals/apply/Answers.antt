@@ -1,21 +1,23 @@
-use Rattle.std.proofs.Common.{◌≡◌, ◌++◌, [], ◌∷◌, drop, List, Result, Ok, Err, refl, sym, ap, subst, ◌∙◌, arith, append-nil, true≢false}
+use Rattle.std.proofs.Common.{◌≡◌, ℕ, Vec, Global, ◌++◌, [], ◌∷◌, drop, List, Result, Ok, Err, refl, sym, ap, subst, ◌∙◌, arith, append-nil, true≢false}
 use Rattle.model.specs.Standing.{Holder}
 use Rattle.std.proofs.lemmas.Result.{err_from_is_err_and}
 use Rattle.kv_types.specs.declared.refusal.Refusal.{Refusal}
 use Rattle.kv_types.specs.declared.refusal.Refusal.TheVariants.{Memory}
 use Rattle.model.specs.Call.{is_nonempty}
 use Rattle.machine.specs.declared.event.Event.TheVariants.{Apply}
-use Rattle.machine.specs.Event.{World, Frame as Sent, without_first}
+use Rattle.machine.specs.Event.{World, Frame as Sent, Acknowledgement, without_first}
 use Rattle.machine.specs.Sound.{Sound}
 use Rattle.standby.specs.declared.frame.Ack.{Ack}
 use Rattle.standby.specs.declared.standby.Standby.{Standby}
 use Rattle.world.specs.declared.arrivals.Arrivals.{Arrivals}
 use Rattle.world.specs.Cause.{EndsBy}
 use Rattle.world.specs.Committing.{NearOnly, next_from, next_standby}
-use Rattle.world.specs.Standby.{Node, ArrivalsRefine, StandbyStands}
+use Rattle.world.specs.Standby.{Node, ArrivalsRefine, StandbyStands, told_by}
 use Rattle.world.proofs.StandbyLemmas.{Answers, OnErr-weaken, takes_ok, takes_refused, frame-ends, frame-moments, StandbyStands-still}
 use Rattle.world.proofs.EngineLemmas.{Stands-engine, rests-same}
-use Rattle.world.proofs.ArrivalLemmas.{FirstFrame, first-frame, place_within, applies}
+use Rattle.world.specs.Link.{AreAcksSent}
+use Rattle.world.proofs.FrameLemmas.{AreAcksSent-push}
+use Rattle.world.proofs.ArrivalLemmas.{FirstFrame, first-frame, applies}
 use Rattle.world.proofs.arrivals.Arrivals.apply.Given.{Over}
 use Rattle.world.proofs.arrivals.Arrivals.apply.Goals as goal
 use Rattle.world.proofs.arrivals.Arrivals.apply.Goals.{After-on_frame, in-Ok, in-Err}
@@ -30,7 +32,7 @@ node g standby = record {
   epoch = (g.E.Durable.contents standby.engine).current.epoch;
 }
 
-answers : (g : Over) (c : After-on_frame g) → Answers c.in-Some-get.frame.now (node g c.args.standby.now) c.on_frame.result (node g c.on_frame.new.self)
+answers : (g : Over) (c : After-on_frame g) → Answers c.in-Some.frame.now (node g c.args.standby.now) c.on_frame.result (node g c.on_frame.new.self)
 answers g c = record {
   again = λ epoch le. let told = c.on_frame.ensures.again epoch le in (told.0, ap (node g) told.1);
   gap = λ epoch lt ne. let told = c.on_frame.ensures.gap epoch lt ne in (told.0, ap (node g) told.1);
@@ -50,49 +52,50 @@ answers g c = record {
   moments = c.on_frame.ensures.moments;
 }
 
-told : (g : Over) (c : After-on_frame g) (result : Result Ack Refusal) → c.on_frame.result ≡ result → Answers c.in-Some-get.frame.now (node g c.args.standby.now) result (node g c.on_frame.new.self)
-told g c result is = subst (λ (r : Result Ack Refusal). Answers c.in-Some-get.frame.now (node g c.args.standby.now) r (node g c.on_frame.new.self)) is (answers g c)
+told : (g : Over) (c : After-on_frame g) (result : Result Ack Refusal) → c.on_frame.result ≡ result → Answers c.in-Some.frame.now (node g c.args.standby.now) result (node g c.on_frame.new.self)
+told g c result is = subst (λ (r : Result Ack Refusal). Answers c.in-Some.frame.now (node g c.args.standby.now) r (node g c.on_frame.new.self)) is (answers g c)
 
-first : (g : Over) (c : After-on_frame g) (w : World) → ArrivalsRefine (g.E.Durable.contents c.args.standby.now.engine).current.epoch w.primary.calls c.args.frames.now c.args.self.now w.standby.waiting w.wire.acknowledgements
-    → FirstFrame (g.E.Durable.contents c.args.standby.now.engine).current.epoch w.primary.calls c.args.frames.now c.in-Some-get.frame.now (drop 1 c.args.self.now.delivered.items) w.standby.waiting
-first g c w stands = first-frame (g.E.Durable.contents c.args.standby.now.engine).current.epoch c.args.frames.now w c.args.self.now c.in-Some.place.now c.in-Some-get.frame.now c.in-Some.ensures.item.3.0 c.in-Some.ensures.lookup
-    c.in-Some-get.ensures.lookup.1 stands
+first : (g : Over) (c : After-on_frame g) (w : World) → ArrivalsRefine (g.E.Durable.contents c.args.standby.now.engine).current.epoch w.primary.calls c.args.self.now w.standby.waiting w.wire.acknowledgements
+    → FirstFrame (g.E.Durable.contents c.args.standby.now.engine).current.epoch w.primary.calls c.in-Some.frame.now (drop 1 c.args.self.now.delivered.items) w.standby.waiting
+first g c w stands = first-frame (g.E.Durable.contents c.args.standby.now.engine).current.epoch w c.args.self.now c.in-Some.frame.now c.in-Some.ensures.item.3.0 c.in-Some.ensures.lookup stands
 
 -- at any moment of the call
-moments : (g : Over) (c : After-on_frame g) (holder : Holder) (w : World) → Sound w → (g.E.Durable.contents c.args.standby.now.engine).current.epoch ≡ w.standby.epoch → ArrivalsRefine (g.E.Durable.contents c.args.standby.now.engine).current.epoch w.primary.calls c.args.frames.now c.args.self.now w.standby.waiting w.wire.acknowledgements
+moments : (g : Over) (c : After-on_frame g) (holder : Holder) (w : World) → Sound w → (g.E.Durable.contents c.args.standby.now.engine).current.epoch ≡ w.standby.epoch → ArrivalsRefine (g.E.Durable.contents c.args.standby.now.engine).current.epoch w.primary.calls c.args.self.now w.standby.waiting w.wire.acknowledgements
     → StandbyStands holder (g.E.Durable.contents c.args.standby.now.engine).current.epoch w.primary.calls w.standby.position (node g c.args.standby.now)
     → NearOnly holder w.primary.calls w.standby.position (next_standby w) (g.E.Durable.device c.args.standby.now.engine) (g.E.Durable.device c.on_frame.new.self.engine)
 moments g c holder w sound epochs arrives stands =
     let epoch = (g.E.Durable.contents c.args.standby.now.engine).current.epoch in
-    let frame = c.in-Some-get.frame.now in
+    let frame = c.in-Some.frame.now in
     let one = first g c w arrives in
     subst (λ (frames : List Sent). NearOnly holder w.primary.calls w.standby.position (next_from w.standby.position frames) (g.E.Durable.device c.args.standby.now.engine) (g.E.Durable.device c.on_frame.new.self.engine)) (sym one.all)
     (frame-moments holder epoch w.primary.calls w.standby frame one.span (node g c.args.standby.now) (node g c.on_frame.new.self) one.epoch_is epochs one.is stands c.on_frame.result (answers g c))
-
-pub returns-in_default-get-clause-applies : goal.returns-in_default-get-clause-applies
-returns-in_default-get-clause-applies g c = λ holder w sound epochs arrives stands.
-    let within = place_within (g.E.Durable.contents c.args.standby.now.engine).current.epoch c.args.frames.now w c.args.self.now c.in-Some.place.now c.in-Some.ensures.item.3.0 c.in-Some.ensures.lookup arrives in
-    let past = c.in_default-get.ensures.lookup.3 in
-    record { done = absurd (omega (arith, within, past)); goes = λ did. cc; stays = λ did. (arrives, refl {a = node g c.args.standby.now}) }
 
 pub returns-clause-applies : goal.returns-clause-applies
 returns-clause-applies g c =
     let prefix = (goal.at.returns-clause-applies g c).After-on_frame in
     let epoch = (g.E.Durable.contents c.args.standby.now.engine).current.epoch in
-    let frame = c.in-Some-get.frame.now in
+    let frame = c.in-Some.frame.now in
     let new : Arrivals = record { delivered = c.pop_front.new.self; acknowledgements = c.match-on_frame.self.acknowledgements } in
     elim c.match-on_frame.branch [
       | in-Ok w ↦ λ holder w' sound epochs arrives stands.
           let one = first g prefix w' arrives in
-          applies holder epoch c.args.frames.now w' frame (w.in-Ok.ack ∷ []) c.args.self.now new (node g c.args.standby.now) (node g c.on_frame.new.self)
+          let ack = w.in-Ok.ack in
+          let acks = w'.wire.acknowledgements in
+          let written : new.acknowledgements.items ≡ c.args.self.now.acknowledgements.items ++ w.encode_ack.result ∷ [] =
+          ap (λ (a : Arrivals). a.acknowledgements.items) w.self-is ∙ w.push_reserved.ensures.items ∙ ap (λ (texts : List (Vec ℕ Global)). texts ++ w.encode_ack.result ∷ []) c.in_ok-reserve.ensures.items in
+          applies holder epoch w' frame (told_by ack ∷ []) c.args.self.now new (node g c.args.standby.now) (node g c.on_frame.new.self)
           (c.pop_front.ensures.rest ∙ ap (λ (a : Arrivals). drop 1 a.delivered.items) w.self-is)
-          (ap (λ (a : Arrivals). a.acknowledgements.items) w.self-is ∙ w.push_reserved.ensures.items ∙ ap (λ (acks : List Ack). acks ++ w.in-Ok.ack ∷ []) c.in_ok-reserve.ensures.items) arrives one
-          (takes_ok holder epoch w'.primary.calls (without_first w'.standby) frame one.span (node g c.args.standby.now) (node g c.on_frame.new.self) one.epoch_is epochs one.is stands w.in-Ok.ack (told g prefix (Ok w.in-Ok.ack) w.in-Ok.is))
+          (subst (λ (texts : List (Vec ℕ Global)). AreAcksSent texts (acks ++ told_by ack ∷ [])) (sym written)
+          (AreAcksSent-push c.args.self.now.acknowledgements.items acks w.encode_ack.result (told_by ack) arrives.acknowledged (record { text = w.encode_ack.ensures.text; may = w.encode_ack.ensures.may }))) one
+          (takes_ok holder epoch w'.primary.calls (without_first w'.standby) frame one.span (node g c.args.standby.now) (node g c.on_frame.new.self) one.epoch_is epochs one.is stands ack (told g prefix (Ok ack) w.in-Ok.is))
       | in-Err w ↦ λ holder w' sound epochs arrives stands.
           let one = first g prefix w' arrives in
-          applies holder epoch c.args.frames.now w' frame [] c.args.self.now new (node g c.args.standby.now) (node g c.on_frame.new.self)
+          let acks = w'.wire.acknowledgements in
+          let same : new.acknowledgements.items ≡ c.args.self.now.acknowledgements.items = ap (λ (a : Arrivals). a.acknowledgements.items) w.self-is ∙ c.in_ok-reserve.ensures.items in
+          applies holder epoch w' frame [] c.args.self.now new (node g c.args.standby.now) (node g c.on_frame.new.self)
           (c.pop_front.ensures.rest ∙ ap (λ (a : Arrivals). drop 1 a.delivered.items) w.self-is)
-          (ap (λ (a : Arrivals). a.acknowledgements.items) w.self-is ∙ c.in_ok-reserve.ensures.items ∙ sym (append-nil c.args.self.now.acknowledgements.items)) arrives one
+          (subst (λ (texts : List (Vec ℕ Global)). AreAcksSent texts (acks ++ [])) (sym same)
+          (subst (λ (told : List Acknowledgement). AreAcksSent c.args.self.now.acknowledgements.items told) (sym (append-nil acks)) arrives.acknowledged)) one
           (takes_refused holder epoch w'.primary.calls (without_first w'.standby) frame one.span (node g c.args.standby.now) (node g c.on_frame.new.self) one.epoch_is epochs one.is stands w.in-Err.refusal (w.goes_on.ensures.0 w.if-goes_on.true)
           (told g prefix (Err w.in-Err.refusal) w.in-Err.is))
     ]
@@ -100,8 +103,8 @@ returns-clause-applies g c =
 pub returns-in_default-clause-moments : goal.returns-in_default-clause-moments
 returns-in_default-clause-moments g c = λ holder w sound epochs arrives stands. StandbyStands-still holder (g.E.Durable.contents c.args.standby.now.engine).current.epoch w.primary.calls w.standby.position (next_standby w) (node g c.args.standby.now) stands
 
-pub returns-in_default-get-clause-moments : goal.returns-in_default-get-clause-moments
-returns-in_default-get-clause-moments g c = λ holder w sound epochs arrives stands. StandbyStands-still holder (g.E.Durable.contents c.args.standby.now.engine).current.epoch w.primary.calls w.standby.position (next_standby w) (node g c.args.standby.now) stands
+pub returns-in_err-room-clause-moments : goal.returns-in_err-room-clause-moments
+returns-in_err-room-clause-moments g c = λ holder w sound epochs arrives stands. StandbyStands-still holder (g.E.Durable.contents c.args.standby.now.engine).current.epoch w.primary.calls w.standby.position (next_standby w) (node g c.args.standby.now) stands
 
 pub returns-in_err-reserve-clause-moments : goal.returns-in_err-reserve-clause-moments
 returns-in_err-reserve-clause-moments g c = λ holder w sound epochs arrives stands. StandbyStands-still holder (g.E.Durable.contents c.args.standby.now.engine).current.epoch w.primary.calls w.standby.position (next_standby w) (node g c.args.standby.now) stands
@@ -112,14 +115,24 @@ returns-in-Err-2-clause-moments g c = moments g (goal.at.returns-in-Err-2-clause
 pub returns-clause-moments : goal.returns-clause-moments
 returns-clause-moments g c = moments g (goal.at.returns-clause-moments g c).After-on_frame
 
-pub returns-in_err-reserve-clause-cut : goal.returns-in_err-reserve-clause-cut
-returns-in_err-reserve-clause-cut g c =
+pub returns-in_err-room-clause-cut : goal.returns-in_err-room-clause-cut
+returns-in_err-room-clause-cut g c =
     let exit = err_from_is_err_and c.from_residual.result c.from_residual.ensures.1 in
     let memory : exit.0 ≡ Memory = cc in
     let device = g.E.Durable.device c.args.standby.now.engine in
     rw exit.1 (λ holder w sound epochs arrives stands. (
-      ap is_nonempty (first-frame (g.E.Durable.contents c.args.standby.now.engine).current.epoch c.args.frames.now w c.args.self.now c.in-Some.place.now c.in-Some-get.frame.now c.in-Some.ensures.item.3.0 c.in-Some.ensures.lookup
-          c.in-Some-get.ensures.lookup.1 arrives).all,
+      ap is_nonempty (first-frame (g.E.Durable.contents c.args.standby.now.engine).current.epoch w c.args.self.now c.in-Some.frame.now c.in-Some.ensures.item.3.0 c.in-Some.ensures.lookup arrives).all,
+      subst (λ (r : Refusal). EndsBy r Apply (λ _ last. last holder w.primary.calls w.standby.position (next_standby w) device device)) (sym memory)
+          (refl, rests-same holder w.primary.calls w.standby.position device device refl (Stands-engine _ _ _ _ _ _ stands.engine)),
+    ))
+
+pub returns-in_err-reserve-clause-cut : goal.returns-in_err-reserve-clause-cut
+returns-in_err-reserve-clause-cut g c =
+    let exit = err_from_is_err_and c.from_residual-in_err-reserve.result c.from_residual-in_err-reserve.ensures.1 in
+    let memory : exit.0 ≡ Memory = cc in
+    let device = g.E.Durable.device c.args.standby.now.engine in
+    rw exit.1 (λ holder w sound epochs arrives stands. (
+      ap is_nonempty (first-frame (g.E.Durable.contents c.args.standby.now.engine).current.epoch w c.args.self.now c.in-Some.frame.now c.in-Some.ensures.item.3.0 c.in-Some.ensures.lookup arrives).all,
       subst (λ (r : Refusal). EndsBy r Apply (λ _ last. last holder w.primary.calls w.standby.position (next_standby w) device device)) (sym memory)
           (refl, rests-same holder w.primary.calls w.standby.position device device refl (Stands-engine _ _ _ _ _ _ stands.engine)),
     ))
@@ -128,7 +141,7 @@ pub returns-in-Err-2-clause-cut : goal.returns-in-Err-2-clause-cut
 returns-in-Err-2-clause-cut g c = λ holder w sound epochs arrives stands.
     let prefix = (goal.at.returns-in-Err-2-clause-cut g c).After-on_frame in
     let epoch = (g.E.Durable.contents c.args.standby.now.engine).current.epoch in
-    let frame = c.in-Some-get.frame.now in
+    let frame = c.in-Some.frame.now in
     let one = first g prefix w arrives in (
       ap is_nonempty one.all,
       subst (λ (frames : List Sent). EndsBy c.in-Err.refusal Apply (λ _ last. last holder w.primary.calls w.standby.position (next_from w.standby.position frames) (g.E.Durable.device c.args.standby.now.engine) (g.E.Durable.device c.on_frame.new.self.engine))) (sym one.all)

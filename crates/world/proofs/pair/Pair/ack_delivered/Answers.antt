@@ -1,11 +1,37 @@
-use Rattle.std.proofs.Common.{◌≤◌, List, length, subst}
-use Rattle.standby.specs.declared.frame.Ack.{Ack}
-use Rattle.world.proofs.PairLink.{ack-does, found-there, no-ack-does}
+use Rattle.std.proofs.Common.{ℕ, ◌≤◌, ◌<◌, List, length, Err, Vec, Global, refl, sym, ap, subst, ◌∙◌}
+use Rattle.std.proofs.lemmas.Bool.{ltb-true}
+use Rattle.std.proofs.lemmas.Result.{err_from_is_err_and}
+use Rattle.kv_types.specs.declared.refusal.Refusal.TheVariants.{FrameFault}
+use Rattle.stream_codec.specs.Message.{Acknowledged, sent_of}
+use Rattle.world.proofs.FrameLemmas.{found-there, frame_is_no_ack}
+use Rattle.world.proofs.PairLink.{ack-does, ack-cut, no-ack-does}
 use Rattle.world.proofs.pair.Pair.ack_delivered.Goals as goal
 
-pub returns-in-Some : goal.returns-in-Some
-returns-in-Some g c = ack-does _ c.args.ack c.in-Some.ack.now c.on_ack.new.self
-    (found-there c.deref.result.now _ c.args.ack c.in-Some.ack.now c.deref.ensures.value c.in-Some.ensures.lookup.0 c.in-Some.ensures.lookup.1) c.on_ack.ensures.own
+pub returns-in_default : goal.returns-in_default
+returns-in_default g c = no-ack-does _ c.args.ack (subst (λ (acks : List (Vec ℕ Global)). length acks ≤ c.args.ack) c.deref.ensures.value c.in_default.ensures.lookup.3)
 
-pub returns-in-None : goal.returns-in-None
-returns-in-None g c = no-ack-does _ c.args.ack (subst (λ (acks : List Ack). length acks ≤ c.args.ack) c.deref.ensures.value c.in-None.ensures.lookup.3)
+pub returns-in_err-ack : goal.returns-in_err-ack
+returns-in_err-ack g c =
+    let bytes = c.in-Some.bytes.now in
+    let within = subst (λ (acks : List (Vec ℕ Global)). c.args.ack < length acks) c.deref.ensures.value (ltb-true c.args.ack (length c.deref.result.now) (sym c.in-Some.ensures.lookup.0)) in
+    let found = found-there c.deref.result.now _ c.args.ack bytes c.deref.ensures.value c.in-Some.ensures.lookup.0 c.in-Some.ensures.lookup.1 in
+    let exit = err_from_is_err_and c.from_residual.result c.from_residual.ensures.1 in
+    ack-cut _ c.args.ack bytes c.from_residual.result exit.0 exit.1 within found
+    (λ told is. exit.2 ∙ c.in_err-ack.ensures.cause (Acknowledged told.epoch told.position) is.may (c.as_slice.ensures.value ∙ is.text))
+
+pub returns-in_default-2 : goal.returns-in_default-2
+returns-in_default-2 g c =
+    let bytes = c.in-Some.bytes.now in
+    let within = subst (λ (acks : List (Vec ℕ Global)). c.args.ack < length acks) c.deref.ensures.value (ltb-true c.args.ack (length c.deref.result.now) (sym c.in-Some.ensures.lookup.0)) in
+    let found = found-there c.deref.result.now _ c.args.ack bytes c.deref.ensures.value c.in-Some.ensures.lookup.0 c.in-Some.ensures.lookup.1 in
+    ack-cut _ c.args.ack bytes (Err FrameFault) FrameFault refl within found
+    (λ told is. absurd (frame_is_no_ack c.in_default-2.field-0 told.epoch told.position
+    (ap sent_of (sym c.in_default-2.is) ∙ c.in_ok-ack.ensures.read (Acknowledged told.epoch told.position) is.may (c.as_slice.ensures.value ∙ is.text))))
+
+pub returns : goal.returns
+returns g c =
+    let bytes = c.in-Some.bytes.now in
+    let within = subst (λ (acks : List (Vec ℕ Global)). c.args.ack < length acks) c.deref.ensures.value (ltb-true c.args.ack (length c.deref.result.now) (sym c.in-Some.ensures.lookup.0)) in
+    let found = found-there c.deref.result.now _ c.args.ack bytes c.deref.ensures.value c.in-Some.ensures.lookup.0 c.in-Some.ensures.lookup.1 in
+    ack-does _ c.args.ack bytes c.in-Ack.ack c.on_ack.new.self within found
+    (λ sent may text. ap sent_of (sym c.in-Ack.is) ∙ c.in_ok-ack.ensures.read sent may (c.as_slice.ensures.value ∙ text)) c.on_ack.ensures.own

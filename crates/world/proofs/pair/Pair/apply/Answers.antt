@@ -11,4 +11,4 @@ returns g c = apply-does _ c.apply.new.self
       room = c.apply.new.standby.heap;
       epoch = (g.E.Durable.contents c.apply.new.standby.engine).current.epoch;
     })
-    c.as_slice.result.now c.apply.result c.as_slice.ensures.value c.apply.ensures.applies c.apply.ensures.moments c.apply.ensures.cut
+    c.apply.result c.apply.ensures.applies c.apply.ensures.moments c.apply.ensures.cut

@@ -17,7 +17,7 @@ returns-in_err-index g c =
     record { again = c.next_frame.ensures.again; full = c.next_frame.ensures.full; next = c.next_frame.ensures.next; refused = c.next_frame.ensures.refused } in
     let answers = subst (λ (r : Result (Option ℕ) Refusal). Answers old.link old.handed r link waiting) c.in_err-index.was told in
     send-cut _ waiting link _ c.from_residual.result exit.0 exit.1 memory
-    (λ w stands. sends w.primary.calls old.link old.handed old.remote w.primary.link stands (Err c.in_err-index.field-0.0) link waiting answers)
+    (λ w legal stands. sends w.primary.calls old.link old.handed old.remote w.primary.link legal stands (Err c.in_err-index.field-0.0) link waiting answers)
 
 pub returns-in_default : goal.returns-in_default
 returns-in_default g c =
@@ -38,7 +38,19 @@ returns-in_err-frame g c =
     record { again = c.next_frame.ensures.again; full = c.next_frame.ensures.full; next = c.next_frame.ensures.next; refused = c.next_frame.ensures.refused } in
     let answers = subst (λ (r : Result (Option ℕ) Refusal). Answers old.link old.handed r link waiting) (c.in_ok-index.was ∙ ap Ok c.in-Some.is) told in
     send-cut _ waiting link _ c.from_residual-in_err-frame.result exit.0 exit.1 exit.2
-    (λ w stands. (sends w.primary.calls old.link old.handed old.remote w.primary.link stands (Ok (Some c.in-Some.index)) link waiting answers).may)
+    (λ w legal stands. (sends w.primary.calls old.link old.handed old.remote w.primary.link legal stands (Ok (Some c.in-Some.index)) link waiting answers).may)
+
+pub returns-in_err-bytes : goal.returns-in_err-bytes
+returns-in_err-bytes g c =
+    let old = c.args.self.now in
+    let link = c.next_frame.new.self in
+    let waiting = c.next_frame.new.groups in
+    let exit = err_from_is_err_and c.from_residual-in_err-bytes.result c.from_residual-in_err-bytes.ensures.1 in
+    let told : Answers old.link old.handed c.next_frame.result link waiting =
+    record { again = c.next_frame.ensures.again; full = c.next_frame.ensures.full; next = c.next_frame.ensures.next; refused = c.next_frame.ensures.refused } in
+    let answers = subst (λ (r : Result (Option ℕ) Refusal). Answers old.link old.handed r link waiting) (c.in_ok-index.was ∙ ap Ok c.in-Some.is) told in
+    send-cut _ waiting link _ c.from_residual-in_err-bytes.result exit.0 exit.1 exit.2
+    (λ w legal stands. (sends w.primary.calls old.link old.handed old.remote w.primary.link legal stands (Ok (Some c.in-Some.index)) link waiting answers).may)
 
 pub returns-in_err-push : goal.returns-in_err-push
 returns-in_err-push g c =
@@ -50,7 +62,7 @@ returns-in_err-push g c =
     record { again = c.next_frame.ensures.again; full = c.next_frame.ensures.full; next = c.next_frame.ensures.next; refused = c.next_frame.ensures.refused } in
     let answers = subst (λ (r : Result (Option ℕ) Refusal). Answers old.link old.handed r link waiting) (c.in_ok-index.was ∙ ap Ok c.in-Some.is) told in
     send-cut _ waiting link c.push.new.self.items c.from_residual-in_err-push.result exit.0 exit.1 exit.2
-    (λ w stands. (sends w.primary.calls old.link old.handed old.remote w.primary.link stands (Ok (Some c.in-Some.index)) link waiting answers).may)
+    (λ w legal stands. (sends w.primary.calls old.link old.handed old.remote w.primary.link legal stands (Ok (Some c.in-Some.index)) link waiting answers).may)
 
 pub returns : goal.returns
 returns g c =
@@ -60,4 +72,5 @@ returns g c =
     let told : Answers old.link old.handed c.next_frame.result link waiting =
     record { again = c.next_frame.ensures.again; full = c.next_frame.ensures.full; next = c.next_frame.ensures.next; refused = c.next_frame.ensures.refused } in
     let answers = subst (λ (r : Result (Option ℕ) Refusal). Answers old.link old.handed r link waiting) (c.in_ok-index.was ∙ ap Ok c.in-Some.is) told in
-    send-does _ waiting link c.in-Some.index c.frame.result.now c.in_ok-frame.frame c.push.new.self.items answers c.frame.ensures c.in_ok-frame.ensures.cases c.in_ok-push.ensures.items
+    send-does _ waiting link c.in-Some.index c.frame.result.now c.in_ok-frame.frame c.in_ok-bytes.bytes c.push.new.self.items answers c.frame.ensures c.in_ok-frame.ensures.cases c.in_ok-bytes.ensures.text c.in_ok-bytes.ensures.within
+    c.in_ok-push.ensures.items

@@ -1,0 +1,69 @@
+//! What passes between the two nodes: the bytes of their messages.
+ghost use Rattle.std.specs.Prelude.{◌≡◌, ◌≤◌, [], IfOk, IfErr, OnOk, vec_capacity};
+ghost use Rattle.stream_codec.specs.Message.{Sent, IsSent, IsWithinLimits, sent_of, sent_of_ack, sent_text};
+
+use kv_types::Refusal;
+use standby::Ack;
+use std::alloc::{AllocError, Global};
+use stream_codec::{Decoder, Message, write_frame};
+
+/// How many bytes an acknowledgement has.
+pub(crate) const ACK_BYTES: usize = 1 + 8 + 8;
+
+/// Where a frame of a group has the position after its changes: behind its first byte, its epoch and the position before.
+const AFTER_AT: usize = 1 + 8 + 8;
+
+/// The bytes of a message.
+pub(crate) fn encode(alloc: Global, message: &Message) -> Result<Vec<u8>, AllocError>
+    ensures text { IfOk result (λ bytes. bytes.items ≡ sent_text (sent_of message.now)) }
+    ensures within { OnOk result (IsWithinLimits (sent_of message.now)) }
+{
+    let mut bytes = Vec::new(alloc);
+    write_frame(message, &mut bytes)?;
+    Ok(bytes)
+}
+
+/// The bytes of an acknowledgement, in room that was made for them.
+pub(crate) fn encode_ack(ack: Ack, room: Vec<u8>) -> Vec<u8>
+    requires empty { room.items ≡ [] }
+    requires fits { ACK_BYTES ≤ vec_capacity room }
+    ensures text { result.items ≡ sent_text (sent_of_ack ack) }
+    ensures may { IsSent (sent_of_ack ack) }
+{
+    let mut bytes = room;
+    write_frame(&Message::Ack(ack), &mut bytes).unwrap();
+    bytes
+}
+
+/// The message whose bytes these are. They come in pieces of `piece` bytes, the last of them with what is left; 0: whole.
+///
+/// # Errors
+///
+/// `Memory` where a growth was refused, `FrameFault` where the bytes hold no whole message.
+pub(crate) fn decode(alloc: Global, bytes: &[u8], piece: u64) -> Result<Message, Refusal>
+    ensures read { (sent : Sent) → IsSent sent → bytes.now ≡ sent_text sent → IfOk result (λ message. sent_of message ≡ sent) }
+    ensures cause { (sent : Sent) → IsSent sent → bytes.now ≡ sent_text sent → IfErr result (λ refusal. refusal ≡ Refusal.Memory) }
+{
+    let size = match piece {
+        0 => bytes.len(),
+        piece => piece as usize,
+    };
+    let mut decoder = Decoder::new(alloc);
+    let mut messages = Vec::new(alloc);
+    let mut rest = bytes;
+    while !rest.is_empty() {
+        let (part, behind) = rest.split_at(size.min(rest.len()));
+        messages.append(&mut decoder.feed(part)?)?;
+        rest = behind;
+    }
+    messages.pop().ok_or(Refusal::FrameFault)
+}
+
+/// The position after the changes of a frame, by its bytes; 0 where they are no whole frame.
+pub(crate) fn end_of_frame(bytes: &[u8]) -> u64 {
+    let mut after = 0;
+    for byte in bytes.iter().skip(AFTER_AT).take(8) {
+        after = after << 8 | u64::from(*byte);
+    }
+    after
+}

@@ -1,0 +1,97 @@
+"""What passes between the two nodes as bytes, written and read from docs/replication.md, "Frames"."""
+
+import typing
+
+from plain_keyspace import Clear, Drop, DropKey, Put
+
+GROUP, ACKNOWLEDGEMENT = 1, 2
+# the first byte of a change: of a put with one name or two, a drop with one or two, and of the two others
+PUTS, DROPS, DROP_KEY, CLEAR = {1: 1, 2: 2}, {3: 1, 4: 2}, 5, 6
+
+
+class Group(typing.NamedTuple):
+    """The changes of the list between two positions."""
+
+    epoch: int
+    before: int
+    after: int
+    changes: tuple
+
+
+class Acknowledgement(typing.NamedTuple):
+    """What a standby of this epoch holds durably."""
+
+    epoch: int
+    position: int
+
+
+def number(value):
+    return value.to_bytes(8, "big")
+
+
+def short(data):
+    return len(data).to_bytes(2, "big") + data
+
+
+def change_text(change):
+    if isinstance(change, Put):
+        names = bytes([len(change.name)]) + b"".join(map(short, change.name))
+        return names + len(change.value).to_bytes(4, "big") + change.value
+    if isinstance(change, Drop):
+        return bytes([2 + len(change.name)]) + b"".join(map(short, change.name))
+    return bytes([DROP_KEY]) + short(change.key) if isinstance(change, DropKey) else bytes([CLEAR])
+
+
+def text(message):
+    """The bytes of a frame or of an acknowledgement."""
+    if isinstance(message, Acknowledgement):
+        return bytes([ACKNOWLEDGEMENT]) + number(message.epoch) + number(message.position)
+    body = b"".join(map(change_text, message.changes))
+    numbers = (message.epoch, message.before, message.after, len(body))
+    return bytes([GROUP]) + b"".join(map(number, numbers)) + body
+
+
+class Reader:
+    """Reads bytes from their front. It fails where there are too few."""
+
+    def __init__(self, data):
+        self.data = data
+
+    def take(self, count):
+        if len(self.data) < count:
+            raise ValueError("the bytes end too early")
+        taken, self.data = self.data[:count], self.data[count:]
+        return taken
+
+    def number(self, size=8):
+        return int.from_bytes(self.take(size), "big")
+
+
+def read_change(reader):
+    kind = reader.number(1)
+    names = tuple(reader.take(reader.number(2)) for _ in range((PUTS | DROPS | {DROP_KEY: 1, CLEAR: 0})[kind]))
+    if kind in PUTS:
+        return Put(names, reader.take(reader.number(4)))
+    if kind in DROPS:
+        return Drop(names)
+    return DropKey(*names) if kind == DROP_KEY else Clear()
+
+
+def read(data):
+    """The frame or the acknowledgement whose bytes these are, with none left over."""
+    reader = Reader(data)
+    kind = reader.number(1)
+    if kind == ACKNOWLEDGEMENT:
+        message = Acknowledgement(reader.number(), reader.number())
+    elif kind == GROUP:
+        epoch, before, after = reader.number(), reader.number(), reader.number()
+        body = Reader(reader.take(reader.number()))
+        changes = []
+        while body.data:
+            changes.append(read_change(body))
+        message = Group(epoch, before, after, tuple(changes))
+    else:
+        raise ValueError(f"no frame begins with {kind}")
+    if reader.data:
+        raise ValueError("bytes are left over")
+    return message

@@ -1,0 +1,67 @@
+"""What passes between the two nodes, as bytes (docs/replication.md, "Frames"), and frames that come in pieces."""
+
+import plain_keyspace
+import plain_wire
+from simulation import Runs, Schedule
+from spelling import spell
+from worked_cases import SET_A
+
+PROGRAMS = ["simulator"]
+
+# The worked frame of `SET a 1`, and its acknowledgement.
+FIRST_FRAME = bytes.fromhex(
+    "01 0000000000000001 0000000000000000 0000000000000001 0000000000000009 01 0001 61 00000001 31"
+)
+FIRST_ACKNOWLEDGEMENT = bytes.fromhex("02 0000000000000001 0000000000000001")
+
+# One of each change: puts and drops of a string and of a field, a key that is dropped, and all of them.
+CHANGES = [
+    spell("SET", "a", "1"), spell("HSET", "h", "f", "1", "g", "2"), spell("HDEL", "h", "f"), spell("DEL", "a"), spell("DEL", "h"),
+    spell("SET", "b", "x" * 300), spell("FLUSHALL"),
+]
+
+
+def delivered_in(piece, *requests):
+    """Each request is a group of its own, and each frame comes in pieces of this many bytes."""
+    schedule = Schedule(1)
+    for number, request in enumerate(requests):
+        schedule.group(0, request)
+        schedule.add("send", f"deliver {number} {piece}", "apply")
+        schedule.acknowledge(number)
+    return schedule
+
+
+class Wire(Runs):
+    """The bytes are those of the documents, and a frame is the same however it is cut."""
+
+    def test_worked_frames(self):
+        trace = self.play(delivered_in(0, SET_A))
+        self.assertEqual(trace.texts, ([FIRST_FRAME], [FIRST_ACKNOWLEDGEMENT]))
+        self.assertEqual((len(FIRST_FRAME), len(FIRST_ACKNOWLEDGEMENT)), (42, 17))
+        put = plain_keyspace.Put((b"a",), b"1")
+        self.assertEqual(plain_wire.read(FIRST_FRAME), plain_wire.Group(1, 0, 1, (put,)))
+
+    def test_a_frame_that_is_cut_anywhere_is_one_frame(self):
+        whole = self.play(delivered_in(0, SET_A))
+        for piece in range(1, len(FIRST_FRAME) + 2):
+            with self.case("piece", bytes=piece):
+                cut = self.play(delivered_in(piece, SET_A))
+                self.assertEqual((cut.texts, cut.nodes, cut.records), (whole.texts, whole.nodes, whole.records))
+
+    def test_every_change_passes(self):
+        for piece in (0, 1, 2, 7, 64, 2**64 - 1):
+            with self.case("piece", bytes=piece):
+                trace = self.play(delivered_in(piece, *CHANGES))
+                frames = [plain_wire.read(text) for text in trace.texts[0]]
+                self.assertEqual([frame.before for frame in frames], list(range(len(CHANGES))))
+                self.assertEqual({type(change) for frame in frames for change in frame.changes}, {
+                    plain_keyspace.Put, plain_keyspace.Drop, plain_keyspace.DropKey, plain_keyspace.Clear,
+                })
+                acknowledged = [plain_wire.read(text).position for text in trace.texts[1]]
+                self.assertEqual(acknowledged, [position + 1 for position in range(len(CHANGES))])
+
+    def test_a_frame_that_comes_again_in_pieces(self):
+        schedule = delivered_in(1, SET_A)
+        schedule.add("open-link", "send", "deliver 0 5", "apply", "deliver 0 41", "apply")
+        trace = self.play(schedule)
+        self.assertEqual(set(trace.texts[1]), {FIRST_ACKNOWLEDGEMENT})
