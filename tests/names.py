@@ -2,8 +2,8 @@
 
 # Calls and definitions that pages say come later. Once one is there, the pages say so and it is removed from here.
 LATER = [
-    "IsFenced", "IsRightDelta", "Promotes", "Reopens",
-    "clear_gap", "delta", "inspect", "pin", "promote", "raise_round", "rejoin",
+    "IsFenced", "IsRightDelta", "Promotes",
+    "delta", "pin", "promote", "raise_round", "rejoin",
 ]
 
 # What belongs to Redis, to the toolchain or to the system, requests of one word, and what a page spells for a word of the
@@ -42,6 +42,8 @@ REPEATED = {
     "Reply": "a reply to a request, and the item that holds one",
     "Request": "the words of a request, and the item that holds one",
     "Simple": "a status, as a command answers it and as a reply holds it",
+    "Primary": "the node that serves, and the role that its image has",
+    "Row": "a line of a table: of commands, and of records that are live",
     "Standby": "the node that follows, and the role that its image has",
     "Turn": "one turn of the sequencer: the event, and what it answers",
     "Unwatch": "the command: its name, and what a request asks of a session",
@@ -57,11 +59,13 @@ REPEATED = {
     "is_empty": "whether it holds nothing",
     "leave": "a seat is given back",
     "len": "how many it holds",
+    "load": "what is kept is there to be read: a word of a device, and rows in a keyspace",
     "new": "makes one at its beginning",
     "next": "the next item: of a client's bytes, and of a server's",
     "number": "the number that it is known by",
     "open": "made ready: a session, and a device over a file that is there",
     "position": "a position of the list of calls up to which it stands",
+    "reopen": "made ready again: an engine over an image, and a link that sends again",
     "run": "does all of what it is given: a command, the events of a history",
     "stored": "what is kept: bytes as a copy for a keyspace, a store in a device's history",
     "take": "takes out what comes first",
