@@ -28,8 +28,21 @@ const MANY_ARRIVALS: u64 = 100_000;
 fn main(rt: HostRuntime) -> io::Result<()> {
     let words: Vec<String> = env::args(&rt)?.skip(1).collect(rt.alloc())?;
     match words.as_slice() {
-        [] => make_some(&rt),
-        [name] => make_many(&rt, name.as_str()),
+        [] => {
+            time_heap(&rt, rt.alloc(), heap::SMALL, false)?;
+            time_device(&rt, rt.alloc(), device::SMALL, false)?;
+            time_ring(&rt, rt.alloc(), SOME, false)?;
+            time_marks(&rt, rt.alloc(), SOME, false)?;
+            time_arrivals(&rt, rt.alloc(), SOME, false)
+        }
+        [name] => match name.as_str() {
+            "heap" => time_heap(&rt, rt.alloc(), heap::LARGE, true),
+            "device" => time_devices(&rt),
+            "ring" => time_ring(&rt, rt.alloc(), MANY, true),
+            "marks" => time_marks(&rt, rt.alloc(), MANY, true),
+            "arrivals" => time_arrivals(&rt, rt.alloc(), MANY_ARRIVALS, true),
+            _ => Err(io::ErrorKind::InvalidInput.into()),
+        },
         [name, path, rounds] if name.as_str() == "fences" => match rounds.parse::<u32>() {
             Ok(rounds) => time_fences(&rt, path.as_str(), rounds),
             Err(_) => Err(io::ErrorKind::InvalidInput.into()),
@@ -38,28 +51,10 @@ fn main(rt: HostRuntime) -> io::Result<()> {
     }
 }
 
-/// Some of each, without figures.
-fn make_some(rt: &HostRuntime) -> io::Result<()> {
-    time_heap(rt, rt.alloc(), heap::SMALL, false)?;
-    time_device(rt, rt.alloc(), device::SMALL, false)?;
-    time_ring(rt, rt.alloc(), SOME, false)?;
-    time_marks(rt, rt.alloc(), SOME, false)?;
-    time_arrivals(rt, rt.alloc(), SOME, false)
-}
-
-/// Many of one, with their figures.
-fn make_many(rt: &HostRuntime, name: &str) -> io::Result<()> {
-    match name {
-        "heap" => time_heap(rt, rt.alloc(), heap::LARGE, true),
-        "device" => {
-            for load in device::LARGE {
-                time_device(rt, rt.alloc(), load, true)?;
-            }
-            Ok(())
-        }
-        "ring" => time_ring(rt, rt.alloc(), MANY, true),
-        "marks" => time_marks(rt, rt.alloc(), MANY, true),
-        "arrivals" => time_arrivals(rt, rt.alloc(), MANY_ARRIVALS, true),
-        _ => Err(io::ErrorKind::InvalidInput.into()),
+/// Each of the large loads of a simulated device.
+fn time_devices(rt: &HostRuntime) -> io::Result<()> {
+    for load in device::LARGE {
+        time_device(rt, rt.alloc(), load, true)?;
     }
+    Ok(())
 }
