@@ -46,7 +46,7 @@ def by_hand(path, load):
 
 def by_device(path):
     """What the program measured, by the names of the loads."""
-    finished = common.run_program("edges_bench", ["fences", str(path), str(ROUNDS)])
+    finished = common.run_program("bench", ["fences", str(path), str(ROUNDS)])
     found = re.findall(r"^(.*): (\d+) fences a second, succeeded: true$", finished.output.decode(), re.MULTILINE)
     if finished.status or len(found) != len(LOADS):
         raise SystemExit(f"the program failed: {finished}")
@@ -54,7 +54,7 @@ def by_device(path):
 
 
 def main():
-    above = sys.argv[1] if len(sys.argv) > 1 else common.ROOT / "crates" / "edges_bench" / "out"
+    above = sys.argv[1] if len(sys.argv) > 1 else common.ROOT / "crates" / "bench" / "out"
     with tempfile.TemporaryDirectory(dir=above) as folder:
         path = pathlib.Path(folder) / "image"
         by_device(path)

@@ -20,7 +20,7 @@ PROGRAMS = {
     "server": ("WBL_SERVER", "bin/wbl-server < /dev/null"),
     "simulator": ("WBL_SIM", "bin/wbl-sim < /dev/null"),
     "probe": ("WBL_PROBE", "bin/wbl-probe < /dev/null"),
-    "edges_bench": ("WBL_EDGES_BENCH", "cd crates/edges_bench && rt run"),
+    "bench": ("WBL_BENCH", "cd crates/bench && rt run"),
 }
 
 # A program that takes longer has failed.
