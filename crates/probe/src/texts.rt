@@ -88,6 +88,7 @@ fn event(alloc: Global, words: &[&str]) -> Result<Event, Cause> {
 fn call_laws() {
     call_laws_of_model();
     call_laws_of_machine();
+    call_laws_of_images();
     cmd_table::every_command_is_found();
 }
 
@@ -103,6 +104,17 @@ fn call_laws_of_model() {
     model::map_is_computed();
     model::map_moves_by_the_group();
     model::images_stand_while_the_list_grows();
+    model::sessions_are_read_off_the_list();
+    model::transactions_answer_each_request();
+    model::changes_stay_within_limits();
+}
+
+fn call_laws_of_images() {
+    heap_layout::put_is_read_back();
+    wbl_engine::new_contents_are_lawful();
+    wbl_engine::groups_keep_contents_lawful();
+    wbl_engine::same_contents_are_lawful();
+    wbl_engine::lawful_contents_are_undamaged();
 }
 
 fn call_laws_of_machine() {
