@@ -28,5 +28,8 @@ pub fn copy_of(event: &Event) -> Result<Event, AllocError>
         Event::Release(connection) => Event::Release(*connection),
         Event::Write(connection, count) => Event::Write(*connection, *count),
         Event::Leave(connection) => Event::Leave(*connection),
+        // No line of a script makes one, and a list of picks has no copy that would be the same value.
+        Event::Crash(_, _) => return Err(AllocError),
+        Event::Reopen(node) => Event::Reopen(*node),
     })
 }
