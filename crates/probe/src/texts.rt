@@ -110,7 +110,6 @@ fn call_laws_of_model() {
 }
 
 fn call_laws_of_images() {
-    heap_layout::put_is_read_back();
     wbl_engine::new_contents_are_lawful();
     wbl_engine::groups_keep_contents_lawful();
     wbl_engine::same_contents_are_lawful();

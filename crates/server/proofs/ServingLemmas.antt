@@ -54,6 +54,7 @@ keeps-same (Some xs) = refl
 
 -- nothing was written
 pub early-ended : (error : ServeError) (input before : Option (List ℕ)) → IsEarly error → IsServedUpTo error input before before
+early-ended (Random error) input before early = keeps-same before
 early-ended (Read error) input before early = keeps-same before
 early-ended (Refused refusal) input before early = keeps-same before
 early-ended (Write error) input before early = absurd early
