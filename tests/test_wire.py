@@ -17,7 +17,7 @@ FIRST_ACKNOWLEDGEMENT = bytes.fromhex("02 0000000000000001 0000000000000001")
 # One of each change: puts and drops of a string and of a field, a key that is dropped, and all of them.
 CHANGES = [
     spell("SET", "a", "1"), spell("HSET", "h", "f", "1", "g", "2"), spell("HDEL", "h", "f"), spell("DEL", "a"), spell("DEL", "h"),
-    spell("SET", "b", "x" * 300), spell("FLUSHALL"),
+    spell("SET", "b", "x" * 300), spell("FLUSHDB"),
 ]
 
 

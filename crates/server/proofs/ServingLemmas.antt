@@ -9,7 +9,7 @@ use Rattle.model.specs.Call.{IsPrefix}
 use Rattle.model.proofs.PrefixLemmas.{IsPrefix-trans}
 use Rattle.server.specs.Answer.{AppendsPrefix, IsAnswer, IsEarly, IsServed, IsServedUpTo}
 use Rattle.server.specs.declared.serve.ServeError.{ServeError}
-use Rattle.server.specs.declared.serve.ServeError.TheVariants.{Read, Refused, Write}
+use Rattle.server.specs.declared.serve.ServeError.TheVariants.{Random, Read, Refused, Write}
 
 consumes-then : (a b c : Option (List ℕ)) (prefix back : List ℕ) → Consumes a b prefix → Consumes b c back → Consumes a c (prefix ++ back)
 consumes-then None b c prefix back p q = tt
