@@ -87,15 +87,15 @@ writes-happens w (Write d n) new c e h =
     let open_before = (both (is_open w d) _ e).0 in
     elim (cases_eq d c) [
       | inl same_one ↦ inr (
-            subst (λ x. is_open w x ≡ true → is_open new x ≡ true) same_one
-                (λ is_one. ap (λ x. is_open x d) h ∙ same-changed (λ connection. connection.is_open) d (with_outbound (written n)) w.primary.connections (λ connection. refl) d ∙ is_one)
-                (subst (λ x. is_open w x ≡ true) same_one open_before),
-            ap (λ x. x.primary.calls) h,
-          )
+        subst (λ x. is_open w x ≡ true → is_open new x ≡ true) same_one
+            (λ is_one. ap (λ x. is_open x d) h ∙ same-changed (λ connection. connection.is_open) d (with_outbound (written n)) w.primary.connections (λ connection. refl) d ∙ is_one)
+            (subst (λ x. is_open w x ≡ true) same_one open_before),
+        ap (λ x. x.primary.calls) h,
+      )
       | inr differ ↦ inl (record {
-          calls = same _ _ (ap (λ x. x.primary.calls) h);
-          released = ap (λ x. released_in x c) h ∙ ap (λ (connection : Connection). connection.outbound.released) (get-changed_other d c (with_outbound (written n)) w.primary.connections differ);
-        })
+        calls = same _ _ (ap (λ x. x.primary.calls) h);
+        released = ap (λ x. released_in x c) h ∙ ap (λ (connection : Connection). connection.outbound.released) (get-changed_other d c (with_outbound (written n)) w.primary.connections differ);
+      })
     ]
 writes-happens w (Leave d) new c e h = inl (changed c d w new left (λ connection. refl) (ap (λ x. x.primary.calls) h) (ap (λ x. x.primary.connections) h))
 writes-happens w (Crash nodes.Primary picks) new c e h =

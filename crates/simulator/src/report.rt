@@ -30,7 +30,12 @@ pub fn report<W: Write>(
         writeln!(out, "connection {number}: released {quoted}")?;
     }
     write_messages(alloc, out, "frame", trace.frames.as_slice())?;
-    write_messages(alloc, out, "acknowledgement", trace.acknowledgements.as_slice())?;
+    write_messages(
+        alloc,
+        out,
+        "acknowledgement",
+        trace.acknowledgements.as_slice(),
+    )?;
     write_nodes(alloc, out, options, trace.devices.as_slice())?;
     write_end(out, lines, trace.ended)?;
     Ok(())

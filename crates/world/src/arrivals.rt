@@ -116,9 +116,7 @@ impl Arrivals {
         let room = Vec::with_capacity(alloc, ACK_BYTES)?;
         self.acknowledgements.reserve(1)?;
         match standby.on_frame(alloc, frame) {
-            Ok(ack) => self
-                .acknowledgements
-                .push_reserved(encode_ack(ack, room)),
+            Ok(ack) => self.acknowledgements.push_reserved(encode_ack(ack, room)),
             Err(refusal) if goes_on(refusal) => {}
             Err(refusal) => return Err(refusal),
         }

@@ -168,8 +168,7 @@ impl<E: Durable, K: Keyspace> Pair<E, K> {
     fn open_link(&mut self) -> Result<bool, Refusal>
         ensures { Does (⟦<Pair<E, K> as Stepper>⟧.parts self.old) events.OpenLink result (⟦<Pair<E, K> as Stepper>⟧.parts self.new) }
     {
-        self.arrivals
-            .acknowledge(self.alloc, self.standby.ack())?;
+        self.arrivals.acknowledge(self.alloc, self.standby.ack())?;
         self.link.reopen();
         Ok(true)
     }
