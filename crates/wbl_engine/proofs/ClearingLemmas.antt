@@ -1,5 +1,6 @@
 -- The oldest gap is cleared, at every crash.
-use Rattle.std.proofs.Common.{◌≡◌, ℕ, ◌+◌, ◌<◌, Bool, false, cond, ◌&&◌, ◌||◌, ◌==◌, IsTrue, List, [], ◌∷◌, ◌⊎◌, inl, inr, Option, None, Some, length, refl, sym, ap, subst, ◌∙◌, arith}
+use Rattle.std.proofs.Common.{◌≡◌, ℕ, ◌+◌, ◌<◌, Bool, false, cond, ◌&&◌, ◌||◌, ◌==◌, IsTrue, List, [], ◌∷◌, ◌⊎◌, inl, inr, Option, None, Some, length, map, refl, sym, ap, subst, ◌∙◌, arith}
+use Rattle.std.specs.List.{IsDistinct}
 use Rattle.std.specs.Prelude.{nat_eq, nat_lt}
 use Rattle.std.proofs.lemmas.Bool.{cond-true, cond-false, cases_Bool, and_right, or_left, or_right, eq-eqb, lt-ltb, le-ltb, cases_lt, both_ways}
 use Rattle.kv_types.specs.declared.place.EntryNo.{EntryNo}
@@ -21,6 +22,7 @@ use Rattle.wbl_engine.specs.Stage.{AreWithin}
 use Rattle.wbl_engine.proofs.Erased.{IsErased, erased_keeps, erased_rest, erased_version, no_record_word, version_within}
 use Rattle.wbl_engine.proofs.ErasedStamps.{AreErased, AreGone, IsErasing, erased_over, listed_begin, listed_end, made_free, made_over, partly_keeps, staged_certain, staged_recorded, unlisted_begin, unlisted_end}
 use Rattle.wbl_engine.proofs.GapLemmas.{IsOldest, in_oldest, inside_not_free, not_in_oldest, oldest, stamped_listed, stamped_where, zero_outside}
+use Rattle.wbl_engine.proofs.OnceLemmas.{stamped_once}
 
 -- no version is gone
 abbrev pub nothing : ℕ → Bool
@@ -184,6 +186,8 @@ clears {r} {d} {gap} {begins} {ends} c clearing lines made =
       is_free = cleared_free c clearing lines made;
       were_not_free = λ i listed. (begun_in_gap clearing i listed).0;
       held_none = λ i listed. (begun_in_gap clearing i listed).1;
+      once = subst (λ (l : List EntryNo). IsDistinct nat_eq (map (λ (entry : EntryNo). entry.0) l)) (sym clearing.begins_are)
+          (stamped_once gap (image_of d.words) 0 (entries_of_lines d.lines));
     }
 
 pub keeps_versions : {r : Record} {d : State} {gap : Gap} {begins ends : List EntryNo} (c : State) → IsClearing r d gap begins ends → c.lines ≡ d.lines

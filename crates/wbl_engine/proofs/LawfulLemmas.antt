@@ -33,7 +33,7 @@ new_current lines role contents new =
       gaps = subst (λ (gaps : List Gap). AreGaps 0 gaps contents.current.cp) (sym new.gaps) tt;
     }
 
-some_version : (version : Version) → None ≡ Some version → ⊥
+pub some_version : (version : Version) → None ≡ Some version → ⊥
 some_version version e = cc
 
 pub new_lawful : (lines : ℕ) (role : Role) (contents : Contents) → IsNew lines role contents → MIN_LINES ≤ lines → lines ≤ MAX_LINES

@@ -9,6 +9,7 @@ pub mod CommitSteps
 pub mod Committing
 pub mod CountLemmas
 pub mod Covering
+pub mod CrashLemmas
 pub mod Ending
 pub mod EndsWithin
 pub mod Erased
@@ -24,6 +25,7 @@ pub mod LawfulLemmas
 pub mod LeftEntries
 pub mod LiveEntries
 pub mod NewImage
+pub mod OnceLemmas
 pub mod OpenGap
 pub mod PartEffects
 pub mod PartSteps
@@ -36,8 +38,10 @@ pub mod ReadingLemmas
 pub mod ReadsAs
 pub mod Reopened
 pub mod ReopenedContents
+pub mod ReopeningLaws
 pub mod ReopeningSteps
 pub mod RoomLemmas
+pub mod ShownLists
 pub mod StageImages
 pub mod Staged
 pub mod StagingLemmas

@@ -72,7 +72,7 @@ entry_as lines image image' i same entry =
     }
 
 -- the words of an entry that counts, and of its extent
-same_entry : {lines : ℕ} {r s : Record} {image image' : Image} → ReadsAs lines r image s image' → (i : ℕ) → i < entries_of_lines lines
+pub same_entry : {lines : ℕ} {r s : Record} {image image' : Image} → ReadsAs lines r image s image' → (i : ℕ) → i < entries_of_lines lines
     → IsEntry lines image i → SameEntry image image' i
 same_entry {lines} {r} {s} {image} {image'} reads i within entry =
     record {
@@ -80,7 +80,7 @@ same_entry {lines} {r} {s} {image} {image'} reads i within entry =
       extent = λ j below. reads.extents (8 * image (entry_word i 3) + j) (omega (arith, entry.above));
     }
 
-record_same : (image image' : Image) (i : ℕ) → SameEntry image image' i → record_in image' i ≡ record_in image i
+pub record_same : (image image' : Image) (i : ℕ) → SameEntry image image' i → record_in image' i ≡ record_in image i
 record_same image image' i same =
     let at3 = same.words 3 (omega arith) (omega arith) in
     let at5 = same.words 5 (omega arith) (omega arith) in

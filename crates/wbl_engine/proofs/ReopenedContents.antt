@@ -14,7 +14,7 @@ use Rattle.wbl_engine.specs.AtRest.{IsAtRest, contents_of}
 use Rattle.wbl_engine.specs.Contents.{IsDurable}
 use Rattle.wbl_engine.specs.Freeing.{is_listed}
 use Rattle.wbl_engine.specs.Lawful.{IsUndamaged}
-use Rattle.wbl_engine.specs.Reopening.{AreCleared, IsReadable, Reopens, is_cleared, left_below, reopened, with_room}
+use Rattle.wbl_engine.specs.Reopening.{AreCleared, ExhaustsReopening, IsReadable, Reopens, is_cleared, left_below, reopened, with_room}
 use Rattle.wbl_engine.proofs.LeftEntries.{listed_left}
 use Rattle.wbl_engine.proofs.ReadsAs.{ReadsAs, versions_as}
 use Rattle.wbl_engine.proofs.Readable.{readable_rest, readable_durable}
@@ -28,7 +28,7 @@ pub record IsReopenedOver (r : Record) (d c : State) : Type 0 where
   pub cleared : AreCleared d.lines (is_cleared r) (image_of d.words) (image_of c.words)
   pub lines_are : c.lines ≡ d.lines
 
-reads_room : {r : Record} {d c : State} → IsReopenedOver r d c → ReadsAs d.lines r (image_of d.words) (with_room r) (image_of c.words)
+pub reads_room : {r : Record} {d c : State} → IsReopenedOver r d c → ReadsAs d.lines r (image_of d.words) (with_room r) (image_of c.words)
 reads_room over = room_reads over.undamaged over.cleared
 
 pub reads_reopened : {r : Record} {d c : State} → IsReopenedOver r d c → ReadsAs d.lines r (image_of d.words) (reopened r) (image_of c.words)
@@ -81,7 +81,7 @@ left_bit false false true version = refl
 left_bit false false false version = refl
 
 -- the begin of an entry that the reopening leaves, or clears
-begin_is : {r : Record} {d c : State} → IsReopenedOver r d c → (i : ℕ) → i < entries_of_lines d.lines
+pub begin_is : {r : Record} {d c : State} → IsReopenedOver r d c → (i : ℕ) → i < entries_of_lines d.lines
     → image_of c.words (entry_word i 0) ≡ cond (is_cleared r (image_of d.words (entry_word i 0))) 0 (image_of d.words (entry_word i 0))
 begin_is over i within = over.cleared.stamps i 0 within (omega arith)
 
@@ -140,17 +140,19 @@ gapped_are {r} {d} {c} gapped over are i =
     within false zero counted cleared version = refl
 
 pub reopens : {r : Record} {d c : State} (role : Role) (counted : List (EntryNo × Entry)) (gapped : List EntryNo) → IsReopenedOver r d c → r.role ≡ role
-    → counted ≡ counted_below r (image_of d.words) (entries_of_lines d.lines) → gapped ≡ left_below r (image_of d.words) (entries_of_lines d.lines)
+    → (ExhaustsReopening r → ⊥) → counted ≡ counted_below r (image_of d.words) (entries_of_lines d.lines) → gapped ≡ left_below r (image_of d.words) (entries_of_lines d.lines)
     → Reopens d.lines (image_of d.words) role (contents_of (reopened r) c) counted gapped
-reopens {r} {d} {c} role counted gapped over is counts gaps =
+reopens {r} {d} {c} role counted gapped over is fits counts gaps =
     record {
       before = r;
       undamaged = over.undamaged;
       role_is = is;
+      fits = fits;
       current = refl;
       lines_are = over.lines_are;
       versions = versions_are over;
       is_free = free_are over;
       counted = counts;
+      left = gaps;
       gapped = gapped_are gapped over gaps;
     }

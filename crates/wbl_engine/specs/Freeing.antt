@@ -1,6 +1,6 @@
 -- What is left of contents when versions that have ended are freed, and when a gap is cleared.
-use Rattle.std.specs.Prelude.{◌≡◌, ℕ, ◌+◌, ◌<◌, ◌||◌, Bool, false, nat_eq, if◌then◌else◌, IsTrue, List, [], ◌∷◌, drop, Option, Some, None}
-use Rattle.std.specs.List.{list_any, flat_map}
+use Rattle.std.specs.Prelude.{◌≡◌, ℕ, ◌+◌, ◌<◌, ◌||◌, Bool, false, nat_eq, if◌then◌else◌, IsTrue, List, [], ◌∷◌, drop, map, Option, Some, None}
+use Rattle.std.specs.List.{IsDistinct, list_any, flat_map}
 use Rattle.kv_types.specs.Keyspace.{Keyspace}
 use Rattle.kv_types.specs.declared.place.EntryNo.{EntryNo}
 use Rattle.kv_types.specs.declared.place.Extent.{Extent}
@@ -60,7 +60,7 @@ record_after_clearing r = record r { number = r.number + 1; gaps = record { item
 abbrev pub cleared_contents : Contents → Contents
 cleared_contents contents = record contents { current = record_after_clearing contents.current }
 
--- The oldest gap is cleared: no version changes, and the entries that were begun in it are free.
+-- The oldest gap is cleared: no version changes, and the entries that were begun in it, each listed once, are free.
 pub record Clears (old : Contents) (cleared : List EntryNo) (new : Contents) : Type 0 where
   pub current : new.current ≡ record_after_clearing old.current
   pub lines_are : new.lines ≡ old.lines
@@ -69,6 +69,7 @@ pub record Clears (old : Contents) (cleared : List EntryNo) (new : Contents) : T
   -- none of them was free, or held a version
   pub were_not_free : (i : ℕ) → IsTrue (is_listed i cleared) → old.is_free i ≡ false
   pub held_none : (i : ℕ) → IsTrue (is_listed i cleared) → old.versions i ≡ None
+  pub once : IsDistinct nat_eq (map (λ entry. entry.0) cleared)
 
 -- The record and the versions are as before, and no entry that was free is in use.
 pub record KeepsVersions (old new : Contents) : Type 0 where

@@ -2,7 +2,7 @@
 use Rattle.std.specs.Prelude.{◌≡◌, ◌≢◌, ℕ, zero, suc, ◌+◌, ◌-◌, ◌<◌, ◌≤◌, ◌&&◌, ◌||◌, ◌⊎◌, ◌==◌, Bool, not, nat_lt, if◌then◌else◌, List, [], ◌∷◌, ◌++◌, length, Some, None, is_none}
 use Rattle.kv_types.specs.declared.place.EntryNo.{EntryNo}
 use Rattle.heap_layout.specs.declared.entry.Entry.{Entry}
-use Rattle.heap_layout.specs.Versions.{counted_below}
+use Rattle.heap_layout.specs.Versions.{counted_below, gapped_below}
 use Rattle.kv_types.specs.declared.refusal.Refusal.{Refusal}
 use Rattle.kv_types.specs.declared.refusal.Refusal.TheVariants.{Damaged, Exhausted, Memory, WrongRole}
 use Rattle.heap_layout.specs.Superblock.{super_refusal}
@@ -15,7 +15,7 @@ use Rattle.model.specs.declared.record.Gap.{Gap}
 use Rattle.model.specs.declared.record.Record.{Record}
 use Rattle.model.specs.declared.record.Role.{Role}
 use Rattle.model.specs.declared.record.TheConstants.{MAX_GAPS}
-use Rattle.model.specs.Group.{Contents}
+use Rattle.model.specs.Group.{Contents, IsConsistent}
 use Rattle.model.specs.Image.{Image, HasRecord, counts, entries_of_lines, entry_word, first_extent_line, is_in_gap, root_word, version_at}
 use Rattle.wbl_engine.specs.Erasing.{oldest_gap}
 use Rattle.wbl_engine.specs.Freeing.{is_listed, record_after_clearing}
@@ -83,6 +83,8 @@ pub record Reopens (lines' : ℕ) (image : Image) (role : Role) (contents : Cont
   pub before : Record
   pub undamaged : IsUndamaged lines' before image
   pub role_is : before.role ≡ role
+  -- no counter of the record reaches its limit
+  pub fits : ¬ ExhaustsReopening before
   pub current : contents.current ≡ reopened before
   pub lines_are : contents.lines ≡ lines'
   -- each version stays
@@ -91,9 +93,25 @@ pub record Reopens (lines' : ℕ) (image : Image) (role : Role) (contents : Cont
   pub is_free : (i : ℕ) → contents.is_free i
       ≡ (nat_lt i (entries_of_lines lines') && (image (entry_word i 0) == 0 || is_cleared before (image (entry_word i 0))))
   pub counted : counted' ≡ counted_below before image (entries_of_lines lines')
-  -- the entries that are not free and hold no version
+  -- the entries that are not free and hold no version, each once, in rising order
+  pub left : gapped' ≡ left_below before image (entries_of_lines lines')
   pub gapped : (i : ℕ) → is_listed i gapped'
       ≡ (nat_lt i (entries_of_lines lines') && (not (contents.is_free i) && is_none (contents.versions i)))
+
+-- The lists are what this image has under the record of the contents, entry by entry. The image is undamaged, and an entry is free where its begin is 0.
+pub record IsShown (contents : Contents) (counted' : List (EntryNo × Entry)) (gapped' : List EntryNo) (image : Image) : Type 0 where
+  pub undamaged : IsUndamaged contents.lines contents.current image
+  pub counted : counted' ≡ counted_below contents.current image (entries_of_lines contents.lines)
+  pub gapped : gapped' ≡ gapped_below contents.current image (entries_of_lines contents.lines)
+  pub is_free : (i : ℕ) → i < entries_of_lines contents.lines → contents.is_free i ≡ (image (entry_word i 0) == 0)
+
+-- a reopening leads from these contents to those: no version changes, and the record goes on with the same position, epoch and role
+pub record KeepsThrough (old new : Contents) : Type 0 where
+  pub current : new.current ≡ reopened old.current
+  pub lines_are : new.lines ≡ old.lines
+  pub versions : (i : ℕ) → i < entries_of_lines old.lines → new.versions i ≡ old.versions i
+  -- a free entry has no version, and neither does one beyond the directory
+  pub consistent : IsConsistent new
 
 -- ---- refusals
 

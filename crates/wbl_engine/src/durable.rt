@@ -103,7 +103,14 @@ pub trait Durable {
     fn position(&self) -> u64
         ensures { result ≡ (contents self.now).current.position };
 
+    /// How many lines the image has.
+    fn lines(&self) -> u64
+        ensures { result ≡ (contents self.now).lines };
+
     /// The device, unchanged.
     fn into_device(self) -> Self::Device
         ensures { Self.Device.state result ≡ device self };
+
+    /// The image fills its device.
+    ghost sized: { (engine : Self) → (contents engine).lines ≡ (device engine).lines };
 }

@@ -1,5 +1,5 @@
 //! The engine: a device with an image, and the image's current record.
-ghost use Rattle.std.specs.Prelude.{◌≡◌, false};
+ghost use Rattle.std.specs.Prelude.{◌≡◌, ◌↔◌, false, IsTrue};
 ghost use Rattle.wbl_engine.specs.AtRest.{IsAtRest, at_rest_prop};
 
 use crate::clearing::{clear_oldest, has_no_gap, is_last, oldest_gap, stamped_in};
@@ -10,11 +10,12 @@ use crate::erasing::erase_stamps;
 use crate::format::{first_record, format_device};
 use crate::freeing::{Freed, freed_by};
 use crate::reopening::reopen_device;
+use crate::restarting::Restarting;
 use crate::successor::next_record;
 use heap_layout::Versions;
 use kv_types::{EntryNo, Refusal};
 use model::{Group, MAX_LINES, MIN_LINES, Record, Role};
-use pmem::{Fault, Pmem};
+use pmem::{Crashing, Fault, Pmem};
 use std::alloc::Global;
 
 /// An engine over a device. It keeps the current record but no list.
@@ -40,7 +41,7 @@ impl<P: Pmem> WblEngine<P> {
     ghost use Rattle.model.specs.declared.record.Record.{Record as CommitRecord};
     ghost use Rattle.heap_layout.specs.Superblock.{super_refusal};
     ghost use Rattle.wbl_engine.specs.Lawful.{IsUndamaged};
-    ghost use Rattle.wbl_engine.specs.Reopening.{RefusesReopening, Reopens, StaysReadable};
+    ghost use Rattle.wbl_engine.specs.Reopening.{IsShown, RefusesReopening, Reopens, StaysReadable};
 
     /// Formats a device for this role. `WrongSize` if it has fewer than 4,096 lines or more than 2^31, with nothing changed; `Fault` if a
     /// fence failed. A refusal hands the device back. It allocates no memory.
@@ -98,6 +99,8 @@ impl<P: Pmem> WblEngine<P> {
         requires settled { (word : ℕ) → Only ((P.state device).words word) (image_of (P.state device).words word) }
         ensures reopens { IfOk result (λ o. Reopens (P.state device).lines (image_of (P.state device).words) role
             (⟦<WblEngine<P> as Durable>⟧.contents o.0) o.1.counted.items o.1.gapped.items) }
+        ensures shown { IfOk result (λ o. IsShown (⟦<WblEngine<P> as Durable>⟧.contents o.0) o.1.counted.items o.1.gapped.items
+            (image_of (⟦<WblEngine<P> as Durable>⟧.device o.0).words)) }
         ensures durable { IfOk result (λ o. IsDurable (⟦<WblEngine<P> as Durable>⟧.device o.0) (⟦<WblEngine<P> as Durable>⟧.contents o.0)) }
         ensures sound { IfOk result (λ o. (⟦<WblEngine<P> as Durable>⟧.is_faulted o.0 ≡ false)
             × ((⟦<WblEngine<P> as Durable>⟧.device o.0).failures ≡ (P.state device).failures)) }
@@ -131,6 +134,7 @@ impl<P: Pmem> WblEngine<P> {
 impl<P: Pmem> Durable for WblEngine<P> {
     type Device = P;
 
+    ghost use Rattle.std.proofs.Common.{refl};
     ghost use Rattle.wbl_engine.specs.AtRest.{contents_of};
 
     ghost device = { λ engine. P.state engine.device };
@@ -138,6 +142,8 @@ impl<P: Pmem> Durable for WblEngine<P> {
     ghost contents = { λ engine. contents_of engine.current (P.state engine.device) };
 
     ghost is_faulted = { λ engine. engine.faulted };
+
+    ghost sized = { λ engine. refl };
 
     fn commit(&mut self, group: &Group) -> Result<Committed, Refusal> {
         if self.faulted {
@@ -201,6 +207,10 @@ impl<P: Pmem> Durable for WblEngine<P> {
         self.current.position
     }
 
+    fn lines(&self) -> u64 {
+        self.device.lines()
+    }
+
     fn into_device(self) -> P {
         let WblEngine {
             device,
@@ -209,4 +219,34 @@ impl<P: Pmem> Durable for WblEngine<P> {
         } = self;
         device
     }
+}
+
+impl<P: Crashing> Restarting for WblEngine<P> {
+    fn crash(&mut self, picks: &[u64]) {
+        // this replaces an earlier request, so that the crash picks from the candidates of this moment
+        self.device.keep_at(0);
+        self.device.crash(picks);
+        self.faulted = true;
+    }
+
+    fn restart(&mut self, alloc: Global, role: Role) -> Result<Versions, Refusal> {
+        match reopen_device(alloc, &mut self.device, role) {
+            Ok((current, versions)) => {
+                self.current = current;
+                self.faulted = false;
+                Ok(versions)
+            }
+            Err(refusal) => {
+                self.faulted |= is_fault(refusal);
+                Err(refusal)
+            }
+        }
+    }
+}
+
+/// Whether the refusal says that a fence failed.
+fn is_fault(refusal: Refusal) -> bool
+    ensures { IsTrue result ↔ (refusal ≡ Refusal.Fault) }
+{
+    refusal == Refusal::Fault
 }

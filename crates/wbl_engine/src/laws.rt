@@ -1,5 +1,9 @@
 //! Laws of the definitions, each the contract of a function that does nothing.
-ghost use Rattle.std.specs.Prelude.{ℕ, ◌≤◌};
+ghost use Rattle.std.specs.Prelude.{◌≡◌, ◌⊎◌, ℕ, ◌≤◌, List};
+ghost use Rattle.kv_types.specs.declared.place.EntryNo.{EntryNo};
+ghost use Rattle.kv_types.specs.declared.refusal.Refusal.{Refusal};
+ghost use Rattle.kv_types.specs.declared.refusal.Refusal.TheVariants.{Exhausted, Memory};
+ghost use Rattle.heap_layout.specs.declared.entry.Entry.{Entry};
 ghost use Rattle.model.specs.declared.group.Group.{Group};
 ghost use Rattle.model.specs.declared.image.TheConstants.{MIN_LINES, MAX_LINES};
 ghost use Rattle.model.specs.declared.record.Role.{Role};
@@ -7,6 +11,7 @@ ghost use Rattle.model.specs.Group.{Contents, IsGroup, after_group};
 ghost use Rattle.model.specs.Image.{Image};
 ghost use Rattle.wbl_engine.specs.Contents.{Keeps, IsNew, Same, Exhausts};
 ghost use Rattle.wbl_engine.specs.Lawful.{AreLawful, IsUndamaged};
+ghost use Rattle.wbl_engine.specs.Reopening.{ExhaustsReopening, KeepsThrough, RefusesReopening, Reopens};
 
 /// The contents of a new image, of a size that an image may have, obey the rules.
 pub fn new_contents_are_lawful()
@@ -29,4 +34,20 @@ pub fn same_contents_are_lawful()
 pub fn lawful_contents_are_undamaged()
     ensures { (contents : Contents) (image : Image) → AreLawful contents → Keeps contents image
         → IsUndamaged contents.lines contents.current image }
+{}
+
+/// A reopening keeps the versions of contents that obey the rules, and the position, epoch and role of their record; the contents still obey the rules.
+pub fn reopening_keeps_contents()
+    ensures keeps { (old new : Contents) (image : Image) (role : Role) (counted : List (EntryNo × Entry)) (gapped : List EntryNo)
+        → AreLawful old → Keeps old image → Reopens old.lines image role new counted gapped → KeepsThrough old new }
+    ensures lawful { (old new : Contents) (image : Image) (role : Role) (counted : List (EntryNo × Entry)) (gapped : List EntryNo)
+        → AreLawful old → Keeps old image → Reopens old.lines image role new counted gapped → AreLawful new }
+{}
+
+/// An image with contents that obey the rules is reopened in its role, unless memory is refused, a counter of its record is at its limit, or a
+/// fence fails.
+pub fn lawful_contents_are_reopened()
+    ensures { (contents : Contents) (image : Image) (refusal : Refusal) → AreLawful contents → Keeps contents image
+        → RefusesReopening contents.lines image contents.current.role refusal
+        → (refusal ≡ Memory) ⊎ ((refusal ≡ Exhausted) × ExhaustsReopening contents.current) }
 {}

@@ -12,6 +12,7 @@ mod freeing;
 mod inspecting;
 mod laws;
 mod reopening;
+mod restarting;
 mod staging;
 mod successor;
 
@@ -22,7 +23,8 @@ pub use freeing::Freed;
 pub use heap_layout::Versions;
 pub use inspecting::inspect;
 pub use laws::{
-    groups_keep_contents_lawful, lawful_contents_are_undamaged, new_contents_are_lawful,
-    same_contents_are_lawful,
+    groups_keep_contents_lawful, lawful_contents_are_reopened, lawful_contents_are_undamaged,
+    new_contents_are_lawful, reopening_keeps_contents, same_contents_are_lawful,
 };
 pub use model::{Gap, Record, Role};
+pub use restarting::Restarting;

@@ -16,7 +16,7 @@ ghost use Rattle.wbl_engine.specs.Contents.{IsDurable};
 ghost use Rattle.wbl_engine.specs.Erasing.{oldest_gap};
 ghost use Rattle.wbl_engine.specs.Freeing.{record_after_clearing};
 ghost use Rattle.wbl_engine.specs.Lawful.{IsUndamaged};
-ghost use Rattle.wbl_engine.specs.Reopening.{AreCleared, ExhaustsReopening, IsBesideRecords, IsReadable, RefusesReopening, Reopens, StaysReadable, is_cleared, is_left, left_below, reopened, with_open_gap, with_room};
+ghost use Rattle.wbl_engine.specs.Reopening.{AreCleared, ExhaustsReopening, IsBesideRecords, IsReadable, IsShown, RefusesReopening, Reopens, StaysReadable, is_cleared, is_left, left_below, reopened, with_open_gap, with_room};
 
 use crate::clearing::{oldest_gap, push_if, stamped_in, without_oldest_gap};
 use crate::erasing::erase_stamps;
@@ -42,6 +42,8 @@ pub fn reopen_device<P: Pmem>(
     requires settled { (word : ℕ) → Only ((P.state device.old).words word) (image_of (P.state device.old).words word) }
     ensures reopens { IfOk result (λ o. Reopens (P.state device.old).lines (image_of (P.state device.old).words) role
         (contents_of o.0 (P.state device.new)) o.1.counted.items o.1.gapped.items) }
+    ensures shown { IfOk result (λ o. IsShown (contents_of o.0 (P.state device.new)) o.1.counted.items o.1.gapped.items
+        (image_of (P.state device.new).words)) }
     ensures rest { IfOk result (λ o. IsAtRest o.0 (P.state device.new)) }
     ensures durable { IfOk result (λ o. IsDurable (P.state device.new) (contents_of o.0 (P.state device.new))) }
     ensures sound { OnOk result ((P.state device.new).failures ≡ (P.state device.old).failures) }

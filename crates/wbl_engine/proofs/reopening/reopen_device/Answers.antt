@@ -4,10 +4,11 @@ use Rattle.pmem.specs.Runs.{LeavesOnly}
 use Rattle.model.specs.declared.record.Record.{Record}
 use Rattle.wbl_engine.specs.AtRest.{IsAtRest, contents_of}
 use Rattle.wbl_engine.specs.Contents.{IsDurable}
-use Rattle.wbl_engine.specs.Reopening.{Reopens, StaysReadable}
+use Rattle.wbl_engine.specs.Reopening.{IsShown, Reopens, StaysReadable}
 use Rattle.wbl_engine.proofs.Readable.{settled_readable, settled_stays}
 use Rattle.wbl_engine.proofs.ReadingLemmas.{undamaged_unique}
 use Rattle.wbl_engine.proofs.ReopenedContents.{IsReopenedOver, reopened_rest, reopened_durable, reopens}
+use Rattle.wbl_engine.proofs.ShownLists.{shows}
 use Rattle.wbl_engine.proofs.reopening.reopen_device.Goals as goal
 
 pub returns-in_err-current-clause-moments : goal.returns-in_err-current-clause-moments
@@ -36,7 +37,7 @@ returns-clause-reopens g c =
     } in
     subst (λ (q : Record). Reopens d.lines (image_of d.words) c.args.role (contents_of q (g.P.Pmem.state c.write_reopened.new.device))
     c.in_ok-current.versions.counted.items c.in_ok-current.versions.gapped.items) (sym c.in_ok-next.ensures.next)
-    (reopens c.args.role c.in_ok-current.versions.counted.items c.in_ok-current.versions.gapped.items over c.in_ok-current.ensures.role
+    (reopens c.args.role c.in_ok-current.versions.counted.items c.in_ok-current.versions.gapped.items over c.in_ok-current.ensures.role c.in_ok-current.ensures.limits
     c.in_ok-current.ensures.counted c.in_ok-current.ensures.gapped)
 
 pub returns-clause-rest : goal.returns-clause-rest
@@ -67,3 +68,17 @@ returns-clause-moments g c r whole =
     let d = g.P.Pmem.state c.args.device.now in
     subst (λ (q : Record). LeavesOnly d (g.P.Pmem.state c.write_reopened.new.device) (StaysReadable d.lines q (image_of d.words)))
     (sym (undamaged_unique c.in_ok-current.current r c.in_ok-current.ensures.undamaged.current whole)) c.write_reopened.ensures.moments
+
+pub returns-clause-shown : goal.returns-clause-shown
+returns-clause-shown g c =
+    let over : IsReopenedOver c.in_ok-current.current (g.P.Pmem.state c.args.device.now) (g.P.Pmem.state c.write_reopened.new.device) =
+    record {
+      undamaged = c.in_ok-current.ensures.undamaged;
+      readable = c.in_ok-next.ensures.readable;
+      cleared = c.in_ok-next.ensures.cleared;
+      lines_are = c.in_ok-next.ensures.lines;
+    } in
+    subst (λ (q : Record). IsShown (contents_of q (g.P.Pmem.state c.write_reopened.new.device)) c.in_ok-current.versions.counted.items
+    c.in_ok-current.versions.gapped.items (image_of (g.P.Pmem.state c.write_reopened.new.device).words)) (sym c.in_ok-next.ensures.next)
+    (shows c.in_ok-current.versions.counted.items c.in_ok-current.versions.gapped.items over c.in_ok-current.ensures.counted
+    c.in_ok-current.ensures.gapped)

@@ -1,0 +1,30 @@
+use Rattle.std.proofs.Common.{◌≡◌, Bool, false, ◌||◌, inl, inr, sym, ap, subst, ◌∙◌}
+use Rattle.std.proofs.lemmas.Bool.{cases_Bool}
+use Rattle.std.proofs.Math.Bool.{or-false}
+use Rattle.wbl_engine.specs.AtRest.{IsAtRest, at_rest_prop}
+use Rattle.wbl_engine.proofs.engine.WblEngineRestarting.restart.Goals as goal
+
+pub returns-in-Err-clause-refused : goal.returns-in-Err-clause-refused
+returns-in-Err-clause-refused g c =
+    let self = c.args.self.now in
+    let d = g.P.Pmem.state c.args.self.now.device in
+    elim c.in-Err.ensures.refused [
+      | inl fault ↦ inl fault
+      | inr kept ↦
+          elim (cases_Bool c.is_fault.result) [
+            | inl is ↦ inl (c.is_fault.ensures.0 is)
+            | inr other ↦
+                inr (
+                  kept.0,
+                  subst (λ (faulted : Bool). (at_rest : faulted ≡ false → IsAtRest self.current (g.P.Pmem.state c.reopen_device.new.device))
+                      → record self { device = c.reopen_device.new.device; faulted = faulted; at_rest = at_rest } ≡ self)
+                      (sym (ap (λ (b : Bool). self.faulted || b) other ∙ or-false self.faulted))
+                      (subst (λ (device : _). (at_rest : self.faulted ≡ false → IsAtRest self.current (g.P.Pmem.state device))
+                      → record self { device = device; at_rest = at_rest } ≡ self)
+                      (sym kept.1)
+                      (λ at_rest. ap (λ (x : self.faulted ≡ false → IsAtRest self.current d). record self { at_rest = x })
+                      (at_rest_prop self.faulted self.current d at_rest self.at_rest)))
+                      _,
+                )
+          ]
+    ]

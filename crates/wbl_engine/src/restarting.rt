@@ -1,0 +1,55 @@
+//! Engines whose device crashes under them, and whose image is then opened again.
+ghost use Rattle.std.specs.Prelude.{◌≡◌, ◌⊎◌, ◌<◌, ℕ, true, false, Some, Err, OnOk, IfOk, IfErr, IsErrOf};
+ghost use Rattle.kv_types.specs.declared.refusal.Refusal.{Refusal as Cause};
+ghost use Rattle.pmem.specs.Device.{Only, newest_at};
+ghost use Rattle.pmem.specs.Crash.{IsImage, IsSettled, image_of, picked};
+ghost use Rattle.pmem.specs.Runs.{LeavesOnly};
+ghost use Rattle.model.specs.declared.record.Record.{Record as CommitRecord};
+ghost use Rattle.heap_layout.specs.Superblock.{super_refusal};
+ghost use Rattle.wbl_engine.specs.Contents.{IsDurable};
+ghost use Rattle.wbl_engine.specs.Lawful.{IsUndamaged};
+ghost use Rattle.wbl_engine.specs.Reopening.{IsShown, RefusesReopening, Reopens, StaysReadable};
+
+use crate::durable::Durable;
+use heap_layout::Versions;
+use kv_types::Refusal;
+use model::Role;
+use std::alloc::Global;
+
+/// An engine over a device that may crash, and whose image is opened again in its place.
+pub trait Restarting: Durable {
+    /// Crashes the device now, whatever it was asked to keep for its next crash. The picks are those of `pmem::Crashing::crash`. The engine is
+    /// faulted until it is restarted.
+    fn crash(&mut self, picks: &[u64])
+        ensures settled { IsSettled (Self.device self.new).words }
+        ensures image { IsImage (Self.device self.old).words (image_of (Self.device self.new).words) }
+        // where the device had the memory to do so
+        ensures picked { (Self.device self.new).starved ≡ false
+            → (word : ℕ) → newest_at (Self.device self.new) word ≡ picked (Self.device self.old).words picks.now word }
+        ensures lines { (Self.device self.new).lines ≡ (Self.device self.old).lines }
+        ensures failures { (Self.device self.new).failures ≡ (Self.device self.old).failures }
+        ensures faulted { Self.is_faulted self.new ≡ true }
+        ensures moments { LeavesOnly (Self.device self.old) (Self.device self.new) (IsImage (Self.device self.old).words) };
+
+    /// Opens the image of the device again in its role, as `WblEngine::reopen` does, and returns all versions of the image.
+    ///
+    /// # Errors
+    ///
+    /// As at `WblEngine::reopen`: nothing is changed, but where a fence failed. Then the engine is faulted.
+    fn restart(&mut self, alloc: Global, role: Role) -> Result<Versions, Refusal>
+        requires settled { (word : ℕ) → Only ((Self.device self.old).words word) (image_of (Self.device self.old).words word) }
+        ensures reopens { IfOk result (λ versions. Reopens (Self.device self.old).lines (image_of (Self.device self.old).words) role
+            (Self.contents self.new) versions.counted.items versions.gapped.items) }
+        ensures shown { IfOk result (λ versions.
+            IsShown (Self.contents self.new) versions.counted.items versions.gapped.items (image_of (Self.device self.new).words)) }
+        ensures durable { OnOk result (IsDurable (Self.device self.new) (Self.contents self.new)) }
+        ensures sound { OnOk result ((Self.is_faulted self.new ≡ false) × ((Self.device self.new).failures ≡ (Self.device self.old).failures)) }
+        ensures stopped { IsErrOf result Refusal.Fault → Self.is_faulted self.new ≡ true }
+        ensures refused { IfErr result (λ refusal. (refusal ≡ Refusal.Fault)
+            ⊎ (RefusesReopening (Self.device self.old).lines (image_of (Self.device self.old).words) role refusal × (self.new ≡ self.old))) }
+        ensures fault { IsErrOf result Refusal.Fault → (Self.device self.old).failures < (Self.device self.new).failures }
+        ensures superblock { (refusal : Cause) → super_refusal (Self.device self.old).lines (image_of (Self.device self.old).words) ≡ Some refusal
+            → result ≡ Err refusal }
+        ensures moments { (r : CommitRecord) → IsUndamaged (Self.device self.old).lines r (image_of (Self.device self.old).words)
+            → LeavesOnly (Self.device self.old) (Self.device self.new) (StaysReadable (Self.device self.old).lines r (image_of (Self.device self.old).words)) };
+}
