@@ -1,15 +1,25 @@
 //! The committer.
-ghost use Rattle.std.specs.Prelude.{◌≡◌, ◌≢◌, ◌⊎◌, ◌++◌, ◌∷◌, [], ◌<◌, ℕ, None, Some, Ok, true};
+ghost use Rattle.std.specs.Prelude.{◌≡◌, ◌≢◌, ◌⊎◌, ◌++◌, ◌∷◌, [], ◌<◌, ℕ, None, Some, Ok, Err, true, false, OnOk, OnErr, IfOk, IfErr, IsErrOf};
+ghost use Rattle.kv_types.specs.declared.refusal.Refusal.{Refusal as Cause};
+ghost use Rattle.pmem.specs.Device.{Only, newest_at};
+ghost use Rattle.pmem.specs.Crash.{IsImage, IsSettled, image_of, picked};
+ghost use Rattle.pmem.specs.Runs.{LeavesOnly};
 ghost use Rattle.model.specs.declared.group.Group.{Group};
+ghost use Rattle.model.specs.declared.record.Record.{Record as CommitRecord};
+ghost use Rattle.heap_layout.specs.Superblock.{super_refusal};
+ghost use Rattle.wbl_engine.specs.Contents.{IsDurable};
+ghost use Rattle.wbl_engine.specs.Lawful.{IsUndamaged};
+ghost use Rattle.wbl_engine.specs.Reopening.{IsShown, RefusesReopening, Reopens, StaysReadable};
 ghost use Rattle.group_commit.specs.Group.{GivesGroup};
 ghost use Rattle.group_commit.specs.Committing.{Commits, raised, ready_again};
 
 use crate::stage::{Done, Stage};
 use kv_types::Refusal;
-use model::Group;
+use model::{Group, Role};
 use pipes::{Inlet, Outlet};
 use pmem::Pmem;
-use wbl_engine::Durable;
+use std::alloc::Global;
+use wbl_engine::{Durable, Restarting, Versions};
 
 /// Commits groups, one at a time: each is durable before the local mark tells of it, and told of before it is handed on.
 #[derive(Drop)]
@@ -45,6 +55,20 @@ impl<E: Durable> Committer<E> {
         ensures { result ≡ (E.contents self.now.engine).current.position }
     {
         self.engine.position()
+    }
+
+    /// How many lines the engine's image has.
+    pub fn lines(&self) -> u64
+        ensures { result ≡ (E.contents self.now.engine).lines }
+    {
+        self.engine.lines()
+    }
+
+    /// The epoch of the engine's record.
+    pub fn epoch(&self) -> u64
+        ensures { result ≡ (E.contents self.now.engine).current.epoch }
+    {
+        self.engine.record().epoch
     }
 
     /// The local mark: the position up to which this node told that everything is durable.
@@ -145,5 +169,58 @@ impl<E: Durable> Committer<E> {
                 Done::Idle
             }
         }
+    }
+}
+
+impl<E: Restarting> Committer<E> {
+    /// Crashes the engine's device now, with picks as at `pmem::Crashing::crash`. The engine is faulted until it is restarted. What is in hand and
+    /// the local mark stay until then.
+    pub fn crash(&mut self, picks: &[u64])
+        ensures settled { IsSettled (E.device self.new.engine).words }
+        ensures image { IsImage (E.device self.old.engine).words (image_of (E.device self.new.engine).words) }
+        // where the device had the memory to do so
+        ensures picked { (E.device self.new.engine).starved ≡ false
+            → (word : ℕ) → newest_at (E.device self.new.engine) word ≡ picked (E.device self.old.engine).words picks.now word }
+        ensures lines { (E.device self.new.engine).lines ≡ (E.device self.old.engine).lines }
+        ensures failures { (E.device self.new.engine).failures ≡ (E.device self.old.engine).failures }
+        ensures faulted { E.is_faulted self.new.engine ≡ true }
+        ensures moments { LeavesOnly (E.device self.old.engine) (E.device self.new.engine) (IsImage (E.device self.old.engine).words) }
+        ensures stage { self.new.stage ≡ self.old.stage }
+        ensures local { self.new.local ≡ self.old.local }
+    {
+        self.engine.crash(picks);
+    }
+
+    /// Opens the image of the engine's device again in its role, and returns all versions of the image. The committer may take a group then, and its
+    /// local mark is at the engine's position: what was in hand is dropped.
+    ///
+    /// # Errors
+    ///
+    /// As at `WblEngine::reopen`. The committer is as it was, but for the engine where a fence failed.
+    pub fn restart(&mut self, alloc: Global, role: Role) -> Result<Versions, Refusal>
+        requires settled { (word : ℕ) → Only ((E.device self.old.engine).words word) (image_of (E.device self.old.engine).words word) }
+        ensures reopens { IfOk result (λ versions. Reopens (E.device self.old.engine).lines (image_of (E.device self.old.engine).words) role
+            (E.contents self.new.engine) versions.counted.items versions.gapped.items) }
+        ensures shown { IfOk result (λ versions.
+            IsShown (E.contents self.new.engine) versions.counted.items versions.gapped.items (image_of (E.device self.new.engine).words)) }
+        ensures durable { OnOk result (IsDurable (E.device self.new.engine) (E.contents self.new.engine)) }
+        ensures sound { OnOk result ((E.is_faulted self.new.engine ≡ false)
+            × ((E.device self.new.engine).failures ≡ (E.device self.old.engine).failures)) }
+        ensures stopped { IsErrOf result Refusal.Fault → E.is_faulted self.new.engine ≡ true }
+        ensures ready { OnOk result ((self.new.stage ≡ Stage.Ready) × (self.new.local ≡ (E.contents self.new.engine).current.position)) }
+        ensures kept { OnErr result ((self.new.stage ≡ self.old.stage) × (self.new.local ≡ self.old.local)) }
+        ensures refused { IfErr result (λ refusal. (refusal ≡ Refusal.Fault)
+            ⊎ (RefusesReopening (E.device self.old.engine).lines (image_of (E.device self.old.engine).words) role refusal × (self.new ≡ self.old))) }
+        ensures fault { IsErrOf result Refusal.Fault → (E.device self.old.engine).failures < (E.device self.new.engine).failures }
+        ensures superblock { (refusal : Cause) → super_refusal (E.device self.old.engine).lines (image_of (E.device self.old.engine).words) ≡ Some refusal
+            → result ≡ Err refusal }
+        ensures moments { (r : CommitRecord) → IsUndamaged (E.device self.old.engine).lines r (image_of (E.device self.old.engine).words)
+            → LeavesOnly (E.device self.old.engine) (E.device self.new.engine)
+            (StaysReadable (E.device self.old.engine).lines r (image_of (E.device self.old.engine).words)) }
+    {
+        let versions = self.engine.restart(alloc, role)?;
+        self.stage = Stage::Ready;
+        self.local = self.position();
+        Ok(versions)
     }
 }

@@ -17,6 +17,10 @@ pub trait Keyspace: Lookup {
     /// Each live record with its value, its entry and the position at which it was put, in the order of records.
     ghost table: { Self → Table };
 
+    /// A keyspace without records. It takes no memory.
+    fn empty(alloc: Global) -> Self
+        ensures { table result ≡ [] };
+
     /// Makes all changes of a command or of a frame at this position of the list, and appends the entries that they ended, each once, to
     /// those in `ended`. Refused with `Memory` where a growth was refused, and then nothing has changed.
     fn apply(

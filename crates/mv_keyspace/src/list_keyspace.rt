@@ -101,6 +101,10 @@ impl Keyspace for ListKeyspace {
 
     ghost reads = { λ keyspace. records_of_table keyspace.rows.items };
 
+    fn empty(alloc: Global) -> ListKeyspace {
+        ListKeyspace::new(alloc)
+    }
+
     fn apply(
         &mut self,
         alloc: Global,

@@ -1,2 +1,3 @@
 pub mod FollowingLemmas
 pub mod NewLemmas
+pub mod Restarted

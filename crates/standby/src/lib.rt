@@ -3,6 +3,7 @@
 
 mod frame;
 mod part;
+mod restarting;
 mod standby;
 
 pub use frame::{Ack, Frame};

@@ -4,6 +4,7 @@ ghost use Rattle.kv_types.specs.declared.refusal.Refusal.TheVariants.{WrongEpoch
 ghost use Rattle.pmem.specs.Runs.{LeavesOnly};
 ghost use Rattle.placing.specs.Place.{HasRoomFor};
 ghost use Rattle.wbl_engine.specs.Contents.{IsDurable, Same};
+ghost use Rattle.wbl_engine.specs.Lawful.{AreLawful};
 ghost use Rattle.standby.specs.Following.{Follows, IsNext, HasTaken, WouldExhaust, IsBeforeOrWhole};
 
 use crate::frame::{Ack, Frame};
@@ -105,6 +106,7 @@ impl<E: Durable, K: Keyspace> Standby<E, K> {
         ensures sound { ¬ IsErrOf result Fault
             → (E.is_faulted self.new.engine ≡ false) × ((E.device self.new.engine).failures ≡ (E.device self.old.engine).failures) }
         ensures durable { ¬ IsErrOf result Fault → IsDurable (E.device self.new.engine) (E.contents self.new.engine) }
+        ensures lawful { AreLawful (E.contents self.old.engine) → ¬ IsErrOf result Fault → AreLawful (E.contents self.new.engine) }
         ensures stays { OnErr result (Same (E.contents self.old.engine) (E.contents self.new.engine)) }
         ensures epoch_stays { (E.contents self.new.engine).current.epoch ≡ (E.contents self.old.engine).current.epoch }
 
@@ -149,6 +151,7 @@ impl<E: Durable, K: Keyspace> Standby<E, K> {
         ensures sound { ¬ IsErrOf result Fault
             → (E.is_faulted self.new.engine ≡ false) × ((E.device self.new.engine).failures ≡ (E.device self.old.engine).failures) }
         ensures durable { ¬ IsErrOf result Fault → IsDurable (E.device self.new.engine) (E.contents self.new.engine) }
+        ensures lawful { AreLawful (E.contents self.old.engine) → ¬ IsErrOf result Fault → AreLawful (E.contents self.new.engine) }
         ensures stays { OnErr result (Same (E.contents self.old.engine) (E.contents self.new.engine)) }
         ensures epoch_stays { (E.contents self.new.engine).current.epoch ≡ (E.contents self.old.engine).current.epoch }
         ensures moments { LeavesOnly (E.device self.old.engine) (E.device self.new.engine)

@@ -4,6 +4,8 @@ use Rattle.model.specs.declared.group.Group.{Group}
 use Rattle.model.specs.declared.group.Part.{Part}
 use Rattle.model.specs.Group.{IsGroup, after_group}
 use Rattle.mv_keyspace.specs.Table.{place_all}
+use Rattle.wbl_engine.specs.Contents.{Exhausts}
+use Rattle.wbl_engine.proofs.LawfulLemmas.{group_lawful, same_lawful}
 use Rattle.standby.specs.Following.{Follows}
 use Rattle.standby.proofs.FollowingLemmas.{IsGroup-one, Follows-after, Follows-same, HasTaken-group, LeavesOnly-group}
 use Rattle.standby.proofs.standby.Standby.take.Given.{Over}
@@ -65,3 +67,10 @@ returns-clause-still g c = λ _.
     let after = g.E.Durable.contents c.commit.new.self in
     Follows-same (after_group contents (the_group g prefix)) after (g.K.Keyspace.table c.make_part.new.keyspace) c.make_part.new.heap c.in_ok-commit.ensures.moved
     (subst (λ table. Follows (after_group contents (the_group g prefix)) table c.make_part.new.heap) (sym c.in_ok-part.ensures.ok.table_is) (follows_after g prefix))
+
+pub returns-clause-lawful : goal.returns-clause-lawful
+returns-clause-lawful g c = λ lawful _.
+    let prefix = (goal.at.returns-clause-lawful g c).After-push_reserved in
+    let contents = g.E.Durable.contents c.args.self.now.engine in
+    let fits : ¬ Exhausts contents (the_group g prefix) = λ reached. let told = c.in_ok-commit.ensures.exhausts c.requires.sound reached in cc in
+    same_lawful (after_group contents (the_group g prefix)) (g.E.Durable.contents c.commit.new.self) c.in_ok-commit.ensures.moved (group_lawful contents (the_group g prefix) lawful (is_group g prefix) fits)

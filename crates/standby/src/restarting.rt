@@ -1,0 +1,81 @@
+//! A standby whose device crashes under it, and whose image is then opened again.
+ghost use Rattle.std.specs.Prelude.{◌≡◌, ◌⊎◌, ◌<◌, ℕ, true, false, Some, Err, OnOk, IfErr, IsErrOf};
+ghost use Rattle.kv_types.specs.declared.refusal.Refusal.{Refusal as Cause};
+ghost use Rattle.pmem.specs.Device.{Only, newest_at};
+ghost use Rattle.pmem.specs.Crash.{IsImage, IsSettled, image_of, picked};
+ghost use Rattle.pmem.specs.Runs.{LeavesOnly};
+ghost use Rattle.model.specs.declared.record.Record.{Record as CommitRecord};
+ghost use Rattle.heap_layout.specs.Superblock.{super_refusal};
+ghost use Rattle.wbl_engine.specs.Contents.{IsDurable};
+ghost use Rattle.wbl_engine.specs.Lawful.{IsUndamaged};
+ghost use Rattle.wbl_engine.specs.Reopening.{RefusesReopening, StaysReadable};
+ghost use Rattle.standby.specs.Following.{Follows};
+ghost use Rattle.standby.specs.Restarting.{IsReopened};
+
+use crate::standby::Standby;
+use kv_types::Refusal;
+use model::Role;
+use mv_keyspace::Keyspace;
+use placing::rebuild;
+use std::alloc::Global;
+use wbl_engine::Restarting;
+
+impl<E: Restarting, K: Keyspace + Drop> Standby<E, K> {
+    /// Crashes the engine's device now, with picks as at `pmem::Crashing::crash`. The engine is faulted until the standby is restarted. The keyspace
+    /// and the heap stay as they are until then.
+    pub fn crash(&mut self, picks: &[u64])
+        ensures settled { IsSettled (E.device self.new.engine).words }
+        ensures image { IsImage (E.device self.old.engine).words (image_of (E.device self.new.engine).words) }
+        // where the device had the memory to do so
+        ensures picked { (E.device self.new.engine).starved ≡ false
+            → (word : ℕ) → newest_at (E.device self.new.engine) word ≡ picked (E.device self.old.engine).words picks.now word }
+        ensures lines { (E.device self.new.engine).lines ≡ (E.device self.old.engine).lines }
+        ensures failures { (E.device self.new.engine).failures ≡ (E.device self.old.engine).failures }
+        ensures faulted { E.is_faulted self.new.engine ≡ true }
+        ensures moments { LeavesOnly (E.device self.old.engine) (E.device self.new.engine) (IsImage (E.device self.old.engine).words) }
+        ensures keyspace { self.new.keyspace ≡ self.old.keyspace }
+        ensures heap { self.new.heap ≡ self.old.heap }
+    {
+        self.engine.crash(picks);
+    }
+
+    /// Opens the image of the engine's device again as a standby's, and makes the keyspace and the heap from its versions. The places of versions
+    /// that have ended are not free.
+    ///
+    /// # Errors
+    ///
+    /// As at `WblEngine::reopen`, with the standby as it was. `Memory` also where the engine was opened again and there was no memory for the
+    /// keyspace and the heap, which are then as they were; the image can be opened again. After `Fault` the image has to be opened again.
+    pub fn restart(&mut self, alloc: Global) -> Result<(), Refusal>
+        requires settled { (word : ℕ) → Only ((E.device self.old.engine).words word) (image_of (E.device self.old.engine).words word) }
+        ensures follows { OnOk result (Follows (E.contents self.new.engine) (K.table self.new.keyspace) self.new.heap) }
+        ensures reopens { OnOk result (IsReopened (E.device self.old.engine).lines (image_of (E.device self.old.engine).words) Role.Standby
+            (E.contents self.new.engine)) }
+        ensures durable { OnOk result (IsDurable (E.device self.new.engine) (E.contents self.new.engine)) }
+        ensures sound { OnOk result (E.is_faulted self.new.engine ≡ false) }
+        ensures stopped { IsErrOf result Refusal.Fault → E.is_faulted self.new.engine ≡ true }
+        ensures failures { ¬ IsErrOf result Refusal.Fault → (E.device self.new.engine).failures ≡ (E.device self.old.engine).failures }
+        ensures refused { IfErr result (λ refusal. (refusal ≡ Refusal.Fault) ⊎ ((refusal ≡ Refusal.Memory)
+            ⊎ (RefusesReopening (E.device self.old.engine).lines (image_of (E.device self.old.engine).words) Role.Standby refusal × (self.new ≡ self.old)))) }
+        ensures fault { IsErrOf result Refusal.Fault → (E.device self.old.engine).failures < (E.device self.new.engine).failures }
+        ensures superblock { (refusal : Cause) → super_refusal (E.device self.old.engine).lines (image_of (E.device self.old.engine).words) ≡ Some refusal
+            → result ≡ Err refusal }
+        ensures moments { (r : CommitRecord) → IsUndamaged (E.device self.old.engine).lines r (image_of (E.device self.old.engine).words)
+            → LeavesOnly (E.device self.old.engine) (E.device self.new.engine)
+            (StaysReadable (E.device self.old.engine).lines r (image_of (E.device self.old.engine).words)) }
+    {
+        let versions = self.engine.restart(alloc, Role::Standby)?;
+        let lines = self.engine.lines();
+        let mut keyspace = K::empty(alloc);
+        let rebuilt = rebuild(
+            alloc,
+            &mut keyspace,
+            lines,
+            versions.counted,
+            &versions.gapped,
+        )?;
+        self.keyspace = keyspace;
+        self.heap = rebuilt.heap;
+        Ok(())
+    }
+}
