@@ -11,7 +11,6 @@ pub mod StandbyLemmas
 pub mod SoundConnection
 pub mod SoundEvents
 pub mod RunLemmas
-pub mod LifeLemmas
 pub mod FedLemmas
 pub mod PromiseLemmas
 pub mod CoverLemmas

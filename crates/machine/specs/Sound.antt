@@ -5,7 +5,7 @@ use Rattle.model.specs.declared.call.Call.{Call}
 use Rattle.model.specs.State.{State, start_state}
 use Rattle.model.specs.Call.{IsLegal, IsPrefix, after_call, is_changing, items_of, position_of}
 use Rattle.machine.specs.declared.event.TheConstants.{SEATS, PIPE_ITEMS, OPEN_CHANGES, KEPT_GROUPS}
-use Rattle.machine.specs.Event.{Span, Frame, Acknowledgement, Stage, Ready, Durable, Shown, Inbound, Outbound, Connection, Committer, Link, Running, Standby, Wire, World, asked, connection_of, is_open, count_open, texts_of}
+use Rattle.machine.specs.Event.{Span, Frame, Acknowledgement, Stage, Ready, Durable, Shown, Inbound, Outbound, Connection, Committer, Link, Standby, Wire, World, asked, connection_of, is_open, count_open, texts_of}
 
 -- ---- replies
 
@@ -157,12 +157,6 @@ pub record SoundWire (epoch sent position : ℕ) (wire : Wire) : Type 0 where
 -- there is a seat for each open connection
 pub record SoundConnections (connections : List Connection) : Type 0 where
   pub seats : count_open connections ≤ SEATS
-
--- no node crashes, and both run
-pub record RunsOn (w : World) : Type 0 where
-  pub never : w.restarts ≡ false
-  pub primary : w.primary.life ≡ Running
-  pub standby : w.standby.life ≡ Running
 
 pub record Sound (w : World) : Type 0 where
   pub connections : SoundConnections w.primary.connections

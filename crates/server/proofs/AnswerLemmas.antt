@@ -1,5 +1,5 @@
 -- The answer to one connection, from what a run promises.
-use Rattle.std.proofs.Common.{◌≡◌, ℕ, zero, suc, Bool, false, List, [], ◌∷◌, length, slice_index_or, Option, None, Result, Ok, Err, IfOk, sym, ap, subst, ◌∙◌, arith}
+use Rattle.std.proofs.Common.{◌≡◌, ℕ, zero, suc, Bool, true, List, [], ◌∷◌, length, slice_index_or, Option, None, Result, Ok, Err, IfOk, sym, ap, subst, ◌∙◌, arith}
 use Rattle.pmem.specs.Device.{State}
 use Rattle.kv_types.specs.declared.limits.TheConstants.{REQUEST_LIMITS}
 use Rattle.kv_types.specs.Reading.{items_at}
@@ -10,12 +10,11 @@ use Rattle.model.proofs.PrefixLemmas.{IsPrefix-itself}
 use Rattle.model.proofs.ServesLemmas.{Serves-asked}
 use Rattle.machine.specs.declared.event.Event.{Event}
 use Rattle.machine.specs.declared.event.Event.TheVariants.{Enter}
-use Rattle.machine.specs.Event.{World, Run, start}
-use Rattle.machine.proofs.LifeLemmas.{runs_on-start, runs_on-step}
+use Rattle.machine.specs.Event.{World, Run, is_running}
 use Rattle.machine.proofs.RunLemmas.{sound-start}
 use Rattle.machine.proofs.SoundEvents.{sound-step}
 use Rattle.machine.specs.Promise.{IsPromised, fed_to}
-use Rattle.world.specs.Headline.{KeepsItsWord}
+use Rattle.world.specs.Headline.{KeepsItsWord, start}
 use Rattle.world.specs.declared.trace.EarlyEnd.{EarlyEnd}
 use Rattle.server.specs.Schedule.{given, alone, IsSchedule}
 use Rattle.server.specs.Answer.{IsAnswer}
@@ -35,7 +34,7 @@ fed-schedule input rest [] worlds feeds run c = absurd run
 fed-schedule input rest (did ∷ done) [] feeds run c = absurd run
 fed-schedule input rest (did ∷ done) (new ∷ worlds) feeds run zero =
     let entered = run.0.happens run.0.done in
-    let served : IsServed new 0 = (runs_on-step start Enter did new run.0 runs_on-start, (sound-step start Enter did new run.0 (sound-start false), omega (arith, ap (λ (w : World). length w.primary.connections) entered))) in
+    let served : IsServed new 0 = (λ is_one. ap (λ (w : World). is_running w.primary.life) entered, (sound-step start Enter did new run.0 (sound-start true), omega (arith, ap (λ (w : World). length w.primary.connections) entered))) in
     subst (λ whole. IsPrefix (fed_to 0 rest done) whole) (feeds 0) (feeds-open new rest done worlds 0 run.1 served)
 fed-schedule input rest (did ∷ done) (new ∷ worlds) feeds run (suc c) =
     subst (λ fed. IsPrefix fed []) (sym (feeds-none (suc c) rest done (feeds (suc c)))) (IsPrefix-itself [])
@@ -47,7 +46,7 @@ fed-begins input events done worlds schedule run c =
     (fed-schedule input schedule.rest done worlds schedule.feeds (subst (λ (all : List Event). Run start all done worlds) schedule.starts run) c)
 
 pub answer-promised : (input : List ℕ) (events : List Event) (done : List Bool) (calls : List Call) (released : ℕ → List ℕ) (primary standby : ℕ) (answer : List ℕ)
-    → IsSchedule input events → IsPromised false events done calls released primary standby → answer ≡ released 0 → IsAnswer input answer
+    → IsSchedule input events → IsPromised true events done calls released primary standby → answer ≡ released 0 → IsAnswer input answer
 answer-promised input events done calls released primary standby answer schedule promised same = record {
   calls = calls;
   legal = promised.legal;

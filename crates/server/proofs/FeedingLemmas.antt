@@ -1,18 +1,19 @@
 -- What is fed to a connection is a prefix of what the events have for it: once it is closed or over, no feed is done.
-use Rattle.std.proofs.Common.{◌≡◌, ℕ, zero, suc, ◌<◌, Bool, true, false, not, ◌&&◌, cond, nat_eq, List, [], ◌∷◌, ◌++◌, length, refl, sym, ap, subst, ◌∙◌, append-nil, arith, eqb-true, ◌⊎◌, inl, inr}
+use Rattle.std.proofs.Common.{◌≡◌, map, ℕ, zero, suc, ◌<◌, Bool, true, false, not, ◌&&◌, cond, nat_eq, List, [], ◌∷◌, ◌++◌, length, refl, sym, ap, subst, ◌∙◌, append-nil, arith, eqb-true, ◌⊎◌, inl, inr}
 use Rattle.machine.specs.declared.event.Event.{Event}
-use Rattle.machine.specs.declared.event.Event.TheVariants.{Enter, Feed, Offer, Turn, CloseGroup, Commit, RaiseLocal, Hand, OpenLink, Send, Deliver, Apply, AckDelivered, RaiseRemote, Hold, Read, Release, Write, Leave}
-use Rattle.machine.specs.Event.{Connection, World, is_running, connection_of, is_open, is_closed_by, is_enabled, Happens, Step, Run}
+use Rattle.machine.specs.declared.event.Event.TheVariants.{Enter, Feed, Offer, Turn, CloseGroup, Commit, RaiseLocal, Hand, OpenLink, Send, Deliver, Apply, AckDelivered, RaiseRemote, Hold, Read, Release, Write, Leave, Crash, Reopen}
+use Rattle.machine.specs.declared.event.Node.TheVariants as node
+use Rattle.machine.specs.Event.{Connection, World, crashed, get_connection, is_running, left, connection_of, is_open, is_closed_by, is_enabled, Happens, Step, Run}
 use Rattle.machine.specs.Promise.{fed_by, fed_to}
 use Rattle.machine.proofs.CountLemmas.{count-step}
 use Rattle.machine.proofs.FedLemmas.{fed-step}
 use Rattle.machine.proofs.SoundEvents.{enabled-may, sound-step}
-use Rattle.machine.proofs.LifeLemmas.{runs_on-step}
-use Rattle.machine.specs.Sound.{RunsOn, Sound}
+use Rattle.machine.specs.Sound.{Sound}
 use Rattle.machine.proofs.SoundConnection.{both, both_ways}
 use Rattle.machine.proofs.StayLemmas.{stays-step}
 use Rattle.model.specs.Call.{IsPrefix}
 use Rattle.model.proofs.PrefixLemmas.{IsPrefix-none, IsPrefix-same_prefix}
+use Rattle.world.proofs.LivesLemmas.{plain-happens}
 use Rattle.server.specs.Schedule.{given}
 
 -- ---- a connection that entered
@@ -20,16 +21,43 @@ use Rattle.server.specs.Schedule.{given}
 abbrev fed_in : World → ℕ → List ℕ
 fed_in w c = (connection_of w c).inbound.fed
 
--- the nodes run on, and the connection has entered
-abbrev pub IsServed : World → ℕ → Type 0
-IsServed w d = RunsOn w × (Sound w × (d < length w.primary.connections))
-
 abbrev runs_in : World → Bool
 runs_in w = is_running w.primary.life
 
+-- the connection has entered, and while it is open the primary runs
+abbrev pub IsServed : World → ℕ → Type 0
+IsServed w d = (is_open w d ≡ true → runs_in w ≡ true) × (Sound w × (d < length w.primary.connections))
+
+-- no connection outlives a crash of the primary
+none-left : (connections : List Connection) (d : ℕ) → (get_connection (map left connections) d).is_open ≡ false
+none-left [] d = refl
+none-left (connection ∷ connections) zero = refl
+none-left (connection ∷ connections) (suc d) = none-left connections d
+
+runs-happens : (old : World) (event : Event) (new : World) (d : ℕ) → Happens old event new → runs_in old ≡ true → is_open new d ≡ true → runs_in new ≡ true
+runs-happens old (Crash node.Primary picks) new d happens up is_one =
+    absurd (both_ways (is_open new d) is_one (ap (λ (w : World). is_open w d) happens ∙ none-left old.primary.connections d))
+runs-happens old (Crash node.Standby picks) new d happens up is_one = ap runs_in happens ∙ up
+runs-happens old (Reopen node.Primary) new d happens up is_one = ap runs_in happens
+runs-happens old (Reopen node.Standby) new d happens up is_one = ap runs_in happens ∙ up
+runs-happens old event new d happens up is_one = ap is_running (plain-happens old event new refl happens).primary ∙ up
+
+-- an open connection was open before
+was-open : (old : World) (event : Event) (did : Bool) (new : World) (d : ℕ) → Step old event did new → Sound old → d < length old.primary.connections → is_open new d ≡ true → is_open old d ≡ true
+was-open old event did new d step sound lt is_one =
+    elim (is_open old d) as (λ b. is_open old d ≡ b → b ≡ true) [
+      | true ↦ λ is. refl
+      | false ↦ λ shut. absurd (both_ways (is_open new d) is_one (ap (λ (x : Connection). x.is_open) (stays-step old event did new d lt shut sound step).connection ∙ shut))
+    ] refl
+
+runs-step : (old : World) (event : Event) (did : Bool) (new : World) (d : ℕ) → Step old event did new → IsServed old d → is_open new d ≡ true → runs_in new ≡ true
+runs-step old event true new d step served is_one = runs-happens old event new d (step.happens refl) (served.0 (was-open old event true new d step served.1.0 served.1.1 is_one)) is_one
+runs-step old event false new d step served is_one =
+    ap runs_in (step.stands refl) ∙ served.0 (was-open old event false new d step served.1.0 served.1.1 is_one)
+
 served-step : (old : World) (event : Event) (did : Bool) (new : World) (d : ℕ) → Step old event did new → IsServed old d → IsServed new d
 served-step old event did new d step served =
-    (runs_on-step old event did new step served.0, (sound-step old event did new step served.1.0, omega (arith, served.1.1, (count-step old event did new step).more)))
+    (runs-step old event did new d step served, (sound-step old event did new step served.1.0, omega (arith, served.1.1, (count-step old event did new step).more)))
 
 -- ---- one event
 
@@ -68,7 +96,7 @@ open-by w (Feed c piece) false d e served is_one =
     elim (nat_eq c d) as (λ b. nat_eq c d ≡ b → ([] ≡ cond b piece []) ⊎ ((false ≡ false) × (is_closed_by (fed_in w d) ≡ true))) [
       | true ↦ λ same.
           let is_there : is_open w c ≡ true = ap (λ x. is_open w x) (eqb-true c d same) ∙ is_one in
-          inr (refl, ap (λ x. is_closed_by (fed_in w x)) (sym (eqb-true c d same)) ∙ not-false (runs_in w) (is_open w c) (is_closed_by (fed_in w c)) (ap is_running served.0.primary) is_there (sym e))
+          inr (refl, ap (λ x. is_closed_by (fed_in w x)) (sym (eqb-true c d same)) ∙ not-false (runs_in w) (is_open w c) (is_closed_by (fed_in w c)) (served.0 is_one) is_there (sym e))
       | false ↦ λ other. inl refl
     ] refl
 open-by w event false d e served is_one = inl refl

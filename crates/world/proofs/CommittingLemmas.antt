@@ -16,6 +16,7 @@ use Rattle.model.specs.declared.image.TheConstants.{COUNTER_LIMIT, STAMP_WINDOW}
 use Rattle.model.specs.Group.{AreParts, Contents, IsGroup, Versions, after_group, last_position, part_versions}
 use Rattle.model.specs.Standing.{Holder}
 use Rattle.wbl_engine.specs.Contents.{Exhausts, Keeps, IsDurable, Same}
+use Rattle.wbl_engine.proofs.LawfulLemmas.{group_lawful, same_lawful}
 use Rattle.pipes.specs.Waiting.{Waiting}
 use Rattle.group_commit.specs.Group.{AreGroups}
 use Rattle.group_commit.specs.declared.stage.Done.{Done}
@@ -172,12 +173,13 @@ may-commit w code group rest link ready room waits stands are =
 -- the first group that waits is committed
 pub commit-goes : (holder : Holder) (w : World) (old new : Committing) (group : Group) (link : List Group) (device device' : State) (contents contents' : Contents) (is_faulted is_faulted' : Bool)
     → old.stage ≡ Ready → length link < PIPE_ITEMS → old.waiting.items ≡ group ∷ new.waiting.items → new.stage ≡ Durable group → new.local ≡ old.local
-    → IsGroup contents group → group.epoch ≡ contents.current.epoch → Same (after_group contents group) contents' → IsDurable device' contents' → is_faulted' ≡ false
+    → IsGroup contents group → group.epoch ≡ contents.current.epoch → (is_faulted ≡ false → Exhausts contents group → ⊥)
+    → Same (after_group contents group) contents' → IsDurable device' contents' → is_faulted' ≡ false
     → CommittingRefines w.primary.calls old w.primary.committer → EngineStands holder w.primary.calls w.primary.committer.position device contents is_faulted → AreGroupsOf w.primary.calls link w.primary.link.waiting
     → Goes (may_happen w Commit) true
     (CommittingRefines w.primary.calls new (committed_first w.primary.committer.waiting w.primary.committer) × EngineStands holder w.primary.calls (committed_first w.primary.committer.waiting w.primary.committer).position device' contents' is_faulted')
     (CommittingRefines w.primary.calls new w.primary.committer × EngineStands holder w.primary.calls w.primary.committer.position device' contents' is_faulted')
-commit-goes holder w old new group link device device' contents contents' is_faulted is_faulted' ready room waits durable local lawful own moved leaves sound stands engine are =
+commit-goes holder w old new group link device device' contents contents' is_faulted is_faulted' ready room waits durable local lawful own fits moved leaves sound stands engine are =
     let calls = w.primary.calls in
     let next = next-group holder calls w.primary.committer.position contents group new.waiting.items w.primary.committer.waiting engine.contents_at lawful own
     (subst (λ groups. AreGroupsOf calls groups w.primary.committer.waiting) waits stands.groups) in
@@ -194,6 +196,7 @@ commit-goes holder w old new group link device device' contents contents' is_fau
         },
         record {
           contents_at = subst (AreContentsAt holder calls span.after) (sym (Same-is (after_group contents group) contents' moved)) next.after;
+          lawful = same_lawful (after_group contents group) contents' moved (group_lawful contents group engine.lawful lawful (fits engine.sound));
           sound = sound;
           durable = leaves;
         },

@@ -66,6 +66,7 @@ pub EngineStands-grows : (holder : Holder) (calls more : List Call) (p : ℕ) (d
     → EngineStands holder calls p device contents is_faulted → EngineStands holder (calls ++ more) p device contents is_faulted
 EngineStands-grows holder calls more p device contents is_faulted le stands = record {
   contents_at = AreContentsAt-grows holder calls more p contents le stands.contents_at;
+  lawful = stands.lawful;
   sound = stands.sound;
   durable = stands.durable;
 }

@@ -1,8 +1,9 @@
 -- New images, and the tables and heaps with which they begin.
-use Rattle.std.proofs.Common.{◌≡◌, ℕ, ◌<◌, ◌≤◌, ◌⊎◌, Bool, false, List, [], ◌∷◌, refl, sym, ap, subst, arith, inl, inr, Vec, Global}
+use Rattle.std.proofs.Common.{◌≡◌, ℕ, ◌<◌, ◌≤◌, ◌⊎◌, Bool, true, false, true≢false, ◌∙◌, List, [], ◌∷◌, Ok, Err, refl, sym, ap, subst, arith, inl, inr, Vec, Global}
+use Rattle.std.proofs.lemmas.Bool.{cases_lt}
 use Rattle.multi_watch.specs.Sessions.{Sessions}
 use Rattle.model.specs.Image.{entries_of_lines}
-use Rattle.model.specs.declared.image.TheConstants.{COUNTER_LIMIT}
+use Rattle.model.specs.declared.image.TheConstants.{COUNTER_LIMIT, MAX_LINES, MIN_LINES}
 use Rattle.model.specs.Group.{Contents}
 use Rattle.model.specs.declared.group.Group.{Group}
 use Rattle.model.specs.declared.record.Role.{Role}
@@ -15,12 +16,11 @@ use Rattle.extent_heap.specs.Room.{Room}
 use Rattle.mv_keyspace.specs.Table.{Table, records}
 use Rattle.wbl_engine.specs.Contents.{IsNew, IsDurable}
 use Rattle.wbl_engine.specs.Formatting.{IsFormatting}
+use Rattle.wbl_engine.proofs.LawfulLemmas.{new_lawful}
 use Rattle.redis_core.specs.Sequencing.{Sequencing, IsAheadOf, Underlies, starts}
 use Rattle.standby_stream.specs.Stream.{Stream, new_stream}
 use Rattle.standby.proofs.NewLemmas.{HasAll, new-table, left-new, new-consistent, follows-new}
-use Rattle.machine.specs.Event.{start}
 use Rattle.machine.proofs.RunLemmas.{sound-start}
-use Rattle.machine.proofs.LifeLemmas.{runs_on-start}
 use Rattle.kv_types.specs.declared.refusal.Refusal.{Refusal}
 use Rattle.kv_types.specs.declared.refusal.Refusal.TheVariants.{Exhausted, Fault, Memory, WrongSize}
 use Rattle.world.specs.Cause.{IsWrongSize, UnformedBy}
@@ -32,7 +32,8 @@ use Rattle.world.specs.Link.{AreFramesSent, LinkRefines}
 use Rattle.world.specs.Session.{ConnectionsRefine, SessionsRefine, SequencerRefines, SeatsFollow, seats_of}
 use Rattle.world.specs.declared.connection.Connection.{Connection}
 use Rattle.world.specs.Standby.{Node, StandbyStands, ArrivalsRefine}
-use Rattle.world.specs.Pair.{Pair, PairRefines}
+use Rattle.world.specs.Headline.{start}
+use Rattle.world.specs.Pair.{NodesRefine, Pair, life_if}
 
 -- ---- the sequencer
 
@@ -58,9 +59,19 @@ pub underlies-new : (lines : ℕ) (role : Role) (contents : Contents) (table : T
 underlies-new lines role contents table room new all empty =
     record { position_is = sym new.position; epoch_is = sym new.epoch; left = left-new lines role contents room new all; table_is = new-table lines role contents table new empty }
 
-pub engine-new : (lines : ℕ) (role : Role) (device : State) (contents : Contents) (is_faulted : Bool) → IsNew lines role contents → IsDurable device contents → is_faulted ≡ false
+-- a device that was formatted is of a size that an image may have
+pub formatted-size : {T E : Type 0} {engine : T} {refused : E} (lines : ℕ) → ((lines < MIN_LINES) ⊎ (MAX_LINES < lines) → Ok engine ≡ Err refused) → (MIN_LINES ≤ lines) × (lines ≤ MAX_LINES)
+formatted-size {T} {E} {engine} {refused} lines wrong = (not_below lines MIN_LINES (λ low. formatted (wrong (inl low))), not_below MAX_LINES lines (λ high. formatted (wrong (inr high))))
+  where
+    formatted : Ok engine ≡ Err refused → ⊥
+    formatted same = cc
+
+    not_below : (m n : ℕ) → (m < n → ⊥) → n ≤ m
+    not_below m n never = elim (cases_lt m n) [ inl below ↦ absurd (never below) | inr above ↦ above ]
+
+pub engine-new : (lines : ℕ) (role : Role) (device : State) (contents : Contents) (is_faulted : Bool) → MIN_LINES ≤ lines → lines ≤ MAX_LINES → IsNew lines role contents → IsDurable device contents → is_faulted ≡ false
     → EngineStands (new_holder lines role) [] 0 device contents is_faulted
-engine-new lines role device contents is_faulted new durable sound =
+engine-new lines role device contents is_faulted many few new durable sound =
     record {
       contents_at = record {
         at = new.position;
@@ -70,15 +81,16 @@ engine-new lines role device contents is_faulted new durable sound =
         consistent = new-consistent lines role contents new;
         map = IsMapOf-none contents.versions (entries_of_lines contents.lines) (λ i within. new.versions i);
       };
+      lawful = new_lawful lines role contents new many few;
       sound = sound;
       durable = durable;
     }
 
-pub standby-new : (lines epoch : ℕ) (role : Role) (node : Node) → IsNew lines role node.contents → IsDurable node.device node.contents → node.is_faulted ≡ false
+pub standby-new : (lines epoch : ℕ) (role : Role) (node : Node) → MIN_LINES ≤ lines → lines ≤ MAX_LINES → IsNew lines role node.contents → IsDurable node.device node.contents → node.is_faulted ≡ false
     → HasAll lines node.room → node.table ≡ [] → node.epoch ≡ epoch → epoch ≡ FIRST_EPOCH → StandbyStands (new_holder lines role) epoch [] 0 node
-standby-new lines epoch role node new durable sound all empty same first =
+standby-new lines epoch role node many few new durable sound all empty same first =
     record {
-      engine = engine-new lines role node.device node.contents node.is_faulted new durable sound;
+      engine = engine-new lines role node.device node.contents node.is_faulted many few new durable sound;
       follows = follows-new lines role node.contents node.table node.room new all empty;
       table = ap records empty;
       epoch_is = same;
@@ -110,37 +122,49 @@ none-seated (code ∷ codes) stand s = absurd stand
 pub pair-starts : (first second : Holder) (pair : Pair) → SessionsRefine pair.sessions [] [] → SequencerRefines [] 0 pair.sequencer
     → pair.committing.waiting.items ≡ [] → pair.committing.stage ≡ Ready → pair.committing.local ≡ 0 → EngineStands first [] 0 pair.device pair.contents pair.is_faulted
     → IsAheadOf pair.sequencer pair.contents → pair.link ≡ new_stream FIRST_EPOCH → pair.handed.items ≡ [] → pair.remote ≡ 0 → pair.frames ≡ []
-    → ((epoch : ℕ) → ArrivalsRefine epoch [] pair.arrivals [] []) → StandbyStands second pair.link.epoch [] 0 pair.standby → PairRefines first second pair start
-pair-starts first second pair sessions sequencer none ready mark engine ahead link no_group remote no_frame arrivals standby =
+    → ((epoch : ℕ) → ArrivalsRefine epoch [] pair.arrivals [] []) → StandbyStands second pair.link.epoch [] 0 pair.standby
+    → first.role ≡ Role.Primary → second.role ≡ Role.Standby → first.epoch ≡ FIRST_EPOCH → second.epoch ≡ FIRST_EPOCH → pair.primary_runs ≡ true → pair.standby_runs ≡ true → NodesRefine first second pair start
+pair-starts first second pair sessions sequencer none ready mark engine ahead link no_group remote no_frame arrivals standby first_role second_role first_epoch second_epoch serves follows =
     record {
-      sound = sound-start false;
-      runs = runs_on-start;
-      parts = record {
-        sessions = sessions;
-        sequencer = sequencer;
-        follow = none-seated pair.sessions.connections.items sessions.connections_stand pair.sequencer;
-        committing = record {
-          groups = subst (λ (groups : List Group). AreGroupsOf [] groups []) (sym none) tt;
-          stage_is = subst (λ (stage : Stage). StageRefines [] stage start.primary.committer.stage) (sym ready) tt;
-          local_is = mark;
-        };
-        engine = engine;
-        leads = subst (λ (groups : List Group). Leads pair.contents groups pair.sequencer) (sym none) (record { groups_are = tt; epochs = tt; stands = ahead });
-        epoch = ap (λ (s : Stream). s.epoch) link;
-        link = subst (λ (s : Stream). LinkRefines [] s pair.handed pair.remote start.primary.link) (sym link)
-            (record {
-              waiting = subst (λ (groups : List Group). AreGroupsOf [] groups []) (sym no_group) tt;
-              none_pending = refl;
-              kept = tt;
-              next_within = omega arith;
-              again = refl;
-              known = refl;
-              remote_is = remote;
-            });
-        frames = subst (λ (texts : List (Vec ℕ Global)). AreFramesSent pair.link.epoch [] texts []) (sym no_frame) tt;
-        arrivals = arrivals pair.link.epoch;
-        standby = standby;
+      sound = sound-start true;
+      lives = record {
+        restarts = refl;
+        primary = sym (ap life_if serves);
+        standby = sym (ap life_if follows);
+        first_role = first_role;
+        second_role = second_role;
+        first_epoch = first_epoch;
+        second_epoch = second_epoch;
       };
+      parts = inl (
+        serves,
+        record {
+          sessions = sessions;
+          sequencer = sequencer;
+          follow = none-seated pair.sessions.connections.items sessions.connections_stand pair.sequencer;
+          committing = record {
+            groups = subst (λ (groups : List Group). AreGroupsOf [] groups []) (sym none) tt;
+            stage_is = subst (λ (stage : Stage). StageRefines [] stage start.primary.committer.stage) (sym ready) tt;
+            local_is = mark;
+          };
+          engine = engine;
+          leads = subst (λ (groups : List Group). Leads pair.contents groups pair.sequencer) (sym none) (record { groups_are = tt; epochs = tt; stands = ahead });
+          epoch = ap (λ (s : Stream). s.epoch) link;
+          link = subst (λ (s : Stream). LinkRefines [] s pair.handed pair.remote start.primary.link) (sym link)
+              (record {
+                waiting = subst (λ (groups : List Group). AreGroupsOf [] groups []) (sym no_group) tt;
+                none_pending = refl;
+                kept = tt;
+                next_within = omega arith;
+                again = refl;
+                known = refl;
+                remote_is = remote;
+              });
+          frames = subst (λ (texts : List (Vec ℕ Global)). AreFramesSent pair.link.epoch [] texts []) (sym no_frame) tt;
+          arrivals = arrivals pair.link.epoch;
+          standby = record { stands = λ runs. standby; down = λ down. absurd (true≢false (sym follows ∙ down)) };
+        },
+      );
     }
 
 -- ---- what a crash leaves meanwhile

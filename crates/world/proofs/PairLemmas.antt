@@ -1,5 +1,5 @@
--- What each event does to the pair, of what it does to its parts.
-use Rattle.std.proofs.Common.{◌≡◌, ℕ, ◌≤◌, Bool, true, false, List, [], ◌∷◌, ◌++◌, length, slice_index_or, Result, Ok, Err, IfOk, IfErr, OnErr, Vec, Global, refl, sym, ap, subst, ◌∙◌, arith, true≢false}
+-- What each event does to a pair whose primary runs, of what it does to its parts.
+use Rattle.std.proofs.Common.{◌≡◌, inl, inr, ℕ, ◌≤◌, Bool, true, false, List, [], ◌∷◌, ◌++◌, length, slice_index_or, Result, Ok, Err, IfOk, IfErr, OnErr, Vec, Global, refl, sym, ap, subst, ◌∙◌, arith, true≢false}
 use Rattle.std.proofs.lemmas.List.{length-map}
 use Rattle.kv_types.specs.declared.refusal.Refusal.{Refusal}
 use Rattle.kv_types.specs.declared.refusal.Refusal.TheVariants.{Memory}
@@ -10,16 +10,17 @@ use Rattle.model.specs.Standing.{Holder}
 use Rattle.redis_core.specs.Sequencing.{Sequencing, IsAheadOf}
 use Rattle.machine.specs.declared.event.Event.{Event}
 use Rattle.machine.specs.declared.event.Event.TheVariants as events
-use Rattle.machine.specs.Event.{Connection, World, Happens, Step, Turns, changed_at, left, new_connection, may_happen, called, with_connections}
-use Rattle.machine.specs.Sound.{RunsOn, Sound}
+use Rattle.machine.specs.Event.{Connection, World, Happens, Step, Turns, changed_at, left, new_connection, is_enabled, may_happen, called, with_connections}
+use Rattle.machine.specs.Sound.{Sound}
 use Rattle.machine.proofs.GroupLemmas.{chain-le}
 use Rattle.machine.proofs.SoundEvents.{sound-step}
-use Rattle.machine.proofs.LifeLemmas.{runs_on-step, enabled-is}
 use Rattle.world.specs.Going.{Goes}
 use Rattle.world.specs.Cause.{Stretch, EndsBy, asks_memory}
-use Rattle.world.specs.Committing.{Rests, next_primary, next_standby}
+use Rattle.world.specs.Committing.{Rests, Stands, next_primary, next_standby}
 use Rattle.world.specs.Session.{SessionsRefine, SequencerRefines, SeatsFollow, KeepsSeats, AddsOne, TakesTurn, TellsTheSame, bytes_of, seats_of}
-use Rattle.world.specs.Pair.{Pair, PartsRefine, PairRefines, IsCut, MovesBoth, Steps, Does}
+use Rattle.world.specs.Pair.{Pair, EitherRefines, NodesRefine, PartsRefine, PairRefines, IsCut, MovesBoth, Steps, Does}
+use Rattle.world.specs.Standby.{Node, StandbyRefines}
+use Rattle.world.proofs.LivesLemmas.{Runs, enabled-is, is_own, lives-step, nodes-refine, own-runs}
 use Rattle.world.specs.declared.sessions.Sessions.{Sessions}
 use Rattle.world.proofs.SessionLemmas.{length-connections, released-told}
 use Rattle.world.proofs.SeatLemmas.{follow-kept}
@@ -28,48 +29,82 @@ use Rattle.world.proofs.CommittingLemmas.{CommittingRefines-grows}
 use Rattle.world.proofs.FrameLemmas.{AreFramesSent-grows}
 use Rattle.world.proofs.LinkLemmas.{LinkRefines-grows}
 use Rattle.world.proofs.StandbyLemmas.{StandbyStands-grows}
+use Rattle.world.proofs.DownLemmas.{IsDown-grows, Stands-down}
 use Rattle.world.proofs.ArrivalLemmas.{ArrivalsRefine-grows}
 
--- ---- steps
+-- ---- what stands
 
 pub goes-map : {A B C D : Type 0} {enabled did : Bool} → Goes enabled did A B → (A → C) → (B → D) → Goes enabled did C D
 goes-map goes moved stayed = record { done = goes.done; goes = λ did. moved (goes.goes did); stays = λ did. stayed (goes.stays did) }
 
+pub Stands-standby : (holder : Holder) (epoch : ℕ) (calls : List Call) (position : ℕ) (node : Node) (runs : Bool) → StandbyRefines holder epoch calls position node runs → Stands holder calls position node.device
+Stands-standby holder epoch calls position node true refines = Stands-engine _ _ _ _ _ _ (refines.stands refl).engine
+Stands-standby holder epoch calls position node false refines = Stands-down holder calls position node.device (refines.down refl)
+
+-- the standby's image, whether the primary runs or not
+pub standby-stands : (first second : Holder) (pair : Pair) (w : World) → EitherRefines first second pair w → Stands second w.primary.calls w.standby.position pair.standby.device
+standby-stands first second pair w parts = elim parts [
+  | inl up ↦ Stands-standby second pair.link.epoch w.primary.calls w.standby.position pair.standby pair.standby_runs up.1.standby
+  | inr down ↦ Stands-standby second pair.link.epoch w.primary.calls w.standby.position pair.standby pair.standby_runs down.1.standby
+]
+
+pub primary-stands : (first second : Holder) (pair : Pair) (w : World) → EitherRefines first second pair w → Stands first w.primary.calls w.primary.committer.position pair.device
+primary-stands first second pair w parts = elim parts [
+  | inl up ↦ Stands-engine _ _ _ _ _ _ up.1.engine
+  | inr down ↦ Stands-down first w.primary.calls w.primary.committer.position pair.device down.1.image
+]
+
+pub sessions-stand : {first second : Holder} {pair : Pair} {w : World} → EitherRefines first second pair w → SessionsRefine pair.sessions w.primary.connections w.primary.calls
+sessions-stand parts = elim parts [
+  | inl up ↦ up.1.sessions
+  | inr down ↦ down.1.sessions
+]
+
+-- ---- steps
+
 -- neither device was touched
-pub untouched : (first second : Holder) (old new : Pair) (w w' : World) → new.device ≡ old.device → new.standby.device ≡ old.standby.device → PartsRefine first second new w' → MovesBoth first second old new w w'
+pub untouched : (first second : Holder) (old new : Pair) (w w' : World) → new.device ≡ old.device → new.standby.device ≡ old.standby.device → EitherRefines first second new w' → MovesBoth first second old new w w'
 untouched first second old new w w' device device' parts =
     record {
-      primary = moves-same first w'.primary.calls w.primary.committer.position w'.primary.committer.position old.device new.device device (Stands-engine _ _ _ _ _ _ parts.engine);
-      standby = moves-same second w'.primary.calls w.standby.position w'.standby.position old.standby.device new.standby.device device' (Stands-engine _ _ _ _ _ _ parts.standby.engine);
+      primary = moves-same first w'.primary.calls w.primary.committer.position w'.primary.committer.position old.device new.device device (primary-stands first second new w' parts);
+      standby = moves-same second w'.primary.calls w.standby.position w'.standby.position old.standby.device new.standby.device device' (standby-stands first second new w' parts);
     }
 
 -- an event that touches no device
-pub goes-steps : (first second : Holder) (w w' : World) (event : Event) (did : Bool) (old new : Pair) → new.device ≡ old.device → new.standby.device ≡ old.standby.device → Sound w → RunsOn w → Happens w event w'
-    → Goes (may_happen w event) did (PartsRefine first second new w') (PartsRefine first second new w) → Steps first second w event did old new
-goes-steps first second w w' event true old new device device' sound runs happens goes =
-    let step : Step w event true w' = record { done = goes.done ∙ sym (enabled-is w event runs); happens = λ did. happens; stands = λ did. absurd (true≢false did) } in
+pub goes-either : (first second : Holder) (w w' : World) (event : Event) (did : Bool) (old new : Pair) → new.device ≡ old.device → new.standby.device ≡ old.standby.device → Sound w
+    → Runs first second new.primary_runs new.standby_runs w event → Happens w event w'
+    → Goes (may_happen w event) did (EitherRefines first second new w') (EitherRefines first second new w) → Steps first second w event did old new
+goes-either first second w w' event true old new device device' sound runs happens goes =
+    let step : Step w event true w' = record { done = goes.done ∙ sym (enabled-is runs); happens = λ did. happens; stands = λ did. absurd (true≢false did) } in
     record {
       world = w';
       step = step;
-      stands = record { sound = sound-step w event true w' step sound; runs = runs_on-step w event true w' step runs; parts = goes.goes refl };
+      stands = record { sound = sound-step w event true w' step sound; lives = lives-step runs happens; parts = goes.goes refl };
       moves = untouched first second old new w w' device device' (goes.goes refl);
     }
-goes-steps first second w w' event false old new device device' sound runs happens goes =
+goes-either first second w w' event false old new device device' sound runs happens goes =
     record {
       world = w;
-      step = record { done = goes.done ∙ sym (enabled-is w event runs); happens = λ did. absurd (true≢false (sym did)); stands = λ did. refl };
-      stands = record { sound = sound; runs = runs; parts = goes.stays refl };
+      step = record { done = goes.done ∙ sym (enabled-is runs); happens = λ did. absurd (true≢false (sym did)); stands = λ did. refl };
+      stands = record { sound = sound; lives = runs.lives; parts = goes.stays refl };
       moves = untouched first second old new w w device device' (goes.stays refl);
     }
 
+-- of one whose primary runs
+pub goes-steps : (first second : Holder) (w w' : World) (event : Event) (did : Bool) (old new : Pair) → new.device ≡ old.device → new.standby.device ≡ old.standby.device → Sound w
+    → Runs first second new.primary_runs new.standby_runs w event → new.primary_runs ≡ true → Happens w event w'
+    → Goes (may_happen w event) did (PartsRefine first second new w') (PartsRefine first second new w) → Steps first second w event did old new
+goes-steps first second w w' event did old new device device' sound runs serves happens goes =
+    goes-either first second w w' event did old new device device' sound runs happens (goes-map goes (λ moved. inl (serves, moved)) (λ stayed. inl (serves, stayed)))
+
 -- ---- cuts
 
-pub rests-primary : (first second : Holder) (old : Pair) (w : World) → PairRefines first second old w → Rests first w.primary.calls w.primary.committer.position old.device old.device
-rests-primary first second old w stands = rests-same first w.primary.calls w.primary.committer.position old.device old.device refl (Stands-engine _ _ _ _ _ _ stands.parts.engine)
+pub rests-primary : (first second : Holder) (old : Pair) (w : World) → NodesRefine first second old w → Rests first w.primary.calls w.primary.committer.position old.device old.device
+rests-primary first second old w stands = rests-same first w.primary.calls w.primary.committer.position old.device old.device refl (primary-stands first second old w stands.parts)
 
-pub rests-standby : (first second : Holder) (old : Pair) (w : World) → PairRefines first second old w → Rests second w.primary.calls w.standby.position old.standby.device old.standby.device
+pub rests-standby : (first second : Holder) (old : Pair) (w : World) → NodesRefine first second old w → Rests second w.primary.calls w.standby.position old.standby.device old.standby.device
 rests-standby first second old w stands =
-    rests-same second w.primary.calls w.standby.position old.standby.device old.standby.device refl (Stands-engine _ _ _ _ _ _ stands.parts.standby.engine)
+    rests-same second w.primary.calls w.standby.position old.standby.device old.standby.device refl (standby-stands first second old w stands.parts)
 
 -- what an event that was cut did to both devices
 abbrev pub Led : Holder → Holder → Pair → Pair → World → Stretch → Stretch → Type 0
@@ -77,12 +112,12 @@ Led first second old new w first_last second_last =
     first_last first w.primary.calls w.primary.committer.position (next_primary w) old.device new.device
     × second_last second w.primary.calls w.standby.position (next_standby w) old.standby.device new.standby.device
 
-pub cut-for : (first second : Holder) (event : Event) (refusal : Refusal) (old new : Pair) (w : World) → PairRefines first second old w → TellsTheSame old.sessions new.sessions
-    → may_happen w event ≡ true → EndsBy refusal event (Led first second old new w) → IsCut first second event refusal old new w
+pub cut-for : (first second : Holder) (event : Event) (refusal : Refusal) (old new : Pair) (w : World) → NodesRefine first second old w → TellsTheSame old.sessions new.sessions
+    → is_enabled w event ≡ true → EndsBy refusal event (Led first second old new w) → IsCut first second event refusal old new w
 cut-for first second event refusal old new w stands same enabled cause =
-    let sessions = stands.parts.sessions in
+    let sessions = sessions-stand stands.parts in
     record {
-      enabled = enabled-is w event stands.runs ∙ enabled;
+      enabled = enabled;
       calls = same.calls ∙ sessions.calls_are;
       released = λ c. ap (λ (all : List (List ℕ)). slice_index_or all c []) same.released
           ∙ released-told w.primary.calls old.sessions.connections.items w.primary.connections sessions.connections_stand c;
@@ -98,10 +133,10 @@ cut-for first second event refusal old new w stands same enabled cause =
 
 -- memory was refused, and neither device was touched
 pub cut-same : (first second : Holder) (event : Event) (refusal : Refusal) (old new : Pair) (w : World) → asks_memory event ≡ true → refusal ≡ Memory → new.device ≡ old.device
-    → new.standby.device ≡ old.standby.device → TellsTheSame old.sessions new.sessions → may_happen w event ≡ true → PairRefines first second old w
+    → new.standby.device ≡ old.standby.device → TellsTheSame old.sessions new.sessions → Runs first second old.primary_runs old.standby_runs w event → may_happen w event ≡ true → NodesRefine first second old w
     → IsCut first second event refusal old new w
-cut-same first second event refusal old new w asks memory device device' same enabled stands =
-    cut-for first second event refusal old new w stands same enabled
+cut-same first second event refusal old new w asks memory device device' same runs enabled stands =
+    cut-for first second event refusal old new w stands same (enabled-is runs ∙ enabled)
     (subst (λ (r : Refusal). EndsBy r event (Led first second old new w)) (sym memory) (
       asks,
       (
@@ -145,47 +180,47 @@ SessionsGo event change did old new =
     (w : World) → SessionsRefine old w.primary.connections w.primary.calls
     → Goes (may_happen w event) did (SessionsRefine new (change w) w.primary.calls) (SessionsRefine new w.primary.connections w.primary.calls)
 
-sessions-steps : (event : Event) (change : World → List Connection) → ((w : World) → Happens w event (with_connections (change w) w))
+sessions-steps : (event : Event) (change : World → List Connection) → is_own event ≡ true → ((w : World) → Happens w event (with_connections (change w) w))
     → (old : Pair) (sessions : Sessions) (did : Bool) → SessionsGo event change did old.sessions sessions → KeepsSeats old.sessions.connections.items sessions.connections.items
     → (first second : Holder) (w : World) → PairRefines first second old w → Steps first second w event did old (with_sessions sessions old)
-sessions-steps event change happens old sessions did go keeps first second w stands =
-    goes-steps first second w (with_connections (change w) w) event did old (with_sessions sessions old) refl refl stands.sound stands.runs (happens w)
+sessions-steps event change own happens old sessions did go keeps first second w stands =
+    goes-steps first second w (with_connections (change w) w) event did old (with_sessions sessions old) refl refl stands.sound (own-runs stands event own) stands.serves (happens w)
     (goes-map (go w stands.parts.sessions)
     (sessions-parts first second old sessions (change w) w stands.parts keeps)
     (sessions-parts first second old sessions w.primary.connections w stands.parts keeps))
 
-pub sessions-do : (event : Event) (change : World → List Connection) → ((w : World) → Happens w event (with_connections (change w) w)) → asks_memory event ≡ true
+pub sessions-do : (event : Event) (change : World → List Connection) → is_own event ≡ true → ((w : World) → Happens w event (with_connections (change w) w)) → asks_memory event ≡ true
     → (old : Pair) (sessions : Sessions) (result : Result Bool Refusal) → IfOk result (λ did. SessionsGo event change did old.sessions sessions)
     → OnErr result (TellsTheSame old.sessions sessions) → IfErr result (λ refusal. refusal ≡ Memory)
     → OnErr result ((w : World) → SessionsRefine old.sessions w.primary.connections w.primary.calls → may_happen w event ≡ true)
     → KeepsSeats old.sessions.connections.items sessions.connections.items → sessions.calls ≡ old.sessions.calls → Does old event result (with_sessions sessions old)
-sessions-do event change happens asks old sessions (Ok did) go same memory enabled keeps calls =
-    record { steps = sessions-steps event change happens old sessions did go keeps; cut = tt; calls = none-added _ _ calls }
-sessions-do event change happens asks old sessions (Err refusal) go same memory enabled keeps calls =
+sessions-do event change own happens asks old sessions (Ok did) go same memory enabled keeps calls =
+    record { steps = sessions-steps event change own happens old sessions did go keeps; cut = tt; calls = none-added _ _ calls }
+sessions-do event change own happens asks old sessions (Err refusal) go same memory enabled keeps calls =
     record {
       steps = tt;
       cut = λ first second w stands.
-          cut-same first second event refusal old (with_sessions sessions old) w asks memory refl refl same (enabled w stands.parts.sessions) stands;
+          cut-same first second event refusal old (with_sessions sessions old) w asks memory refl refl same (own-runs stands event own) (enabled w stands.parts.sessions) (nodes-refine stands);
       calls = none-added _ _ calls;
     }
 
 -- an event that cannot be refused
-pub sessions-did : (event : Event) (change : World → List Connection) → ((w : World) → Happens w event (with_connections (change w) w))
+pub sessions-did : (event : Event) (change : World → List Connection) → is_own event ≡ true → ((w : World) → Happens w event (with_connections (change w) w))
     → (old : Pair) (sessions : Sessions) (did : Bool) → SessionsGo event change did old.sessions sessions → KeepsSeats old.sessions.connections.items sessions.connections.items → sessions.calls ≡ old.sessions.calls
     → Does old event (Ok did) (with_sessions sessions old)
-sessions-did event change happens old sessions did go keeps calls =
-    record { steps = sessions-steps event change happens old sessions did go keeps; cut = tt; calls = none-added _ _ calls }
+sessions-did event change own happens old sessions did go keeps calls =
+    record { steps = sessions-steps event change own happens old sessions did go keeps; cut = tt; calls = none-added _ _ calls }
 
 -- a read needs the marks, which are the machine's
-pub read-does : (event : Event) (change : World → List Connection) → ((w : World) → Happens w event (with_connections (change w) w))
+pub read-does : (event : Event) (change : World → List Connection) → is_own event ≡ true → ((w : World) → Happens w event (with_connections (change w) w))
     → (old : Pair) (sessions : Sessions) (did : Bool)
     → ((w : World) → SessionsRefine old.sessions w.primary.connections w.primary.calls → old.committing.local ≡ w.primary.committer.local → old.remote ≡ w.primary.link.remote
     → Goes (may_happen w event) did (SessionsRefine sessions (change w) w.primary.calls) (SessionsRefine sessions w.primary.connections w.primary.calls))
     → KeepsSeats old.sessions.connections.items sessions.connections.items → sessions.calls ≡ old.sessions.calls → Does old event (Ok did) (with_sessions sessions old)
-read-does event change happens old sessions did go keeps calls =
+read-does event change own happens old sessions did go keeps calls =
     record {
       steps = λ first second w stands.
-          goes-steps first second w (with_connections (change w) w) event did old (with_sessions sessions old) refl refl stands.sound stands.runs (happens w)
+          goes-steps first second w (with_connections (change w) w) event did old (with_sessions sessions old) refl refl stands.sound (own-runs stands event own) stands.serves (happens w)
           (goes-map (go w stands.parts.sessions stands.parts.committing.local_is stands.parts.link.remote_is)
           (sessions-parts first second old sessions (change w) w stands.parts keeps)
           (sessions-parts first second old sessions w.primary.connections w stands.parts keeps));
@@ -200,6 +235,13 @@ primary-within w s = omega (arith, s.committer.closed, chain-le _ _ _ s.committe
 
 pub standby-within : (w : World) → Sound w → w.standby.position ≤ position_of w.primary.calls
 standby-within w s = omega (arith, s.standby.behind, chain-le _ _ _ s.link.waiting, primary-within w s)
+
+StandbyRefines-grows : (holder : Holder) (epoch : ℕ) (calls more : List Call) (p : ℕ) (node : Node) (runs : Bool) → p ≤ position_of calls
+    → StandbyRefines holder epoch calls p node runs → StandbyRefines holder epoch (calls ++ more) p node runs
+StandbyRefines-grows holder epoch calls more p node runs le refines = record {
+  stands = λ up. StandbyStands-grows holder epoch calls more p node le (refines.stands up);
+  down = λ down. IsDown-grows holder calls more p node.device le (refines.down down);
+}
 
 abbrev pub with_turn : Sessions → Sequencing → Pair → Pair
 with_turn sessions sequencer pair = record pair { sessions = sessions; sequencer = sequencer }
@@ -221,7 +263,7 @@ called-parts first second old sessions sequencer w c call stands sessions_stand 
       link = LinkRefines-grows w.primary.calls (call ∷ []) old.link old.handed old.remote w.primary.link parts.link;
       frames = AreFramesSent-grows old.link.epoch w.primary.calls (call ∷ []) old.frames w.wire.frames parts.frames;
       arrivals = ArrivalsRefine-grows old.link.epoch w.primary.calls (call ∷ []) old.arrivals w.standby.waiting w.wire.acknowledgements parts.arrivals;
-      standby = StandbyStands-grows second old.link.epoch w.primary.calls (call ∷ []) w.standby.position old.standby (standby-within w stands.sound) parts.standby;
+      standby = StandbyRefines-grows second old.link.epoch w.primary.calls (call ∷ []) w.standby.position old.standby old.standby_runs (standby-within w stands.sound) parts.standby;
     }
 
 turn-steps : (first second : Holder) (old : Pair) (sessions : Sessions) (sequencer : Sequencing) (w : World) (c : ℕ) (did : Bool) → PairRefines first second old w
@@ -237,17 +279,8 @@ turn-steps first second old sessions sequencer w c true stands takes keeps goes_
     (subst (λ (x : World). SessionsRefine sessions x.primary.connections x.primary.calls) turns.now moved.2)
     (subst (λ (x : World). SequencerRefines x.primary.calls x.primary.committer.closed sequencer) turns.now moved.3)
     (subst (λ (x : World). SeatsFollow x.primary.calls (seats_of sessions.connections.items) sequencer) turns.now moved.4) goes_on in
-    let step : Step w (events.Turn c) true w' = record { done = takes.done ∙ sym (enabled-is w (events.Turn c) stands.runs); happens = λ did. subst (Turns w c) turns.now turns; stands = λ did. absurd (true≢false did) } in
-    record {
-      world = w';
-      step = step;
-      stands = record {
-        sound = sound-step w (events.Turn c) true w' step stands.sound;
-        runs = runs_on-step w (events.Turn c) true w' step stands.runs;
-        parts = parts;
-      };
-      moves = untouched first second old (with_turn sessions sequencer old) w w' refl refl parts;
-    }
+    goes-steps first second w w' (events.Turn c) true old (with_turn sessions sequencer old) refl refl stands.sound (own-runs stands (events.Turn c) refl) stands.serves (subst (Turns w c) turns.now turns)
+    (record { done = takes.done; goes = λ did. parts; stays = λ did. absurd (true≢false did) })
 turn-steps first second old sessions sequencer w c false stands takes keeps goes_on =
     let stayed = takes.stays refl in
     let before = stands.parts in
@@ -266,11 +299,12 @@ turn-steps first second old sessions sequencer w c false stands takes keeps goes
       arrivals = before.arrivals;
       standby = before.standby;
     } in
+    let runs = own-runs stands (events.Turn c) refl in
     record {
       world = w;
-      step = record { done = takes.done ∙ sym (enabled-is w (events.Turn c) stands.runs); happens = λ did. absurd (true≢false (sym did)); stands = λ did. refl };
-      stands = record { sound = stands.sound; runs = stands.runs; parts = parts };
-      moves = untouched first second old (with_turn sessions sequencer old) w w refl refl parts;
+      step = record { done = takes.done ∙ sym (enabled-is runs); happens = λ did. absurd (true≢false (sym did)); stands = λ did. refl };
+      stands = record { sound = stands.sound; lives = stands.lives; parts = inl (stands.serves, parts) };
+      moves = untouched first second old (with_turn sessions sequencer old) w w refl refl (inl (stands.serves, parts));
     }
 
 pub turn-does : (old : Pair) (sessions : Sessions) (sequencer : Sequencing) (c : ℕ) (did : Bool)
@@ -312,16 +346,16 @@ SeatsGo old s new s' =
     (w : World) → Sound w → SessionsRefine old w.primary.connections w.primary.calls → SeatsFollow w.primary.calls (seats_of old.connections.items) s
     → SeatsFollow w.primary.calls (seats_of new.connections.items) s'
 
-seats-steps : (event : Event) (change : World → List Connection) → ((w : World) → Happens w event (with_connections (change w) w))
+seats-steps : (event : Event) (change : World → List Connection) → is_own event ≡ true → ((w : World) → Happens w event (with_connections (change w) w))
     → (old : Pair) (sessions : Sessions) (sequencer : Sequencing) (did : Bool) → SessionsGo event change did old.sessions sessions → SeatsGo old.sessions old.sequencer sessions sequencer
     → ((calls : List Call) (closed : ℕ) → SequencerRefines calls closed old.sequencer → SequencerRefines calls closed sequencer)
     → ((contents : Contents) → IsAheadOf old.sequencer contents → IsAheadOf sequencer contents)
     → (first second : Holder) (w : World) → PairRefines first second old w → Steps first second w event did old (with_turn sessions sequencer old)
-seats-steps event change happens old sessions sequencer did go follows sequencer_stands goes_on first second w stands =
+seats-steps event change own happens old sessions sequencer did go follows sequencer_stands goes_on first second w stands =
     let parts = stands.parts in
     let follow = follows w stands.sound parts.sessions parts.follow in
     let table = sequencer_stands w.primary.calls w.primary.committer.closed parts.sequencer in
-    goes-steps first second w (with_connections (change w) w) event did old (with_turn sessions sequencer old) refl refl stands.sound stands.runs (happens w)
+    goes-steps first second w (with_connections (change w) w) event did old (with_turn sessions sequencer old) refl refl stands.sound (own-runs stands event own) stands.serves (happens w)
     (goes-map (go w parts.sessions)
     (λ stand. seats-parts first second old sessions sequencer (change w) w parts stand table follow goes_on)
     (λ stand. seats-parts first second old sessions sequencer w.primary.connections w parts stand table follow goes_on))
@@ -336,7 +370,7 @@ pub enter-does : (old : Pair) (sessions : Sessions) (sequencer : Sequencing) (re
     → sessions.calls ≡ old.sessions.calls → Does old events.Enter result (with_turn sessions sequencer old)
 enter-does old sessions sequencer (Ok did) go follows sequencer_stands goes_on same memory enabled calls =
     record {
-      steps = seats-steps events.Enter (λ w. w.primary.connections ++ new_connection ∷ []) (λ w. refl) old sessions sequencer did go follows sequencer_stands goes_on;
+      steps = seats-steps events.Enter (λ w. w.primary.connections ++ new_connection ∷ []) refl (λ w. refl) old sessions sequencer did go follows sequencer_stands goes_on;
       cut = tt;
       calls = none-added _ _ calls;
     }
@@ -344,7 +378,7 @@ enter-does old sessions sequencer (Err refusal) go follows sequencer_stands goes
     record {
       steps = tt;
       cut = λ first second w stands.
-          cut-same first second events.Enter refusal old (with_turn sessions sequencer old) w refl memory refl refl same (enabled w stands.parts.sessions) stands;
+          cut-same first second events.Enter refusal old (with_turn sessions sequencer old) w refl memory refl refl same (own-runs stands events.Enter refl) (enabled w stands.parts.sessions) (nodes-refine stands);
       calls = none-added _ _ calls;
     }
 
@@ -357,7 +391,7 @@ pub leave-does : (old : Pair) (sessions : Sessions) (sequencer : Sequencing) (c 
     → sessions.calls ≡ old.sessions.calls → Does old (events.Leave c) (Ok did) (with_turn sessions sequencer old)
 leave-does old sessions sequencer c did go follows sequencer_stands goes_on calls =
     record {
-      steps = seats-steps (events.Leave c) (λ w. changed_at c left w.primary.connections) (λ w. refl) old sessions sequencer did go (λ w sound stand follow. follows w stand follow) sequencer_stands goes_on;
+      steps = seats-steps (events.Leave c) (λ w. changed_at c left w.primary.connections) refl (λ w. refl) old sessions sequencer did go (λ w sound stand follow. follows w stand follow) sequencer_stands goes_on;
       cut = tt;
       calls = none-added _ _ calls;
     }

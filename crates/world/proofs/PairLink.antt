@@ -1,8 +1,7 @@
 -- What the events of the link and its acknowledgements do to the pair, of what they do to its parts.
-use Rattle.std.proofs.Common.{◌≡◌, ℕ, ◌≤◌, Bool, true, false, nat_lt, List, [], ◌∷◌, ◌++◌, length, option_map, slice_get, slice_index_or, Option, Some, None, Result, Ok, Err, Vec, Global, ◌<◌, refl, sym, ap, ap₂, subst, ◌∙◌, arith, true≢false, cond, eq-eqb, All}
-use Rattle.std.proofs.lemmas.Bool.{lt-ltb, le-ltb, ltb-true, ltb-false}
-use Rattle.std.proofs.lemmas.List.{length-map}
-use Rattle.std.proofs.lemmas.Option.{slice_get-get_or, slice_get-map, slice_get_within}
+use Rattle.std.proofs.Common.{◌≡◌, inl, ℕ, ◌≤◌, Bool, true, false, nat_lt, List, [], ◌∷◌, ◌++◌, length, slice_get, Option, Some, None, Result, Ok, Err, Vec, Global, ◌<◌, refl, sym, ap, ap₂, subst, ◌∙◌, arith, true≢false, cond, eq-eqb, All}
+use Rattle.std.proofs.lemmas.Bool.{lt-ltb, le-ltb, ltb-false}
+use Rattle.std.proofs.lemmas.Option.{slice_get_within}
 use Rattle.kv_types.specs.declared.refusal.Refusal.{Refusal}
 use Rattle.kv_types.specs.declared.refusal.Refusal.TheVariants.{Memory}
 use Rattle.pipes.specs.Waiting.{Waiting}
@@ -19,12 +18,12 @@ use Rattle.machine.specs.Event.{World, Link as MachineLink, Frame as Sent, Span,
 use Rattle.std.proofs.lemmas.List.Elements.{All-head}
 use Rattle.machine.specs.Sound.{IsToldWithin, Sound}
 use Rattle.machine.proofs.StandbyLemmas.{all-at}
-use Rattle.machine.proofs.LifeLemmas.{enabled-is}
+use Rattle.world.proofs.LivesLemmas.{enabled-is, nodes-refine, own-runs}
 use Rattle.world.specs.Going.{Goes}
 use Rattle.world.specs.GroupSpan.{AreGroupsOf}
 use Rattle.world.specs.Committing.{Committing, CommittingRefines}
 use Rattle.world.specs.Link.{IsFrameOf, IsFrameSent, IsAckSent, AreFramesSent, LinkRefines}
-use Rattle.world.specs.Standby.{StandbyStands, ArrivalsRefine, told_by}
+use Rattle.world.specs.Standby.{StandbyRefines, ArrivalsRefine, told_by}
 use Rattle.world.specs.Pair.{Pair, PartsRefine, Does}
 use Rattle.world.proofs.FrameLemmas.{AreFramesSent-push, IsFrameOf-copy, may_be_sent, ack_of_read, ack_of_number, length-acks}
 use Rattle.world.proofs.LinkLemmas.{Answers as LinkAnswers, sends}
@@ -50,7 +49,7 @@ hand-does old committing waiting did go same =
       steps = λ first second w stands.
           let parts = stands.parts in
           goes-steps first second w (with_link (handed_to (handed w.primary.committer.stage) w.primary.link) (with_committer (ready_again w.primary.committer) w)) events.Hand did
-          old (with_handed committing waiting old) refl refl stands.sound stands.runs refl
+          old (with_handed committing waiting old) refl refl stands.sound (own-runs stands events.Hand refl) stands.serves refl
           (goes-map (go w stands.sound parts.committing parts.link.waiting)
           (λ moved.
           let shown = shown-parts first second old committing w (ready_again w.primary.committer) parts same moved.0 refl refl in
@@ -119,7 +118,7 @@ link-parts first second old waiting link remote frames w machine passed parts sa
       link = link_stands;
       frames = subst (λ e. AreFramesSent e w.primary.calls frames passed) (sym same) frames_passed;
       arrivals = subst (λ e. ArrivalsRefine e w.primary.calls old.arrivals w.standby.waiting w.wire.acknowledgements) (sym same) parts.arrivals;
-      standby = subst (λ e. StandbyStands second e w.primary.calls w.standby.position old.standby) (sym same) parts.standby;
+      standby = subst (λ e. StandbyRefines second e w.primary.calls w.standby.position old.standby old.standby_runs) (sym same) parts.standby;
     }
 
 -- no frame passed
@@ -153,7 +152,7 @@ send-does old waiting link index frame copy bytes frames answers there same text
           let moved : PartsRefine first second (with_frames waiting link old.remote frames old) w' =
           subst (λ (fs : List (Vec ℕ Global)). PartsRefine first second (with_frames waiting link old.remote fs old) w') (sym more)
           (link-parts first second old waiting link old.remote (old.frames ++ bytes ∷ []) w (sent_next machine.again machine) (w.wire.frames ++ framed epoch (next_to_send machine)) parts at.epoch_is at.link passed) in
-          goes-steps first second w w' events.Send true old (with_frames waiting link old.remote frames old) refl refl stands.sound stands.runs
+          goes-steps first second w w' events.Send true old (with_frames waiting link old.remote frames old) refl refl stands.sound (own-runs stands events.Send refl) stands.serves
           (ap (λ e. with_sent (framed e (next_to_send machine)) (with_link (sent_next machine.again machine) w)) parts.epoch)
           (record { done = sym at.may; goes = λ did. moved; stays = λ did. absurd (true≢false did) });
       cut = tt;
@@ -166,7 +165,7 @@ send-none old waiting link answers =
       steps = λ first second w stands.
           let none = sends w.primary.calls old.link old.handed old.remote w.primary.link stands.sound.legal stands.parts.link (Ok None) link waiting answers in
           let stayed = link-alone first second old waiting link old.remote w w.primary.link stands.parts none.epoch_is none.link in
-          goes-steps first second w (sent w) events.Send false old (with_frames waiting link old.remote old.frames old) refl refl stands.sound stands.runs refl
+          goes-steps first second w (sent w) events.Send false old (with_frames waiting link old.remote old.frames old) refl refl stands.sound (own-runs stands events.Send refl) stands.serves refl
           (record { done = sym none.may; goes = λ did. absurd (true≢false (sym did)); stays = λ did. stayed });
       cut = tt;
       calls = none-added _ _ refl;
@@ -181,7 +180,7 @@ send-cut old waiting link frames result refusal is memory enabled =
     (record {
       steps = tt;
       cut = λ first second w stands.
-          cut-same first second events.Send refusal old (with_frames waiting link old.remote frames old) w refl memory refl refl (tells old.sessions) (enabled w stands.sound.legal stands.parts.link) stands;
+          cut-same first second events.Send refusal old (with_frames waiting link old.remote frames old) w refl memory refl refl (tells old.sessions) (own-runs stands events.Send refl) (enabled w stands.sound.legal stands.parts.link) (nodes-refine stands);
       calls = none-added _ _ refl;
     })
 
@@ -208,7 +207,7 @@ raise-does old known did same is =
             known = link.known;
             remote_is = at;
           })) in
-          goes-steps first second w (with_link (raised_remote machine) w) events.RaiseRemote did old (with_frames old.handed old.link known old.frames old) refl refl stands.sound stands.runs refl
+          goes-steps first second w (with_link (raised_remote machine) w) events.RaiseRemote did old (with_frames old.handed old.link known old.frames old) refl refl stands.sound (own-runs stands events.RaiseRemote refl) stands.serves refl
           (record {
             done = is ∙ ap₂ nat_lt link.remote_is highest;
             goes = λ rose. raised machine.known highest;
@@ -243,7 +242,7 @@ ack-does old n bytes ack link within found reads learns =
           (subst (λ (s : Stream). LinkRefines w.primary.calls s old.handed old.remote (knowing ack.position w.primary.link)) (sym learned)
           (knows w.primary.calls old.link old.handed old.remote ack.position w.primary.link chain.kept_from stands.sound.sent parts.link chain.kept)) in
           goes-steps first second w (with_link (told w.primary.epoch (slice_get w.wire.acknowledgements n) w.primary.link) w) (events.AckDelivered n) true old
-          (with_frames old.handed link old.remote old.frames old) refl refl stands.sound stands.runs refl
+          (with_frames old.handed link old.remote old.frames old) refl refl stands.sound (own-runs stands (events.AckDelivered n) refl) stands.serves refl
           (record {
             done = sym (lt-ltb n (length w.wire.acknowledgements) (slice_get_within w.wire.acknowledgements n (told_by ack) there));
             goes = λ did. link-alone first second old old.handed link old.remote w (told w.primary.epoch (slice_get w.wire.acknowledgements n) w.primary.link) parts
@@ -268,7 +267,7 @@ ack-cut old n bytes result refusal is within found memory =
           let of = ack_of_number old.arrivals.acknowledgements.items w.wire.acknowledgements n told within in
           let one : IsAckSent bytes.items of.one = subst (λ (b : Vec ℕ Global). IsAckSent b.items of.one) (same_found of.bytes_stand found) of.is in
           let few : n < length w.wire.acknowledgements = omega (arith, within, length-acks old.arrivals.acknowledgements.items w.wire.acknowledgements told) in
-          cut-same first second (events.AckDelivered n) refusal old old w refl (memory of.one one) refl refl (tells old.sessions) (lt-ltb n (length w.wire.acknowledgements) few) stands;
+          cut-same first second (events.AckDelivered n) refusal old old w refl (memory of.one one) refl refl (tells old.sessions) (own-runs stands (events.AckDelivered n) refl) (lt-ltb n (length w.wire.acknowledgements) few) (nodes-refine stands);
       calls = none-added _ _ refl;
     })
 
@@ -279,12 +278,12 @@ no-ack-does old n past =
           record {
             world = w;
             step = record {
-              done = sym (enabled-is w (events.AckDelivered n) stands.runs ∙ le-ltb n (length w.wire.acknowledgements) (omega (arith, past, length-acks old.arrivals.acknowledgements.items w.wire.acknowledgements stands.parts.arrivals.acknowledged)));
+              done = sym (enabled-is (own-runs stands (events.AckDelivered n) refl) ∙ le-ltb n (length w.wire.acknowledgements) (omega (arith, past, length-acks old.arrivals.acknowledgements.items w.wire.acknowledgements stands.parts.arrivals.acknowledged)));
               happens = λ did. absurd (true≢false (sym did));
               stands = λ did. refl;
             };
-            stands = stands;
-            moves = untouched first second old old w w refl refl stands.parts;
+            stands = nodes-refine stands;
+            moves = untouched first second old old w w refl refl (inl (stands.serves, stands.parts));
           };
       cut = tt;
       calls = none-added _ _ refl;

@@ -1,26 +1,28 @@
 -- What the events of the standby do to the pair, of what they do to its parts.
-use Rattle.std.proofs.Common.{◌≡◌, ℕ, Bool, true, false, List, [], ◌∷◌, ◌++◌, length, slice_get, Result, Ok, Err, IfOk, IfErr, OnErr, Vec, Global, ◌<◌, refl, sym, ap, subst, ◌∙◌, arith, true≢false, ap₂}
+use Rattle.std.proofs.Common.{◌≡◌, ◌&&◌, inl, inr, ℕ, Bool, true, false, List, [], ◌∷◌, ◌++◌, length, slice_get, Result, Ok, Err, IfOk, IfErr, OnErr, Vec, Global, ◌<◌, refl, sym, ap, subst, ◌∙◌, arith, true≢false, ap₂}
 use Rattle.std.proofs.lemmas.Bool.{lt-ltb}
 use Rattle.kv_types.specs.declared.refusal.Refusal.{Refusal}
 use Rattle.kv_types.specs.declared.refusal.Refusal.TheVariants.{Memory, Fault, Exhausted}
 use Rattle.model.specs.Standing.{Holder}
 use Rattle.standby.specs.declared.frame.Ack.{Ack}
 use Rattle.standby_stream.specs.Stream.{Stream}
+use Rattle.machine.specs.declared.event.Event.{Event}
 use Rattle.machine.specs.declared.event.Event.TheVariants as events
-use Rattle.machine.specs.Event.{World, Standby as MachineStandby, Acknowledgement, Step, may_happen, opened_link, acknowledgement_of, delivered, option_items, told, with_link, with_standby, with_acknowledged}
+use Rattle.model.specs.declared.call.Call.{Call}
+use Rattle.machine.specs.Event.{World, Primary, Standby as MachineStandby, Acknowledgement, Applies, Step, is_running, nodes_run, may_happen, opened_link, acknowledgement_of, delivered, option_items, told, with_link, with_standby, with_acknowledged}
 use Rattle.machine.specs.Sound.{Sound}
 use Rattle.machine.proofs.SoundEvents.{sound-step}
-use Rattle.machine.proofs.LifeLemmas.{runs_on-step, enabled-is}
+use Rattle.world.proofs.LivesLemmas.{Runs, enabled-is, is_plain, lives-step, nodes-refine, serving}
 use Rattle.world.specs.Going.{Goes}
 use Rattle.world.specs.Cause.{Stretch, Breaks, RestsAtLimit, EndsBy, Resting}
 use Rattle.world.specs.Committing.{NearOnly, Moves, next_standby}
 use Rattle.world.specs.Link.{LinkRefines, AreFramesSent}
-use Rattle.world.specs.Standby.{Node, StandbyStands, ArrivalsRefine, AppliesFirst, told_by}
-use Rattle.world.specs.Pair.{Pair, PartsRefine, PairRefines, Steps, Does}
+use Rattle.world.specs.Standby.{Node, StandbyStands, StandbyRefines, ArrivalsRefine, AppliesFirst, told_by}
+use Rattle.world.specs.Pair.{Pair, DownRefine, EitherRefines, NodesRefine, PartsRefine, PairRefines, Steps, Acts, Does, life_if}
 use Rattle.world.specs.declared.arrivals.Arrivals.{Arrivals}
-use Rattle.world.proofs.EngineLemmas.{Stands-engine, moves-same}
+use Rattle.world.proofs.EngineLemmas.{moves-same}
 use Rattle.world.proofs.FrameLemmas.{length-sent}
-use Rattle.world.proofs.PairLemmas.{Led, cut-for, cut-same, goes-map, goes-steps, none-added, rests-primary, tells, untouched}
+use Rattle.world.proofs.PairLemmas.{Led, cut-for, cut-same, goes-either, goes-map, goes-steps, none-added, primary-stands, rests-primary, tells, untouched}
 use Rattle.world.proofs.PairLink.{link-alone}
 
 -- ---- the standby
@@ -46,12 +48,78 @@ arrivals-parts first second old arrivals w machine told parts position arrivals_
       link = parts.link;
       frames = parts.frames;
       arrivals = arrivals_stand;
-      standby = subst (λ p. StandbyStands second old.link.epoch w.primary.calls p old.standby) (sym position) parts.standby;
+      standby = subst (λ p. StandbyRefines second old.link.epoch w.primary.calls p old.standby old.standby_runs) (sym position) parts.standby;
     }
 
+-- whether the primary runs or not
+arrivals-either : (first second : Holder) (old : Pair) (arrivals : Arrivals) (w : World) (machine : MachineStandby) (told : List Acknowledgement) → EitherRefines first second old w → machine.position ≡ w.standby.position
+    → ArrivalsRefine old.link.epoch w.primary.calls arrivals machine.waiting told
+    → EitherRefines first second (with_arrivals arrivals old) (record w { standby = machine; wire = record w.wire { acknowledgements = told } })
+arrivals-either first second old arrivals w machine told parts position arrivals_stand = elim parts [
+  | inl up ↦ inl (up.0, arrivals-parts first second old arrivals w machine told up.1 position arrivals_stand)
+  | inr down ↦ inr (
+    down.0,
+    record {
+      sessions = down.1.sessions;
+      unseated = down.1.unseated;
+      committer = down.1.committer;
+      link = down.1.link;
+      ends = down.1.ends;
+      image = down.1.image;
+      epoch = down.1.epoch;
+      frames = down.1.frames;
+      arrivals = arrivals_stand;
+      standby = subst (λ p. StandbyRefines second old.link.epoch w.primary.calls p old.standby old.standby_runs) (sym position) down.1.standby;
+    },
+  )
+]
+
+frames-stand : {first second : Holder} {pair : Pair} {w : World} → EitherRefines first second pair w → AreFramesSent pair.link.epoch w.primary.calls pair.frames w.wire.frames
+frames-stand parts = elim parts [
+  | inl up ↦ up.1.frames
+  | inr down ↦ down.1.frames
+]
+
+pub arrivals-stand : {first second : Holder} {pair : Pair} {w : World} → EitherRefines first second pair w
+    → ArrivalsRefine pair.link.epoch w.primary.calls pair.arrivals w.standby.waiting w.wire.acknowledgements
+arrivals-stand parts = elim parts [
+  | inl up ↦ up.1.arrivals
+  | inr down ↦ down.1.arrivals
+]
+
+-- a standby that runs
+pub follower : {first second : Holder} {pair : Pair} {w : World} → pair.standby_runs ≡ true → EitherRefines first second pair w
+    → StandbyStands second pair.link.epoch w.primary.calls w.standby.position pair.standby
+follower follows parts = elim parts [
+  | inl up ↦ up.1.standby.stands follows
+  | inr down ↦ down.1.standby.stands follows
+]
+
+pub link-epoch : {first second : Holder} {pair : Pair} {w : World} → EitherRefines first second pair w → pair.link.epoch ≡ w.primary.epoch
+link-epoch parts = elim parts [
+  | inl up ↦ up.1.epoch
+  | inr down ↦ down.1.epoch
+]
+
 -- the epoch of the standby's node is the machine's
-own-epoch : (first second : Holder) (old : Pair) (w : World) → PairRefines first second old w → old.standby.epoch ≡ w.standby.epoch
-own-epoch first second old w stands = stands.parts.standby.epoch_is ∙ stands.parts.epoch ∙ sym stands.sound.standby.epoch_is
+own-epoch : (first second : Holder) (old : Pair) (w : World) → old.standby_runs ≡ true → NodesRefine first second old w → old.standby.epoch ≡ w.standby.epoch
+own-epoch first second old w follows stands = (follower follows stands.parts).epoch_is ∙ link-epoch stands.parts ∙ sym stands.sound.standby.epoch_is
+
+-- ---- which events may come
+
+-- an event of a standby that runs
+standby-runs : {first second : Holder} {pair : Pair} {w : World} → pair.standby_runs ≡ true → NodesRefine first second pair w → (event : Event) → (is_running w.standby.life ≡ true → nodes_run w event ≡ true) → is_plain event ≡ true
+    → Runs first second pair.primary_runs pair.standby_runs w event
+standby-runs {first} {second} {pair} {w} follows stands event nodes plain = record {
+  lives = stands.lives;
+  nodes = nodes (ap is_running stands.lives.standby ∙ ap (λ b. is_running (life_if b)) follows);
+  plain = plain;
+}
+
+-- an event of both
+both-run : {first second : Holder} {pair : Pair} {w : World} → pair.standby_runs ≡ true → PairRefines first second pair w → Runs first second pair.primary_runs pair.standby_runs w events.OpenLink
+both-run {first} {second} {pair} {w} follows stands =
+    standby-runs follows (nodes-refine stands) events.OpenLink (λ runs. ap (λ b. b && is_running w.standby.life) (ap is_running (serving stands)) ∙ runs) refl
 
 -- the standby told its position
 abbrev pub Acknowledges : Ack → Arrivals → Arrivals → Type 0
@@ -59,14 +127,14 @@ Acknowledges ack old new =
     (epoch : ℕ) (w : World) → ArrivalsRefine epoch w.primary.calls old w.standby.waiting w.wire.acknowledgements → told_by ack ≡ acknowledgement_of w.standby
     → ArrivalsRefine epoch w.primary.calls new w.standby.waiting (w.wire.acknowledgements ++ acknowledgement_of w.standby ∷ [])
 
-pub open-does : (old : Pair) (arrivals : Arrivals) (link : Stream) (ack : Ack) → ack ≡ record { epoch = old.standby.epoch; position = old.standby.contents.current.position } → Acknowledges ack old.arrivals arrivals
+pub open-does : (old : Pair) (arrivals : Arrivals) (link : Stream) (ack : Ack) → old.standby_runs ≡ true → ack ≡ record { epoch = old.standby.epoch; position = old.standby.contents.current.position } → Acknowledges ack old.arrivals arrivals
     → link ≡ record old.link { next = 0 } → Does old events.OpenLink (Ok true) (with_opened arrivals link old)
-open-does old arrivals link ack is acknowledges reopened =
+open-does old arrivals link ack follows is acknowledges reopened =
     record {
       steps = λ first second w stands.
           let parts = stands.parts in
-          let epoch : ack.epoch ≡ w.standby.epoch = ap (λ (a : Ack). a.epoch) is ∙ own-epoch first second old w stands in
-          let position : ack.position ≡ w.standby.position = ap (λ (a : Ack). a.position) is ∙ parts.standby.engine.contents_at.at in
+          let epoch : ack.epoch ≡ w.standby.epoch = ap (λ (a : Ack). a.epoch) is ∙ own-epoch first second old w follows (nodes-refine stands) in
+          let position : ack.position ≡ w.standby.position = ap (λ (a : Ack). a.position) is ∙ (parts.standby.stands follows).engine.contents_at.at in
           let own : told_by ack ≡ acknowledgement_of w.standby = ap₂ (λ e p. record { epoch = e; position = p }) epoch position in
           let told = acknowledges old.link.epoch w parts.arrivals own in
           let w' = with_acknowledged (acknowledgement_of w.standby ∷ []) w in
@@ -82,113 +150,134 @@ open-does old arrivals link ack is acknowledges reopened =
           } in
           let moved = link-alone first second (with_arrivals arrivals old) old.handed link old.remote w' (opened_link w.primary.link) heard (ap (λ (s : Stream). s.epoch) reopened)
           (subst (λ (s : Stream). LinkRefines w.primary.calls s old.handed old.remote (opened_link w.primary.link)) (sym reopened) opened) in
-          goes-steps first second w (with_link (opened_link w.primary.link) w') events.OpenLink true old (with_opened arrivals link old) refl refl stands.sound stands.runs refl
+          goes-steps first second w (with_link (opened_link w.primary.link) w') events.OpenLink true old (with_opened arrivals link old) refl refl stands.sound (both-run follows stands) stands.serves refl
           (record { done = refl; goes = λ did. moved; stays = λ did. absurd (true≢false did) });
       cut = tt;
       calls = none-added _ _ refl;
     }
 
-pub open-cut : (old : Pair) (arrivals : Arrivals) (result : Result Bool Refusal) (refusal : Refusal) → result ≡ Err refusal → refusal ≡ Memory
+pub open-cut : (old : Pair) (arrivals : Arrivals) (result : Result Bool Refusal) (refusal : Refusal) → old.standby_runs ≡ true → result ≡ Err refusal → refusal ≡ Memory
     → Does old events.OpenLink result (with_arrivals arrivals old)
-open-cut old arrivals result refusal is memory =
+open-cut old arrivals result refusal follows is memory =
     subst (λ (r : Result Bool Refusal). Does old events.OpenLink r (with_arrivals arrivals old)) (sym is)
     (record {
       steps = tt;
-      cut = λ first second w stands. cut-same first second events.OpenLink refusal old (with_arrivals arrivals old) w refl memory refl refl (tells old.sessions) refl stands;
+      cut = λ first second w stands. cut-same first second events.OpenLink refusal old (with_arrivals arrivals old) w refl memory refl refl (tells old.sessions) (both-run follows stands) refl (nodes-refine stands);
       calls = none-added _ _ refl;
     })
 
-pub deliver-does : (old : Pair) (arrivals : Arrivals) (texts : List (Vec ℕ Global)) (frame piece : ℕ) (result : Result Bool Refusal) → texts ≡ old.frames
+pub deliver-acts : (old : Pair) (arrivals : Arrivals) (texts : List (Vec ℕ Global)) (frame piece : ℕ) (result : Result Bool Refusal) → old.standby_runs ≡ true → texts ≡ old.frames
     → IfOk result (λ did. (epoch : ℕ) (w : World) → ArrivalsRefine epoch w.primary.calls old.arrivals w.standby.waiting w.wire.acknowledgements
     → AreFramesSent epoch w.primary.calls texts w.wire.frames
     → Goes (may_happen w (events.Deliver frame piece)) did
     (ArrivalsRefine epoch w.primary.calls arrivals (delivered (option_items (slice_get w.wire.frames frame)) w.standby).waiting w.wire.acknowledgements)
     (ArrivalsRefine epoch w.primary.calls arrivals w.standby.waiting w.wire.acknowledgements))
     → IfErr result (λ refusal. (epoch : ℕ) (w : World) → AreFramesSent epoch w.primary.calls texts w.wire.frames → refusal ≡ Memory) → OnErr result (frame < length texts)
-    → Does old (events.Deliver frame piece) result (with_arrivals arrivals old)
-deliver-does old arrivals texts frame piece (Ok did) same go memory some =
+    → Acts old (events.Deliver frame piece) result (with_arrivals arrivals old)
+deliver-acts old arrivals texts frame piece (Ok did) follows same go memory some =
     record {
       steps = λ first second w stands.
           let parts = stands.parts in
           let epoch = old.link.epoch in
           let calls = w.primary.calls in
           let came = delivered (option_items (slice_get w.wire.frames frame)) w.standby in
-          goes-steps first second w (with_standby came w) (events.Deliver frame piece) did old (with_arrivals arrivals old) refl refl stands.sound stands.runs refl
-          (goes-map (go epoch w parts.arrivals (subst (λ (all : List (Vec ℕ Global)). AreFramesSent epoch calls all w.wire.frames) (sym same) parts.frames))
-          (λ moved. arrivals-parts first second old arrivals w came w.wire.acknowledgements parts refl moved)
-          (λ stayed. arrivals-parts first second old arrivals w w.standby w.wire.acknowledgements parts refl stayed));
+          goes-either first second w (with_standby came w) (events.Deliver frame piece) did old (with_arrivals arrivals old) refl refl stands.sound
+          (standby-runs follows stands (events.Deliver frame piece) (λ runs. runs) refl) refl
+          (goes-map (go epoch w (arrivals-stand parts) (subst (λ (all : List (Vec ℕ Global)). AreFramesSent epoch calls all w.wire.frames) (sym same) (frames-stand parts)))
+          (λ moved. arrivals-either first second old arrivals w came w.wire.acknowledgements parts refl moved)
+          (λ stayed. arrivals-either first second old arrivals w w.standby w.wire.acknowledgements parts refl stayed));
       cut = tt;
       calls = none-added _ _ refl;
     }
-deliver-does old arrivals texts frame piece (Err refusal) same go memory some =
+deliver-acts old arrivals texts frame piece (Err refusal) follows same go memory some =
     record {
       steps = tt;
       cut = λ first second w stands.
-          let sent = stands.parts.frames in
+          let sent = frames-stand stands.parts in
           let is : frame < length w.wire.frames = omega (arith, some, ap length same, length-sent old.link.epoch w.primary.calls old.frames w.wire.frames sent) in
           let refused : refusal ≡ Memory = memory old.link.epoch w (subst (λ (all : List (Vec ℕ Global)). AreFramesSent old.link.epoch w.primary.calls all w.wire.frames) (sym same) sent) in
-          cut-same first second (events.Deliver frame piece) refusal old (with_arrivals arrivals old) w refl refused refl refl (tells old.sessions) (lt-ltb frame (length w.wire.frames) is) stands;
+          cut-same first second (events.Deliver frame piece) refusal old (with_arrivals arrivals old) w refl refused refl refl (tells old.sessions)
+          (standby-runs follows stands (events.Deliver frame piece) (λ runs. runs) refl) (lt-ltb frame (length w.wire.frames) is) stands;
       calls = none-added _ _ refl;
     }
 
 abbrev pub with_node : Arrivals → Node → Pair → Pair
 with_node arrivals node pair = record pair { arrivals = arrivals; standby = node }
 
-apply-steps : (first second : Holder) (old : Pair) (arrivals : Arrivals) (node : Node) (w : World) (did : Bool) → PairRefines first second old w
+node-either : (first second : Holder) (old : Pair) (arrivals : Arrivals) (node : Node) (w w' : World) → old.standby_runs ≡ true → EitherRefines first second old w → w'.primary ≡ w.primary
+    → w'.wire.frames ≡ w.wire.frames
+    → ArrivalsRefine old.link.epoch w.primary.calls arrivals w'.standby.waiting w'.wire.acknowledgements → StandbyStands second old.link.epoch w.primary.calls w'.standby.position node
+    → EitherRefines first second (with_node arrivals node old) w'
+node-either first second old arrivals node w w' follows parts primary frames arrivals_stand node_stands =
+    let calls = ap (λ (p : Primary). p.calls) primary in
+    let node_refines : StandbyRefines second old.link.epoch w'.primary.calls w'.standby.position node old.standby_runs =
+    record { stands = λ runs. subst (λ (l : List Call). StandbyStands second old.link.epoch l w'.standby.position node) (sym calls) node_stands; down = λ down. absurd (true≢false (sym follows ∙ down)) } in
+    let arrive = subst (λ (l : List Call). ArrivalsRefine old.link.epoch l arrivals w'.standby.waiting w'.wire.acknowledgements) (sym calls) arrivals_stand in
+    elim parts [
+      | inl up ↦
+          let at : (p : Primary) → p ≡ w.primary → PartsRefine first second (with_node arrivals node old) (record w' { primary = p }) = λ p same. rw same (record {
+            sessions = up.1.sessions;
+            sequencer = up.1.sequencer;
+            follow = up.1.follow;
+            committing = up.1.committing;
+            engine = up.1.engine;
+            leads = up.1.leads;
+            epoch = up.1.epoch;
+            link = up.1.link;
+            frames = subst (AreFramesSent old.link.epoch w.primary.calls old.frames) (sym frames) up.1.frames;
+            arrivals = arrivals_stand;
+            standby = record { stands = λ runs. node_stands; down = λ down. absurd (true≢false (sym follows ∙ down)) };
+          }) in
+          inl (up.0, at w'.primary primary)
+      | inr down ↦
+          let at : (p : Primary) → p ≡ w.primary → DownRefine first second (with_node arrivals node old) (record w' { primary = p }) = λ p same. rw same (record {
+            sessions = down.1.sessions;
+            unseated = down.1.unseated;
+            committer = down.1.committer;
+            link = down.1.link;
+            ends = down.1.ends;
+            image = down.1.image;
+            epoch = down.1.epoch;
+            frames = subst (AreFramesSent old.link.epoch w.primary.calls old.frames) (sym frames) down.1.frames;
+            arrivals = arrivals_stand;
+            standby = record { stands = λ runs. node_stands; down = λ down. absurd (true≢false (sym follows ∙ down)) };
+          }) in
+          inr (down.0, at w'.primary primary)
+    ]
+
+apply-steps : (first second : Holder) (old : Pair) (arrivals : Arrivals) (node : Node) (w : World) (did : Bool) → old.standby_runs ≡ true → NodesRefine first second old w
     → AppliesFirst second old.link.epoch w did arrivals old.standby node → Steps first second w events.Apply did old (with_node arrivals node old)
-apply-steps first second old arrivals node w true stands applies =
-    let parts = stands.parts in
+apply-steps first second old arrivals node w true follows stands applies =
     let moved = applies.goes refl in
     let applied = moved.1 in
     let w' = with_acknowledged applied.told (with_standby applied.standby w) in
-    let step : Step w events.Apply true w' =
-    record { done = applies.done ∙ sym (enabled-is w events.Apply stands.runs); happens = λ did. record { frame = applied.frame; first = applied.first; standby = applied.standby; told = applied.told; takes = applied.takes; now = refl }; stands = λ did. absurd (true≢false did) } in
+    let runs = standby-runs follows stands events.Apply (λ runs. runs) refl in
+    let happens : Applies w w' = record { frame = applied.frame; first = applied.first; standby = applied.standby; told = applied.told; takes = applied.takes; now = refl } in
+    let step : Step w events.Apply true w' = record { done = applies.done ∙ sym (enabled-is runs); happens = λ did. happens; stands = λ did. absurd (true≢false did) } in
     record {
       world = w';
       step = step;
       stands = record {
         sound = sound-step w events.Apply true w' step stands.sound;
-        runs = runs_on-step w events.Apply true w' step stands.runs;
-        parts = record {
-          sessions = parts.sessions;
-          sequencer = parts.sequencer;
-          follow = parts.follow;
-          committing = parts.committing;
-          engine = parts.engine;
-          leads = parts.leads;
-          epoch = parts.epoch;
-          link = parts.link;
-          frames = parts.frames;
-          arrivals = subst (λ (x : World). ArrivalsRefine old.link.epoch w.primary.calls arrivals x.standby.waiting x.wire.acknowledgements) applied.now moved.2;
-          standby = subst (λ (x : World). StandbyStands second old.link.epoch w.primary.calls x.standby.position node) applied.now moved.3;
-        };
+        lives = lives-step runs happens;
+        parts = node-either first second old arrivals node w w' follows stands.parts refl refl
+            (subst (λ (x : World). ArrivalsRefine old.link.epoch w.primary.calls arrivals x.standby.waiting x.wire.acknowledgements) applied.now moved.2)
+            (subst (λ (x : World). StandbyStands second old.link.epoch w.primary.calls x.standby.position node) applied.now moved.3);
       };
       moves = record {
-        primary = moves-same first w.primary.calls w.primary.committer.position w.primary.committer.position old.device old.device refl (Stands-engine _ _ _ _ _ _ parts.engine);
+        primary = moves-same first w.primary.calls w.primary.committer.position w.primary.committer.position old.device old.device refl (primary-stands first second old w stands.parts);
         standby = subst (λ (x : World). Moves second w.primary.calls w.standby.position x.standby.position old.standby.device node.device) applied.now moved.4;
       };
     }
-apply-steps first second old arrivals node w false stands applies =
-    let before = stands.parts in
+apply-steps first second old arrivals node w false follows stands applies =
     let stayed = applies.stays refl in
-    let parts : PartsRefine first second (with_node arrivals node old) w =
-    record {
-      sessions = before.sessions;
-      sequencer = before.sequencer;
-      follow = before.follow;
-      committing = before.committing;
-      engine = before.engine;
-      leads = before.leads;
-      epoch = before.epoch;
-      link = before.link;
-      frames = before.frames;
-      arrivals = stayed.0;
-      standby = subst (StandbyStands second old.link.epoch w.primary.calls w.standby.position) (sym stayed.1) before.standby;
-    } in
+    let parts = node-either first second old arrivals node w w follows stands.parts refl refl stayed.0
+    (subst (StandbyStands second old.link.epoch w.primary.calls w.standby.position) (sym stayed.1) (follower follows stands.parts)) in
+    let runs = standby-runs follows stands events.Apply (λ runs. runs) refl in
     record {
       world = w;
-      step = record { done = applies.done ∙ sym (enabled-is w events.Apply stands.runs); happens = λ did. absurd (true≢false (sym did)); stands = λ did. refl };
-      stands = record { sound = stands.sound; runs = stands.runs; parts = parts };
+      step = record { done = applies.done ∙ sym (enabled-is runs); happens = λ did. absurd (true≢false (sym did)); stands = λ did. refl };
+      stands = record { sound = stands.sound; lives = stands.lives; parts = parts };
       moves = untouched first second old (with_node arrivals node old) w w refl (ap (λ (n : Node). n.device) stayed.1) parts;
     }
 
@@ -199,7 +288,7 @@ ends-apply Fault P Q both ends = both Breaks ends
 ends-apply Exhausted P Q both ends = both RestsAtLimit ends
 ends-apply refusal P Q both ends = absurd ends
 
-pub apply-does : (old : Pair) (arrivals : Arrivals) (node : Node) (result : Result Bool Refusal)
+pub apply-acts : (old : Pair) (arrivals : Arrivals) (node : Node) (result : Result Bool Refusal) → old.standby_runs ≡ true
     → IfOk result (λ did. (holder : Holder) (w : World) → Sound w → old.standby.epoch ≡ w.standby.epoch → ArrivalsRefine old.standby.epoch w.primary.calls old.arrivals w.standby.waiting w.wire.acknowledgements
     → StandbyStands holder old.standby.epoch w.primary.calls w.standby.position old.standby
     → AppliesFirst holder old.standby.epoch w did arrivals old.standby node)
@@ -208,16 +297,16 @@ pub apply-does : (old : Pair) (arrivals : Arrivals) (node : Node) (result : Resu
     → IfErr result (λ refusal. (holder : Holder) (w : World) → Sound w → old.standby.epoch ≡ w.standby.epoch → ArrivalsRefine old.standby.epoch w.primary.calls old.arrivals w.standby.waiting w.wire.acknowledgements
     → StandbyStands holder old.standby.epoch w.primary.calls w.standby.position old.standby
     → (may_happen w events.Apply ≡ true) × EndsBy refusal events.Apply (λ _ last. last holder w.primary.calls w.standby.position (next_standby w) old.standby.device node.device))
-    → Does old events.Apply result (with_node arrivals node old)
-apply-does old arrivals node result applies only cuts = go result applies cuts
+    → Acts old events.Apply result (with_node arrivals node old)
+apply-acts old arrivals node result follows applies only cuts = go result applies cuts
   where
-    arrive : (first second : Holder) (w : World) → PairRefines first second old w → ArrivalsRefine old.standby.epoch w.primary.calls old.arrivals w.standby.waiting w.wire.acknowledgements
+    arrive : (first second : Holder) (w : World) → NodesRefine first second old w → ArrivalsRefine old.standby.epoch w.primary.calls old.arrivals w.standby.waiting w.wire.acknowledgements
     arrive first second w stands =
-        subst (λ e. ArrivalsRefine e w.primary.calls old.arrivals w.standby.waiting w.wire.acknowledgements) (sym stands.parts.standby.epoch_is) stands.parts.arrivals
+        subst (λ e. ArrivalsRefine e w.primary.calls old.arrivals w.standby.waiting w.wire.acknowledgements) (sym (follower follows stands.parts).epoch_is) (arrivals-stand stands.parts)
 
-    stand : (first second : Holder) (w : World) → PairRefines first second old w → StandbyStands second old.standby.epoch w.primary.calls w.standby.position old.standby
+    stand : (first second : Holder) (w : World) → NodesRefine first second old w → StandbyStands second old.standby.epoch w.primary.calls w.standby.position old.standby
     stand first second w stands =
-        subst (λ e. StandbyStands second e w.primary.calls w.standby.position old.standby) (sym stands.parts.standby.epoch_is) stands.parts.standby
+        subst (λ e. StandbyStands second e w.primary.calls w.standby.position old.standby) (sym (follower follows stands.parts).epoch_is) (follower follows stands.parts)
 
     go : (result : Result Bool Refusal)
         → IfOk result (λ did. (holder : Holder) (w : World) → Sound w → old.standby.epoch ≡ w.standby.epoch → ArrivalsRefine old.standby.epoch w.primary.calls old.arrivals w.standby.waiting w.wire.acknowledgements
@@ -226,13 +315,13 @@ apply-does old arrivals node result applies only cuts = go result applies cuts
         → IfErr result (λ refusal. (holder : Holder) (w : World) → Sound w → old.standby.epoch ≡ w.standby.epoch → ArrivalsRefine old.standby.epoch w.primary.calls old.arrivals w.standby.waiting w.wire.acknowledgements
         → StandbyStands holder old.standby.epoch w.primary.calls w.standby.position old.standby
         → (may_happen w events.Apply ≡ true) × EndsBy refusal events.Apply (λ _ last. last holder w.primary.calls w.standby.position (next_standby w) old.standby.device node.device))
-        → Does old events.Apply result (with_node arrivals node old)
+        → Acts old events.Apply result (with_node arrivals node old)
     go (Ok did) applies cuts =
         record {
           steps = λ first second w stands.
-              let applied = applies second w stands.sound (own-epoch first second old w stands) (arrive first second w stands) (stand first second w stands) in
-              apply-steps first second old arrivals node w did stands
-              (subst (λ e. AppliesFirst second e w did arrivals old.standby node) stands.parts.standby.epoch_is applied);
+              let applied = applies second w stands.sound (own-epoch first second old w follows stands) (arrive first second w stands) (stand first second w stands) in
+              apply-steps first second old arrivals node w did follows stands
+              (subst (λ e. AppliesFirst second e w did arrivals old.standby node) (follower follows stands.parts).epoch_is applied);
           cut = tt;
           calls = none-added _ _ refl;
         }
@@ -241,8 +330,8 @@ apply-does old arrivals node result applies only cuts = go result applies cuts
           steps = tt;
           cut = λ first second w stands.
               let new = with_node arrivals node old in
-              let cut = cuts second w stands.sound (own-epoch first second old w stands) (arrive first second w stands) (stand first second w stands) in
-              cut-for first second events.Apply refusal old new w stands (tells old.sessions) cut.0
+              let cut = cuts second w stands.sound (own-epoch first second old w follows stands) (arrive first second w stands) (stand first second w stands) in
+              cut-for first second events.Apply refusal old new w stands (tells old.sessions) (enabled-is (standby-runs follows stands events.Apply (λ runs. runs) refl) ∙ cut.0)
               (ends-apply refusal (λ _ last. last second w.primary.calls w.standby.position (next_standby w) old.standby.device node.device) (Led first second old new w)
               (λ last broken. (rests-primary first second old w stands, broken)) cut.1);
           calls = none-added _ _ refl;

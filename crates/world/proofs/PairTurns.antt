@@ -31,6 +31,7 @@ use Rattle.world.specs.Pair.{Pair, PartsRefine, PairRefines, Steps, Does}
 use Rattle.world.specs.declared.arrivals.Arrivals.{Arrivals}
 use Rattle.world.specs.declared.sessions.Sessions.{Sessions}
 use Rattle.world.proofs.CommittingLemmas.{commit-busy, commit-ends, commit-full, commit-goes, commit-moments, commit-none, first-lawful, first-own, hand-goes, hand-none, hand-room, may-commit, raise-goes, raise-none}
+use Rattle.world.proofs.LivesLemmas.{enabled-is, nodes-refine, own-runs}
 use Rattle.world.proofs.PairLemmas.{Led, cut-for, none-added, rests-standby, tells}
 use Rattle.world.proofs.PairCommitting.{commit-steps, ends-commit, raise-does, same_closed, stays-does}
 use Rattle.world.proofs.PairLink.{hand-does}
@@ -46,12 +47,16 @@ abbrev pub did_of : Result Done Refusal → Result Bool Refusal
 did_of (Ok done) = Ok (has_done done)
 did_of (Err refusal) = Err refusal
 
+-- a group that was committed was not refused
+committed_not_refused : {done : Done} {refusal : Refusal} → Ok done ≡ Err refusal → ⊥
+committed_not_refused same = cc
+
 -- what waits in a pipe is all that there is of it
 Waiting-same : (a b : Waiting Group) → a.items ≡ b.items → a ≡ b
 Waiting-same a b same =
     subst (λ items. (within : length items ≤ limits.PIPE_ITEMS) → a ≡ record { items = items; within = within }) same (λ within. ap (λ w. record a { within = w }) (le_prop a.within within)) b.within
 
-module _ {E : Type 0} (device : E → State) (contents : E → Contents) (is_faulted : E → Bool) (sessions : Sessions) (sequencer : Sequencing) (link : Stream) (remote : ℕ) (frames : List (Vec ℕ Global)) (arrivals : Arrivals) (standby : Node) where
+module _ {E : Type 0} (device : E → State) (contents : E → Contents) (is_faulted : E → Bool) (sessions : Sessions) (sequencer : Sequencing) (link : Stream) (remote : ℕ) (frames : List (Vec ℕ Global)) (arrivals : Arrivals) (standby : Node) (primary_runs standby_runs : Bool) where
   -- a pair with this committer, with these groups waiting for it, and with these at the link
   abbrev pub pair_of : Committer E → Waiting Group → Waiting Group → Pair
   pair_of committer groups waiting = record {
@@ -67,6 +72,8 @@ module _ {E : Type 0} (device : E → State) (contents : E → Contents) (is_fau
     frames = frames;
     arrivals = arrivals;
     standby = standby;
+    primary_runs = primary_runs;
+    standby_runs = standby_runs;
   }
 
   committed : (before after : Committer E) (groups groups' waiting : Waiting Group) (group : Group) → before.stage ≡ Ready → AreGroups (contents before.engine) groups.items
@@ -115,8 +122,9 @@ module _ {E : Type 0} (device : E → State) (contents : E → Contents) (is_fau
       steps first second w stands =
           let parts = stands.parts in
           let goes = commit-goes first w old.committing new.committing group waiting.items old.device new.device old.contents new.contents old.is_faulted new.is_faulted
-          ready room waits commits.in_hand commits.local lawful (own parts.leads.epochs) commits.moved commits.durable commits.sound.0 parts.committing parts.engine parts.link.waiting in
-          commit-steps first second w old new refl stands.sound stands.runs commits.sound.1
+          ready room waits commits.in_hand commits.local lawful (own parts.leads.epochs) (λ sound would. committed_not_refused (commits.exhausts sound would))
+          commits.moved commits.durable commits.sound.0 parts.committing parts.engine parts.link.waiting in
+          commit-steps first second w old new refl stands.sound (own-runs stands events.Commit refl) stands.serves commits.sound.1
           (commit-moments first w old.committing group groups'.items old.device new.device old.contents old.is_faulted waits lawful (own parts.leads.epochs) commits.moments stands.sound parts.committing parts.engine)
           goes.done (parts-after first second w (committed_first w.primary.committer.waiting w.primary.committer) parts (goes.goes refl) (same_closed w.primary.committer.waiting w))
 
@@ -132,10 +140,10 @@ module _ {E : Type 0} (device : E → State) (contents : E → Contents) (is_fau
             let lawful = first-lawful old.contents groups.items group groups'.items are waits in
             let parts = stands.parts in
             let own = first-own old.contents.current.epoch groups.items group groups'.items parts.leads.epochs waits in
-            cut-for first second events.Commit refusal old new w stands (tells sessions)
-            (may-commit w old.committing group groups'.items waiting.items ready room waits parts.committing parts.link.waiting)
+            cut-for first second events.Commit refusal old new w (nodes-refine stands) (tells sessions)
+            (enabled-is (own-runs stands events.Commit refl) ∙ may-commit w old.committing group groups'.items waiting.items ready room waits parts.committing parts.link.waiting)
             (ends-commit refusal (λ last _. last first w.primary.calls w.primary.committer.position (next_primary w) old.device new.device) (Led first second old new w)
-            (λ last broken. (broken, rests-standby first second old w stands))
+            (λ last broken. (broken, rests-standby first second old w (nodes-refine stands)))
             (commit-ends first w old.committing group groups'.items old.device new.device old.contents old.is_faulted (Err refusal) refusal refl waits lawful own
             commits.causes commits.fault (λ cause. let told = commits.exhausted cause in (told.0, ap (λ (c : Committer E). device c.engine) told.1))
             commits.moments stands.sound parts.committing parts.engine));
@@ -148,10 +156,10 @@ module _ {E : Type 0} (device : E → State) (contents : E → Contents) (is_fau
       → Does (pair_of before groups waiting) events.Commit (Ok false) (pair_of before groups' waiting)
   idle before groups groups' waiting (inl none) =
       subst (λ (g : Waiting Group). Does (pair_of before groups waiting) events.Commit (Ok false) (pair_of before g waiting)) (Waiting-same groups groups' (none.0 ∙ sym none.1))
-      (stays-does (pair_of before groups waiting) events.Commit (λ first second w stands. commit-none w groups.items none.0 stands.parts.committing.groups))
+      (stays-does (pair_of before groups waiting) events.Commit refl (λ first second w stands. commit-none w groups.items none.0 stands.parts.committing.groups))
   idle before groups groups' waiting (inr full) =
       subst (λ (g : Waiting Group). Does (pair_of before groups waiting) events.Commit (Ok false) (pair_of before g waiting)) (sym full.1)
-      (stays-does (pair_of before groups waiting) events.Commit (λ first second w stands. commit-full w waiting.items (omega (arith, full.0, waiting.within)) stands.parts.link.waiting))
+      (stays-does (pair_of before groups waiting) events.Commit refl (λ first second w stands. commit-full w waiting.items (omega (arith, full.0, waiting.within)) stands.parts.link.waiting))
 
   -- what a turn that found the committer ready does to the pair
   pub commit-does : (before after : Committer E) (groups groups' waiting waiting' : Waiting Group) (result : Result Done Refusal) → before.stage ≡ Ready → AreGroups (contents before.engine) groups.items
@@ -226,21 +234,21 @@ module _ {E : Type 0} (device : E → State) (contents : E → Contents) (is_fau
           subst (λ (r : Result Done Refusal). Does old events.Hand (did_of r) (pair_of after groups waiting')) (sym full.0)
           (subst (λ (c : Committer E). Does old events.Hand (Ok false) (pair_of c groups waiting')) (sym full.1)
           (subst (λ (l : Waiting Group). Does old events.Hand (Ok false) (pair_of before groups l)) (Waiting-same waiting waiting' (sym full.3))
-          (stays-does old events.Hand (λ first second w stands.
+          (stays-does old events.Hand refl (λ first second w stands.
           absurd (omega (arith, full.2, hand-room w before.stage group waiting.items shown stands.sound stands.parts.committing.stage_is stands.parts.link.waiting))))))
 
   -- another step is due
   pub commit-busy-does : (before : Committer E) (groups waiting : Waiting Group) → (before.stage ≡ Ready → ⊥) → Does (pair_of before groups waiting) events.Commit (Ok false) (pair_of before groups waiting)
   commit-busy-does before groups waiting busy =
-      stays-does (pair_of before groups waiting) events.Commit (λ first second w stands. commit-busy w before.stage busy stands.parts.committing.stage_is)
+      stays-does (pair_of before groups waiting) events.Commit refl (λ first second w stands. commit-busy w before.stage busy stands.parts.committing.stage_is)
 
   pub raise-none-does : (before : Committer E) (groups waiting : Waiting Group) → ((group : Group) → before.stage ≡ Durable group → ⊥) → Does (pair_of before groups waiting) events.RaiseLocal (Ok false) (pair_of before groups waiting)
   raise-none-does before groups waiting none =
-      stays-does (pair_of before groups waiting) events.RaiseLocal (λ first second w stands. raise-none w.primary.calls before.stage w.primary.committer.stage none stands.parts.committing.stage_is)
+      stays-does (pair_of before groups waiting) events.RaiseLocal refl (λ first second w stands. raise-none w.primary.calls before.stage w.primary.committer.stage none stands.parts.committing.stage_is)
 
   pub hand-none-does : (before : Committer E) (groups waiting : Waiting Group) → ((group : Group) → before.stage ≡ Shown group → ⊥) → Does (pair_of before groups waiting) events.Hand (Ok false) (pair_of before groups waiting)
   hand-none-does before groups waiting none =
-      stays-does (pair_of before groups waiting) events.Hand (λ first second w stands. hand-none w.primary.calls before.stage w.primary.committer.stage none stands.parts.committing.stage_is)
+      stays-does (pair_of before groups waiting) events.Hand refl (λ first second w stands. hand-none w.primary.calls before.stage w.primary.committer.stage none stands.parts.committing.stage_is)
 
 -- ---- what was answered of it
 

@@ -6,34 +6,35 @@ use Rattle.kv_types.specs.declared.refusal.Refusal.TheVariants.{Memory, Fault, E
 use Rattle.pmem.proofs.Leaving.{LeavesOnly-then, LeavesOnly-weaken}
 use Rattle.model.specs.declared.call.Call.{Call}
 use Rattle.model.specs.declared.record.Role.TheVariants.{Primary, Standby}
-use Rattle.model.specs.Call.{IsPrefix, position_of}
+use Rattle.model.specs.Call.{cut_at, keyspace_after, position_of}
 use Rattle.model.specs.Image.{Image}
 use Rattle.model.specs.Standing.{Holder, new_holder, StandsAt}
-use Rattle.model.proofs.StandingLemmas.{StandsAt-append}
 use Rattle.machine.specs.declared.event.Event.{Event}
-use Rattle.machine.specs.declared.event.Event.TheVariants.{Commit, Apply}
-use Rattle.machine.specs.Event.{Run, World, Span, Frame as Sent, Committer, committed_first, start, last_world}
+use Rattle.machine.specs.declared.event.Event.TheVariants.{Commit, Apply, Reopen}
+use Rattle.machine.specs.declared.event.Node.TheVariants as node_of
+use Rattle.machine.specs.Event.{Run, World, Span, Frame as Sent, Committer, committed_first, last_world}
 use Rattle.machine.specs.Law.{Grows}
 use Rattle.machine.specs.Promise.{IsPromised, IsReleased, Tells, released_in}
-use Rattle.machine.specs.Sound.{IsChain, IsFrameWithin, RunsOn, Sound}
+use Rattle.machine.specs.Sound.{IsChain, IsFrameWithin, Sound}
 use Rattle.std.proofs.lemmas.List.Elements.{All-head}
-use Rattle.machine.proofs.GrowLemmas.{grows-step}
+use Rattle.machine.proofs.GrowLemmas.{grows-from, grows-step, image-stays}
+use Rattle.machine.proofs.GroupLemmas.{chain-le}
 use Rattle.machine.proofs.CoverLemmas.{covered-run}
-use Rattle.machine.proofs.LifeLemmas.{calls-from, runs_on-start, runs_on-step}
 use Rattle.machine.proofs.CountLemmas.{few-connections}
 use Rattle.machine.proofs.PromiseLemmas.{released-held}
 use Rattle.machine.proofs.EveryRun.{promised-told}
 use Rattle.machine.proofs.RunLemmas.{run-push, last_world-push, sound-start}
 use Rattle.machine.proofs.SoundEvents.{sound-step}
-use Rattle.world.specs.Cause.{Stretch, UnformedBy, Breaks, RestsAtLimit, EndsBy, Resting}
+use Rattle.world.specs.Cause.{Stretch, UnformedBy, Breaks, RestsAtLimit, RestsBeforeReopening, EndsBy, Resting}
 use Rattle.world.specs.Committing.{StandsAtEither, NearOnly, FromOnly, Moves, Rests, FormattingOnly, next_primary, next_from, next_standby}
 use Rattle.world.specs.declared.trace.EarlyEnd.{EarlyEnd}
 use Rattle.world.specs.declared.trace.EarlyEnd.TheVariants.{AtFormatting, AtEvent}
-use Rattle.world.specs.Headline.{AnyWorld, Enables, primary_position, standby_position, AreMoments, IsKept, KeepsItsWord, PlaysOn, AreMoves, Reaches, StandsAfter, IsCutAfter, Plays}
-use Rattle.world.specs.Pair.{Pair, PairRefines, HasWorld, IsCut, Steps}
+use Rattle.world.specs.Headline.{AnyWorld, Enables, start, primary_position, standby_position, AreMoments, IsKept, KeepsItsWord, PlaysOn, AreMoves, Reaches, StandsAfter, IsCutAfter, Plays}
+use Rattle.world.specs.Pair.{Pair, NodesRefine, HasWorld, IsCut, Steps}
 use Rattle.world.specs.Session.{released_of}
-use Rattle.world.proofs.EngineLemmas.{Stands-engine, rests-same}
-use Rattle.world.proofs.PairLemmas.{primary-within, standby-within}
+use Rattle.world.proofs.EngineLemmas.{rests-same}
+use Rattle.world.proofs.MovesLemmas.{moves-over}
+use Rattle.world.proofs.PairLemmas.{primary-stands, primary-within, sessions-stand, standby-stands, standby-within}
 use Rattle.world.proofs.SessionLemmas.{length-connections, released-told}
 
 -- ---- from event to event
@@ -47,7 +48,7 @@ moves-push position holder w (next ∷ worlds) w' old new new' are moves = (are.
 pub reaches-world : (first second : Holder) (began : Pair) (events : List Event) (done : List Bool) (pair : Pair) → StandsAfter first second began events done pair → HasWorld pair
 reaches-world first second began events done pair after = record { first = first; second = second; world = last_world start after.reaches.worlds; stands = after.stands }
 
-pub reaches-start : (first second : Holder) (done : List Bool) (pair : Pair) → done ≡ [] → PairRefines first second pair start → StandsAfter first second pair [] done pair
+pub reaches-start : (first second : Holder) (done : List Bool) (pair : Pair) → done ≡ [] → NodesRefine first second pair start → StandsAfter first second pair [] done pair
 reaches-start first second done pair none stands =
     record {
       reaches = record { worlds = []; run = subst (λ (d : List Bool). Run start [] d []) (sym none) tt; primary_moves = refl; standby_moves = refl };
@@ -55,7 +56,7 @@ reaches-start first second done pair none stands =
     }
 
 pub reaches-next : (first second : Holder) (began : Pair) (events : List Event) (done done' : List Bool) (pair pair' : Pair) (event : Event) (did : Bool) → done' ≡ done ++ did ∷ []
-    → ((first second : Holder) (w : World) → PairRefines first second pair w → Steps first second w event did pair pair')
+    → ((first second : Holder) (w : World) → NodesRefine first second pair w → Steps first second w event did pair pair')
     → StandsAfter first second began events done pair → StandsAfter first second began (events ++ event ∷ []) done' pair'
 reaches-next first second began events done done' pair pair' event did more steps after =
     let reaches = after.reaches in
@@ -69,11 +70,11 @@ reaches-next first second began events done done' pair pair' event did more step
         primary_moves = moves-push primary_position first start reaches.worlds next.world began.device pair.device pair'.device reaches.primary_moves next.moves.primary;
         standby_moves = moves-push standby_position second start reaches.worlds next.world began.standby.device pair.standby.device pair'.standby.device reaches.standby_moves next.moves.standby;
       };
-      stands = subst (PairRefines first second pair') (sym (last_world-push start reaches.worlds next.world)) next.stands;
+      stands = subst (NodesRefine first second pair') (sym (last_world-push start reaches.worlds next.world)) next.stands;
     }
 
 pub reaches-cut : (first second : Holder) (began : Pair) (events : List Event) (event : Event) (refusal : Refusal) (done : List Bool) (pair pair' : Pair)
-    → ((first second : Holder) (w : World) → PairRefines first second pair w → IsCut first second event refusal pair pair' w)
+    → ((first second : Holder) (w : World) → NodesRefine first second pair w → IsCut first second event refusal pair pair' w)
     → StandsAfter first second began events done pair → IsCutAfter first second began events event refusal done pair'
 reaches-cut first second began events event refusal done pair pair' cuts after =
     record { before = pair; reaches = after.reaches; cut = cuts first second (last_world start after.reaches.worlds) after.stands }
@@ -87,13 +88,13 @@ few-played first second began events None done pair plays =
     let w = last_world start plays.reaches.worlds in
     omega (
       arith,
-      few-connections false events done plays.reaches.worlds plays.reaches.run,
-      length-connections w.primary.calls pair.sessions.connections.items w.primary.connections plays.stands.parts.sessions.connections_stand,
+      few-connections true events done plays.reaches.worlds plays.reaches.run,
+      length-connections w.primary.calls pair.sessions.connections.items w.primary.connections (sessions-stand plays.stands.parts).connections_stand,
     )
 few-played first second began events (Some (AtFormatting refusal)) done pair plays = absurd plays
 few-played first second began events (Some (AtEvent index refusal)) done pair plays =
     let reaches = plays.2.reaches in
-    omega (arith, few-connections false (take index events) done reaches.worlds reaches.run, plays.2.cut.count, length-take index events)
+    omega (arith, few-connections true (take index events) done reaches.worlds reaches.run, plays.2.cut.count, length-take index events)
 
 -- ---- the position of a node
 
@@ -103,6 +104,7 @@ record IsOfNode (position next : World → ℕ) : Type 0 where
   within : (w : World) → Sound w → position w ≤ position_of w.primary.calls
   holds : (w : World) → Sound w → (prefix : List Call) (call : Call) → IsReleased w.primary.calls (released_in w) prefix call → position_of (prefix ++ call ∷ []) ≤ position w
   onward : (w : World) → Sound w → position w ≤ next w
+  held : (w : World) → Sound w → position w ≤ w.primary.committer.position
 
 next_of_groups : (from to : ℕ) (groups : List Span) (committer : Committer) → IsChain from groups to → committer.position ≡ from → from ≤ (committed_first groups committer).position
 next_of_groups from to [] committer chain same = omega (arith, same)
@@ -124,6 +126,7 @@ of_primary =
       within = primary-within;
       holds = λ w s prefix call released. (released-held w s prefix call released).0;
       onward = λ w s. next_of_groups w.primary.committer.position w.primary.committer.closed w.primary.committer.waiting w.primary.committer s.committer.waiting refl;
+      held = λ w s. le_refl w.primary.committer.position;
     }
 
 of_standby : IsOfNode standby_position next_standby
@@ -133,19 +136,10 @@ of_standby =
       within = standby-within;
       holds = λ w s prefix call released. (released-held w s prefix call released).1;
       onward = λ w s. next_of_frames w.primary.epoch s.sent w.standby.position w.standby.waiting s.standby.frames;
+      held = λ w s. omega (arith, s.standby.behind, chain-le _ _ _ s.link.waiting);
     }
 
 -- ---- the moments of a run
-
--- what holds over the list of an event holds over the whole list
-moves-grow : (holder : Holder) (calls all : List Call) (p q : ℕ) (old new : State) → IsPrefix calls all → p ≤ position_of calls → q ≤ position_of calls → Moves holder calls p q old new → Moves holder all p q old new
-moves-grow holder calls all p q old new prefix p_within q_within moves =
-    subst (λ (list : List Call). Moves holder list p q old new) prefix.joined
-    (record { leaves = LeavesOnly-weaken (λ image. StandsAt holder (calls ++ prefix.rest) p image ⊎ StandsAt holder (calls ++ prefix.rest) q image) either moves.leaves; failures = moves.failures })
-  where
-    either : (image : Image) → StandsAt holder calls p image ⊎ StandsAt holder calls q image → StandsAt holder (calls ++ prefix.rest) p image ⊎ StandsAt holder (calls ++ prefix.rest) q image
-    either image (inl before) = inl (StandsAt-append holder calls prefix.rest p image p_within before)
-    either image (inr after) = inr (StandsAt-append holder calls prefix.rest q image q_within after)
 
 moves-from : (holder : Holder) (calls : List Call) (p q : ℕ) (old new : State) → p ≤ q → Moves holder calls p q old new → FromOnly holder calls p old new
 moves-from holder calls p q old new le moves = LeavesOnly-weaken (λ image. (n : ℕ) × (p ≤ n) × StandsAt holder calls n image) either moves.leaves
@@ -180,36 +174,36 @@ record MomentsFrom (last : Stretch) (position next : World → ℕ) (holder : Ho
   moments : AreMoments last position next holder calls w worlds old new
 
 moments-from : (last : Stretch) (position next : World → ℕ) (holder : Holder) (calls : List Call) → IsOfNode position next → ((p q : ℕ) (old new : State) → p ≤ q → last holder calls p q old new → FromOnly holder calls p old new)
-    → (w : World) (events : List Event) (done : List Bool) (worlds : List World) (old reached new : State) → Run w events done worlds → Sound w → RunsOn w → (last_world w worlds).primary.calls ≡ calls
+    → (w : World) (events : List Event) (done : List Bool) (worlds : List World) (old reached new : State) → Run w events done worlds → Sound w → (last_world w worlds).primary.calls ≡ calls
     → AreMoves position holder w worlds old reached → last holder calls (position (last_world w worlds)) (next (last_world w worlds)) reached new → MomentsFrom last position next holder calls w worlds old new
-moments-from last position next holder calls node from w [] [] [] old reached new run sound runs told are ends =
+moments-from last position next holder calls node from w [] [] [] old reached new run sound told are ends =
     let all : last holder calls (position w) (next w) old new = subst (λ (d : State). last holder calls (position w) (next w) d new) (sym are) ends in
     let onward = from (position w) (next w) old new (node.onward w sound) all in
     record { from = onward; moments = (λ prefix call released. from-lower holder calls _ (position w) old new (node.holds w sound prefix call released) onward, all) }
-moments-from last position next holder calls node from w (event ∷ events) (did ∷ done) (w' ∷ worlds) old reached new run sound runs told are ends =
+moments-from last position next holder calls node from w (event ∷ events) (did ∷ done) (w' ∷ worlds) old reached new run sound told are ends =
     let sound' = sound-step w event did w' run.0 sound in
-    let runs' = runs_on-step w event did w' run.0 runs in
     let rises = node.rises w w' (grows-step w event did w' run.0 sound) in
-    let within = node.within w' sound' in
-    let prefix : IsPrefix w'.primary.calls calls = subst (IsPrefix w'.primary.calls) told (calls-from w' events done worlds run.1 runs') in
-    let rest = moments-from last position next holder calls node from w' events done worlds are.0 reached new run.1 sound' runs' told are.2 ends in
-    let moves = moves-grow holder w'.primary.calls calls (position w) (position w') old are.0 prefix (omega (arith, rises, within)) within are.1 in
+    let held = node.held w' sound' in
+    let stays : (p : ℕ) → p ≤ w'.primary.committer.position → keyspace_after (cut_at calls p) ≡ keyspace_after (cut_at w'.primary.calls p) =
+    λ p le. ap (λ (list : List Call). keyspace_after (cut_at list p)) (sym told) ∙ image-stays w' (last_world w' worlds) p sound' (grows-from w' events done worlds run.1 sound') le in
+    let rest = moments-from last position next holder calls node from w' events done worlds are.0 reached new run.1 sound' told are.2 ends in
+    let moves = moves-over holder w'.primary.calls calls (position w) (position w') old are.0 (stays (position w) (omega (arith, rises, held))) (stays (position w') held) are.1 in
     let onward : FromOnly holder calls (position w) old new =
     LeavesOnly-then (moves-from holder calls (position w) (position w') old are.0 rises moves) (from-lower holder calls (position w) (position w') are.0 new rises rest.from) in
     record {
       from = onward;
       moments = (are.0, λ prefix call released. from-lower holder calls _ (position w) old new (node.holds w sound prefix call released) onward, moves, rest.moments);
     }
-moments-from last position next holder calls node from w events done worlds old reached new run sound runs told are ends = absurd run
+moments-from last position next holder calls node from w events done worlds old reached new run sound told are ends = absurd run
 
 -- ---- what is told at the end
 
 -- the promise of what tells the last world, by these very worlds
 promised-by : (events : List Event) (done : List Bool) (worlds : List World) (calls : List Call) (released : ℕ → List ℕ) (primary standby : ℕ) → Run start events done worlds
-    → Tells (last_world start worlds) calls released primary standby → (promised : IsPromised false events done calls released primary standby) × (promised.worlds ≡ worlds)
+    → Tells (last_world start worlds) calls released primary standby → (promised : IsPromised true events done calls released primary standby) × (promised.worlds ≡ worlds)
 promised-by events done worlds calls released primary standby run tells =
     let w = last_world start worlds in
-    let promised = promised-told false events done worlds calls released primary standby run tells in (
+    let promised = promised-told true events done worlds calls released primary standby run tells in (
       record {
         worlds = worlds;
         run = run;
@@ -220,7 +214,7 @@ promised-by events done worlds calls released primary standby run tells =
         covered = λ prefix call out.
             let in_last : IsReleased w.primary.calls (released_in w) prefix call =
             record { rest = out.rest; stands = sym tells.list ∙ out.stands; written = omega (arith, out.written, ap length (tells.bytes call.connection)) } in
-            covered-run false events done worlds run prefix call in_last;
+            covered-run true events done worlds run prefix call in_last;
         held = promised.held;
         behind = promised.behind;
         within = promised.within;
@@ -240,9 +234,9 @@ kept : (Last : World → Type 0) (first_last second_last : Stretch) (first secon
 kept Last first_last second_last first second began events done calls released primary standby primary' standby' first_from second_from reaches tells last primary_ends standby_ends =
     let w = last_world start reaches.worlds in
     let promised = promised-by events done reaches.worlds calls (λ c. slice_index_or released c []) (primary_position w) (standby_position w) reaches.run tells in
-    let primary_moments = moments-from first_last primary_position next_primary first calls of_primary first_from start events done reaches.worlds began.device primary primary' reaches.run (sound-start false) runs_on-start (sym tells.list)
+    let primary_moments = moments-from first_last primary_position next_primary first calls of_primary first_from start events done reaches.worlds began.device primary primary' reaches.run (sound-start true) (sym tells.list)
     reaches.primary_moves primary_ends in
-    let standby_moments = moments-from second_last standby_position next_standby second calls of_standby second_from start events done reaches.worlds began.standby.device standby standby' reaches.run (sound-start false) runs_on-start (sym tells.list)
+    let standby_moments = moments-from second_last standby_position next_standby second calls of_standby second_from start events done reaches.worlds began.standby.device standby standby' reaches.run (sound-start true) (sym tells.list)
     reaches.standby_moves standby_ends in
     record {
       primary_at = primary_position w;
@@ -259,20 +253,21 @@ played-whole : (first second : Holder) (began : Pair) (events : List Event) (don
 played-whole first second began events done pair released same after =
     let w = last_world start after.reaches.worlds in
     let parts = after.stands.parts in
-    let told = parts.sessions.calls_are in
+    let sessions = sessions-stand parts in
+    let told = sessions.calls_are in
     kept AnyWorld Resting Resting first second began events done pair.sessions.calls.items released pair.device pair.standby.device pair.device pair.standby.device
     (resting-from first pair.sessions.calls.items) (resting-from second pair.sessions.calls.items) after.reaches
     (record {
       list = told;
-      bytes = λ c. ap (λ (all : List (List ℕ)). slice_index_or all c []) same ∙ released-told w.primary.calls pair.sessions.connections.items w.primary.connections parts.sessions.connections_stand c;
+      bytes = λ c. ap (λ (all : List (List ℕ)). slice_index_or all c []) same ∙ released-told w.primary.calls pair.sessions.connections.items w.primary.connections sessions.connections_stand c;
       primary_position = refl;
       standby_position = refl;
     })
     tt
     (subst (λ (calls : List Call). Rests first calls w.primary.committer.position pair.device pair.device) (sym told)
-    (rests-same first w.primary.calls w.primary.committer.position pair.device pair.device refl (Stands-engine _ _ _ _ _ _ parts.engine)))
+    (rests-same first w.primary.calls w.primary.committer.position pair.device pair.device refl (primary-stands first second pair w parts)))
     (subst (λ (calls : List Call). Rests second calls w.standby.position pair.standby.device pair.standby.device) (sym told)
-    (rests-same second w.primary.calls w.standby.position pair.standby.device pair.standby.device refl (Stands-engine _ _ _ _ _ _ parts.standby.engine)))
+    (rests-same second w.primary.calls w.standby.position pair.standby.device pair.standby.device refl (standby-stands first second pair w parts)))
 
 -- ---- a run that ended in an event
 
@@ -282,6 +277,9 @@ breaks-from holder calls p q old new le breaks = near-from holder calls p q old 
 limit-from : IsLast RestsAtLimit
 limit-from holder calls p q old new le rests = rests-from holder calls p old new rests.rests
 
+reopening-from : IsLast RestsBeforeReopening
+reopening-from holder calls p q old new le rests = rests-from holder calls p old new rests.rests
+
 pub ends-as : (refusal : Refusal) (event : Event) (P Q : Stretch → Stretch → Type 0) → ((first_last second_last : Stretch) → IsLast first_last → IsLast second_last → P first_last second_last → Q first_last second_last)
     → EndsBy refusal event P → EndsBy refusal event Q
 ends-as Memory event P Q so ends = (ends.0, so Resting Resting resting-from resting-from ends.1)
@@ -289,6 +287,10 @@ ends-as Fault Commit P Q so ends = so Breaks Resting breaks-from resting-from en
 ends-as Fault Apply P Q so ends = so Resting Breaks resting-from breaks-from ends
 ends-as Exhausted Commit P Q so ends = so RestsAtLimit Resting limit-from resting-from ends
 ends-as Exhausted Apply P Q so ends = so Resting RestsAtLimit resting-from limit-from ends
+ends-as Fault (Reopen node_of.Primary) P Q so ends = so Breaks Resting breaks-from resting-from ends
+ends-as Fault (Reopen node_of.Standby) P Q so ends = so Resting Breaks resting-from breaks-from ends
+ends-as Exhausted (Reopen node_of.Primary) P Q so ends = so RestsBeforeReopening Resting reopening-from resting-from ends
+ends-as Exhausted (Reopen node_of.Standby) P Q so ends = so Resting RestsBeforeReopening resting-from reopening-from ends
 ends-as refusal event P Q so ends = absurd ends
 
 played-cut : (first second : Holder) (began : Pair) (events : List Event) (event : Event) (refusal : Refusal) (done : List Bool) (pair : Pair) (released : List (List ℕ))

@@ -1,5 +1,6 @@
 -- Seats are given and given back.
-use Rattle.std.proofs.Common.{◌≡◌, ◌≢◌, ℕ, zero, suc, ◌+◌, ◌<◌, ◌≤◌, ◌++◌, Bool, true, false, not, cond, nat_lt, List, [], ◌∷◌, length, Option, Some, None, is_some, All, inl, inr, ◌⊎◌, slice_get, slice_index_or, slice_set, refl, sym, ap, subst, ◌∙◌, arith}
+use Rattle.std.proofs.Common.{◌≡◌, ◌≢◌, ℕ, zero, suc, ◌+◌, ◌<◌, ◌≤◌, ◌++◌, Bool, true, false, not, cond, nat_lt, List, [], ◌∷◌, length, Option, Some, None, Vec, Global, is_some, All, inl, inr, ◌⊎◌, slice_get, slice_index_or, slice_set, refl, sym, ap, subst, ◌∙◌, arith}
+use Rattle.std.specs.Vec.{vec_capacity}
 use Rattle.std.proofs.lemmas.Bool.{lt-ltb, le-ltb, both_ways}
 use Rattle.std.proofs.lemmas.List.{length-map, map-append}
 use Rattle.std.proofs.lemmas.List.Elements.{All-head, All-tail}
@@ -23,7 +24,7 @@ use Rattle.world.specs.Going.{Goes}
 use Rattle.world.specs.Inbound.{InboundRefines}
 use Rattle.world.specs.Outbound.{OutboundRefines}
 use Rattle.world.specs.Session.{ConnectionRefines, ConnectionsRefine, HasSeat, KeepsSeats, SeatsRefine, SessionsRefine, SeatsFollow, bytes_of, count_seated, count_taken, seat_of, seats_of}
-use Rattle.world.proofs.SessionLemmas.{ConnectionsRefine-changed, connection-stands, length-connections}
+use Rattle.world.proofs.SessionLemmas.{ConnectionsRefine-changed, connection-stands, length-connections, room-same}
 use Rattle.world.proofs.SequencerLemmas.{follow-same}
 
 -- ---- the statuses
@@ -114,7 +115,7 @@ has-pushed (first ∷ seats) last (suc c) seat has =
     ]
 
 -- the connection at this index has none, and the others have theirs
-has-cleared : (seats : List (Option ℕ)) (c d seat : ℕ) → HasSeat (slice_set seats c None) d seat → HasSeat seats d seat × (d ≢ c)
+pub has-cleared : (seats : List (Option ℕ)) (c d seat : ℕ) → HasSeat (slice_set seats c None) d seat → HasSeat seats d seat × (d ≢ c)
 has-cleared [] c d seat has = cc
 has-cleared (first ∷ seats) zero zero seat has = cc
 has-cleared (first ∷ seats) zero (suc d) seat has = (has, λ same. cc)
@@ -128,8 +129,9 @@ none-taken [] all = refl
 none-taken (free ∷ statuses) all = none-taken statuses (All-tail (λ (status : Status). status ≡ free) free statuses all)
 none-taken (taken ∷ statuses) all = let first : taken ≡ free = All-head (λ (status : Status). status ≡ free) taken statuses all in cc
 
-pub sessions-start : (sessions : Sessions) → All (λ status. status ≡ free) sessions.lobby.statuses → sessions.connections.items ≡ [] → sessions.calls.items ≡ [] → sessions.replies.items ≡ [] → SessionsRefine sessions [] []
-sessions-start sessions all_free none no_call no_reply =
+pub sessions-start : (sessions : Sessions) → All (λ status. status ≡ free) sessions.lobby.statuses → sessions.connections.items ≡ [] → sessions.calls.items ≡ [] → sessions.positions.items ≡ []
+    → vec_capacity sessions.calls ≤ vec_capacity sessions.positions → sessions.replies.items ≡ [] → SessionsRefine sessions [] []
+sessions-start sessions all_free none no_call no_position room no_reply =
     record {
       seats = subst (λ (codes : List Connection). SeatsRefine sessions.lobby.statuses (seats_of codes)) (sym none) (record {
         complete = sessions.lobby.complete;
@@ -139,6 +141,8 @@ sessions-start sessions all_free none no_call no_reply =
       });
       connections_stand = subst (λ (codes : List Connection). ConnectionsRefine [] codes []) (sym none) tt;
       calls_are = no_call;
+      positions = no_position;
+      positions_room = room;
       no_reply = no_reply;
     }
 
@@ -190,9 +194,9 @@ seats-pushed codes client = map-append seat_of codes (Open client ∷ [])
 -- it took a free seat
 pub seated-goes : (w : World) (old new : Sessions) (seat : ℕ) (inbound : Inbound) (outbound : Outbound) {Stayed : Type 0} → SessionsRefine old w.primary.connections w.primary.calls
     → Moves old.lobby seat free taken new.lobby → InboundRefines inbound new_connection.inbound → OutboundRefines w.primary.calls outbound new_connection.outbound
-    → new.connections.items ≡ old.connections.items ++ Open (record { seat = seat; inbound = inbound; outbound = outbound }) ∷ [] → new.calls.items ≡ old.calls.items → new.replies.items ≡ old.replies.items
+    → new.connections.items ≡ old.connections.items ++ Open (record { seat = seat; inbound = inbound; outbound = outbound }) ∷ [] → new.calls ≡ old.calls → new.positions ≡ old.positions → new.replies.items ≡ old.replies.items
     → Goes (nat_lt (count_open w.primary.connections) SEATS) true (SessionsRefine new (w.primary.connections ++ new_connection ∷ []) w.primary.calls) Stayed
-seated-goes w old new seat inbound outbound stand moves inbound_stands outbound_stands connections calls replies =
+seated-goes w old new seat inbound outbound stand moves inbound_stands outbound_stands connections calls positions replies =
     let client : Client = record { seat = seat; inbound = inbound; outbound = outbound } in
     record {
       done = sym (may-enter w old new.lobby seat stand moves);
@@ -201,7 +205,9 @@ seated-goes w old new seat inbound outbound stand moves inbound_stands outbound_
         connections_stand = subst (λ codes. ConnectionsRefine w.primary.calls codes (w.primary.connections ++ new_connection ∷ [])) (sym connections)
             (ConnectionsRefine-push w.primary.calls old.connections.items w.primary.connections (Open client) new_connection stand.connections_stand
             (record { is_open = refl; inbound = inbound_stands; outbound = outbound_stands }));
-        calls_are = calls ∙ stand.calls_are;
+        calls_are = ap (λ (v : Vec Call Global). v.items) calls ∙ stand.calls_are;
+        positions = ap (λ (v : Vec ℕ Global). v.items) positions ∙ stand.positions;
+        positions_room = room-same old new calls positions stand.positions_room;
         no_reply = replies ∙ stand.no_reply;
       };
       stays = λ not_did. cc;
@@ -241,9 +247,9 @@ seated-follow w old new client s s' sound stand moves connections opens follow =
 
 -- all seats are taken
 pub full-goes : (w : World) (old new : Sessions) {Moved : Type 0} → SessionsRefine old w.primary.connections w.primary.calls → All (λ status. status ≡ taken) old.lobby.statuses
-    → new.lobby ≡ old.lobby → new.connections.items ≡ old.connections.items → new.calls.items ≡ old.calls.items → new.replies.items ≡ old.replies.items
+    → new.lobby ≡ old.lobby → new.connections.items ≡ old.connections.items → new.calls ≡ old.calls → new.positions ≡ old.positions → new.replies.items ≡ old.replies.items
     → Goes (nat_lt (count_open w.primary.connections) SEATS) false Moved (SessionsRefine new w.primary.connections w.primary.calls)
-full-goes w old new stand all lobby connections calls replies =
+full-goes w old new stand all lobby connections calls positions replies =
     record {
       done = sym (le-ltb (count_open w.primary.connections) SEATS (omega (
         arith,
@@ -257,14 +263,16 @@ full-goes w old new stand all lobby connections calls replies =
         seats = subst (λ (lobby : Book). SeatsRefine lobby.statuses (seats_of new.connections.items)) (sym lobby)
             (subst (λ codes. SeatsRefine old.lobby.statuses (seats_of codes)) (sym connections) stand.seats);
         connections_stand = subst (λ codes. ConnectionsRefine w.primary.calls codes w.primary.connections) (sym connections) stand.connections_stand;
-        calls_are = calls ∙ stand.calls_are;
+        calls_are = ap (λ (v : Vec Call Global). v.items) calls ∙ stand.calls_are;
+        positions = ap (λ (v : Vec ℕ Global). v.items) positions ∙ stand.positions;
+        positions_room = room-same old new calls positions stand.positions_room;
         no_reply = replies ∙ stand.no_reply;
       };
     }
 
 -- ---- a connection leaves
 
-SeatsRefine-less : (before after : Book) (seats : List (Option ℕ)) (c seat : ℕ) → SeatsRefine before.statuses seats → HasSeat seats c seat → Moves before seat taken free after → SeatsRefine after.statuses (slice_set seats c None)
+pub SeatsRefine-less : (before after : Book) (seats : List (Option ℕ)) (c seat : ℕ) → SeatsRefine before.statuses seats → HasSeat seats c seat → Moves before seat taken free after → SeatsRefine after.statuses (slice_set seats c None)
 SeatsRefine-less before after seats c seat stand own moves =
     subst (λ (statuses : List Status). SeatsRefine statuses (slice_set seats c None)) (sym moves.becomes) (record {
       complete = ap length (sym moves.becomes) ∙ after.complete;
@@ -276,7 +284,7 @@ SeatsRefine-less before after seats c seat stand own moves =
     })
 
 -- the connection at this index is now one without a seat
-seats-cleared : (codes : List Connection) (c : ℕ) (new : Connection) → seat_of new ≡ None → seats_of (slice_set codes c new) ≡ slice_set (seats_of codes) c None
+pub seats-cleared : (codes : List Connection) (c : ℕ) (new : Connection) → seat_of new ≡ None → seats_of (slice_set codes c new) ≡ slice_set (seats_of codes) c None
 seats-cleared [] c new none = refl
 seats-cleared (code ∷ codes) zero new none = ap (λ (seat : Option ℕ). seat ∷ seats_of codes) none
 seats-cleared (code ∷ codes) (suc c) new none = ap (λ (seats : List (Option ℕ)). seat_of code ∷ seats) (seats-cleared codes c new none)
@@ -306,9 +314,9 @@ open-seated_one calls (Over released) seat machine own stands = cc
 -- the connection had a seat, which is free again
 pub left-goes : (w : World) (old new : Sessions) (c seat : ℕ) (code code' : Connection) {Stayed : Type 0} → SessionsRefine old w.primary.connections w.primary.calls → c < length old.connections.items
     → code ≡ slice_index_or old.connections.items c code → seat_of code ≡ Some seat → seat_of code' ≡ None → bytes_of code' ≡ bytes_of code
-    → Moves old.lobby seat taken free new.lobby → new.connections.items ≡ slice_set old.connections.items c code' → new.calls.items ≡ old.calls.items → new.replies.items ≡ old.replies.items
+    → Moves old.lobby seat taken free new.lobby → new.connections.items ≡ slice_set old.connections.items c code' → new.calls ≡ old.calls → new.positions ≡ old.positions → new.replies.items ≡ old.replies.items
     → Goes (is_open w c) true (SessionsRefine new (changed_at c left w.primary.connections) w.primary.calls) Stayed
-left-goes w old new c seat code code' stand within is own none same moves connections calls replies =
+left-goes w old new c seat code code' stand within is own none same moves connections calls positions replies =
     let codes = old.connections.items in
     let machines = w.primary.connections in
     let here = connection-stands w.primary.calls c codes machines code within is stand.connections_stand in
@@ -319,7 +327,9 @@ left-goes w old new c seat code code' stand within is own none same moves connec
             (SeatsRefine-less old.lobby new.lobby (seats_of codes) c seat stand.seats (has-at codes c seat code within is own) moves);
         connections_stand = subst (λ codes'. ConnectionsRefine w.primary.calls codes' (changed_at c left machines)) (sym connections)
             (ConnectionsRefine-changed w.primary.calls c codes machines code' left stand.connections_stand (over-left w.primary.calls code code' (get_connection machines c) none same here));
-        calls_are = calls ∙ stand.calls_are;
+        calls_are = ap (λ (v : Vec Call Global). v.items) calls ∙ stand.calls_are;
+        positions = ap (λ (v : Vec ℕ Global). v.items) positions ∙ stand.positions;
+        positions_room = room-same old new calls positions stand.positions_room;
         no_reply = replies ∙ stand.no_reply;
       };
       stays = λ not_did. cc;

@@ -2,7 +2,7 @@
 use Rattle.std.proofs.Common.{◌≡◌, ℕ, zero, suc, ◌<◌, ◌≤◌, ◌++◌, Bool, true, false, List, [], ◌∷◌, length, Option, Some, None, Result, Ok, Err, Vec, Global, slice_get, refl, sym, ap, subst, ◌∙◌, arith}
 use Rattle.std.proofs.Math.Seq.{map-set_same}
 use Rattle.std.specs.Prelude.{slice_index_or, slice_set, OnErr}
-use Rattle.std.specs.Vec.{with_item}
+use Rattle.std.specs.Vec.{vec_capacity, with_item}
 use Rattle.kv_types.specs.declared.reply.Held.{Held}
 use Rattle.model.specs.declared.call.Call.{Call}
 use Rattle.machine.specs.Event.{Inbound as MachineInbound, Outbound as MachineOutbound, Connection as MachineConnection, World, is_open, get_connection, changed_at, with_inbound, with_outbound}
@@ -117,11 +117,26 @@ released-told calls (code ∷ codes) [] stand c = absurd stand
 released-told calls (code ∷ codes) (machine ∷ machines) stand zero = bytes-told calls code machine stand.0
 released-told calls (code ∷ codes) (machine ∷ machines) stand (suc c) = released-told calls codes machines stand.1 c
 
+-- ---- where no call is written
+
+-- there is room for as many positions as calls
+pub room-same : (old new : Sessions) → new.calls ≡ old.calls → new.positions ≡ old.positions → vec_capacity old.calls ≤ vec_capacity old.positions → vec_capacity new.calls ≤ vec_capacity new.positions
+room-same old new calls positions room =
+    let for_calls : vec_capacity new.calls ≡ vec_capacity old.calls = ap (λ v. vec_capacity v) calls in
+    let for_positions : vec_capacity new.positions ≡ vec_capacity old.positions = ap (λ v. vec_capacity v) positions in
+    omega (arith, for_calls, for_positions, room)
+
 -- ---- an event at one of the connections
 
 -- the sessions with this connection at index c
 abbrev pub with_connection : Sessions → ℕ → Connection → Sessions
-with_connection sessions c connection = record { lobby = sessions.lobby; connections = with_item sessions.connections c connection; calls = sessions.calls; replies = sessions.replies }
+with_connection sessions c connection = record {
+  lobby = sessions.lobby;
+  connections = with_item sessions.connections c connection;
+  calls = sessions.calls;
+  positions = sessions.positions;
+  replies = sessions.replies;
+}
 
 -- it has the seat of the one that it replaces
 pub same-seats : (sessions : Sessions) (c : ℕ) (old new : Connection) → old ≡ slice_index_or sessions.connections.items c old → seat_of new ≡ seat_of old
@@ -150,12 +165,16 @@ connection-goes test did w sessions c old new change within is stand seat went =
         seats = seats;
         connections_stand = ConnectionsRefine-changed w.primary.calls c codes machines (Open new) change stand.connections_stand (goes.goes yes_did);
         calls_are = stand.calls_are;
+        positions = stand.positions;
+        positions_room = stand.positions_room;
         no_reply = stand.no_reply;
       };
       stays = λ not_did. record {
         seats = seats;
         connections_stand = ConnectionsRefine-replaced w.primary.calls c codes machines (Open new) stand.connections_stand (goes.stays not_did);
         calls_are = stand.calls_are;
+        positions = stand.positions;
+        positions_room = stand.positions_room;
         no_reply = stand.no_reply;
       };
     }
@@ -237,6 +256,8 @@ over-goes test w sessions c old new within is was none same refused stand =
       connections_stand = ConnectionsRefine-replaced w.primary.calls c codes machines new stand.connections_stand
           (over-same w.primary.calls old new (get_connection machines c) was none same (connection-stands w.primary.calls c codes machines old within is stand.connections_stand));
       calls_are = stand.calls_are;
+      positions = stand.positions;
+      positions_room = stand.positions_room;
       no_reply = stand.no_reply;
     })
 

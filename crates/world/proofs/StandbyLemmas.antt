@@ -18,6 +18,7 @@ use Rattle.model.proofs.CallsLemmas.{keyspace_after-cut_at-append}
 use Rattle.mv_keyspace.specs.Table.{records}
 use Rattle.mv_keyspace.proofs.PartTables.{map-from_table}
 use Rattle.wbl_engine.specs.Contents.{IsDurable, Keeps}
+use Rattle.wbl_engine.specs.Lawful.{AreLawful}
 use Rattle.machine.specs.declared.event.Event.TheVariants.{Apply}
 use Rattle.machine.specs.Event.{Standby as Machine, Span, Frame as Sent, Acknowledgement, Takes, acknowledgement_of, moved_to}
 use Rattle.standby.specs.declared.frame.Ack.{Ack}
@@ -49,6 +50,7 @@ pub record Answers (frame : Frame) (old : Node) (result : Result Ack Refusal) (n
   pub still : ¬ IsErrOf result Fault → Follows new.contents new.table new.room
   pub sound : ¬ IsErrOf result Fault → (new.is_faulted ≡ false) × (new.device.failures ≡ old.device.failures)
   pub durable : ¬ IsErrOf result Fault → IsDurable new.device new.contents
+  pub lawful : AreLawful old.contents → ¬ IsErrOf result Fault → AreLawful new.contents
   pub epoch_stays : new.epoch ≡ old.epoch
   pub moments : frame.epoch ≡ old.epoch → IsNext old.contents.current.position frame → LeavesOnly old.device new.device (IsBeforeOrWhole frame old.contents old.table)
 
@@ -128,8 +130,8 @@ module _ (holder : Holder) (epoch : ℕ) (calls : List Call) (machine : Machine)
 
   -- the whole frame was taken
   taken_stands : span.before ≡ machine.position → HasTaken frame old.contents new.contents old.table new.table → Follows new.contents new.table new.room → new.is_faulted ≡ false
-      → IsDurable new.device new.contents → new.epoch ≡ old.epoch → StandbyStands holder epoch calls span.after new
-  taken_stands e taken follows sound durable epoch_stays =
+      → IsDurable new.device new.contents → AreLawful new.contents → new.epoch ≡ old.epoch → StandbyStands holder epoch calls span.after new
+  taken_stands e taken follows sound durable lawful epoch_stays =
       let now : records new.table ≡ keyspace_after (cut_at calls span.after) = taken.keyspace ∙ keyspace_next e in
       record {
         engine = record {
@@ -142,6 +144,7 @@ module _ (holder : Holder) (epoch : ℕ) (calls : List Call) (machine : Machine)
             map = subst (IsMapOf new.contents.versions (entries_of_lines new.contents.lines)) now
                 (map-from_table new.contents.versions (entries_of_lines new.contents.lines) new.table follows.consistent.beyond follows.table_is);
           };
+          lawful = lawful;
           sound = sound;
           durable = durable;
         };
@@ -157,6 +160,7 @@ module _ (holder : Holder) (epoch : ℕ) (calls : List Call) (machine : Machine)
   refused_stands same follows sound durable epoch_stays = record {
     engine = record {
       contents_at = subst (AreContentsAt holder calls machine.position) (sym same.0) stands.engine.contents_at;
+      lawful = subst AreLawful (sym same.0) stands.engine.lawful;
       sound = sound;
       durable = durable;
     };
@@ -233,7 +237,7 @@ module _ (holder : Holder) (epoch : ℕ) (calls : List Call) (machine : Machine)
             standby = moved_to span.after machine;
             takes = inr (inr (inl (own, lt, e, refl, ap (λ (a : Acknowledgement). a ∷ []) (moved_as ack (ap (λ (a : Ack). a.epoch) (answers.ack epoch_same next) ∙ epoch_same) (ap (λ (a : Ack). a.position) (answers.ack epoch_same next) ∙ is.after)))));
             waiting = refl;
-            stands = taken_stands e (answers.taken epoch_same next) (answers.still no_fault) (answers.sound no_fault).0 (answers.durable no_fault) answers.epoch_stays;
+            stands = taken_stands e (answers.taken epoch_same next) (answers.still no_fault) (answers.sound no_fault).0 (answers.durable no_fault) (answers.lawful stands.engine.lawful no_fault) answers.epoch_stays;
             moves = taken_moves e (answers.moments epoch_same next) (answers.sound no_fault).1;
           }
 

@@ -1,5 +1,6 @@
 -- A turn of the sequencer takes the connections, the list of calls and the sequencer to those of the machine after it.
-use Rattle.std.proofs.Common.{◌≡◌, ◌≢◌, ℕ, zero, suc, ◌<◌, ◌≤◌, ◌++◌, ◌&&◌, ◌==◌, true, false, nat_lt, List, [], ◌∷◌, length, take, drop, slice_get, slice_index_or, slice_set, Option, Some, None, refl, sym, ap, ap₂, subst, ◌∙◌, arith}
+use Rattle.std.proofs.Common.{◌≡◌, ◌≢◌, ℕ, zero, suc, ◌<◌, ◌≤◌, ◌++◌, ◌&&◌, ◌==◌, true, false, nat_lt, List, [], ◌∷◌, length, take, drop, slice_get, slice_index_or, slice_set, Option, Some, None, Vec, Global, refl, sym, ap, ap₂, subst, ◌∙◌, arith}
+use Rattle.std.specs.Vec.{vec_capacity}
 use Rattle.std.proofs.lemmas.Bool.{eqb-true, ltb-true, lt-ltb, and_from, both_ways, false_from_ne_true}
 use Rattle.std.specs.List.{list_any}
 use Rattle.kv_types.specs.declared.item.Item.{Item}
@@ -31,7 +32,8 @@ use Rattle.world.specs.Inbound.{HasParsed, InboundRefines}
 use Rattle.world.specs.Outbound.{IsMade, AreMade, GateRefines, OutboundRefines}
 use Rattle.world.specs.Running.{Runs}
 use Rattle.world.specs.Session.{ClientRefines, ConnectionRefines, ConnectionsRefine, HasSeat, SeatsRefine, SessionsRefine, SeatsFollow, SequencerRefines, TakesTurn, seat_of, seats_of}
-use Rattle.world.proofs.SessionLemmas.{AreMade-grows, ConnectionsRefine-grows, ConnectionsRefine-replaced, connection-stands, none-open, over-goes, over-shut, same-seats, with_connection}
+use Rattle.world.proofs.SessionLemmas.{AreMade-grows, ConnectionsRefine-grows, ConnectionsRefine-replaced, connection-stands, none-open, over-goes, over-shut, room-same, same-seats, with_connection}
+use Rattle.world.proofs.PositionsLemmas.{positions-pushed}
 use Rattle.world.proofs.SeatLemmas.{has-at}
 use Rattle.world.proofs.SequencerLemmas.{alike-state, follow-answered, open-before, sequencer-answered}
 
@@ -254,8 +256,8 @@ pub no-turn-unserved : (w : World) (c : ℕ) (old new : Sessions) (code code' : 
     → (MayRun code s → ⊥) → Sound w → SessionsRefine old w.primary.connections w.primary.calls → SequencerRefines w.primary.calls w.primary.committer.closed s
     → SeatsFollow w.primary.calls (seats_of old.connections.items) s → LeavesRest old new c code code'
     → code'.inbound.asked.items ≡ code.inbound.asked.items → code'.inbound.waiting.items ≡ code.inbound.waiting.items → code'.outbound.made.items ≡ code.outbound.made.items
-    → new.calls.items ≡ old.calls.items → new.replies.items ≡ [] → s' ≡ s → TakesTurn w c false new s s'
-no-turn-unserved w c old new code code' s s' lt is never sound stands sequencer follow rest asked_same waiting_same made_same calls_same replies same =
+    → new.calls ≡ old.calls → new.positions ≡ old.positions → new.replies.items ≡ [] → s' ≡ s → TakesTurn w c false new s s'
+no-turn-unserved w c old new code code' s s' lt is never sound stands sequencer follow rest asked_same waiting_same made_same calls_same positions_same replies same =
     let here : ClientRefines w.primary.calls code (connection_of w c) = client-stands w c old code stands lt is in
     let own = has-at old.connections.items c code.seat (Open code) lt is refl in
     let machine = connection_of w c in
@@ -274,7 +276,9 @@ no-turn-unserved w c old new code code' s s' lt is never sound stands sequencer 
       seats = turn-seated old new c code code' is rest stands.seats;
       connections_stand = subst (λ (codes : List Connection). ConnectionsRefine w.primary.calls codes w.primary.connections) (sym rest.connections)
           (ConnectionsRefine-replaced w.primary.calls c old.connections.items w.primary.connections (Open code') stands.connections_stand at);
-      calls_are = calls_same ∙ stands.calls_are;
+      calls_are = ap (λ (v : Vec Call Global). v.items) calls_same ∙ stands.calls_are;
+      positions = ap (λ (v : Vec ℕ Global). v.items) positions_same ∙ stands.positions;
+      positions_room = room-same old new calls_same positions_same stands.positions_room;
       no_reply = replies;
     }) same
 
@@ -286,8 +290,9 @@ pub turn-taken : (w : World) (c : ℕ) (old new : Sessions) (code code' : Client
     → SeatsFollow w.primary.calls (seats_of old.connections.items) s → LeavesRest old new c code code'
     → (runs : Runs s code.seat code.inbound.waiting.items held code'.inbound.waiting.items s')
     → code'.inbound.asked.items ≡ drop 1 code.inbound.asked.items → code'.outbound.made.items ≡ code.outbound.made.items ++ record { call = length old.calls.items; position = held.position } ∷ []
-    → new.calls.items ≡ old.calls.items ++ call_of c runs.item held.reply ∷ [] → new.replies.items ≡ [] → TakesTurn w c true new s s'
-turn-taken w c old new code code' s s' held lt is room sound stands sequencer follow rest runs asked_now made_now calls_now replies =
+    → new.calls.items ≡ old.calls.items ++ call_of c runs.item held.reply ∷ [] → new.positions.items ≡ old.positions.items ++ held.position ∷ [] → vec_capacity new.calls ≤ vec_capacity new.positions
+    → new.replies.items ≡ [] → TakesTurn w c true new s s'
+turn-taken w c old new code code' s s' held lt is room sound stands sequencer follow rest runs asked_now made_now calls_now positions_now positions_room replies =
     let machine = connection_of w c in
     let here : ClientRefines w.primary.calls code machine = client-stands w c old code stands lt is in
     let own = has-at old.connections.items c code.seat (Open code) lt is refl in
@@ -325,6 +330,8 @@ turn-taken w c old new code code' s s' held lt is room sound stands sequencer fo
               (stand-changed calls' old.connections.items w.primary.connections c (Open code') (with_inbound taken_first) (with_outbound (with_made reply))
               (ConnectionsRefine-grows w.primary.calls (call ∷ []) old.connections.items w.primary.connections stands.connections_stand) at);
           calls_are = calls_now ∙ ap (λ (calls : List Call). calls ++ call ∷ []) stands.calls_are;
+          positions = positions_now ∙ positions-pushed old.positions.items w.primary.calls call held.position stands.positions (runs.position ∙ after.position);
+          positions_room = positions_room;
           no_reply = replies;
         },
         after,

@@ -1,12 +1,12 @@
 -- Bytes that are read piece by piece.
-use Rattle.std.proofs.Common.{◌≡◌, ◌≢◌, ℕ, ◌<◌, List, [], ◌∷◌, ◌++◌, length, map, take, drop, Option, Some, None, option_to_list, IsSome, Bool, true, false, not, ◌==◌, true≢false, refl, sym, ap, subst, ◌∙◌, append_assoc, append-nil, arith}
+use Rattle.std.proofs.Common.{◌≡◌, ◌≢◌, ℕ, ◌<◌, List, [], ◌∷◌, ◌++◌, length, take, drop, Option, Some, None, option_to_list, IsSome, Bool, true, ◌==◌, true≢false, refl, sym, ap, subst, ◌∙◌, append_assoc, append-nil, arith}
 use Rattle.std.proofs.lemmas.Bool.{eqb-true}
 use Rattle.std.proofs.lemmas.List.{map-append, take-append-drop}
 use Rattle.stream_codec.specs.declared.message.Message.{Message}
 use Rattle.stream_codec.specs.Message.{Sent, IsSent, sent_of, sent_text}
 use Rattle.stream_codec.specs.Scanning.{sent_of_all}
-use Rattle.stream_codec.specs.Stream.{Stream, with_first, stream_at, fed, Reaches, begun, took}
-use Rattle.stream_codec.proofs.Streams.{stream_grows, stream_at-Reaches, written_is_read, behind}
+use Rattle.stream_codec.specs.Stream.{Stream, stream_at, fed, Reaches, begun, took}
+use Rattle.stream_codec.proofs.Streams.{stream_grows, stream_at-Reaches, written_is_read}
 
 -- all but the rest of the bytes was fed, and gave these messages
 pub record HasRead (bytes rest : List ℕ) (messages : List Message) (held : Option (List ℕ)) : Type 0 where

@@ -10,7 +10,9 @@ use Rattle.model.specs.declared.record.Record.{Record}
 use Rattle.model.specs.Image.{Image, HasRecord}
 use Rattle.model.specs.Standing.{Holder}
 use Rattle.machine.specs.declared.event.Event.{Event}
-use Rattle.machine.specs.declared.event.Event.TheVariants.{Enter, Feed, Offer, CloseGroup, Commit, OpenLink, Send, Deliver, Apply, AckDelivered, Hold, Write}
+use Rattle.machine.specs.declared.event.Event.TheVariants.{Enter, Feed, Offer, CloseGroup, Commit, OpenLink, Send, Deliver, Apply, AckDelivered, Hold, Write, Reopen}
+use Rattle.machine.specs.declared.event.Node.TheVariants as node
+use Rattle.wbl_engine.specs.Reopening.{ExhaustsReopening}
 use Rattle.world.specs.Committing.{Rests, NearOnly}
 
 -- a relation between two states of a holder's device, given the list of calls, a position in it, and the position that the node goes to next
@@ -55,6 +57,14 @@ pub record RestsAtLimit (holder : Holder) (calls : List Call) (position next : �
   pub rests : Rests holder calls position old new
   pub limit : (image : Image) → IsImage new.words image → IsAtLimit (next - position) image
 
+-- Each crash between these two states leaves an image that stands at this position of the list, no fence failed, and the reopening of the image would take a counter
+-- of its record to the limit.
+pub record RestsBeforeReopening (holder : Holder) (calls : List Call) (position next : ℕ) (old new : State) : Type 0 where
+  pub rests : Rests holder calls position old new
+  pub current : Record
+  pub has_record : (image : Image) → IsImage new.words image → HasRecord current image
+  pub limit : ExhaustsReopening current
+
 -- the event may ask for memory, so that its refusal ends the run. (A turn that is refused memory replies so, and the run goes on.)
 abbrev pub asks_memory : Event → Bool
 asks_memory Enter = true
@@ -68,6 +78,7 @@ asks_memory Apply = true
 asks_memory (AckDelivered a) = true
 asks_memory (Hold c) = true
 asks_memory (Write c n) = true
+asks_memory (Reopen node) = true
 asks_memory event = false
 
 -- An enabled event ended the run for this cause, with this effect on the primary's device and the standby's: memory was refused, and both rest; or a fence failed, or
@@ -78,4 +89,8 @@ EndsBy Fault Commit Leads = Leads Breaks Resting
 EndsBy Fault Apply Leads = Leads Resting Breaks
 EndsBy Exhausted Commit Leads = Leads RestsAtLimit Resting
 EndsBy Exhausted Apply Leads = Leads Resting RestsAtLimit
+EndsBy Fault (Reopen node.Primary) Leads = Leads Breaks Resting
+EndsBy Fault (Reopen node.Standby) Leads = Leads Resting Breaks
+EndsBy Exhausted (Reopen node.Primary) Leads = Leads RestsBeforeReopening Resting
+EndsBy Exhausted (Reopen node.Standby) Leads = Leads Resting RestsBeforeReopening
 EndsBy refusal event Leads = ⊥

@@ -2,7 +2,7 @@
 use Rattle.std.specs.Prelude.{◌≡◌, ◌⊎◌, ℕ, ◌≤◌, Bool, false, nat_eq, if◌then◌else◌, List, [], ◌∷◌}
 use Rattle.std.specs.List.{AllByRecursion}
 use Rattle.pmem.specs.Device.{State}
-use Rattle.pmem.specs.Crash.{IsImage}
+use Rattle.pmem.specs.Crash.{IsImage, IsSettled, image_of}
 use Rattle.pmem.specs.Runs.{LeavesOnly}
 use Rattle.model.specs.declared.call.Call.{Call}
 use Rattle.model.specs.declared.group.Group.{Group}
@@ -11,8 +11,9 @@ use Rattle.model.specs.Image.{Image, IsMapOf, entries_of_lines}
 use Rattle.model.specs.Group.{Contents, IsConsistent}
 use Rattle.model.specs.Standing.{Holder, StandsAt}
 use Rattle.model.specs.declared.record.Role.{Role}
-use Rattle.wbl_engine.specs.Contents.{IsDurable}
+use Rattle.wbl_engine.specs.Contents.{IsDurable, Keeps}
 use Rattle.wbl_engine.specs.Formatting.{IsFormatting}
+use Rattle.wbl_engine.specs.Lawful.{AreLawful}
 use Rattle.redis_core.specs.Sequencing.{Sequencing, IsAheadOf}
 use Rattle.pipes.specs.Waiting.{Waiting}
 use Rattle.group_commit.specs.Group.{AreGroups, after_groups}
@@ -45,11 +46,21 @@ pub record AreContentsAt (holder : Holder) (calls : List Call) (position : ℕ) 
   pub consistent : IsConsistent contents
   pub map : IsMapOf contents.versions (entries_of_lines contents.lines) (keyspace_after (cut_at calls position))
 
--- a sound engine of this holder whose contents are those of the list at this position, over a device on which each crash leaves them
+-- a sound engine of this holder whose contents are those of the list at this position and obey the rules, over a device on which each crash leaves them
 pub record EngineStands (holder : Holder) (calls : List Call) (position : ℕ) (device : State) (contents : Contents) (is_faulted : Bool) : Type 0 where
   pub contents_at : AreContentsAt holder calls position contents
+  pub lawful : AreLawful contents
   pub sound : is_faulted ≡ false
   pub durable : IsDurable device contents
+
+-- the image of a node that crashed: each word has one candidate, and it holds contents at this position of the list, which obey the rules
+pub record IsDown (holder : Holder) (calls : List Call) (position : ℕ) (device : State) : Type 0 where
+  pub contents : Contents
+  pub contents_at : AreContentsAt holder calls position contents
+  pub lawful : AreLawful contents
+  pub keeps : Keeps contents (image_of device.words)
+  pub settled : IsSettled device.words
+  pub sized : contents.lines ≡ device.lines
 
 -- each crash now leaves an image that stands at this position of the list, as its holder's
 abbrev pub Stands : Holder → List Call → ℕ → State → Type 0

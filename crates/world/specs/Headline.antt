@@ -1,5 +1,5 @@
 -- The word that a run keeps: the promise, between any two events, and what a crash leaves of both images at any moment of the run.
-use Rattle.std.specs.Prelude.{◌≡◌, ℕ, Bool, true, false, List, [], ◌∷◌, ◌++◌, take, slice_get, slice_index_or, Option, Some, None}
+use Rattle.std.specs.Prelude.{◌≡◌, ℕ, Bool, true, List, [], ◌∷◌, ◌++◌, take, slice_get, slice_index_or, Option, Some, None}
 use Rattle.pmem.specs.Device.{State}
 use Rattle.kv_types.specs.declared.refusal.Refusal.{Refusal}
 use Rattle.model.specs.declared.call.Call.{Call}
@@ -7,13 +7,17 @@ use Rattle.model.specs.declared.record.Role.TheVariants.{Primary, Standby}
 use Rattle.model.specs.Call.{position_of}
 use Rattle.model.specs.Standing.{Holder, new_holder}
 use Rattle.machine.specs.declared.event.Event.{Event}
-use Rattle.machine.specs.Event.{Run, World, is_enabled, start, last_world}
+use Rattle.machine.specs.Event.{Run, World, is_enabled, start_with, last_world}
 use Rattle.machine.specs.Promise.{IsPromised, IsReleased, released_in}
 use Rattle.world.specs.Committing.{FromOnly, Moves, FormattingOnly, next_primary, next_standby}
 use Rattle.world.specs.Cause.{Stretch, Resting, UnformedBy, EndsBy}
-use Rattle.world.specs.Pair.{Pair, PairRefines, IsCut}
+use Rattle.world.specs.Pair.{Pair, NodesRefine, IsCut}
 use Rattle.world.specs.declared.trace.EarlyEnd.{EarlyEnd}
 use Rattle.world.specs.declared.trace.EarlyEnd.TheVariants.{AtFormatting, AtEvent}
+
+-- two nodes that were formatted together and may crash
+abbrev pub start : World
+start = start_with true
 
 -- the position of a node in a world
 abbrev pub primary_position : World → ℕ
@@ -49,7 +53,7 @@ pub record IsKept (Last : World → Type 0) (first_last second_last : Stretch) (
   -- the positions of the two nodes at the end
   pub primary_at : ℕ
   pub standby_at : ℕ
-  pub promised : IsPromised false events done calls (λ c. slice_index_or released c []) primary_at standby_at
+  pub promised : IsPromised true events done calls (λ c. slice_index_or released c []) primary_at standby_at
   pub last : Last (last_world start promised.worlds)
   -- the moments of either device, cut by the same events
   pub primary_moments : AreMoments first_last primary_position next_primary first calls start promised.worlds primary primary'
@@ -107,7 +111,7 @@ pub record Reaches (first second : Holder) (began : Pair) (events : List Event) 
 -- and the pair refines the last world
 pub record StandsAfter (first second : Holder) (began : Pair) (events : List Event) (done : List Bool) (pair : Pair) : Type 0 where
   pub reaches : Reaches first second began events done pair.device pair.standby.device
-  pub stands : PairRefines first second pair (last_world start reaches.worlds)
+  pub stands : NodesRefine first second pair (last_world start reaches.worlds)
 
 -- or it was cut in the event after them
 pub record IsCutAfter (first second : Holder) (began : Pair) (events : List Event) (event : Event) (refusal : Refusal) (done : List Bool) (pair : Pair) : Type 0 where

@@ -1,23 +1,26 @@
--- How a pair of nodes with its connections refines the machine's.
-use Rattle.std.specs.Prelude.{◌≡◌, ℕ, ◌<◌, Bool, true, List, [], length, slice_index_or, Vec, vec_capacity, Result, IfOk, IfErr}
+-- How a pair of nodes with its connections refines the machine's, while its primary runs and while it is crashed.
+use Rattle.std.specs.Prelude.{◌≡◌, ◌⊎◌, ◌&&◌, ℕ, ◌<◌, Bool, true, false, if◌then◌else◌, List, [], length, slice_index_or, Vec, vec_capacity, Result, IfOk, IfErr}
 use Rattle.std.specs.Global.{Global}
 use Rattle.pmem.specs.Device.{State}
 use Rattle.kv_types.specs.declared.refusal.Refusal.{Refusal}
 use Rattle.model.specs.declared.group.Group.{Group}
 use Rattle.model.specs.Group.{Contents}
+use Rattle.model.specs.declared.record.Role.TheVariants as Role
+use Rattle.model.specs.Call.{position_of}
 use Rattle.model.specs.Standing.{Holder}
 use Rattle.pipes.specs.Waiting.{Waiting}
 use Rattle.redis_core.specs.Sequencing.{Sequencing}
 use Rattle.standby_stream.specs.Stream.{Stream}
 use Rattle.machine.specs.declared.event.Event.{Event}
-use Rattle.machine.specs.Event.{World, Step, is_enabled}
+use Rattle.machine.specs.declared.event.Event.TheVariants.{Apply, Crash, Deliver, OpenLink, Reopen}
+use Rattle.machine.specs.Event.{Crashed, Life, Running, World, Step, is_enabled, new_committer, new_link}
 use Rattle.machine.specs.Promise.{released_in}
-use Rattle.machine.specs.Sound.{RunsOn, Sound}
+use Rattle.machine.specs.Sound.{Sound}
 use Rattle.world.specs.Cause.{EndsBy}
-use Rattle.world.specs.Committing.{Committing, EngineStands, Leads, Moves, CommittingRefines, next_primary, next_standby}
+use Rattle.world.specs.Committing.{Committing, EngineStands, IsDown, Leads, Moves, CommittingRefines, next_primary, next_standby}
 use Rattle.world.specs.Link.{AreFramesSent, LinkRefines}
-use Rattle.world.specs.Session.{SessionsRefine, SequencerRefines, SeatsFollow, AddsOne, released_of, seats_of}
-use Rattle.world.specs.Standby.{Node, StandbyStands, ArrivalsRefine}
+use Rattle.world.specs.Session.{SessionsRefine, SequencerRefines, SeatsFollow, HasSeat, AddsOne, released_of, seats_of}
+use Rattle.world.specs.Standby.{Node, StandbyRefines, ArrivalsRefine}
 use Rattle.world.specs.declared.arrivals.Arrivals.{Arrivals}
 use Rattle.world.specs.declared.sessions.Sessions.{Sessions}
 
@@ -40,8 +43,11 @@ pub record Pair : Type 0 where
   pub frames : List (Vec ℕ Global)
   pub arrivals : Arrivals
   pub standby : Node
+  -- whether each node runs; otherwise it is crashed, and nothing is said of what it held beside its image
+  pub primary_runs : Bool
+  pub standby_runs : Bool
 
--- Its parts refine those of the machine. The primary's image is that of the first holder, the standby's that of the second.
+-- The parts of one whose primary runs refine those of the machine. The primary's image is that of the first holder, the standby's that of the second.
 pub record PartsRefine (first second : Holder) (pair : Pair) (w : World) : Type 0 where
   pub sessions : SessionsRefine pair.sessions w.primary.connections w.primary.calls
   pub sequencer : SequencerRefines w.primary.calls w.primary.committer.closed pair.sequencer
@@ -53,21 +59,62 @@ pub record PartsRefine (first second : Holder) (pair : Pair) (w : World) : Type 
   pub link : LinkRefines w.primary.calls pair.link pair.handed pair.remote w.primary.link
   pub frames : AreFramesSent pair.link.epoch w.primary.calls pair.frames w.wire.frames
   pub arrivals : ArrivalsRefine pair.link.epoch w.primary.calls pair.arrivals w.standby.waiting w.wire.acknowledgements
-  pub standby : StandbyStands second pair.link.epoch w.primary.calls w.standby.position pair.standby
+  pub standby : StandbyRefines second pair.link.epoch w.primary.calls w.standby.position pair.standby pair.standby_runs
 
--- it refines a world that a run may reach
+-- The parts of one whose primary is crashed: of the primary there is its image.
+pub record DownRefine (first second : Holder) (pair : Pair) (w : World) : Type 0 where
+  pub sessions : SessionsRefine pair.sessions w.primary.connections w.primary.calls
+  -- no seat is taken, nothing is on its way to the committer or the link, and the list ends at the image's position
+  pub unseated : (c seat : ℕ) → ¬ HasSeat (seats_of pair.sessions.connections.items) c seat
+  pub committer : w.primary.committer ≡ new_committer w.primary.committer.position
+  pub link : w.primary.link ≡ new_link
+  pub ends : position_of w.primary.calls ≡ w.primary.committer.position
+  pub image : IsDown first w.primary.calls w.primary.committer.position pair.device
+  pub epoch : pair.link.epoch ≡ w.primary.epoch
+  pub frames : AreFramesSent pair.link.epoch w.primary.calls pair.frames w.wire.frames
+  pub arrivals : ArrivalsRefine pair.link.epoch w.primary.calls pair.arrivals w.standby.waiting w.wire.acknowledgements
+  pub standby : StandbyRefines second pair.link.epoch w.primary.calls w.standby.position pair.standby pair.standby_runs
+
+-- ---- lives
+
+abbrev pub life_if : Bool → Life
+life_if runs = if runs then Running else Crashed
+
+-- each node runs or is crashed, as it is said of it; a crash may come; and the images are those of a primary and a standby of the pair's epoch
+pub record AreLives (first second : Holder) (primary_runs standby_runs : Bool) (w : World) : Type 0 where
+  pub restarts : w.restarts ≡ true
+  pub primary : w.primary.life ≡ life_if primary_runs
+  pub standby : w.standby.life ≡ life_if standby_runs
+  pub first_role : first.role ≡ Role.Primary
+  pub second_role : second.role ≡ Role.Standby
+  pub first_epoch : first.epoch ≡ w.primary.epoch
+  pub second_epoch : second.epoch ≡ w.primary.epoch
+
+-- ---- the pair
+
+-- its primary runs, and it refines a world that a run may reach
 pub record PairRefines (first second : Holder) (pair : Pair) (w : World) : Type 0 where
   pub sound : Sound w
-  -- its nodes do not crash
-  pub runs : RunsOn w
+  pub lives : AreLives first second pair.primary_runs pair.standby_runs w
+  pub serves : pair.primary_runs ≡ true
   pub parts : PartsRefine first second pair w
+
+-- its parts refine the machine's, whether its primary runs or not
+abbrev pub EitherRefines : Holder → Holder → Pair → World → Type 0
+EitherRefines first second pair w = ((pair.primary_runs ≡ true) × PartsRefine first second pair w) ⊎ ((pair.primary_runs ≡ false) × DownRefine first second pair w)
+
+-- it refines such a world, whether its primary runs or not
+pub record NodesRefine (first second : Holder) (pair : Pair) (w : World) : Type 0 where
+  pub sound : Sound w
+  pub lives : AreLives first second pair.primary_runs pair.standby_runs w
+  pub parts : EitherRefines first second pair w
 
 -- there is a world that it refines
 pub record HasWorld (pair : Pair) : Type 0 where
   pub first : Holder
   pub second : Holder
   pub world : World
-  pub stands : PairRefines first second pair world
+  pub stands : NodesRefine first second pair world
 
 -- there is room for one more call
 pub record HasRoom (pair : Pair) : Type 0 where
@@ -92,11 +139,28 @@ pub record MovesBoth (first second : Holder) (old new : Pair) (w w' : World) : T
 pub record Steps (first second : Holder) (w : World) (event : Event) (did : Bool) (old new : Pair) : Type 0 where
   pub world : World
   pub step : Step w event did world
-  pub stands : PairRefines first second new world
+  pub stands : NodesRefine first second new world
   pub moves : MovesBoth first second old new w world
 
--- what an event did to a pair: a step, or it was cut; it added at most one call, in the room that there was
-pub record Does (old : Pair) (event : Event) (result : Result Bool Refusal) (new : Pair) : Type 0 where
-  pub steps : IfOk result (λ did. (first second : Holder) (w : World) → PairRefines first second old w → Steps first second w event did old new)
-  pub cut : IfErr result (λ refusal. (first second : Holder) (w : World) → PairRefines first second old w → IsCut first second event refusal old new w)
+-- what an event did to a pair of this kind: a step, or it was cut; it added at most one call, in the room that there was
+pub record DoesTo (Refines : Holder → Holder → Pair → World → Type 0) (old : Pair) (event : Event) (result : Result Bool Refusal) (new : Pair) : Type 0 where
+  pub steps : IfOk result (λ did. (first second : Holder) (w : World) → Refines first second old w → Steps first second w event did old new)
+  pub cut : IfErr result (λ refusal. (first second : Holder) (w : World) → Refines first second old w → IsCut first second event refusal old new w)
   pub calls : AddsOne old.sessions.calls new.sessions.calls
+
+-- to one whose primary runs
+abbrev pub Does : Pair → Event → Result Bool Refusal → Pair → Type 0
+Does = DoesTo PairRefines
+
+-- to any
+abbrev pub Acts : Pair → Event → Result Bool Refusal → Pair → Type 0
+Acts = DoesTo NodesRefine
+
+-- the nodes that take part in the event run, where the primary and the standby do so or not; to crash, or to be opened again, none needs to run
+abbrev pub takes_part : Bool → Bool → Event → Bool
+takes_part primary_runs standby_runs OpenLink = primary_runs && standby_runs
+takes_part primary_runs standby_runs (Deliver frame piece) = standby_runs
+takes_part primary_runs standby_runs Apply = standby_runs
+takes_part primary_runs standby_runs (Crash node picks) = true
+takes_part primary_runs standby_runs (Reopen node) = true
+takes_part primary_runs standby_runs event = primary_runs

@@ -7,7 +7,8 @@ use Rattle.lobby.specs.Book.{Status, free, taken}
 use Rattle.multi_watch.specs.Sessions.{session_at}
 use Rattle.model.specs.declared.call.Call.{Call}
 use Rattle.model.specs.declared.group.Part.{Part}
-use Rattle.model.specs.Call.{items_of, keyspace_after, position_of, state_after}
+use Rattle.model.specs.State.{State, start_state}
+use Rattle.model.specs.Call.{after_call, items_of, keyspace_after, position_of, state_after}
 use Rattle.model.specs.Command.{closes}
 use Rattle.model.specs.Group.{changes_of_part}
 use Rattle.model.specs.Position.{changes_at}
@@ -15,6 +16,7 @@ use Rattle.mv_keyspace.specs.Table.{records}
 use Rattle.redis_core.specs.Sequencing.{Sequencing, is_closed}
 use Rattle.machine.specs.declared.event.Event.TheVariants.{Turn}
 use Rattle.machine.specs.Event.{Connection as MachineConnection, World, Turns, may_happen}
+use Rattle.machine.specs.Sound.{position_with}
 use Rattle.world.specs.Inbound.{InboundRefines}
 use Rattle.world.specs.Outbound.{OutboundRefines}
 use Rattle.world.specs.declared.connection.Client.{Client}
@@ -92,11 +94,26 @@ pub record SeatsRefine (statuses : List Status) (seats : List (Option ℕ)) : Ty
 abbrev pub KeepsSeats : List Connection → List Connection → Type 0
 KeepsSeats old new = (c seat : ℕ) → HasSeat (seats_of new) c seat → HasSeat (seats_of old) c seat
 
+-- ---- the list of calls
+
+abbrev pub positions_from : State → ℕ → List Call → List ℕ
+positions_from state p [] = []
+positions_from state p (call ∷ calls) = position_with state p call ∷ positions_from (after_call state call) (position_with state p call) calls
+
+-- for each call the position of the list after it
+abbrev pub positions_of : List Call → List ℕ
+positions_of = positions_from start_state 0
+
+-- ---- connections and calls
+
 -- the connections and the list of calls are these; no reply is left between two events
 pub record SessionsRefine (code : Sessions) (connections : List MachineConnection) (calls : List Call) : Type 0 where
   pub seats : SeatsRefine code.lobby.statuses (seats_of code.connections.items)
   pub connections_stand : ConnectionsRefine calls code.connections.items connections
   pub calls_are : code.calls.items ≡ calls
+  pub positions : code.positions.items ≡ positions_of calls
+  -- there is room for a position wherever there is room for a call
+  pub positions_room : vec_capacity code.calls ≤ vec_capacity code.positions
   pub no_reply : code.replies.items ≡ []
 
 -- the list of calls and the released bytes are as they were

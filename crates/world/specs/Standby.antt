@@ -11,7 +11,7 @@ use Rattle.machine.specs.declared.event.Event.TheVariants.{Apply}
 use Rattle.machine.specs.Event.{Acknowledgement, World, Frame as Sent, Applies, may_happen}
 use Rattle.standby.specs.declared.frame.Ack.{Ack}
 use Rattle.standby.specs.Following.{Follows}
-use Rattle.world.specs.Committing.{EngineStands, Moves}
+use Rattle.world.specs.Committing.{EngineStands, IsDown, Moves}
 use Rattle.world.specs.Link.{AreFramesRead, AreAcksSent}
 use Rattle.world.specs.declared.arrivals.Arrivals.{Arrivals}
 
@@ -36,6 +36,11 @@ pub record StandbyStands (holder : Holder) (epoch : ℕ) (calls : List Call) (po
   pub table : records node.table ≡ keyspace_after (cut_at calls position)
   pub epoch_is : node.epoch ≡ epoch
   pub epoch_held : epoch ≡ holder.epoch
+
+-- the same of one that runs, and of one that is crashed what its image is
+pub record StandbyRefines (holder : Holder) (epoch : ℕ) (calls : List Call) (position : ℕ) (node : Node) (runs : Bool) : Type 0 where
+  pub stands : runs ≡ true → StandbyStands holder epoch calls position node
+  pub down : runs ≡ false → IsDown holder calls position node.device
 
 -- what an acknowledgement tells
 abbrev pub told_by : Ack → Acknowledgement

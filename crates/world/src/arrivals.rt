@@ -40,6 +40,14 @@ impl Arrivals {
         }
     }
 
+    /// The standby crashed: the frames that came to it and were not taken are lost.
+    pub(crate) fn crash(&mut self)
+        ensures delivered { self.new.delivered.items ≡ [] }
+        ensures acknowledgements { self.new.acknowledgements ≡ self.old.acknowledgements }
+    {
+        self.delivered.clear();
+    }
+
     /// Adds an acknowledgement, with which the standby tells its position.
     pub(crate) fn acknowledge(&mut self, alloc: Global, ack: Ack) -> Result<(), Refusal>
         ensures stands { OnOk result ((epoch : ℕ) (w : World) → ArrivalsRefine epoch w.primary.calls self.old w.standby.waiting w.wire.acknowledgements → told_by ack ≡ acknowledgement_of w.standby

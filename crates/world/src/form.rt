@@ -2,7 +2,6 @@
 ghost use Rattle.std.specs.Prelude.{◌≡◌, ℕ, ◌<◌, ◌≤◌, ◌↔◌, [], IsTrue, IfOk, IfErr, MatchResult, vec_capacity};
 ghost use Rattle.model.specs.Group.{Contents};
 ghost use Rattle.model.specs.Standing.{new_holder};
-ghost use Rattle.machine.specs.Event.{start};
 ghost use Rattle.wbl_engine.specs.Contents.{IsNew};
 ghost use Rattle.redis_core.specs.Sequencing.{IsAheadOf};
 ghost use Rattle.world.specs.Cause.{UnformedBy};
@@ -10,7 +9,8 @@ ghost use Rattle.world.specs.Committing.{FormattingOnly};
 ghost use Rattle.model.specs.declared.record.TheConstants.{FIRST_EPOCH};
 ghost use Rattle.standby_stream.specs.Stream.{new_stream};
 ghost use Rattle.world.specs.Standby.{ArrivalsRefine};
-ghost use Rattle.world.specs.Pair.{PairRefines};
+ghost use Rattle.world.specs.Headline.{start};
+ghost use Rattle.world.specs.Pair.{NodesRefine};
 ghost use Rattle.world.specs.Session.{SessionsRefine, SequencerRefines};
 ghost use Rattle.extent_heap.specs.Room.{is_free_line, is_free_entry};
 ghost use Rattle.model.specs.Image.{entries_of_lines, first_extent_line};
@@ -25,7 +25,7 @@ use kv_types::Refusal;
 use model::{FIRST_EPOCH, Group, LAYOUT};
 use mv_keyspace::Keyspace;
 use pipes::LocalPipe;
-use pmem::Pmem;
+use pmem::Crashing;
 use redis_core::Sequencer;
 use standby::Standby;
 use standby_stream::Link;
@@ -98,7 +98,7 @@ fn heap_of(alloc: Global, lines: u64) -> Result<ExtentHeap, Refusal>
 ///
 /// `WrongSize` where a device has fewer than 4,096 lines or more than 2^31, `Memory` where a growth was refused, `Fault` where a fence failed. A
 /// refusal hands the devices back.
-pub(crate) fn form<P: Pmem, K: Keyspace + Drop>(
+pub(crate) fn form<P: Crashing, K: Keyspace + Drop>(
     alloc: Global,
     primary: P,
     standby: P,
@@ -108,7 +108,7 @@ pub(crate) fn form<P: Pmem, K: Keyspace + Drop>(
 ) -> Result<Pair<WblEngine<P>, K>, (Refusal, P, P)>
     requires serving { K.table keyspaces.0 ≡ [] }
     requires following { K.table keyspaces.1 ≡ [] }
-    ensures stands { IfOk result (λ pair. PairRefines (new_holder (P.state primary).lines Role.Primary) (new_holder (P.state standby).lines Role.Standby) (⟦<Pair<WblEngine<P>, K> as Stepper>⟧.parts pair) start) }
+    ensures stands { IfOk result (λ pair. NodesRefine (new_holder (P.state primary).lines Role.Primary) (new_holder (P.state standby).lines Role.Standby) (⟦<Pair<WblEngine<P>, K> as Stepper>⟧.parts pair) start) }
     ensures room { IfOk result (λ pair. calls ≤ vec_capacity pair.sessions.calls) }
     ensures cause { IfErr result (λ refused. UnformedBy refused.0 (P.state primary) (P.state standby) (P.state refused.1) (P.state refused.2)) }
     ensures moments { MatchResult result
@@ -143,6 +143,9 @@ pub(crate) fn form<P: Pmem, K: Keyspace + Drop>(
                 keyspace: following,
                 heap: between.heap,
             },
+            hash_builder,
+            primary_runs: true,
+            standby_runs: true,
         }),
         Err((refusal, standby)) => Err((refusal, engine.into_device(), standby)),
     }

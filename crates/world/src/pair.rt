@@ -1,12 +1,14 @@
 //! A pair of nodes with their connections, one event at a time.
-ghost use Rattle.std.specs.Prelude.{◌≡◌};
+ghost use Rattle.std.specs.Prelude.{◌≡◌, Ok, true};
 ghost use Rattle.machine.specs.declared.event.Event.TheVariants as events;
-ghost use Rattle.world.specs.Pair.{Does, HasRoom, HasWorld};
+ghost use Rattle.machine.specs.declared.event.Node.TheVariants as nodes;
+ghost use Rattle.world.specs.Pair.{Acts, Does, HasRoom, HasWorld, takes_part};
 ghost use Rattle.world.specs.Pair as specs;
 ghost use Rattle.world.specs.Standby.{node_at};
 
 use crate::arrivals::Arrivals;
 use crate::closing::close_group;
+use crate::restarting::{Serving, restart_primary};
 use crate::sessions::Sessions;
 use crate::wire::{decode, encode};
 use bytes::Bytes;
@@ -21,8 +23,9 @@ use reply_gate::Seen;
 use standby::Standby;
 use standby_stream::Link;
 use std::alloc::Global;
+use std::hash::RandomState;
 use stream_codec::Message;
-use wbl_engine::Durable;
+use wbl_engine::{Durable, Restarting};
 
 /// What events happen to, one at a time.
 pub(crate) trait Stepper {
@@ -36,7 +39,7 @@ pub(crate) trait Stepper {
     fn step(&mut self, event: &Event) -> Result<bool, Refusal>
         requires world { HasWorld (parts self.old) }
         requires room { HasRoom (parts self.old) }
-        ensures { Does (parts self.old) event.now result (parts self.new) };
+        ensures { Acts (parts self.old) event.now result (parts self.new) };
 }
 
 /// Both nodes, and what lies between them and the clients.
@@ -57,9 +60,16 @@ pub(crate) struct Pair<E: Durable, K: Keyspace> {
     pub(crate) frames: Vec<Vec<u8>>,
     pub(crate) arrivals: Arrivals,
     pub(crate) standby: Standby<E, K>,
+    /// What the keys that connections watch are hashed with.
+    pub(crate) hash_builder: RandomState,
+    /// Whether the primary runs. One that does not has crashed: but for its connections, its calls and its image, what it held is made anew when
+    /// it is opened again.
+    pub(crate) primary_runs: bool,
+    /// Whether the standby runs, likewise.
+    pub(crate) standby_runs: bool,
 }
 
-impl<E: Durable, K: Keyspace> Stepper for Pair<E, K> {
+impl<E: Restarting, K: Keyspace + Drop> Stepper for Pair<E, K> {
     ghost parts = { λ p. record {
       sessions = p.sessions;
       sequencer = p.sequencer;
@@ -73,9 +83,14 @@ impl<E: Durable, K: Keyspace> Stepper for Pair<E, K> {
       frames = p.frames.items;
       arrivals = p.arrivals;
       standby = node_at (E.device p.standby.engine) (E.contents p.standby.engine) (E.is_faulted p.standby.engine) (K.table p.standby.keyspace) p.standby.heap;
+      primary_runs = p.primary_runs;
+      standby_runs = p.standby_runs;
     } };
 
     fn step(&mut self, event: &Event) -> Result<bool, Refusal> {
+        if !self.takes_part(event) {
+            return Ok(false);
+        }
         match event {
             Event::Enter => self.enter(),
             Event::Feed(c, piece) => self.feed(*c, piece),
@@ -102,7 +117,34 @@ impl<E: Durable, K: Keyspace> Stepper for Pair<E, K> {
     }
 }
 
-impl<E: Durable, K: Keyspace> Pair<E, K> {
+impl<E: Restarting, K: Keyspace + Drop> Pair<E, K> {
+    /// Whether the nodes that take part in an event run. To crash, or to be opened again, none needs to run.
+    fn takes_part(&self, event: &Event) -> bool
+        ensures { result ≡ takes_part self.now.primary_runs self.now.standby_runs event.now }
+    {
+        match event {
+            Event::OpenLink => self.primary_runs && self.standby_runs,
+            Event::Deliver(_, _) | Event::Apply => self.standby_runs,
+            Event::Crash(_, _) | Event::Reopen(_) => true,
+            Event::Enter
+            | Event::Feed(_, _)
+            | Event::Offer(_)
+            | Event::Turn(_)
+            | Event::CloseGroup
+            | Event::Commit
+            | Event::RaiseLocal
+            | Event::Hand
+            | Event::Send
+            | Event::AckDelivered(_)
+            | Event::RaiseRemote
+            | Event::Hold(_)
+            | Event::Read(_, _)
+            | Event::Release(_)
+            | Event::Write(_, _)
+            | Event::Leave(_) => self.primary_runs,
+        }
+    }
+
     fn enter(&mut self) -> Result<bool, Refusal>
         ensures { Does (⟦<Pair<E, K> as Stepper>⟧.parts self.old) events.Enter result (⟦<Pair<E, K> as Stepper>⟧.parts self.new) }
     {
@@ -135,7 +177,8 @@ impl<E: Durable, K: Keyspace> Pair<E, K> {
     }
 
     fn commit(&mut self) -> Result<bool, Refusal>
-        requires { HasWorld (⟦<Pair<E, K> as Stepper>⟧.parts self.old) }
+        requires serves { self.old.primary_runs ≡ true }
+        requires world { HasWorld (⟦<Pair<E, K> as Stepper>⟧.parts self.old) }
         ensures { Does (⟦<Pair<E, K> as Stepper>⟧.parts self.old) events.Commit result (⟦<Pair<E, K> as Stepper>⟧.parts self.new) }
     {
         let Stage::Ready = self.committer.stage() else {
@@ -166,6 +209,7 @@ impl<E: Durable, K: Keyspace> Pair<E, K> {
     }
 
     fn open_link(&mut self) -> Result<bool, Refusal>
+        requires follows { self.old.standby_runs ≡ true }
         ensures { Does (⟦<Pair<E, K> as Stepper>⟧.parts self.old) events.OpenLink result (⟦<Pair<E, K> as Stepper>⟧.parts self.new) }
     {
         self.arrivals.acknowledge(self.alloc, self.standby.ack())?;
@@ -186,15 +230,17 @@ impl<E: Durable, K: Keyspace> Pair<E, K> {
     }
 
     fn deliver(&mut self, frame: u64, piece: u64) -> Result<bool, Refusal>
-        ensures { Does (⟦<Pair<E, K> as Stepper>⟧.parts self.old) (events.Deliver frame piece) result (⟦<Pair<E, K> as Stepper>⟧.parts self.new) }
+        requires follows { self.old.standby_runs ≡ true }
+        ensures { Acts (⟦<Pair<E, K> as Stepper>⟧.parts self.old) (events.Deliver frame piece) result (⟦<Pair<E, K> as Stepper>⟧.parts self.new) }
     {
         self.arrivals
             .deliver(self.alloc, self.frames.as_slice(), frame, piece)
     }
 
     fn apply(&mut self) -> Result<bool, Refusal>
-        requires { HasWorld (⟦<Pair<E, K> as Stepper>⟧.parts self.old) }
-        ensures { Does (⟦<Pair<E, K> as Stepper>⟧.parts self.old) events.Apply result (⟦<Pair<E, K> as Stepper>⟧.parts self.new) }
+        requires follows { self.old.standby_runs ≡ true }
+        requires world { HasWorld (⟦<Pair<E, K> as Stepper>⟧.parts self.old) }
+        ensures { Acts (⟦<Pair<E, K> as Stepper>⟧.parts self.old) events.Apply result (⟦<Pair<E, K> as Stepper>⟧.parts self.new) }
     {
         self.arrivals.apply(self.alloc, &mut self.standby)
     }
@@ -255,17 +301,88 @@ impl<E: Durable, K: Keyspace> Pair<E, K> {
         Ok(self.sessions.leave(self.alloc, c, &mut self.sequencer))
     }
 
-    /// The nodes of this pair do not crash between two events.
-    fn crash(&mut self, _node: Node, _picks: &Vec<u64>) -> Result<bool, Refusal>
-        ensures { Does (⟦<Pair<E, K> as Stepper>⟧.parts self.old) (events.Crash _node _picks.now) result (⟦<Pair<E, K> as Stepper>⟧.parts self.new) }
+    fn crash(&mut self, node: Node, picks: &Vec<u64>) -> Result<bool, Refusal>
+        requires { HasWorld (⟦<Pair<E, K> as Stepper>⟧.parts self.old) }
+        ensures { Acts (⟦<Pair<E, K> as Stepper>⟧.parts self.old) (events.Crash node picks.now) result (⟦<Pair<E, K> as Stepper>⟧.parts self.new) }
     {
-        Ok(false)
+        match node {
+            Node::Primary => Ok(self.crash_primary(picks)),
+            Node::Standby => Ok(self.crash_standby(picks)),
+        }
     }
 
-    /// None of them has to be opened again.
-    fn reopen(&mut self, _node: Node) -> Result<bool, Refusal>
-        ensures { Does (⟦<Pair<E, K> as Stepper>⟧.parts self.old) (events.Reopen _node) result (⟦<Pair<E, K> as Stepper>⟧.parts self.new) }
+    /// Of the primary there is its image then, with the calls that it holds. All connections are over.
+    fn crash_primary(&mut self, picks: &Vec<u64>) -> bool
+        requires { HasWorld (⟦<Pair<E, K> as Stepper>⟧.parts self.old) }
+        ensures { Acts (⟦<Pair<E, K> as Stepper>⟧.parts self.old) (events.Crash nodes.Primary picks.now) (Ok result) (⟦<Pair<E, K> as Stepper>⟧.parts self.new) }
     {
-        Ok(false)
+        if !self.primary_runs {
+            return false;
+        }
+        let position = self.committer.position();
+        self.committer.crash(picks.as_slice());
+        self.sessions.crash(self.alloc, position);
+        self.primary_runs = false;
+        true
+    }
+
+    /// Of the standby there is its image then. What was delivered to it is lost.
+    fn crash_standby(&mut self, picks: &Vec<u64>) -> bool
+        requires { HasWorld (⟦<Pair<E, K> as Stepper>⟧.parts self.old) }
+        ensures { Acts (⟦<Pair<E, K> as Stepper>⟧.parts self.old) (events.Crash nodes.Standby picks.now) (Ok result) (⟦<Pair<E, K> as Stepper>⟧.parts self.new) }
+    {
+        if !self.standby_runs {
+            return false;
+        }
+        self.standby.crash(picks.as_slice());
+        self.arrivals.crash();
+        self.standby_runs = false;
+        true
+    }
+
+    fn reopen(&mut self, node: Node) -> Result<bool, Refusal>
+        requires { HasWorld (⟦<Pair<E, K> as Stepper>⟧.parts self.old) }
+        ensures { Acts (⟦<Pair<E, K> as Stepper>⟧.parts self.old) (events.Reopen node) result (⟦<Pair<E, K> as Stepper>⟧.parts self.new) }
+    {
+        match node {
+            Node::Primary => self.reopen_primary(),
+            Node::Standby => self.reopen_standby(),
+        }
+    }
+
+    /// The primary goes on from its image: its keyspace and its heap are made from the versions there, and nothing waits.
+    fn reopen_primary(&mut self) -> Result<bool, Refusal>
+        requires { HasWorld (⟦<Pair<E, K> as Stepper>⟧.parts self.old) }
+        ensures { Acts (⟦<Pair<E, K> as Stepper>⟧.parts self.old) (events.Reopen nodes.Primary) result (⟦<Pair<E, K> as Stepper>⟧.parts self.new) }
+    {
+        if self.primary_runs {
+            return Ok(false);
+        }
+        let Serving {
+            sequencer,
+            groups,
+            handed,
+            link,
+        } = restart_primary(self.alloc, &mut self.committer, self.hash_builder)?;
+        self.sequencer = sequencer;
+        self.groups = groups;
+        self.handed = handed;
+        self.link = link;
+        self.remote = 0;
+        self.primary_runs = true;
+        Ok(true)
+    }
+
+    /// The standby goes on from its image.
+    fn reopen_standby(&mut self) -> Result<bool, Refusal>
+        requires { HasWorld (⟦<Pair<E, K> as Stepper>⟧.parts self.old) }
+        ensures { Acts (⟦<Pair<E, K> as Stepper>⟧.parts self.old) (events.Reopen nodes.Standby) result (⟦<Pair<E, K> as Stepper>⟧.parts self.new) }
+    {
+        if self.standby_runs {
+            return Ok(false);
+        }
+        self.standby.restart(self.alloc)?;
+        self.standby_runs = true;
+        Ok(true)
     }
 }

@@ -2,9 +2,8 @@
 ghost use Rattle.std.specs.Prelude.{◌≡◌, ℕ, ◌≤◌, ◌∷◌, [], List, map, length, vec_len, vec_capacity, Some, IfOk};
 ghost use Rattle.model.specs.Standing.{Holder};
 ghost use Rattle.world.specs.declared.trace.EarlyEnd.TheVariants.{AtFormatting};
-ghost use Rattle.machine.specs.Event.{start};
-ghost use Rattle.world.specs.Headline.{KeepsItsWord, PlaysOn, Plays};
-ghost use Rattle.world.specs.Pair.{PairRefines};
+ghost use Rattle.world.specs.Headline.{KeepsItsWord, PlaysOn, Plays, start};
+ghost use Rattle.world.specs.Pair.{NodesRefine};
 ghost use Rattle.world.specs.Session.{released_of};
 
 use crate::connection::Connection;
@@ -17,7 +16,7 @@ use kv_types::Refusal;
 use machine::Event;
 use model::Call;
 use mv_keyspace::{Keyspace, ListKeyspace};
-use pmem::{Crashing, Pmem};
+use pmem::Crashing;
 use std::alloc::{AllocError, Global};
 use std::hash::RandomState;
 use wbl_engine::{Durable, WblEngine};
@@ -86,7 +85,7 @@ struct Played<P> {
 }
 
 /// Plays the events over a primary and a standby.
-fn play_over<P: Pmem>(
+fn play_over<P: Crashing>(
     alloc: Global,
     primary: P,
     standby: P,
@@ -144,7 +143,7 @@ fn room_for(alloc: Global, events: usize) -> Result<(Vec<bool>, Vec<Vec<u8>>), A
 }
 
 /// Plays the events over a pair.
-fn play_on<P: Pmem, K: Keyspace + Drop>(
+fn play_on<P: Crashing, K: Keyspace + Drop>(
     pair: Pair<WblEngine<P>, K>,
     events: &[Event],
     done: Vec<bool>,
@@ -155,8 +154,8 @@ fn play_on<P: Pmem, K: Keyspace + Drop>(
     requires none_released { released.items ≡ [] }
     requires room_released { length events.now ≤ vec_capacity released }
     requires room_calls { length events.now ≤ vec_capacity pair.sessions.calls }
-    requires stands { (first : Holder) × (second : Holder) × PairRefines first second (⟦<Pair<WblEngine<P>, K> as Stepper>⟧.parts pair) start }
-    ensures { (first second : Holder) → PairRefines first second (⟦<Pair<WblEngine<P>, K> as Stepper>⟧.parts pair) start
+    requires stands { (first : Holder) × (second : Holder) × NodesRefine first second (⟦<Pair<WblEngine<P>, K> as Stepper>⟧.parts pair) start }
+    ensures { (first second : Holder) → NodesRefine first second (⟦<Pair<WblEngine<P>, K> as Stepper>⟧.parts pair) start
         → PlaysOn first second events.now result.ended result.done.items result.calls.items (map (λ bytes. bytes.items) result.released.items)
         (⟦<Pair<WblEngine<P>, K> as Stepper>⟧.parts pair).device (⟦<Pair<WblEngine<P>, K> as Stepper>⟧.parts pair).standby.device
         (P.state result.primary) (P.state result.standby) }
@@ -177,11 +176,15 @@ fn play_on<P: Pmem, K: Keyspace + Drop>(
         mut frames,
         arrivals,
         standby,
+        hash_builder: _,
+        primary_runs: _,
+        standby_runs: _,
     } = pair;
     let Sessions {
         lobby: _lobby,
         connections,
         calls,
+        positions: _positions,
         replies: _replies,
     } = sessions;
     take_released(connections, &mut released);
@@ -203,8 +206,8 @@ fn play<S: Stepper>(stepper: &mut S, events: &[Event], done: &mut Vec<bool>) -> 
     requires none { done.old.items ≡ [] }
     requires room { length events.now ≤ vec_capacity done.old }
     requires room_calls { length events.now ≤ vec_capacity (S.parts stepper.old).sessions.calls }
-    requires stands { (first : Holder) × (second : Holder) × PairRefines first second (S.parts stepper.old) start }
-    ensures { (first second : Holder) → PairRefines first second (S.parts stepper.old) start
+    requires stands { (first : Holder) × (second : Holder) × NodesRefine first second (S.parts stepper.old) start }
+    ensures { (first second : Holder) → NodesRefine first second (S.parts stepper.old) start
         → Plays first second (S.parts stepper.old) events.now result done.new.items (S.parts stepper.new) }
 {
     for event in events {

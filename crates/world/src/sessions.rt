@@ -1,7 +1,8 @@
 //! The connections, and the one list of calls that the sequencer makes of their items.
-ghost use Rattle.std.specs.Prelude.{◌≡◌, ◌≢◌, ℕ, ◌+◌, ◌<◌, ◌≤◌, ◌∷◌, ◌++◌, [], true, false, List, length, None, IfOk, IfErr, IfNone, IfSome, IsSome, OnErr, vec_len, vec_capacity};
+ghost use Rattle.std.specs.Prelude.{◌≡◌, ◌≢◌, ℕ, ◌+◌, ◌<◌, ◌≤◌, ◌∷◌, ◌++◌, [], true, false, List, length, None, map, IfOk, IfErr, IfNone, IfSome, IsSome, OnErr, vec_len, vec_capacity};
 ghost use Rattle.kv_types.specs.declared.item.Item.{Item};
 ghost use Rattle.model.specs.declared.call.Call.{Call};
+ghost use Rattle.model.specs.Call.{cut_at};
 ghost use Rattle.model.specs.Group.{Contents};
 ghost use Rattle.model.specs.declared.group.TheConstants.{MAX_PARTS};
 ghost use Rattle.machine.specs.declared.event.Event.TheVariants.{Enter, Feed, Offer, Hold, Read, Release, Write, Leave};
@@ -11,7 +12,7 @@ ghost use Rattle.redis_core.specs.Sequencing.{IsAheadOf, MovesSeat, is_closed};
 ghost use Rattle.redis_core.specs.Turn.{call_of};
 ghost use Rattle.world.specs.Going.{Goes};
 ghost use Rattle.world.specs.Running.{Runs};
-ghost use Rattle.world.specs.Session.{SessionsRefine, SequencerRefines, SeatsFollow, HasSeat, KeepsSeats, AddsOne, TakesTurn, TellsTheSame, seats_of};
+ghost use Rattle.world.specs.Session.{SessionsRefine, SequencerRefines, SeatsRefine, SeatsFollow, HasSeat, KeepsSeats, AddsOne, TakesTurn, TellsTheSame, positions_of, released_of, seats_of};
 
 use crate::connection::{Client, Connection};
 use crate::inbound::Inbound;
@@ -34,6 +35,8 @@ pub(crate) struct Sessions {
     pub(crate) lobby: Lobby,
     pub(crate) connections: Vec<Connection>,
     pub(crate) calls: Vec<Call>,
+    /// For each call the position of the list after it. They never fall.
+    pub(crate) positions: Vec<u64>,
     /// Where a turn leaves its reply. It is empty between two events.
     pub(crate) replies: LocalPipe<Held>,
 }
@@ -49,6 +52,7 @@ impl Sessions {
             lobby: Lobby::new(alloc)?,
             connections: Vec::new(alloc),
             calls: Vec::with_capacity(alloc, calls)?,
+            positions: Vec::with_capacity(alloc, calls)?,
             replies: LocalPipe::new(alloc)?,
         })
     }
@@ -272,10 +276,48 @@ impl Sessions {
         else {
             return false;
         };
+        // There is room for a position wherever there is room for a call.
+        let _ = self.positions.push(held.position);
         let asked = &mut client.inbound.asked;
         write_call(&mut self.calls, c, asked, held, &mut client.outbound.made);
         true
     }
+
+    /// Ends every connection as `leave` does, but tells no sequencer, and drops the calls after this position of the list.
+    pub(crate) fn crash(&mut self, alloc: Global, position: u64)
+        ensures goes { (w : World) → SessionsRefine self.old w.primary.connections w.primary.calls
+            → SessionsRefine self.new (map left w.primary.connections) (cut_at w.primary.calls position) }
+        ensures unseated { (c seat : ℕ) → HasSeat (seats_of self.new.connections.items) c seat → ⊥ }
+        ensures calls { AddsOne self.old.calls self.new.calls }
+    {
+        end_all(alloc, &mut self.connections, &mut self.lobby);
+        cut(&mut self.calls, &mut self.positions, position);
+    }
+}
+
+/// Ends each connection that is open, and gives its seat back.
+fn end_all(alloc: Global, connections: &mut Vec<Connection>, lobby: &mut Lobby)
+    ensures seats { SeatsRefine lobby.old.statuses (seats_of connections.old.items) → SeatsRefine lobby.new.statuses (seats_of connections.new.items) }
+    ensures unseated { (c seat : ℕ) → HasSeat (seats_of connections.new.items) c seat → ⊥ }
+    ensures released { released_of connections.new.items ≡ released_of connections.old.items }
+{
+    for connection in connections.iter_mut() {
+        if let Some(seat) = connection.leave(alloc) {
+            lobby.leave(seat);
+        }
+    }
+}
+
+/// Drops the calls after this position of the list, and their positions.
+fn cut(calls: &mut Vec<Call>, positions: &mut Vec<u64>, position: u64)
+    ensures calls { positions.old.items ≡ positions_of calls.old.items → calls.new.items ≡ cut_at calls.old.items position }
+    ensures positions { positions.old.items ≡ positions_of calls.old.items → positions.new.items ≡ positions_of calls.new.items }
+    ensures fewer { length calls.new.items ≤ length calls.old.items }
+    ensures room { (vec_capacity calls.new ≡ vec_capacity calls.old) × (vec_capacity positions.new ≡ vec_capacity positions.old) }
+{
+    let count = positions.partition_point(|after| *after <= position);
+    calls.truncate(count);
+    positions.truncate(count);
 }
 
 /// The sequencer's answer to the first item that waits, if it runs that item.

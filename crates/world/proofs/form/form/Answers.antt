@@ -4,7 +4,7 @@ use Rattle.model.specs.declared.record.Role.TheVariants.{Primary, Standby}
 use Rattle.standby.proofs.NewLemmas.{HasAll}
 use Rattle.standby_stream.specs.Stream.{Stream}
 use Rattle.world.specs.Cause.{UnformedBy}
-use Rattle.world.proofs.FormLemmas.{engine-new, formatting-none, new-own, pair-starts, standby-new, unformed-first, unformed-second}
+use Rattle.world.proofs.FormLemmas.{engine-new, formatted-size, formatting-none, new-own, pair-starts, standby-new, unformed-first, unformed-second}
 use Rattle.world.proofs.form.form.Goals as goal
 
 pub returns-in-Err-clause-moments : goal.returns-in-Err-clause-moments
@@ -21,11 +21,14 @@ returns-in-Ok-format-2-clause-stands g c =
     let all : HasAll (g.P.Pmem.state c.args.standby).lines c.in-Ok.between.heap =
     subst (λ n. HasAll n c.in-Ok.between.heap) c.lines-2.ensures.count (record { lines_free = made.free_lines; entries_free = made.free_entries }) in
     let epoch = ap (λ (s : Stream). s.epoch) made.link in
+    let primary_size = formatted-size (g.P.Pmem.state c.args.primary).lines serving.wrong in
+    let standby_size = formatted-size (g.P.Pmem.state c.args.standby).lines following.wrong in
     rw c.new.ensures (pair-starts _ _ _ made.sessions made.sequencer made.no_group refl serving.new.position
-    (engine-new _ _ _ _ _ serving.new serving.durable serving.sound.0)
+    (engine-new _ _ _ _ _ primary_size.0 primary_size.1 serving.new serving.durable serving.sound.0)
     (made.underlies _ (new-own _ _ _ _ (sym c.lines.ensures.count) serving.new))
     made.link made.handed refl c.new-in-Ok-format-2.ensures.items made.arrivals
-    (standby-new _ _ _ _ following.new following.durable following.sound.0 all c.requires.following (following.new.epoch ∙ sym epoch) epoch))
+    (standby-new _ _ _ _ standby_size.0 standby_size.1 following.new following.durable following.sound.0 all c.requires.following (following.new.epoch ∙ sym epoch) epoch)
+    refl refl refl refl refl refl)
 
 pub returns-in-Err-clause-cause : goal.returns-in-Err-clause-cause
 returns-in-Err-clause-cause g c =

@@ -2,16 +2,16 @@ use Rattle.std.proofs.Common.{rules, ◌≡◌, ◌≤◌, List, Some, slice_get
 use Rattle.std.proofs.lemmas.List.{take_more, take_all}
 use Rattle.std.proofs.lemmas.Option.{slice_get-get_or}
 use Rattle.machine.specs.declared.event.Event.{Event}
-use Rattle.machine.specs.Event.{start}
 use Rattle.model.specs.Standing.{Holder}
-use Rattle.world.specs.Headline.{StandsAfter, IsCutAfter}
-use Rattle.world.specs.Pair.{Pair, PairRefines}
+use Rattle.world.specs.Headline.{start, StandsAfter, IsCutAfter}
+use Rattle.world.specs.Pair.{Pair, NodesRefine}
+use Rattle.world.proofs.PairLemmas.{sessions-stand}
 use Rattle.world.proofs.RunningLemmas.{reaches-start, reaches-world, reaches-next, reaches-cut}
 use Rattle.world.proofs.playing.play.Goals as goal
 
 -- at the start there is no call
-start-none : (pair : Pair) → (first : Holder) × (second : Holder) × PairRefines first second pair start → length pair.sessions.calls.items ≤ 0
-start-none pair stands = omega (arith, ap length stands.2.parts.sessions.calls_are)
+start-none : (pair : Pair) → (first : Holder) × (second : Holder) × NodesRefine first second pair start → length pair.sessions.calls.items ≤ 0
+start-none pair stands = omega (arith, ap length (sessions-stand stands.2.parts).calls_are)
 
 pub loop-event-init : goal.loop-event-init
 loop-event-init g c = record {

@@ -1,9 +1,8 @@
 use Rattle.std.proofs.Common.{◌≡◌, ◌≤◌, take, length, vec_len}
 use Rattle.std.specs.Vec.{vec_capacity}
 use Rattle.model.specs.Standing.{Holder}
-use Rattle.machine.specs.Event.{start}
-use Rattle.world.specs.Pair.{PairRefines}
-use Rattle.world.specs.Headline.{StandsAfter}
+use Rattle.world.specs.Pair.{NodesRefine}
+use Rattle.world.specs.Headline.{start, StandsAfter}
 use Rattle.world.proofs.playing.play.Given as goal
 
 abbrev pub invariant-loop-event : goal.invariant-loop-event
@@ -12,6 +11,6 @@ invariant-loop-event g l = record {
   room : length l.events ≤ vec_capacity l.done;
   few : length (g.S.Stepper.parts l.stepper).sessions.calls.items ≤ l.event-index;
   room_calls : length l.events ≤ vec_capacity (g.S.Stepper.parts l.stepper).sessions.calls;
-  reaches : (first second : Holder) → PairRefines first second (g.S.Stepper.parts l.initial.stepper) start
+  reaches : (first second : Holder) → NodesRefine first second (g.S.Stepper.parts l.initial.stepper) start
       → StandsAfter first second (g.S.Stepper.parts l.initial.stepper) (take l.event-index l.events) l.done.items (g.S.Stepper.parts l.stepper);
 }

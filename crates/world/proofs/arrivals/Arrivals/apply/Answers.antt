@@ -1,4 +1,4 @@
-use Rattle.std.proofs.Common.{◌≡◌, ℕ, Vec, Global, ◌++◌, [], ◌∷◌, drop, List, Result, Ok, Err, refl, sym, ap, subst, ◌∙◌, arith, append-nil, true≢false}
+use Rattle.std.proofs.Common.{◌≡◌, ℕ, Vec, Global, ◌++◌, [], ◌∷◌, drop, List, Result, Ok, Err, refl, sym, ap, subst, ◌∙◌, append-nil, true≢false}
 use Rattle.model.specs.Standing.{Holder}
 use Rattle.std.proofs.lemmas.Result.{err_from_is_err_and}
 use Rattle.kv_types.specs.declared.refusal.Refusal.{Refusal}
@@ -48,6 +48,7 @@ answers g c = record {
   still = c.on_frame.ensures.still;
   sound = c.on_frame.ensures.sound;
   durable = c.on_frame.ensures.durable;
+  lawful = c.on_frame.ensures.lawful;
   epoch_stays = c.on_frame.ensures.epoch_stays;
   moments = c.on_frame.ensures.moments;
 }

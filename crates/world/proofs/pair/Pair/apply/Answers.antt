@@ -1,8 +1,11 @@
-use Rattle.world.proofs.PairStandby.{apply-does}
+use Rattle.world.proofs.PairStandby.{apply-acts, follower}
 use Rattle.world.proofs.pair.Pair.apply.Goals as goal
 
+pub apply-requires-clause-durable : goal.apply-requires-clause-durable
+apply-requires-clause-durable g c = (follower c.requires.follows c.requires.world.stands.parts).engine.durable
+
 pub returns : goal.returns
-returns g c = apply-does _ c.apply.new.self
+returns g c = apply-acts _ c.apply.new.self
     (record {
       device = g.E.Durable.device c.apply.new.standby.engine;
       contents = g.E.Durable.contents c.apply.new.standby.engine;
@@ -11,4 +14,4 @@ returns g c = apply-does _ c.apply.new.self
       room = c.apply.new.standby.heap;
       epoch = (g.E.Durable.contents c.apply.new.standby.engine).current.epoch;
     })
-    c.apply.result c.apply.ensures.applies c.apply.ensures.moments c.apply.ensures.cut
+    c.apply.result c.requires.follows c.apply.ensures.applies c.apply.ensures.moments c.apply.ensures.cut

@@ -5,4 +5,4 @@ use Rattle.world.proofs.PairLemmas.{sessions-do}
 use Rattle.world.proofs.pair.Pair.hold.Goals as goal
 
 pub returns : goal.returns
-returns g c = sessions-do (events.Hold c.args.c) (λ (w : World). changed_at c.args.c (with_outbound held_first) w.primary.connections) (λ w. refl) refl _ c.hold.new.self c.hold.result c.hold.ensures.goes c.hold.ensures.told c.hold.ensures.cause c.hold.ensures.enabled c.hold.ensures.seats c.hold.ensures.calls
+returns g c = sessions-do (events.Hold c.args.c) (λ (w : World). changed_at c.args.c (with_outbound held_first) w.primary.connections) refl (λ w. refl) refl _ c.hold.new.self c.hold.result c.hold.ensures.goes c.hold.ensures.told c.hold.ensures.cause c.hold.ensures.enabled c.hold.ensures.seats c.hold.ensures.calls

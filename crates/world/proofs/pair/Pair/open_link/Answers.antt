@@ -8,7 +8,7 @@ pub returns-in_err-acknowledge : goal.returns-in_err-acknowledge
 returns-in_err-acknowledge g c =
     let exit = err_from_is_err_and c.from_residual.result c.from_residual.ensures.1 in
     let memory : exit.0 ≡ Memory = exit.2 ∙ c.in_err-acknowledge.ensures.cause in
-    open-cut _ c.acknowledge.new.self c.from_residual.result exit.0 exit.1 memory
+    open-cut _ c.acknowledge.new.self c.from_residual.result exit.0 c.requires.follows exit.1 memory
 
 pub returns : goal.returns
-returns g c = open-does _ c.acknowledge.new.self c.reopen.new.self c.ack.result c.ack.ensures c.in_ok-acknowledge.ensures.stands c.reopen.ensures
+returns g c = open-does _ c.acknowledge.new.self c.reopen.new.self c.ack.result c.requires.follows c.ack.ensures c.in_ok-acknowledge.ensures.stands c.reopen.ensures

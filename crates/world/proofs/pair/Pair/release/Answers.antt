@@ -5,4 +5,4 @@ use Rattle.world.proofs.PairLemmas.{sessions-did}
 use Rattle.world.proofs.pair.Pair.release.Goals as goal
 
 pub returns : goal.returns
-returns g c = sessions-did (events.Release c.args.c) (λ (w : World). changed_at c.args.c (with_outbound having_released) w.primary.connections) (λ w. refl) _ c.release.new.self c.release.result c.release.ensures.goes c.release.ensures.seats c.release.ensures.calls
+returns g c = sessions-did (events.Release c.args.c) (λ (w : World). changed_at c.args.c (with_outbound having_released) w.primary.connections) refl (λ w. refl) _ c.release.new.self c.release.result c.release.ensures.goes c.release.ensures.seats c.release.ensures.calls

@@ -5,4 +5,4 @@ use Rattle.world.proofs.PairLemmas.{sessions-do}
 use Rattle.world.proofs.pair.Pair.write.Goals as goal
 
 pub returns : goal.returns
-returns g c = sessions-do (events.Write c.args.c c.args.n) (λ (w : World). changed_at c.args.c (with_outbound (written c.args.n)) w.primary.connections) (λ w. refl) refl _ c.write.new.self c.write.result c.write.ensures.goes c.write.ensures.told c.write.ensures.cause c.write.ensures.enabled c.write.ensures.seats c.write.ensures.calls
+returns g c = sessions-do (events.Write c.args.c c.args.n) (λ (w : World). changed_at c.args.c (with_outbound (written c.args.n)) w.primary.connections) refl (λ w. refl) refl _ c.write.new.self c.write.result c.write.ensures.goes c.write.ensures.told c.write.ensures.cause c.write.ensures.enabled c.write.ensures.seats c.write.ensures.calls

@@ -12,16 +12,16 @@ use Rattle.world.proofs.sessions.Sessions.enter.Goals as goal
 pub returns-clause-goes : goal.returns-clause-goes
 returns-clause-goes g c = λ w stand.
     let old = c.args.self.now in
-    let now : Sessions = record { lobby = c.enter.new.self; connections = c.push_reserved.new.self; calls = old.calls; replies = old.replies } in
+    let now : Sessions = record { lobby = c.enter.new.self; connections = c.push_reserved.new.self; calls = old.calls; positions = old.positions; replies = old.replies } in
     let client : Client = record { seat = c.in-Ok.seat; inbound = c.in_ok-new.field-0; outbound = c.in_ok-new-2.field-0 } in
     seated-goes w old now c.in-Ok.seat c.in_ok-new.field-0 c.in_ok-new-2.field-0 stand c.in-Ok.ensures.moves
     c.in_ok-new.ensures (c.in_ok-new-2.ensures w.primary.calls)
-    (c.push_reserved.ensures.items ∙ ap (λ (codes : List Connection). codes ++ Open client ∷ []) c.in_ok-reserve.ensures.items) refl refl
+    (c.push_reserved.ensures.items ∙ ap (λ (codes : List Connection). codes ++ Open client ∷ []) c.in_ok-reserve.ensures.items) refl refl refl
 
 pub returns-clause-follow : goal.returns-clause-follow
 returns-clause-follow g c = λ w sound stand follow.
     let old = c.args.self.now in
-    let now : Sessions = record { lobby = c.enter.new.self; connections = c.push_reserved.new.self; calls = old.calls; replies = old.replies } in
+    let now : Sessions = record { lobby = c.enter.new.self; connections = c.push_reserved.new.self; calls = old.calls; positions = old.positions; replies = old.replies } in
     let client : Client = record { seat = c.in-Ok.seat; inbound = c.in_ok-new.field-0; outbound = c.in_ok-new-2.field-0 } in
     seated-follow w old now client c.args.sequencer.now c.open_seat.new.self sound stand c.in-Ok.ensures.moves
     (c.push_reserved.ensures.items ∙ ap (λ (codes : List Connection). codes ++ Open client ∷ []) c.in_ok-reserve.ensures.items)
@@ -33,8 +33,8 @@ returns-clause-sequencer g c = λ calls closed stands. sequencer-moved calls clo
 pub returns-in_default-clause-goes : goal.returns-in_default-clause-goes
 returns-in_default-clause-goes g c = λ w stand.
     let old = c.args.self.now in
-    let now : Sessions = record { lobby = c.enter.new.self; connections = old.connections; calls = old.calls; replies = old.replies } in
-    full-goes w old now stand (c.in_default.ensures.full.0 (ap Err c.in_default.ensures.err.0)) c.in_default.ensures.err.1 refl refl refl
+    let now : Sessions = record { lobby = c.enter.new.self; connections = old.connections; calls = old.calls; positions = old.positions; replies = old.replies } in
+    full-goes w old now stand (c.in_default.ensures.full.0 (ap Err c.in_default.ensures.err.0)) c.in_default.ensures.err.1 refl refl refl refl
 
 pub returns-in_err-open_seat-clause-enabled : goal.returns-in_err-open_seat-clause-enabled
 returns-in_err-open_seat-clause-enabled g c = on_err_from c.from_residual.result (λ w stand. may-enter w c.args.self.now _ c.in-Ok.seat stand c.in-Ok.ensures.moves)

@@ -12,9 +12,9 @@ returns-clause-goes g c = λ w stand.
     let seat = c.in-Some-leave.seat in
     let within = c.in-Some.ensures.item.3.0 in
     let own = sym c.leave.ensures.seat ∙ c.in-Some-leave.is in
-    let now : Sessions = record { lobby = c.leave-2.new.self; connections = (with_connection old c.args.c c.leave.new.self).connections; calls = old.calls; replies = old.replies } in
+    let now : Sessions = record { lobby = c.leave-2.new.self; connections = (with_connection old c.args.c c.leave.new.self).connections; calls = old.calls; positions = old.positions; replies = old.replies } in
     left-goes w old now c.args.c seat code c.leave.new.self stand within c.in-Some.ensures.value own c.leave.ensures.over c.leave.ensures.bytes
-    (c.leave-2.ensures.moves (own-taken w old c.args.c seat code stand within c.in-Some.ensures.value own)) refl refl refl
+    (c.leave-2.ensures.moves (own-taken w old c.args.c seat code stand within c.in-Some.ensures.value own)) refl refl refl refl
 
 pub returns-clause-seats : goal.returns-clause-seats
 returns-clause-seats g c = left-keeps c.args.self.now.connections.items c.args.c c.leave.new.self c.leave.ensures.over

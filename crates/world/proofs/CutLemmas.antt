@@ -1,0 +1,112 @@
+-- A crash of the primary cuts the list of calls: what stands at positions up to the cut still stands.
+use Rattle.std.proofs.Common.{◌≡◌, ℕ, ◌≤◌, inl, inr, Bool, List, [], ◌∷◌, All, Vec, Global, sym, ap, subst, ◌∙◌, arith}
+use Rattle.std.proofs.lemmas.Bool.{cases_lt}
+use Rattle.std.proofs.lemmas.List.Elements.{All-head, All-tail}
+use Rattle.kv_types.specs.Keyspace.{play_all}
+use Rattle.pmem.specs.Device.{State}
+use Rattle.model.specs.declared.call.Call.{Call}
+use Rattle.model.specs.Call.{keyspace_after, cut_at, position_of}
+use Rattle.model.specs.Image.{IsMapOf, entries_of_lines}
+use Rattle.model.specs.Group.{Contents}
+use Rattle.model.specs.Standing.{Holder}
+use Rattle.model.proofs.CallsLemmas.{IsPrefix-cut_at, cut_at-all, position_of-cut_at}
+use Rattle.machine.specs.Event.{Span, Frame as Sent, Acknowledgement}
+use Rattle.machine.specs.Sound.{IsFrameWithin}
+use Rattle.machine.proofs.GrowLemmas.{cuts-stay}
+use Rattle.standby.specs.declared.frame.Frame.{Frame}
+use Rattle.world.specs.declared.arrivals.Arrivals.{Arrivals}
+use Rattle.world.specs.Committing.{AreContentsAt, EngineStands, IsDown}
+use Rattle.world.specs.GroupSpan.{IsWithin}
+use Rattle.world.specs.Link.{IsFrameOf, IsFrameRead, AreFramesRead, AreFramesSent}
+use Rattle.world.specs.Standby.{Node, StandbyStands, ArrivalsRefine}
+
+-- the keyspace up to the cut is that of the whole list
+pub keyspace_after-cut_at-cut : (calls : List Call) (n p : ℕ) → p ≤ n → keyspace_after (cut_at (cut_at calls n) p) ≡ keyspace_after (cut_at calls p)
+keyspace_after-cut_at-cut calls n p le =
+    elim (cases_lt n (position_of calls)) [
+      | inl within ↦ sym (cuts-stay (cut_at calls n) calls p (IsPrefix-cut_at calls n) (omega (arith, le, within, position_of-cut_at calls n)))
+      | inr beyond ↦ ap (λ (all : List Call). keyspace_after (cut_at all p)) (cut_at-all calls n beyond)
+    ]
+
+-- ---- nodes
+
+AreContentsAt-cut : (holder : Holder) (calls : List Call) (n p : ℕ) (contents : Contents) → p ≤ n → AreContentsAt holder calls p contents → AreContentsAt holder (cut_at calls n) p contents
+AreContentsAt-cut holder calls n p contents le are = record {
+  at = are.at;
+  role_is = are.role_is;
+  epoch_is = are.epoch_is;
+  lines_are = are.lines_are;
+  consistent = are.consistent;
+  map = subst (IsMapOf contents.versions (entries_of_lines contents.lines)) (sym (keyspace_after-cut_at-cut calls n p le)) are.map;
+}
+
+pub EngineStands-cut : (holder : Holder) (calls : List Call) (n p : ℕ) (device : State) (contents : Contents) (is_faulted : Bool) → p ≤ n
+    → EngineStands holder calls p device contents is_faulted → EngineStands holder (cut_at calls n) p device contents is_faulted
+EngineStands-cut holder calls n p device contents is_faulted le stands = record {
+  contents_at = AreContentsAt-cut holder calls n p contents le stands.contents_at;
+  lawful = stands.lawful;
+  sound = stands.sound;
+  durable = stands.durable;
+}
+
+pub IsDown-cut : (holder : Holder) (calls : List Call) (n p : ℕ) (device : State) → p ≤ n → IsDown holder calls p device → IsDown holder (cut_at calls n) p device
+IsDown-cut holder calls n p device le down = record {
+  contents = down.contents;
+  contents_at = AreContentsAt-cut holder calls n p down.contents le down.contents_at;
+  lawful = down.lawful;
+  keeps = down.keeps;
+  settled = down.settled;
+  sized = down.sized;
+}
+
+pub StandbyStands-cut : (holder : Holder) (epoch : ℕ) (calls : List Call) (n p : ℕ) (node : Node) → p ≤ n → StandbyStands holder epoch calls p node → StandbyStands holder epoch (cut_at calls n) p node
+StandbyStands-cut holder epoch calls n p node le stands = record {
+  engine = EngineStands-cut holder calls n p node.device node.contents node.is_faulted le stands.engine;
+  follows = stands.follows;
+  table = stands.table ∙ sym (keyspace_after-cut_at-cut calls n p le);
+  epoch_is = stands.epoch_is;
+  epoch_held = stands.epoch_held;
+}
+
+-- ---- frames
+
+IsWithin-cut : (calls : List Call) (n : ℕ) (span : Span) → span.after ≤ n → IsWithin calls span → IsWithin (cut_at calls n) span
+IsWithin-cut calls n span le is = record { rising = is.rising; within = omega (arith, le, is.within, position_of-cut_at calls n); few = is.few }
+
+IsFrameOf-cut : (epoch : ℕ) (calls : List Call) (n : ℕ) (frame : Frame) (span : Span) → span.after ≤ n → IsFrameOf epoch calls frame span → IsFrameOf epoch (cut_at calls n) frame span
+IsFrameOf-cut epoch calls n frame span le is =
+    record {
+      span_within = IsWithin-cut calls n span le is.span_within;
+      epoch_is = is.epoch_is;
+      before = is.before;
+      after = is.after;
+      plays = ap (λ s. play_all s frame.changes.items) (keyspace_after-cut_at-cut calls n span.before (omega (arith, le, is.span_within.rising))) ∙ is.plays
+          ∙ sym (keyspace_after-cut_at-cut calls n span.after le);
+      size = is.size;
+    }
+
+IsFrameRead-cut : (epoch : ℕ) (calls : List Call) (n : ℕ) (frame : Frame) (sent : Sent) → IsFrameWithin epoch n sent → IsFrameRead epoch calls frame sent → IsFrameRead epoch (cut_at calls n) frame sent
+IsFrameRead-cut epoch calls n frame sent within is = record { epoch_is = is.epoch_is; has = IsFrameOf-cut epoch calls n frame sent.span within.span.within is.has }
+
+pub AreFramesRead-cut : (epoch : ℕ) (calls : List Call) (n : ℕ) (frames : List Frame) (sent : List Sent) → All (IsFrameWithin epoch n) sent → AreFramesRead epoch calls frames sent → AreFramesRead epoch (cut_at calls n) frames sent
+AreFramesRead-cut epoch calls n [] [] within are = tt
+AreFramesRead-cut epoch calls n [] (one ∷ sent) within are = absurd are
+AreFramesRead-cut epoch calls n (frame ∷ frames) [] within are = absurd are
+AreFramesRead-cut epoch calls n (frame ∷ frames) (one ∷ sent) within are = (
+  IsFrameRead-cut epoch calls n frame one (All-head (IsFrameWithin epoch n) one sent within) are.0,
+  AreFramesRead-cut epoch calls n frames sent (All-tail (IsFrameWithin epoch n) one sent within) are.1,
+)
+
+pub AreFramesSent-cut : (epoch : ℕ) (calls : List Call) (n : ℕ) (texts : List (Vec ℕ Global)) (sent : List Sent) → All (IsFrameWithin epoch n) sent → AreFramesSent epoch calls texts sent → AreFramesSent epoch (cut_at calls n) texts sent
+AreFramesSent-cut epoch calls n [] [] within are = tt
+AreFramesSent-cut epoch calls n [] (one ∷ sent) within are = absurd are
+AreFramesSent-cut epoch calls n (bytes ∷ texts) [] within are = absurd are
+AreFramesSent-cut epoch calls n (bytes ∷ texts) (one ∷ sent) within are = (
+  record { frame = are.0.frame; text = are.0.text; may = are.0.may; is = IsFrameRead-cut epoch calls n are.0.frame one (All-head (IsFrameWithin epoch n) one sent within) are.0.is },
+  AreFramesSent-cut epoch calls n texts sent (All-tail (IsFrameWithin epoch n) one sent within) are.1,
+)
+
+pub ArrivalsRefine-cut : (epoch : ℕ) (calls : List Call) (n : ℕ) (code : Arrivals) (waiting : List Sent) (told : List Acknowledgement) → All (IsFrameWithin epoch n) waiting
+    → ArrivalsRefine epoch calls code waiting told → ArrivalsRefine epoch (cut_at calls n) code waiting told
+ArrivalsRefine-cut epoch calls n code waiting told within stands =
+    record { delivered = AreFramesRead-cut epoch calls n code.delivered.items waiting within stands.delivered; acknowledged = stands.acknowledged }

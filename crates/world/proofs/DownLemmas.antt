@@ -1,0 +1,172 @@
+-- The images of nodes that crashed: what a crash leaves of an engine over the list of calls, and what a reopening makes of it.
+use Rattle.std.proofs.Common.{◌≡◌, ◌⊎◌, inl, inr, ℕ, ◌≤◌, Bool, false, List, ◌++◌, refl, sym, ap, subst, ◌∙◌, arith}
+use Rattle.kv_types.specs.declared.place.EntryNo.{EntryNo}
+use Rattle.kv_types.specs.declared.refusal.Refusal.{Refusal}
+use Rattle.kv_types.specs.declared.refusal.Refusal.TheVariants.{Exhausted, Memory}
+use Rattle.pmem.specs.Device.{State, Word, Older, Only, IsOlder}
+use Rattle.pmem.specs.Crash.{IsImage, IsSettled, image_of}
+use Rattle.pmem.specs.Runs.{LeavesOnly}
+use Rattle.pmem.proofs.Leaving.{LeavesOnly-weaken}
+use Rattle.pmem.proofs.Staging.{IsImage-settled}
+use Rattle.model.specs.declared.call.Call.{Call}
+use Rattle.model.specs.declared.record.Record.{Record}
+use Rattle.model.specs.declared.record.Role.{Role}
+use Rattle.model.specs.Call.{keyspace_after, cut_at, position_of}
+use Rattle.model.specs.Image.{Image, IsMapOf, HasRecord, Holds, entries_of_lines}
+use Rattle.model.specs.Group.{Contents}
+use Rattle.model.specs.Standing.{Holder, StandsAt}
+use Rattle.model.proofs.MapLemmas.{IsMapOf-same}
+use Rattle.model.proofs.StandingLemmas.{Holds-versions}
+use Rattle.wbl_engine.specs.Contents.{Keeps, IsDurable}
+use Rattle.wbl_engine.specs.Lawful.{IsUndamaged}
+use Rattle.wbl_engine.specs.Reopening.{ExhaustsReopening, KeepsThrough, RefusesReopening, Reopens, StaysReadable, reopened}
+use Rattle.wbl_engine.proofs.LawfulLemmas.{lawful_undamaged}
+use Rattle.wbl_engine.proofs.ReopeningLaws.{keeps_through, lawful_refusal, reopening_lawful}
+use Rattle.wbl_engine.proofs.RoomLemmas.{room_cases}
+use Rattle.world.specs.Committing.{AreContentsAt, EngineStands, IsDown, Moves, Stands, StandsAtEither}
+use Rattle.world.proofs.EngineLemmas.{AreContentsAt-grows, Stands-engine, keeps-stands}
+
+-- ---- words with one candidate
+
+-- a crash leaves of each of them what loads return
+pub settled-only : (words : ℕ → Word) → IsSettled words → (word : ℕ) → Only (words word) (image_of words word)
+settled-only words settled word =
+    record {
+      only = λ y may. elim may [
+        | inl newest ↦ newest
+        | inr older ↦ absurd (subst (λ (others : List Older). IsOlder others y) (settled word) older)
+      ];
+    }
+
+-- so they have one image
+pub settled-image : (words : ℕ → Word) (image : Image) → IsSettled words → IsImage words image → image ≡ image_of words
+settled-image words image settled is =
+    let each : (word : ℕ) → image word ≡ image_of words word = IsImage-settled words image settled is in
+    grind arith
+
+-- ---- a crash
+
+-- an engine over the list of calls that crashes leaves its image
+pub down-crashed : (holder : Holder) (calls : List Call) (p : ℕ) (device device' : State) (contents : Contents) (is_faulted : Bool) → EngineStands holder calls p device contents is_faulted
+    → contents.lines ≡ device.lines → IsSettled device'.words → IsImage device.words (image_of device'.words) → device'.lines ≡ device.lines → IsDown holder calls p device'
+down-crashed holder calls p device device' contents is_faulted stands sized settled is lines =
+    record {
+      contents = contents;
+      contents_at = stands.contents_at;
+      lawful = stands.lawful;
+      keeps = stands.durable (image_of device'.words) is;
+      settled = settled;
+      sized = sized ∙ sym lines;
+    }
+
+-- the crash leaves its node where it stood
+pub crash-moves : (holder : Holder) (calls : List Call) (p : ℕ) (device device' : State) (contents : Contents) (is_faulted : Bool) → EngineStands holder calls p device contents is_faulted
+    → LeavesOnly device device' (IsImage device.words) → device'.failures ≡ device.failures → Moves holder calls p p device device'
+crash-moves holder calls p device device' contents is_faulted stands moments failures =
+    record {
+      leaves = LeavesOnly-weaken (StandsAtEither holder calls p p) (λ image is. inl (Stands-engine holder calls p device contents is_faulted stands image is)) moments;
+      failures = failures;
+    }
+
+-- while the node is crashed, its image stands where it stood
+pub Stands-down : (holder : Holder) (calls : List Call) (p : ℕ) (device : State) → IsDown holder calls p device → Stands holder calls p device
+Stands-down holder calls p device down = λ image is.
+    subst (StandsAt holder calls p) (sym (settled-image device.words image down.settled is))
+    (keeps-stands holder calls p down.contents (image_of device.words) down.contents_at down.keeps)
+
+-- while it is, the list may grow
+pub IsDown-grows : (holder : Holder) (calls more : List Call) (p : ℕ) (device : State) → p ≤ position_of calls → IsDown holder calls p device → IsDown holder (calls ++ more) p device
+IsDown-grows holder calls more p device le down = record {
+  contents = down.contents;
+  contents_at = AreContentsAt-grows holder calls more p down.contents le down.contents_at;
+  lawful = down.lawful;
+  keeps = down.keeps;
+  settled = down.settled;
+  sized = down.sized;
+}
+
+-- ---- a reopening
+
+-- a record that is opened again keeps its position, epoch and role
+record KeepsPlace (old new : Record) : Type 0 where
+  pub position : new.position ≡ old.position
+  pub epoch : new.epoch ≡ old.epoch
+  pub role : new.role ≡ old.role
+
+reopened-keeps : (r : Record) → KeepsPlace r (reopened r)
+reopened-keeps r =
+    elim (room_cases r) [
+      | inl full ↦ record { position = ap (λ (q : Record). q.position) full.1; epoch = ap (λ (q : Record). q.epoch) full.1; role = ap (λ (q : Record). q.role) full.1 }
+      | inr same ↦ record { position = ap (λ (q : Record). q.position) same.1; epoch = ap (λ (q : Record). q.epoch) same.1; role = ap (λ (q : Record). q.role) same.1 }
+    ]
+
+-- contents that are at a position are there once they are opened again
+AreContentsAt-through : (holder : Holder) (calls : List Call) (p : ℕ) (old new : Contents) → AreContentsAt holder calls p old → KeepsThrough old new → AreContentsAt holder calls p new
+AreContentsAt-through holder calls p old new are through =
+    let s = keyspace_after (cut_at calls p) in
+    let keeps = reopened-keeps old.current in
+    record {
+      at = ap (λ (r : Record). r.position) through.current ∙ keeps.position ∙ are.at;
+      role_is = ap (λ (r : Record). r.role) through.current ∙ keeps.role ∙ are.role_is;
+      epoch_is = ap (λ (r : Record). r.epoch) through.current ∙ keeps.epoch ∙ are.epoch_is;
+      lines_are = through.lines_are ∙ are.lines_are;
+      consistent = through.consistent;
+      map = subst (λ n. IsMapOf new.versions (entries_of_lines n) s) (sym through.lines_are)
+          (IsMapOf-same old.versions new.versions (entries_of_lines old.lines) s (λ i within. sym (through.versions i within)) are.map);
+    }
+
+-- the engine that was opened again stands where the crash left its image
+pub down-reopened : (holder : Holder) (calls : List Call) (p : ℕ) (device device' : State) (contents' : Contents) (counted : _) (gapped : List EntryNo) → IsDown holder calls p device
+    → Reopens device.lines (image_of device.words) holder.role contents' counted gapped → IsDurable device' contents' → EngineStands holder calls p device' contents' false
+down-reopened holder calls p device device' contents' counted gapped down reopens durable =
+    let image = image_of device.words in
+    let own : Reopens down.contents.lines image holder.role contents' counted gapped =
+    subst (λ n. Reopens n image holder.role contents' counted gapped) (sym down.sized) reopens in
+    record {
+      contents_at = AreContentsAt-through holder calls p down.contents contents' down.contents_at
+          (keeps_through down.contents contents' image holder.role counted gapped down.lawful down.keeps own);
+      lawful = reopening_lawful down.contents contents' image holder.role counted gapped down.lawful down.keeps own;
+      sound = refl;
+      durable = durable;
+    }
+
+-- an image that reopening may leave stands where the first one stood
+readable-stands : (holder : Holder) (calls : List Call) (p : ℕ) (contents : Contents) (image image' : Image) → AreContentsAt holder calls p contents → Keeps contents image
+    → StaysReadable contents.lines contents.current image image' → StandsAt holder calls p image'
+readable-stands holder calls p contents image image' are keeps stays =
+    let s = keyspace_after (cut_at calls p) in
+    record {
+      current = stays.current;
+      position = stays.position ∙ are.at;
+      role = stays.role ∙ are.role_is;
+      epoch = stays.epoch ∙ are.epoch_is;
+      holds = subst (λ n. Holds n stays.current s image') are.lines_are
+          (Holds-versions contents.lines stays.current contents.versions s image' stays.undamaged.superblock stays.undamaged.current.has_record
+          (λ i within. stays.versions i within ∙ keeps.versions i within) are.map);
+    }
+
+-- at any moment of a reopening, a crash leaves an image that stands where the first one stood
+pub restart-moments : (holder : Holder) (calls : List Call) (p : ℕ) (device device' : State) → IsDown holder calls p device
+    → ((r : Record) → IsUndamaged device.lines r (image_of device.words) → LeavesOnly device device' (StaysReadable device.lines r (image_of device.words)))
+    → LeavesOnly device device' (StandsAt holder calls p)
+restart-moments holder calls p device device' down moments =
+    let image = image_of device.words in
+    let contents = down.contents in
+    LeavesOnly-weaken (StandsAt holder calls p)
+    (λ image' stays. readable-stands holder calls p contents image image' down.contents_at down.keeps (subst (λ n. StaysReadable n contents.current image image') (sym down.sized) stays))
+    (moments contents.current (subst (λ n. IsUndamaged n contents.current image) down.sized (lawful_undamaged contents image down.lawful down.keeps)))
+
+-- the image is reopened in its role, unless memory is refused or a counter of its record is at its limit
+pub restart-refused : (holder : Holder) (calls : List Call) (p : ℕ) (device : State) (refusal : Refusal) → IsDown holder calls p device
+    → RefusesReopening device.lines (image_of device.words) holder.role refusal
+    → (refusal ≡ Memory) ⊎ ((refusal ≡ Exhausted) × ((r : Record) × HasRecord r (image_of device.words) × ExhaustsReopening r))
+restart-refused holder calls p device refusal down refuses =
+    let image = image_of device.words in
+    let contents = down.contents in
+    let own : RefusesReopening contents.lines image contents.current.role refusal =
+    subst (λ (role : Role). RefusesReopening contents.lines image role refusal) (sym down.contents_at.role_is)
+    (subst (λ n. RefusesReopening n image holder.role refusal) (sym down.sized) refuses) in
+    elim (lawful_refusal contents image refusal down.lawful down.keeps own) [
+      | inl memory ↦ inl memory
+      | inr exhausted ↦ inr (exhausted.0, (contents.current, down.keeps.has_record, exhausted.1))
+    ]

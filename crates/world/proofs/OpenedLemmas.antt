@@ -1,0 +1,81 @@
+-- The image of a node that is opened again, and what that leaves of it.
+use Rattle.std.proofs.Common.{◌≡◌, ◌≢◌, ◌⊎◌, inl, ℕ, ◌<◌, Bool, false, List, sym, ap, subst}
+use Rattle.kv_types.specs.declared.refusal.Refusal.{Refusal}
+use Rattle.kv_types.specs.declared.refusal.Refusal.TheVariants.{Fault, Memory}
+use Rattle.pmem.specs.Device.{State}
+use Rattle.pmem.specs.Crash.{IsImage, image_of}
+use Rattle.pmem.specs.Runs.{LeavesOnly}
+use Rattle.pmem.proofs.Leaving.{LeavesOnly-weaken}
+use Rattle.model.specs.declared.call.Call.{Call}
+use Rattle.model.specs.declared.record.Record.{Record}
+use Rattle.model.specs.declared.record.Role.{Role}
+use Rattle.model.specs.Call.{cut_at, keyspace_after}
+use Rattle.model.specs.Group.{Contents}
+use Rattle.model.specs.Image.{HasRecord, entries_of_lines}
+use Rattle.model.specs.Standing.{Holder}
+use Rattle.model.proofs.CallsLemmas.{IsKeyspace-keyspace_after}
+use Rattle.model.proofs.MapLemmas.{IsMapOf-unique}
+use Rattle.mv_keyspace.specs.Table.{IsTable, Table, records}
+use Rattle.mv_keyspace.proofs.PartTables.{map-from_table}
+use Rattle.standby.specs.Restarting.{IsReopened}
+use Rattle.wbl_engine.specs.Contents.{IsDurable}
+use Rattle.wbl_engine.specs.Lawful.{IsUndamaged}
+use Rattle.wbl_engine.specs.Reopening.{ExhaustsReopening, RefusesReopening, StaysReadable}
+use Rattle.world.specs.Cause.{Breaks, RestsBeforeReopening}
+use Rattle.world.specs.Committing.{AreContentsAt, EngineStands, IsDown, Moves, Rests, StandsAtEither}
+use Rattle.world.proofs.DownLemmas.{down-reopened, restart-moments, settled-image}
+
+-- ---- the image
+
+-- at any moment of the reopening a crash leaves an image that may be reopened likewise
+abbrev pub StaysSo : State → State → Type 0
+StaysSo old new = (r : Record) → IsUndamaged old.lines r (image_of old.words) → LeavesOnly old new (StaysReadable old.lines r (image_of old.words))
+
+-- the engine was opened again over this device
+pub record IsOpened (role' : Role) (old new : State) (contents : Contents) (is_faulted : Bool) : Type 0 where
+  pub reopens : IsReopened old.lines (image_of old.words) role' contents
+  pub durable : IsDurable new contents
+  pub sound : is_faulted ≡ false
+  pub failures : new.failures ≡ old.failures
+  pub moments : StaysSo old new
+
+-- it was refused
+pub record IsNotOpened (role' : Role) (old new : State) (refusal : Refusal) : Type 0 where
+  pub refused : (refusal ≡ Fault) ⊎ ((refusal ≡ Memory) ⊎ (RefusesReopening old.lines (image_of old.words) role' refusal × (new ≡ old)))
+  pub fault : refusal ≡ Fault → old.failures < new.failures
+  pub failures : refusal ≢ Fault → new.failures ≡ old.failures
+  pub moments : StaysSo old new
+
+pub opened-stands : (holder : Holder) (calls : List Call) (p : ℕ) (old new : State) (contents : Contents) (is_faulted : Bool) → IsDown holder calls p old → IsOpened holder.role old new contents is_faulted
+    → EngineStands holder calls p new contents is_faulted
+opened-stands holder calls p old new contents is_faulted down opened =
+    subst (EngineStands holder calls p new contents) (sym opened.sound)
+    (down-reopened holder calls p old new contents opened.reopens.counted opened.reopens.gapped down opened.reopens.reopens opened.durable)
+
+pub opened-moves : (holder : Holder) (calls : List Call) (p : ℕ) (old new : State) → IsDown holder calls p old → StaysSo old new → new.failures ≡ old.failures → Moves holder calls p p old new
+opened-moves holder calls p old new down stays failures =
+    record { leaves = LeavesOnly-weaken (StandsAtEither holder calls p p) (λ image stands. inl stands) (restart-moments holder calls p old new down stays); failures = failures }
+
+pub opened-rests : (holder : Holder) (calls : List Call) (p : ℕ) (old new : State) → IsDown holder calls p old → StaysSo old new → new.failures ≡ old.failures → Rests holder calls p old new
+opened-rests holder calls p old new down stays failures = record { leaves = restart-moments holder calls p old new down stays; failures = failures }
+
+pub opened-breaks : (holder : Holder) (calls : List Call) (p next : ℕ) (old new : State) → IsDown holder calls p old → StaysSo old new → old.failures < new.failures → Breaks holder calls p next old new
+opened-breaks holder calls p next old new down stays failures =
+    record { leaves = LeavesOnly-weaken (StandsAtEither holder calls p next) (λ image stands. inl stands) (restart-moments holder calls p old new down stays); failures = failures }
+
+pub opened-limit : (holder : Holder) (calls : List Call) (p next : ℕ) (old new : State) (r : Record) → IsDown holder calls p old → StaysSo old new → new ≡ old → HasRecord r (image_of old.words) → ExhaustsReopening r
+    → RestsBeforeReopening holder calls p next old new
+opened-limit holder calls p next old new r down stays same has limit =
+    record {
+      rests = opened-rests holder calls p old new down stays (ap (λ (d : State). d.failures) same);
+      current = r;
+      has_record = λ image is.
+          subst (HasRecord r) (sym (settled-image old.words image down.settled (subst (λ (d : State). IsImage d.words image) same is))) has;
+      limit = limit;
+    }
+
+-- the table of contents at a position is that of the keyspace there
+pub table-there : (holder : Holder) (calls : List Call) (p : ℕ) (contents : Contents) (table : Table) → AreContentsAt holder calls p contents → IsTable contents.versions table
+    → records table ≡ keyspace_after (cut_at calls p)
+table-there holder calls p contents table are is =
+    IsMapOf-unique (map-from_table contents.versions (entries_of_lines contents.lines) table are.consistent.beyond is) are.map is.keyspace (IsKeyspace-keyspace_after (cut_at calls p))

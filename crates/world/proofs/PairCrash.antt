@@ -1,0 +1,225 @@
+-- What a crash of a node does to the pair.
+use Rattle.std.proofs.Common.{◌≡◌, inl, inr, ℕ, ◌≤◌, Bool, true, false, not, ◌&&◌, List, [], map, Ok, Vec, Global, All, refl, sym, ap, subst, ◌∙◌, arith, true≢false}
+use Rattle.pmem.specs.Device.{State}
+use Rattle.pmem.specs.Crash.{IsImage, IsSettled, image_of}
+use Rattle.pmem.specs.Runs.{LeavesOnly}
+use Rattle.model.specs.declared.call.Call.{Call}
+use Rattle.model.specs.Call.{cut_at, position_of}
+use Rattle.model.proofs.CallsLemmas.{position_of-cut_at}
+use Rattle.model.specs.Group.{Contents}
+use Rattle.model.specs.Standing.{Holder}
+use Rattle.machine.specs.declared.event.Event.TheVariants as events
+use Rattle.machine.specs.declared.event.Node.TheVariants as node
+use Rattle.machine.specs.Event.{World, Step, crashed, is_crashed, is_enabled, left}
+use Rattle.machine.specs.Sound.{IsFrameWithin}
+use Rattle.machine.proofs.SoundEvents.{sound-step}
+use Rattle.world.specs.Committing.{Committing}
+use Rattle.world.specs.Session.{AddsOne, HasSeat, SessionsRefine, seats_of}
+use Rattle.world.specs.Standby.{ArrivalsRefine, Node, StandbyRefines}
+use Rattle.world.specs.Pair.{Acts, AreLives, DownRefine, EitherRefines, NodesRefine, Pair, Steps, life_if}
+use Rattle.world.specs.declared.arrivals.Arrivals.{Arrivals}
+use Rattle.world.specs.declared.sessions.Sessions.{Sessions}
+use Rattle.world.proofs.CutLemmas.{AreFramesSent-cut, ArrivalsRefine-cut, IsDown-cut, StandbyStands-cut}
+use Rattle.world.proofs.MovesLemmas.{moves-cut}
+use Rattle.machine.proofs.GroupLemmas.{chain-le, frames_within-weaker}
+use Rattle.world.proofs.DownLemmas.{crash-moves, down-crashed}
+use Rattle.world.proofs.EngineLemmas.{moves-same}
+use Rattle.world.proofs.LivesLemmas.{serves-as}
+use Rattle.world.proofs.PairLemmas.{none-added, primary-stands, primary-within, standby-stands}
+use Rattle.world.proofs.PairLives.{stays-acts}
+use Rattle.world.proofs.PairStandby.{arrivals-stand, follower}
+use Rattle.standby.specs.declared.frame.Frame.{Frame}
+use Rattle.world.specs.Link.{AreAcksSent, AreFramesRead}
+
+-- ---- a node that is crashed already
+
+crashed_if : (runs : Bool) → not (is_crashed (life_if runs)) ≡ runs
+crashed_if true = refl
+crashed_if false = refl
+
+-- to crash a node is enabled where it runs
+crash-enabled : {first second : Holder} {serves follows : Bool} {w : World} (picks : Vec ℕ Global) → AreLives first second serves follows w
+    → (is_enabled w (events.Crash node.Primary picks) ≡ serves) × (is_enabled w (events.Crash node.Standby picks) ≡ follows)
+crash-enabled {first} {second} {serves} {follows} {w} picks lives = (
+  ap (λ b. b && not (is_crashed w.primary.life)) lives.restarts ∙ ap (λ l. not (is_crashed l)) lives.primary ∙ crashed_if serves,
+  ap (λ b. b && not (is_crashed w.standby.life)) lives.restarts ∙ ap (λ l. not (is_crashed l)) lives.standby ∙ crashed_if follows,
+)
+
+pub primary-crashed : (old : Pair) (picks : Vec ℕ Global) → old.primary_runs ≡ false → Acts old (events.Crash node.Primary picks) (Ok false) old
+primary-crashed old picks down = stays-acts old (events.Crash node.Primary picks) (λ first second w stands. (crash-enabled picks stands.lives).0 ∙ down)
+
+pub standby-crashed : (old : Pair) (picks : Vec ℕ Global) → old.standby_runs ≡ false → Acts old (events.Crash node.Standby picks) (Ok false) old
+standby-crashed old picks down = stays-acts old (events.Crash node.Standby picks) (λ first second w stands. (crash-enabled picks stands.lives).1 ∙ down)
+
+-- ---- the device that crashed
+
+-- the device was that of an engine, and crashed
+pub record HasCrashed (lines : ℕ) (old new : State) : Type 0 where
+  pub sized : lines ≡ old.lines
+  pub settled : IsSettled new.words
+  pub image : IsImage old.words (image_of new.words)
+  pub lines_are : new.lines ≡ old.lines
+  pub failures : new.failures ≡ old.failures
+  pub moments : LeavesOnly old new (IsImage old.words)
+
+-- ---- the primary
+
+-- its sessions, its committer and its engine once it crashed
+abbrev pub with_crashed_primary : Sessions → Committing → State → Contents → Bool → Pair → Pair
+with_crashed_primary sessions committing device contents is_faulted pair =
+    record pair { sessions = sessions; committing = committing; device = device; contents = contents; is_faulted = is_faulted; primary_runs = false }
+
+StandbyRefines-cut : (holder : Holder) (epoch : ℕ) (calls : List Call) (p n : ℕ) (node : Node) (runs : Bool) → p ≤ n → StandbyRefines holder epoch calls p node runs
+    → StandbyRefines holder epoch (cut_at calls n) p node runs
+StandbyRefines-cut holder epoch calls p n node runs le refines = record {
+  stands = λ up. StandbyStands-cut holder epoch calls n p node le (refines.stands up);
+  down = λ down. IsDown-cut holder calls n p node.device le (refines.down down);
+}
+
+pub primary-crashes : (old : Pair) (sessions : Sessions) (committing : Committing) (device : State) (contents : Contents) (is_faulted : Bool) (picks : Vec ℕ Global) (position : ℕ)
+    → old.primary_runs ≡ true → position ≡ old.contents.current.position → HasCrashed old.contents.lines old.device device
+    → ((w : World) → SessionsRefine old.sessions w.primary.connections w.primary.calls → SessionsRefine sessions (map left w.primary.connections) (cut_at w.primary.calls position))
+    → ((c seat : ℕ) → ¬ HasSeat (seats_of sessions.connections.items) c seat) → AddsOne old.sessions.calls sessions.calls
+    → Acts old (events.Crash node.Primary picks) (Ok true) (with_crashed_primary sessions committing device contents is_faulted old)
+primary-crashes old sessions committing device contents is_faulted picks position runs at has ends unseated added =
+    record { steps = steps; cut = tt; calls = added }
+  where
+    new : Pair
+    new = with_crashed_primary sessions committing device contents is_faulted old
+
+    steps : (first second : Holder) (w : World) → NodesRefine first second old w → Steps first second w (events.Crash node.Primary picks) true old new
+    steps first second w stands =
+        let event = events.Crash node.Primary picks in
+        let serving = serves-as runs stands in
+        let parts = serving.parts in
+        let sound = stands.sound in
+        let calls = w.primary.calls in
+        let p = w.primary.committer.position in
+        let here : position ≡ p = at ∙ parts.engine.contents_at.at in
+        let w' = crashed node.Primary w in
+        let step : Step w event true w' = record { done = sym ((crash-enabled picks stands.lives).0 ∙ runs); happens = λ did. refl; stands = λ did. absurd (true≢false did) } in
+        let behind : sound.sent ≤ p = chain-le _ _ _ sound.link.waiting in
+        let within : p ≤ position_of calls = primary-within w sound in
+        let image = IsDown-cut first calls p p device (omega arith) (down-crashed first calls p old.device device old.contents old.is_faulted parts.engine has.sized has.settled has.image has.lines_are) in
+        let down : DownRefine first second new w' =
+        record {
+          sessions = subst (λ n. SessionsRefine sessions (map left w.primary.connections) (cut_at calls n)) here (ends w parts.sessions);
+          unseated = unseated;
+          committer = refl;
+          link = refl;
+          ends = omega (arith, position_of-cut_at calls p, within);
+          image = image;
+          epoch = parts.epoch;
+          frames = AreFramesSent-cut old.link.epoch calls p old.frames w.wire.frames
+              (subst (λ e. All (IsFrameWithin e p) w.wire.frames) (sym parts.epoch) (frames_within-weaker w.primary.epoch sound.sent p w.wire.frames behind sound.wire.frames)) parts.frames;
+          arrivals = ArrivalsRefine-cut old.link.epoch calls p old.arrivals w.standby.waiting w.wire.acknowledgements
+              (subst (λ e. All (IsFrameWithin e p) w.standby.waiting) (sym parts.epoch) (frames_within-weaker w.primary.epoch sound.sent p w.standby.waiting behind sound.standby.frames)) parts.arrivals;
+          standby = StandbyRefines-cut second old.link.epoch calls w.standby.position p old.standby old.standby_runs (omega (arith, sound.standby.behind, behind)) parts.standby;
+        } in
+        let refines : EitherRefines first second new w' = inr (refl, down) in
+        record {
+          world = w';
+          step = step;
+          stands = record {
+            sound = sound-step w event true w' step sound;
+            lives = record {
+              restarts = stands.lives.restarts;
+              primary = refl;
+              standby = stands.lives.standby;
+              first_role = stands.lives.first_role;
+              second_role = stands.lives.second_role;
+              first_epoch = stands.lives.first_epoch;
+              second_epoch = stands.lives.second_epoch;
+            };
+            parts = refines;
+          };
+          moves = record {
+            primary = moves-cut first calls p p old.device device (omega arith) (crash-moves first calls p old.device device old.contents old.is_faulted parts.engine has.moments has.failures);
+            standby = moves-same second (cut_at calls p) w.standby.position w.standby.position old.standby.device old.standby.device refl (standby-stands first second new w' refines);
+          };
+        }
+
+-- ---- the standby
+
+abbrev pub with_crashed_standby : Arrivals → Node → Pair → Pair
+with_crashed_standby arrivals node pair = record pair { arrivals = arrivals; standby = node; standby_runs = false }
+
+pub standby-crashes : (old : Pair) (arrivals : Arrivals) (node' : Node) (picks : Vec ℕ Global) → old.standby_runs ≡ true → HasCrashed old.standby.contents.lines old.standby.device node'.device
+    → arrivals.delivered.items ≡ [] → arrivals.acknowledgements ≡ old.arrivals.acknowledgements
+    → Acts old (events.Crash node.Standby picks) (Ok true) (with_crashed_standby arrivals node' old)
+standby-crashes old arrivals node' picks follows has lost told =
+    record { steps = steps; cut = tt; calls = none-added _ _ refl }
+  where
+    new : Pair
+    new = with_crashed_standby arrivals node' old
+
+    steps : (first second : Holder) (w : World) → NodesRefine first second old w → Steps first second w (events.Crash node.Standby picks) true old new
+    steps first second w stands =
+        let event = events.Crash node.Standby picks in
+        let calls = w.primary.calls in
+        let p = w.standby.position in
+        let stood = follower follows stands.parts in
+        let w' = crashed node.Standby w in
+        let step : Step w event true w' = record { done = sym ((crash-enabled picks stands.lives).1 ∙ follows); happens = λ did. refl; stands = λ did. absurd (true≢false did) } in
+        let image = down-crashed second calls p old.standby.device node'.device old.standby.contents old.standby.is_faulted stood.engine has.sized has.settled has.image has.lines_are in
+        let empty : ArrivalsRefine old.link.epoch calls arrivals [] w.wire.acknowledgements =
+        record {
+          delivered = subst (λ (frames : List Frame). AreFramesRead old.link.epoch calls frames []) (sym lost) tt;
+          acknowledged = subst (λ (acks : Vec (Vec ℕ Global) Global). AreAcksSent acks.items w.wire.acknowledgements) (sym told) (arrivals-stand stands.parts).acknowledged;
+        } in
+        let down : StandbyRefines second old.link.epoch calls p node' false = record { stands = λ up. absurd (true≢false (sym up)); down = λ is. image } in
+        let refines : EitherRefines first second new w' =
+        elim stands.parts [
+          | inl up ↦ inl (
+            up.0,
+            record {
+              sessions = up.1.sessions;
+              sequencer = up.1.sequencer;
+              follow = up.1.follow;
+              committing = up.1.committing;
+              engine = up.1.engine;
+              leads = up.1.leads;
+              epoch = up.1.epoch;
+              link = up.1.link;
+              frames = up.1.frames;
+              arrivals = empty;
+              standby = down;
+            },
+          )
+          | inr fallen ↦ inr (
+            fallen.0,
+            record {
+              sessions = fallen.1.sessions;
+              unseated = fallen.1.unseated;
+              committer = fallen.1.committer;
+              link = fallen.1.link;
+              ends = fallen.1.ends;
+              image = fallen.1.image;
+              epoch = fallen.1.epoch;
+              frames = fallen.1.frames;
+              arrivals = empty;
+              standby = down;
+            },
+          )
+        ] in
+        record {
+          world = w';
+          step = step;
+          stands = record {
+            sound = sound-step w event true w' step stands.sound;
+            lives = record {
+              restarts = stands.lives.restarts;
+              primary = stands.lives.primary;
+              standby = refl;
+              first_role = stands.lives.first_role;
+              second_role = stands.lives.second_role;
+              first_epoch = stands.lives.first_epoch;
+              second_epoch = stands.lives.second_epoch;
+            };
+            parts = refines;
+          };
+          moves = record {
+            primary = moves-same first calls w.primary.committer.position w.primary.committer.position old.device old.device refl (primary-stands first second old w stands.parts);
+            standby = crash-moves second calls p old.standby.device node'.device old.standby.contents old.standby.is_faulted stood.engine has.moments has.failures;
+          };
+        }

@@ -1,0 +1,57 @@
+-- What an event does to any pair: where its nodes do not take part, and where its primary runs.
+use Rattle.std.proofs.Common.{◌≡◌, ◌&&◌, Bool, true, false, Result, Ok, Err, refl, sym, ap, subst, ◌∙◌, true≢false}
+use Rattle.kv_types.specs.declared.refusal.Refusal.{Refusal}
+use Rattle.model.specs.Standing.{Holder}
+use Rattle.machine.specs.declared.event.Event.{Event}
+use Rattle.machine.specs.declared.event.Event.TheVariants.{Apply, Crash, Deliver, OpenLink, Reopen}
+use Rattle.machine.specs.Event.{World, is_enabled, is_running, may_happen, nodes_run}
+use Rattle.world.specs.Pair.{Acts, AreLives, Does, NodesRefine, Pair, life_if, takes_part}
+use Rattle.world.proofs.LivesLemmas.{serves-as}
+use Rattle.world.proofs.PairLemmas.{none-added, untouched}
+
+running_if : (runs : Bool) → is_running (life_if runs) ≡ runs
+running_if true = refl
+running_if false = refl
+
+-- the nodes of an event run just where they are said to
+nodes-take : {first second : Holder} {serves follows : Bool} {w : World} → AreLives first second serves follows w → (event : Event) → nodes_run w event ≡ takes_part serves follows event
+nodes-take {first} {second} {serves} {follows} {w} lives OpenLink =
+    ap (λ b. b && is_running w.standby.life) (ap is_running lives.primary ∙ running_if serves) ∙ ap (λ b. serves && b) (ap is_running lives.standby ∙ running_if follows)
+nodes-take {first} {second} {serves} {follows} {w} lives (Deliver frame piece) = ap is_running lives.standby ∙ running_if follows
+nodes-take {first} {second} {serves} {follows} {w} lives Apply = ap is_running lives.standby ∙ running_if follows
+nodes-take lives (Crash node picks) = refl
+nodes-take lives (Reopen node) = refl
+nodes-take {first} {second} {serves} {follows} {w} lives event = ap is_running lives.primary ∙ running_if serves
+
+-- an event that is not enabled
+pub stays-acts : (old : Pair) (event : Event) → ((first second : Holder) (w : World) → NodesRefine first second old w → is_enabled w event ≡ false) → Acts old event (Ok false) old
+stays-acts old event never =
+    record {
+      steps = λ first second w stands. record {
+        world = w;
+        step = record { done = sym (never first second w stands); happens = λ did. absurd (true≢false (sym did)); stands = λ did. refl };
+        stands = stands;
+        moves = untouched first second old old w w refl refl stands.parts;
+      };
+      cut = tt;
+      calls = none-added _ _ refl;
+    }
+
+-- its nodes do not run
+pub idle-acts : (old : Pair) (event : Event) → takes_part old.primary_runs old.standby_runs event ≡ false → Acts old event (Ok false) old
+idle-acts old event idle = stays-acts old event (λ first second w stands. ap (λ b. b && may_happen w event) (nodes-take stands.lives event ∙ idle))
+
+-- the primary runs
+pub does-acts : (old : Pair) (event : Event) (result : Result Bool Refusal) (new : Pair) → old.primary_runs ≡ true → Does old event result new → Acts old event result new
+does-acts old event (Ok did) new runs does = record { steps = λ first second w stands. does.steps first second w (serves-as runs stands); cut = tt; calls = does.calls }
+does-acts old event (Err refusal) new runs does = record { steps = tt; cut = λ first second w stands. does.cut first second w (serves-as runs stands); calls = does.calls }
+
+-- it does where the primary takes part alone
+pub own-acts : {old new : Pair} {event event' : Event} {result : Result Bool Refusal} {took : Bool} → event ≡ event' → took ≡ takes_part old.primary_runs old.standby_runs event → took ≡ true
+    → (takes_part old.primary_runs old.standby_runs event' ≡ true → old.primary_runs ≡ true) → Does old event' result new → Acts old event result new
+own-acts {old} {new} {event} {event'} {result} {took} is takes took_part own does =
+    let runs = own (ap (takes_part old.primary_runs old.standby_runs) (sym is) ∙ sym takes ∙ took_part) in
+    subst (λ (e : Event). Acts old e result new) (sym is) (does-acts old event' result new runs does)
+
+pub idle-step : {old : Pair} {event : Event} {took : Bool} → took ≡ takes_part old.primary_runs old.standby_runs event → took ≡ false → Acts old event (Ok false) old
+idle-step {old} {event} {took} takes idle = idle-acts old event (sym takes ∙ idle)

@@ -1,0 +1,357 @@
+-- What the reopening of a node that crashed does to the pair.
+use Rattle.std.proofs.Common.{◌≡◌, inl, inr, ℕ, Bool, true, false, ◌&&◌, List, [], Result, Ok, Err, refl, sym, ap, subst, ◌∙◌, arith, true≢false}
+use Rattle.kv_types.specs.declared.refusal.Refusal.{Refusal}
+use Rattle.kv_types.specs.declared.refusal.Refusal.TheVariants.{Fault, Memory}
+use Rattle.pmem.specs.Device.{State}
+use Rattle.pmem.specs.Crash.{image_of}
+use Rattle.pipes.specs.Waiting.{Waiting}
+use Rattle.model.specs.declared.group.Group.{Group}
+use Rattle.model.specs.declared.record.Role.TheVariants as role
+use Rattle.model.specs.Call.{cut_at, keyspace_after}
+use Rattle.model.specs.Group.{Contents}
+use Rattle.model.specs.Standing.{Holder}
+use Rattle.model.proofs.CallsLemmas.{keyspace_after-cut_at-position}
+use Rattle.mv_keyspace.specs.Table.{records}
+use Rattle.group_commit.specs.declared.stage.Stage.{Stage}
+use Rattle.group_commit.specs.declared.stage.Stage.TheVariants.{Ready}
+use Rattle.redis_core.specs.Sequencing.{Sequencing}
+use Rattle.standby.specs.Following.{Follows}
+use Rattle.standby_stream.specs.Stream.{Stream, new_stream}
+use Rattle.wbl_engine.specs.Reopening.{RefusesReopening}
+use Rattle.machine.specs.declared.event.Event.{Event}
+use Rattle.machine.specs.declared.event.Event.TheVariants as events
+use Rattle.machine.specs.declared.event.Node.TheVariants as node
+use Rattle.machine.specs.Event.{Committer as MachineCommitter, World, Step, is_crashed, is_enabled, new_committer, new_link, reopened}
+use Rattle.machine.proofs.SoundEvents.{sound-step}
+use Rattle.world.specs.Cause.{EndsBy, Stretch}
+use Rattle.world.specs.Committing.{Committing, CommittingRefines, IsDown, Leads, StageRefines, next_primary, next_standby}
+use Rattle.world.specs.GroupSpan.{AreGroupsOf}
+use Rattle.world.specs.Link.{AreFramesSent, LinkRefines}
+use Rattle.world.specs.Serving.{IsOver}
+use Rattle.world.specs.Session.{SequencerRefines}
+use Rattle.world.specs.Standby.{ArrivalsRefine, Node, StandbyRefines, StandbyStands}
+use Rattle.world.specs.Pair.{Acts, AreLives, DownRefine, EitherRefines, IsCut, NodesRefine, Pair, PartsRefine, Steps, life_if}
+use Rattle.world.proofs.DownLemmas.{restart-refused}
+use Rattle.world.proofs.EngineLemmas.{moves-same}
+use Rattle.world.proofs.PairLemmas.{Led, cut-for, none-added, primary-stands, rests-primary, rests-standby, standby-stands, tells}
+use Rattle.world.proofs.OpenedLemmas.{IsNotOpened, IsOpened, opened-breaks, opened-limit, opened-moves, opened-rests, opened-stands, table-there}
+use Rattle.world.proofs.PairLives.{stays-acts}
+
+-- ---- a node that runs
+
+opens_if : (runs : Bool) → runs ≡ false → is_crashed (life_if runs) ≡ true
+opens_if true is = absurd (true≢false is)
+opens_if false is = refl
+
+runs_if : (runs : Bool) → runs ≡ true → is_crashed (life_if runs) ≡ false
+runs_if true is = refl
+runs_if false is = absurd (true≢false (sym is))
+
+primary-opens : {first second : Holder} {serves follows : Bool} {w : World} → AreLives first second serves follows w → is_enabled w (events.Reopen node.Primary) ≡ is_crashed (life_if serves)
+primary-opens {first} {second} {serves} {follows} {w} lives = ap (λ b. b && is_crashed w.primary.life) lives.restarts ∙ ap is_crashed lives.primary
+
+standby-opens : {first second : Holder} {serves follows : Bool} {w : World} → AreLives first second serves follows w → is_enabled w (events.Reopen node.Standby) ≡ is_crashed (life_if follows)
+standby-opens {first} {second} {serves} {follows} {w} lives = ap (λ b. b && is_crashed w.standby.life) lives.restarts ∙ ap is_crashed lives.standby
+
+pub primary-runs-on : (old : Pair) → old.primary_runs ≡ true → Acts old (events.Reopen node.Primary) (Ok false) old
+primary-runs-on old runs = stays-acts old (events.Reopen node.Primary) (λ first second w stands. primary-opens stands.lives ∙ runs_if old.primary_runs runs)
+
+pub standby-runs-on : (old : Pair) → old.standby_runs ≡ true → Acts old (events.Reopen node.Standby) (Ok false) old
+standby-runs-on old runs = stays-acts old (events.Reopen node.Standby) (λ first second w stands. standby-opens stands.lives ∙ runs_if old.standby_runs runs)
+
+-- ---- the standby
+
+abbrev pub with_standby_node : Node → Bool → Pair → Pair
+with_standby_node node runs pair = record pair { standby = node; standby_runs = runs }
+
+standby-image : {first second : Holder} {pair : Pair} {w : World} → pair.standby_runs ≡ false → EitherRefines first second pair w → IsDown second w.primary.calls w.standby.position pair.standby.device
+standby-image fallen parts = elim parts [
+  | inl up ↦ up.1.standby.down fallen
+  | inr down ↦ down.1.standby.down fallen
+]
+
+pair-epoch : {first second : Holder} {pair : Pair} {w : World} → EitherRefines first second pair w → pair.link.epoch ≡ w.primary.epoch
+pair-epoch parts = elim parts [
+  | inl up ↦ up.1.epoch
+  | inr down ↦ down.1.epoch
+]
+
+pub standby-reopens : (old : Pair) (node' : Node) → old.standby_runs ≡ false → IsOpened role.Standby old.standby.device node'.device node'.contents node'.is_faulted
+    → Follows node'.contents node'.table node'.room → node'.epoch ≡ node'.contents.current.epoch → Acts old (events.Reopen node.Standby) (Ok true) (with_standby_node node' true old)
+standby-reopens old node' fallen opened follows own = record { steps = steps; cut = tt; calls = none-added _ _ refl }
+  where
+    new : Pair
+    new = with_standby_node node' true old
+
+    steps : (first second : Holder) (w : World) → NodesRefine first second old w → Steps first second w (events.Reopen node.Standby) true old new
+    steps first second w stands =
+        let event = events.Reopen node.Standby in
+        let calls = w.primary.calls in
+        let p = w.standby.position in
+        let lives = stands.lives in
+        let down = standby-image fallen stands.parts in
+        let mine : IsOpened second.role old.standby.device node'.device node'.contents node'.is_faulted =
+        subst (λ r. IsOpened r old.standby.device node'.device node'.contents node'.is_faulted) (sym lives.second_role) opened in
+        let engine = opened-stands second calls p old.standby.device node'.device node'.contents node'.is_faulted down mine in
+        let at = engine.contents_at in
+        let ours : second.epoch ≡ old.link.epoch = lives.second_epoch ∙ sym (pair-epoch stands.parts) in
+        let stood : StandbyStands second old.link.epoch calls p node' =
+        record {
+          engine = engine;
+          follows = follows;
+          table = table-there second calls p node'.contents node'.table at follows.table_is;
+          epoch_is = own ∙ at.epoch_is ∙ ours;
+          epoch_held = sym ours;
+        } in
+        let w' = reopened node.Standby w in
+        let step : Step w event true w' =
+        record { done = sym (standby-opens lives ∙ opens_if old.standby_runs fallen); happens = λ did. refl; stands = λ did. absurd (true≢false did) } in
+        let refined : StandbyRefines second old.link.epoch calls p node' true = record { stands = λ up. stood; down = λ is. absurd (true≢false is) } in
+        record {
+          world = w';
+          step = step;
+          stands = record {
+            sound = sound-step w event true w' step stands.sound;
+            lives = record {
+              restarts = lives.restarts;
+              primary = lives.primary;
+              standby = refl;
+              first_role = lives.first_role;
+              second_role = lives.second_role;
+              first_epoch = lives.first_epoch;
+              second_epoch = lives.second_epoch;
+            };
+            parts = elim stands.parts [
+              | inl up ↦ inl (
+                up.0,
+                record {
+                  sessions = up.1.sessions;
+                  sequencer = up.1.sequencer;
+                  follow = up.1.follow;
+                  committing = up.1.committing;
+                  engine = up.1.engine;
+                  leads = up.1.leads;
+                  epoch = up.1.epoch;
+                  link = up.1.link;
+                  frames = up.1.frames;
+                  arrivals = up.1.arrivals;
+                  standby = refined;
+                },
+              )
+              | inr lost ↦ inr (
+                lost.0,
+                record {
+                  sessions = lost.1.sessions;
+                  unseated = lost.1.unseated;
+                  committer = lost.1.committer;
+                  link = lost.1.link;
+                  ends = lost.1.ends;
+                  image = lost.1.image;
+                  epoch = lost.1.epoch;
+                  frames = lost.1.frames;
+                  arrivals = lost.1.arrivals;
+                  standby = refined;
+                },
+              )
+            ];
+          };
+          moves = record {
+            primary = moves-same first calls w.primary.committer.position w.primary.committer.position old.device old.device refl (primary-stands first second old w stands.parts);
+            standby = opened-moves second calls p old.standby.device node'.device down opened.moments opened.failures;
+          };
+        }
+
+-- why a reopening ended the run
+opened-ends : (event : Event) (refusal : Refusal) (P : Stretch → Stretch → Type 0) → refusal ≡ Fault → EndsBy Fault event P → EndsBy refusal event P
+opened-ends event refusal P is ends = subst (λ (r : Refusal). EndsBy r event P) (sym is) ends
+
+pub standby-reopening-cut : (old : Pair) (node' : Node) (result : Result Bool Refusal) (refusal : Refusal) → result ≡ Err refusal → old.standby_runs ≡ false → IsNotOpened role.Standby old.standby.device node'.device refusal
+    → Acts old (events.Reopen node.Standby) result (with_standby_node node' old.standby_runs old)
+standby-reopening-cut old node' result refusal is fallen refused =
+    subst (λ (r : Result Bool Refusal). Acts old event r new) (sym is) (record { steps = tt; cut = cut; calls = none-added _ _ refl })
+  where
+    new : Pair
+    new = with_standby_node node' old.standby_runs old
+
+    event : Event
+    event = events.Reopen node.Standby
+
+    cut : (first second : Holder) (w : World) → NodesRefine first second old w → IsCut first second event refusal old new w
+    cut first second w stands =
+        let calls = w.primary.calls in
+        let p = w.standby.position in
+        let next = next_standby w in
+        let device = old.standby.device in
+        let down = standby-image fallen stands.parts in
+        let here = rests-primary first second old w stands in
+        let memory : refusal ≡ Memory → node'.device.failures ≡ device.failures → EndsBy refusal event (Led first second old new w) =
+        λ is same. subst (λ (r : Refusal). EndsBy r event (Led first second old new w)) (sym is) (refl, (here, opened-rests second calls p device node'.device down refused.moments same)) in
+        let ends : EndsBy refusal event (Led first second old new w) =
+        elim refused.refused [
+          | inl fault ↦ opened-ends event refusal (Led first second old new w) fault (here, opened-breaks second calls p next device node'.device down refused.moments (refused.fault fault))
+          | inr (inl is) ↦ memory is (refused.failures (λ fault. memory_no_fault (sym is ∙ fault)))
+          | inr (inr why) ↦
+              let mine = subst (λ r. RefusesReopening device.lines (image_of device.words) r refusal) (sym stands.lives.second_role) why.0 in
+              elim (restart-refused second calls p device refusal down mine) [
+                | inl is ↦ memory is (ap (λ (d : State). d.failures) why.1)
+                | inr full ↦ subst (λ (r : Refusal). EndsBy r event (Led first second old new w)) (sym full.0)
+                    (here, opened-limit second calls p next device node'.device full.1.0 down refused.moments why.1 full.1.1 full.1.2)
+              ]
+        ] in
+        cut-for first second event refusal old new w stands (tells old.sessions) (standby-opens stands.lives ∙ opens_if old.standby_runs fallen) ends
+      where
+        memory_no_fault : Memory ≡ Fault → ⊥
+        memory_no_fault is = cc
+
+-- ---- the primary
+
+abbrev pub with_primary_node : Sequencing → Committing → State → Contents → Bool → Waiting Group → Stream → ℕ → Bool → Pair → Pair
+with_primary_node sequencer committing device contents is_faulted handed link remote runs pair =
+    record pair { sequencer = sequencer; committing = committing; device = device; contents = contents; is_faulted = is_faulted; handed = handed; link = link; remote = remote; primary_runs = runs }
+
+-- what a primary begins with once it is opened again
+pub record Begins (contents : Contents) (sequencer : Sequencing) (committing : Committing) (handed : Waiting Group) (link : Stream) : Type 0 where
+  pub over : IsOver contents sequencer
+  pub ready : committing.stage ≡ Ready
+  pub local : committing.local ≡ contents.current.position
+  pub no_group : committing.waiting.items ≡ []
+  pub none_handed : handed.items ≡ []
+  pub link_is : link ≡ new_stream contents.current.epoch
+
+pub primary-reopens : (old : Pair) (sequencer : Sequencing) (committing : Committing) (device : State) (contents : Contents) (is_faulted : Bool) (handed : Waiting Group) (link : Stream) → old.primary_runs ≡ false
+    → IsOpened role.Primary old.device device contents is_faulted → Begins contents sequencer committing handed link
+    → Acts old (events.Reopen node.Primary) (Ok true) (with_primary_node sequencer committing device contents is_faulted handed link 0 true old)
+primary-reopens old sequencer committing device contents is_faulted handed link fallen opened begins = record { steps = steps; cut = tt; calls = none-added _ _ refl }
+  where
+    new : Pair
+    new = with_primary_node sequencer committing device contents is_faulted handed link 0 true old
+
+    fallen-parts : {first second : Holder} {w : World} → EitherRefines first second old w → DownRefine first second old w
+    fallen-parts parts = elim parts [
+      | inl up ↦ absurd (true≢false (sym up.0 ∙ fallen))
+      | inr down ↦ down.1
+    ]
+
+    steps : (first second : Holder) (w : World) → NodesRefine first second old w → Steps first second w (events.Reopen node.Primary) true old new
+    steps first second w stands =
+        let event = events.Reopen node.Primary in
+        let calls = w.primary.calls in
+        let p = w.primary.committer.position in
+        let lives = stands.lives in
+        let lost = fallen-parts stands.parts in
+        let mine : IsOpened first.role old.device device contents is_faulted = subst (λ r. IsOpened r old.device device contents is_faulted) (sym lives.first_role) opened in
+        let engine = opened-stands first calls p old.device device contents is_faulted lost.image mine in
+        let at = engine.contents_at in
+        let over = begins.over in
+        let table : records over.table ≡ keyspace_after calls =
+        table-there first calls p contents over.table at over.table_is ∙ ap (λ n. keyspace_after (cut_at calls n)) (sym lost.ends) ∙ keyspace_after-cut_at-position calls in
+        let own : link.epoch ≡ w.primary.epoch = ap (λ (s : Stream). s.epoch) begins.link_is ∙ at.epoch_is ∙ lives.first_epoch in
+        let same : old.link.epoch ≡ link.epoch = lost.epoch ∙ sym own in
+        let closed : w.primary.committer.closed ≡ p = ap (λ (c : MachineCommitter). c.closed) lost.committer in
+        let sequencing : SequencerRefines calls w.primary.committer.closed sequencer =
+        subst (λ n. SequencerRefines calls n sequencer) (sym closed)
+        (subst (SequencerRefines calls p) (sym over.starts_so)
+        (record { table = table; position = at.at ∙ sym lost.ends; before = at.at; waiting = tt; count = omega (arith, lost.ends) })) in
+        let committed : CommittingRefines calls committing w.primary.committer =
+        subst (CommittingRefines calls committing) (sym lost.committer)
+        (record {
+          groups = subst (λ (groups : List Group). AreGroupsOf calls groups []) (sym begins.no_group) tt;
+          stage_is = subst (λ (stage : Stage). StageRefines calls stage (new_committer p).stage) (sym begins.ready) tt;
+          local_is = begins.local ∙ at.at;
+        }) in
+        let linked : LinkRefines calls link handed 0 w.primary.link =
+        subst (LinkRefines calls link handed 0) (sym lost.link)
+        (subst (λ (s : Stream). LinkRefines calls s handed 0 new_link) (sym begins.link_is)
+        (record {
+          waiting = subst (λ (groups : List Group). AreGroupsOf calls groups []) (sym begins.none_handed) tt;
+          none_pending = refl;
+          kept = tt;
+          next_within = omega arith;
+          again = refl;
+          known = refl;
+          remote_is = refl;
+        })) in
+        let w' = reopened node.Primary w in
+        let step : Step w event true w' =
+        record { done = sym (primary-opens lives ∙ opens_if old.primary_runs fallen); happens = λ did. refl; stands = λ did. absurd (true≢false did) } in
+        let parts : PartsRefine first second new w' =
+        record {
+          sessions = lost.sessions;
+          sequencer = sequencing;
+          follow = record { by_call = λ c seat has shut. absurd (lost.unseated c seat has); session = λ c seat has. absurd (lost.unseated c seat has) };
+          committing = committed;
+          engine = engine;
+          leads = subst (λ (groups : List Group). Leads contents groups sequencer) (sym begins.no_group) (record { groups_are = tt; epochs = tt; stands = over.ahead });
+          epoch = own;
+          link = linked;
+          frames = subst (λ e. AreFramesSent e calls old.frames w.wire.frames) same lost.frames;
+          arrivals = subst (λ e. ArrivalsRefine e calls old.arrivals w.standby.waiting w.wire.acknowledgements) same lost.arrivals;
+          standby = subst (λ e. StandbyRefines second e calls w.standby.position old.standby old.standby_runs) same lost.standby;
+        } in
+        let refines : EitherRefines first second new w' = inl (refl, parts) in
+        record {
+          world = w';
+          step = step;
+          stands = record {
+            sound = sound-step w event true w' step stands.sound;
+            lives = record {
+              restarts = lives.restarts;
+              primary = refl;
+              standby = lives.standby;
+              first_role = lives.first_role;
+              second_role = lives.second_role;
+              first_epoch = lives.first_epoch;
+              second_epoch = lives.second_epoch;
+            };
+            parts = refines;
+          };
+          moves = record {
+            primary = opened-moves first calls p old.device device lost.image opened.moments opened.failures;
+            standby = moves-same second calls w.standby.position w.standby.position old.standby.device old.standby.device refl (standby-stands first second old w stands.parts);
+          };
+        }
+
+pub primary-reopening-cut : (old : Pair) (committing : Committing) (device : State) (contents : Contents) (is_faulted : Bool) (result : Result Bool Refusal) (refusal : Refusal) → result ≡ Err refusal
+    → old.primary_runs ≡ false → IsNotOpened role.Primary old.device device refusal
+    → Acts old (events.Reopen node.Primary) result (with_primary_node old.sequencer committing device contents is_faulted old.handed old.link old.remote old.primary_runs old)
+primary-reopening-cut old committing device' contents is_faulted result refusal is fallen refused =
+    subst (λ (r : Result Bool Refusal). Acts old event r new) (sym is) (record { steps = tt; cut = cut; calls = none-added _ _ refl })
+  where
+    new : Pair
+    new = with_primary_node old.sequencer committing device' contents is_faulted old.handed old.link old.remote old.primary_runs old
+
+    event : Event
+    event = events.Reopen node.Primary
+
+    image : {first second : Holder} {w : World} → EitherRefines first second old w → IsDown first w.primary.calls w.primary.committer.position old.device
+    image parts = elim parts [
+      | inl up ↦ absurd (true≢false (sym up.0 ∙ fallen))
+      | inr down ↦ down.1.image
+    ]
+
+    cut : (first second : Holder) (w : World) → NodesRefine first second old w → IsCut first second event refusal old new w
+    cut first second w stands =
+        let calls = w.primary.calls in
+        let p = w.primary.committer.position in
+        let next = next_primary w in
+        let device = old.device in
+        let down = image stands.parts in
+        let there = rests-standby first second old w stands in
+        let memory : refusal ≡ Memory → device'.failures ≡ device.failures → EndsBy refusal event (Led first second old new w) =
+        λ is same. subst (λ (r : Refusal). EndsBy r event (Led first second old new w)) (sym is) (refl, (opened-rests first calls p device device' down refused.moments same, there)) in
+        let ends : EndsBy refusal event (Led first second old new w) =
+        elim refused.refused [
+          | inl fault ↦ opened-ends event refusal (Led first second old new w) fault (opened-breaks first calls p next device device' down refused.moments (refused.fault fault), there)
+          | inr (inl is) ↦ memory is (refused.failures (λ fault. memory_no_fault (sym is ∙ fault)))
+          | inr (inr why) ↦
+              let mine = subst (λ r. RefusesReopening device.lines (image_of device.words) r refusal) (sym stands.lives.first_role) why.0 in
+              elim (restart-refused first calls p device refusal down mine) [
+                | inl is ↦ memory is (ap (λ (d : State). d.failures) why.1)
+                | inr full ↦ subst (λ (r : Refusal). EndsBy r event (Led first second old new w)) (sym full.0)
+                    (opened-limit first calls p next device device' full.1.0 down refused.moments why.1 full.1.1 full.1.2, there)
+              ]
+        ] in
+        cut-for first second event refusal old new w stands (tells old.sessions) (primary-opens stands.lives ∙ opens_if old.primary_runs fallen) ends
+      where
+        memory_no_fault : Memory ≡ Fault → ⊥
+        memory_no_fault is = cc

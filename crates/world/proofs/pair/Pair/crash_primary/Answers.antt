@@ -1,0 +1,23 @@
+use Rattle.world.proofs.PairCrash.{primary-crashed, primary-crashes}
+use Rattle.world.proofs.pair.Pair.crash_primary.Goals as goal
+
+pub returns-then-not-self : goal.returns-then-not-self
+returns-then-not-self g c = primary-crashed _ c.args.picks.now c.if-not-self.true
+
+pub returns : goal.returns
+returns g c =
+    let E = g.E.Durable in
+    let engine = c.crash.new.self.engine in
+    let crashed = c.crash.ensures in
+    let ended = c.crash-2.ensures in
+    primary-crashes _ c.crash-2.new.self (record { waiting = c.args.self.now.groups; stage = c.crash.new.self.stage; local = c.crash.new.self.local })
+    (E.device engine) (E.contents engine) (E.is_faulted engine) c.args.picks.now c.position-position.result c.if-not-self.false c.position-position.ensures
+    (record {
+      sized = g.met.E.Durable.sized c.args.self.now.committer.engine;
+      settled = crashed.settled;
+      image = crashed.image;
+      lines_are = crashed.lines;
+      failures = crashed.failures;
+      moments = crashed.moments;
+    })
+    ended.goes ended.unseated ended.calls

@@ -1,0 +1,30 @@
+use Rattle.world.proofs.PairCrash.{standby-crashed, standby-crashes}
+use Rattle.world.proofs.pair.Pair.crash_standby.Goals as goal
+
+pub returns-then-not-self : goal.returns-then-not-self
+returns-then-not-self g c = standby-crashed _ c.args.picks.now c.if-not-self.true
+
+pub returns : goal.returns
+returns g c =
+    let E = g.E.Durable in
+    let standby = c.crash.new.self in
+    let crashed = c.crash.ensures in
+    standby-crashes _ c.crash-2.new.self
+    (record {
+      device = E.device standby.engine;
+      contents = E.contents standby.engine;
+      is_faulted = E.is_faulted standby.engine;
+      table = g.K.Keyspace.table standby.keyspace;
+      room = standby.heap;
+      epoch = (E.contents standby.engine).current.epoch;
+    })
+    c.args.picks.now c.if-not-self.false
+    (record {
+      sized = g.met.E.Durable.sized c.args.self.now.standby.engine;
+      settled = crashed.settled;
+      image = crashed.image;
+      lines_are = crashed.lines;
+      failures = crashed.failures;
+      moments = crashed.moments;
+    })
+    c.crash-2.ensures.delivered c.crash-2.ensures.acknowledgements

@@ -1,0 +1,52 @@
+use Rattle.std.proofs.Common.{Err, ap, inl, inr, refl, sym, subst}
+use Rattle.std.proofs.lemmas.Result.{err_from_is_err_and}
+use Rattle.model.specs.declared.record.Role.TheVariants.{Standby}
+use Rattle.world.specs.Standby.{Node}
+use Rattle.world.proofs.OpenedLemmas.{IsNotOpened}
+use Rattle.world.proofs.PairReopen.{standby-reopening-cut, standby-reopens, standby-runs-on}
+use Rattle.world.proofs.pair.Pair.reopen_standby.Goals as goal
+
+pub returns-then-self : goal.returns-then-self
+returns-then-self g c = standby-runs-on _ c.if-self.true
+
+pub returns-in_err-restart : goal.returns-in_err-restart
+returns-in_err-restart g c =
+    let E = g.E.Durable in
+    let standby = c.restart.new.self in
+    let told = c.in_err-restart.ensures in
+    let exit = err_from_is_err_and c.from_residual.result c.from_residual.ensures.1 in
+    let node' : Node = record {
+      device = E.device standby.engine;
+      contents = E.contents standby.engine;
+      is_faulted = E.is_faulted standby.engine;
+      table = g.K.Keyspace.table standby.keyspace;
+      room = standby.heap;
+      epoch = (E.contents standby.engine).current.epoch;
+    } in
+    let refused : IsNotOpened Standby (E.device c.args.self.now.standby.engine) node'.device c.in_err-restart.field-0.0 = record {
+      refused = elim told.refused [
+        | inl fault ↦ inl fault
+        | inr (inl memory) ↦ inr (inl memory)
+        | inr (inr why) ↦ inr (inr (why.0, ap (λ s. E.device s.engine) why.1))
+      ];
+      fault = λ is. told.fault (ap Err is);
+      failures = λ other. told.failures (λ same. other cc);
+      moments = told.moments;
+    } in
+    standby-reopening-cut _ node' c.from_residual.result exit.0 exit.1 c.if-self.false (subst (IsNotOpened Standby (E.device c.args.self.now.standby.engine) node'.device) (sym exit.2) refused)
+
+pub returns : goal.returns
+returns g c =
+    let E = g.E.Durable in
+    let standby = c.restart.new.self in
+    let told = c.in_ok-restart.ensures in
+    standby-reopens _
+    (record {
+      device = E.device standby.engine;
+      contents = E.contents standby.engine;
+      is_faulted = E.is_faulted standby.engine;
+      table = g.K.Keyspace.table standby.keyspace;
+      room = standby.heap;
+      epoch = (E.contents standby.engine).current.epoch;
+    })
+    c.if-self.false (record { reopens = told.reopens; durable = told.durable; sound = told.sound; failures = told.failures (λ fault. cc); moments = told.moments }) told.follows refl
