@@ -21,8 +21,6 @@ pub enum Cause {
     NotNode,
     #[error("fail after the first event")]
     FailAfterEvent,
-    #[error("an event after crash")]
-    EventAfterCrash,
     #[error("more than 16777216 events")]
     TooManyEvents,
 }

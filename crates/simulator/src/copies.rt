@@ -1,12 +1,13 @@
 //! Copies of an event.
-ghost use Rattle.std.specs.Prelude.{◌≡◌, IfOk};
+ghost use Rattle.std.specs.Prelude.{IfOk};
+ghost use Rattle.simulator.specs.Copy.{IsCopy};
 
 use machine::Event;
 use std::alloc::AllocError;
 
-/// A copy of the event. Bytes are shared.
+/// A copy of the event. Bytes are shared, picks are not.
 pub fn copy_of(event: &Event) -> Result<Event, AllocError>
-    ensures { IfOk result (λ copy. copy ≡ event.now) }
+    ensures { IfOk result (IsCopy event.now) }
 {
     Ok(match event {
         Event::Enter => Event::Enter,
@@ -28,8 +29,7 @@ pub fn copy_of(event: &Event) -> Result<Event, AllocError>
         Event::Release(connection) => Event::Release(*connection),
         Event::Write(connection, count) => Event::Write(*connection, *count),
         Event::Leave(connection) => Event::Leave(*connection),
-        // No line of a script makes one, and a list of picks has no copy that would be the same value.
-        Event::Crash(_, _) => return Err(AllocError),
+        Event::Crash(node, picks) => Event::Crash(*node, picks.clone()?),
         Event::Reopen(node) => Event::Reopen(*node),
     })
 }

@@ -4,6 +4,7 @@ ghost use Rattle.hex.specs.Hex.{decode_of};
 
 use crate::cause::{Cause, LineError};
 use crate::line_words::LineWords;
+use crate::number::read_number;
 use crate::spelling::spelled;
 use bytes::Bytes;
 use hex::FromHexError;
@@ -22,6 +23,8 @@ pub fn read_event(
         b"read" => read_mark(words)?,
         b"write" => read_write(words)?,
         b"deliver" => read_deliver(words)?,
+        b"crash" => read_crash(alloc, words)?,
+        b"reopen" => Event::Reopen(words.node()?),
         _ => match event_alone(name) {
             Some(event) => event,
             None => event_with_number(name, words)?,
@@ -74,6 +77,16 @@ fn read_write(words: &mut LineWords<'_>) -> Result<Event, Cause> {
 fn read_deliver(words: &mut LineWords<'_>) -> Result<Event, Cause> {
     let frame = words.number()?;
     Ok(Event::Deliver(frame, words.number_or(0)?))
+}
+
+/// A node, and the picks of its crash: one at least.
+fn read_crash(alloc: Global, words: &mut LineWords<'_>) -> Result<Event, LineError> {
+    let node = words.node()?;
+    let mut picks = vec![in alloc; words.number()?]?;
+    for word in words {
+        picks.push(read_number(word).ok_or(Cause::NotNumber)?)?;
+    }
+    Ok(Event::Crash(node, picks))
 }
 
 /// A connection, and the words of a request.

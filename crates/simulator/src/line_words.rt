@@ -3,9 +3,8 @@ ghost use Rattle.std.specs.Prelude.{◌≡◌, ◌<◌, ◌≤◌, length};
 ghost use Rattle.std.specs.Iterator.{at_most};
 
 use crate::cause::Cause;
-use crate::node::Node;
 use crate::number::read_number;
-use machine::Mark;
+use machine::{Mark, Node};
 
 /// The words of a line that are not yet read. Words are separated by one or more spaces.
 #[derive(Drop)]

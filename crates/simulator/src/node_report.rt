@@ -1,10 +1,11 @@
 //! Printing what the nodes hold.
 use crate::error::SimulatorError;
 use crate::image::{DeviceImage, read_device};
-use crate::node::Node;
+use crate::node::name_of;
 use crate::options::Options;
 use crate::quoted::Quoted;
 use kv_types::RecordId;
+use machine::Node;
 use model::Role;
 use pmem::SimPmem;
 use std::alloc::Global;
@@ -20,26 +21,26 @@ pub fn write_nodes<W: Write>(
 ) -> Result<(), SimulatorError> {
     let mut nodes = Vec::new(alloc);
     for (node, device) in [Node::Primary, Node::Standby].iter().zip(devices) {
-        nodes.push((*node, read_device(alloc, device)?))?;
+        nodes.push((name_of(*node), read_device(alloc, device)?))?;
     }
     for (node, image) in &nodes {
-        write_position(out, *node, image)?;
+        write_position(out, node, image)?;
     }
     if options.map {
         for (node, image) in &nodes {
-            write_records(out, *node, image)?;
+            write_records(out, node, image)?;
         }
     }
     if options.images {
         for (node, image) in &nodes {
-            write_words(out, *node, image.words.as_slice())?;
+            write_words(out, node, image.words.as_slice())?;
         }
     }
     Ok(())
 }
 
 /// The current record of an image.
-fn write_position<W: Write>(out: &mut W, node: Node, image: &DeviceImage) -> io::Result<()> {
+fn write_position<W: Write>(out: &mut W, node: &str, image: &DeviceImage) -> io::Result<()> {
     let Some(contents) = &image.contents else {
         return writeln!(out, "{node}: no whole image");
     };
@@ -60,7 +61,7 @@ fn write_position<W: Write>(out: &mut W, node: Node, image: &DeviceImage) -> io:
 }
 
 /// The records of an image, in their order.
-fn write_records<W: Write>(out: &mut W, node: Node, image: &DeviceImage) -> io::Result<()> {
+fn write_records<W: Write>(out: &mut W, node: &str, image: &DeviceImage) -> io::Result<()> {
     let Some(contents) = &image.contents else {
         return Ok(());
     };
@@ -79,7 +80,7 @@ fn write_records<W: Write>(out: &mut W, node: Node, image: &DeviceImage) -> io::
 }
 
 /// The words that are not zero.
-fn write_words<W: Write>(out: &mut W, node: Node, words: &[u64]) -> io::Result<()> {
+fn write_words<W: Write>(out: &mut W, node: &str, words: &[u64]) -> io::Result<()> {
     for (number, word) in words.iter().enumerate() {
         if *word != 0 {
             writeln!(out, "{node} word {number}: {word}")?;

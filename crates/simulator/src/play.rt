@@ -2,16 +2,16 @@
 ghost use Rattle.std.specs.Prelude.{◌≡◌, ◌%◌, ◌<◌, ◌≤◌, length, map, IfOk, slice_index, vec_len};
 ghost use Rattle.std.specs.List.{range_with_len};
 
-use crate::node::Node;
 use crate::options::Options;
-use crate::script::{Crash, Failure, Script};
+use crate::script::{Failure, Script};
+use machine::{Event, Node};
 use pmem::{Crashing, Pmem, SimPmem};
 use std::alloc::{AllocError, Global};
 use std::hash::RandomState;
 use world::{Trace, run};
 
-/// Plays the events over two new devices, and crashes those that are to crash once the run is over. An error if memory was refused to the
-/// simulator or to one of its devices.
+/// Plays the events over two new devices. Where the run ends early, the crashes that are left of them still happen to the devices. An error if memory
+/// was refused to the simulator, or to one of its devices, which then does not know all that a crash may leave.
 pub fn play(
     alloc: Global,
     options: &Options,
@@ -20,7 +20,13 @@ pub fn play(
 ) -> Result<Trace<SimPmem>, AllocError> {
     let devices = new_devices(alloc, options, script.failures.as_slice())?;
     let mut trace = run(alloc, devices, script.schedule.events(), hash_builder);
-    crash_devices(alloc, &mut trace.devices, script.crashes.as_slice())?;
+    if trace.devices.iter().any(|device| device.starved()) {
+        return Err(AllocError);
+    }
+    let reached = trace.done.len();
+    if let Some(unplayed) = script.schedule.events().get(reached..) {
+        crash_devices(alloc, &mut trace.devices, unplayed)?;
+    }
     Ok(trace)
 }
 
@@ -43,21 +49,28 @@ fn new_devices(
     Ok(vec![in alloc; primary, standby]?)
 }
 
-/// Crashes devices, one after another. Also an error if one of them was refused memory, since it does not know all that a crash may leave.
+/// Crashes the devices that these events crash, one after another.
 fn crash_devices(
     alloc: Global,
     devices: &mut Vec<SimPmem>,
-    crashes: &[Crash],
+    events: &[Event],
 ) -> Result<(), AllocError> {
-    if devices.iter().any(|device| device.starved()) {
-        return Err(AllocError);
-    }
-    for crash in crashes {
-        if let Some(device) = devices.get_mut(crash.node.index()) {
-            crash_device(alloc, device, crash.picks.as_slice())?;
+    for event in events {
+        if let Event::Crash(node, picks) = event {
+            if let Some(device) = devices.get_mut(index_of(*node)) {
+                crash_device(alloc, device, picks.as_slice())?;
+            }
         }
     }
     Ok(())
+}
+
+/// The index of a node's device among those of a run.
+fn index_of(node: Node) -> usize {
+    match node {
+        Node::Primary => 0,
+        Node::Standby => 1,
+    }
 }
 
 /// A new device with `lines` lines. Its words are counted in 64 bits, so 2^61 lines or more are refused.

@@ -1,5 +1,6 @@
 //! Events, each with the line that it comes from.
 ghost use Rattle.std.specs.Prelude.{◌≡◌, [], ◌∷◌, ◌++◌, length, replicate, OnOk};
+ghost use Rattle.simulator.specs.Copy.{AppendsCopies};
 
 use crate::cause::{Cause, LineError};
 use crate::copies::copy_of;
@@ -37,7 +38,7 @@ impl Schedule {
     /// Adds the event of a line `times` times.
     #[tactic(auto, using(crate::proofs::RepeatLemmas::once_more))]
     pub fn add(&mut self, event: &Event, times: u64, line: u64) -> Result<(), LineError>
-        ensures events { OnOk result (self.new.events.items ≡ self.old.events.items ++ replicate times event.now) }
+        ensures events { OnOk result (AppendsCopies self.old.events.items self.new.events.items times event.now) }
         ensures lines { OnOk result (self.new.lines.items ≡ self.old.lines.items ++ replicate times line) }
     {
         let room = MOST_EVENTS.saturating_sub(self.events.len() as u64);

@@ -1,11 +1,10 @@
-//! What is to be played: failures of fences, events, and crashes.
+//! What is to be played: failures of fences, and events.
 use crate::cause::{Cause, LineError};
 use crate::error::SimulatorError;
 use crate::event_words::read_event;
 use crate::line_words::LineWords;
-use crate::node::Node;
-use crate::number::read_number;
 use crate::schedule::Schedule;
+use machine::Node;
 use std::alloc::Global;
 
 /// A fence that fails.
@@ -16,22 +15,12 @@ pub struct Failure {
     pub fence: u64,
 }
 
-/// A crash after the run.
-#[derive(Debug, Drop)]
-pub struct Crash {
-    pub node: Node,
-    /// Which candidates are left, in turn. There is at least one pick.
-    pub picks: Vec<u64>,
-}
-
 /// What is to be played.
 #[derive(Drop)]
 pub struct Script {
     /// Before the first event.
     pub failures: Vec<Failure>,
     pub schedule: Schedule,
-    /// After the last event.
-    pub crashes: Vec<Crash>,
 }
 
 /// Reads all lines. `Line` gives the first that is not understood, and its cause.
@@ -39,7 +28,6 @@ pub fn read_script(alloc: Global, text: &[u8]) -> Result<Script, SimulatorError>
     let mut script = Script {
         failures: Vec::new(alloc),
         schedule: Schedule::new(alloc),
-        crashes: Vec::new(alloc),
     };
     let mut number: u64 = 0;
     for line in text.split(|byte| *byte == b'\n') {
@@ -60,7 +48,6 @@ fn add_line(alloc: Global, script: &mut Script, line: &[u8], number: u64) -> Res
     match words.next() {
         None => Ok(()),
         Some(b"fail") => add_failure(script, &mut words),
-        Some(b"crash") => add_crash(alloc, script, &mut words),
         Some(b"repeat") => {
             let times = words.number()?;
             let name = words.word()?;
@@ -80,9 +67,6 @@ fn add_events(
     number: u64,
 ) -> Result<(), LineError> {
     let event = read_event(alloc, name, words)?;
-    if !script.crashes.is_empty() {
-        return Err(LineError::Bad(Cause::EventAfterCrash));
-    }
     script.schedule.add(&event, times, number)
 }
 
@@ -94,19 +78,5 @@ fn add_failure(script: &mut Script, words: &mut LineWords<'_>) -> Result<(), Lin
         return Err(LineError::Bad(Cause::FailAfterEvent));
     }
     script.failures.push(Failure { node, fence })?;
-    Ok(())
-}
-
-fn add_crash(
-    alloc: Global,
-    script: &mut Script,
-    words: &mut LineWords<'_>,
-) -> Result<(), LineError> {
-    let node = words.node()?;
-    let mut picks = vec![in alloc; words.number()?]?;
-    for word in words {
-        picks.push(read_number(word).ok_or(Cause::NotNumber)?)?;
-    }
-    script.crashes.push(Crash { node, picks })?;
     Ok(())
 }
