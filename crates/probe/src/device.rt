@@ -14,7 +14,7 @@ const MOST_LINES: u64 = 65_536;
 
 #[derive(Default, Drop)]
 pub struct DeviceProbe {
-    device: Option<SimPmem>,
+    pub device: Option<SimPmem>,
 }
 
 impl DeviceProbe {

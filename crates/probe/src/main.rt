@@ -4,12 +4,14 @@
 mod answers;
 mod cause;
 mod device;
+mod engine;
 mod entries;
 mod file;
 mod frames;
 mod heap;
 mod image;
 mod integers;
+mod lives;
 mod pipe;
 mod probe;
 mod records;
@@ -17,6 +19,7 @@ mod replies;
 mod run;
 mod seats;
 mod texts;
+mod versions;
 mod words;
 
 use crate::run::{RunError, run};

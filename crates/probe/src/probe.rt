@@ -6,7 +6,7 @@ use crate::heap::HeapProbe;
 use crate::image::ImageProbe;
 use crate::pipe::PipeProbe;
 use crate::seats::LobbyProbe;
-use crate::{frames, integers, records, replies, texts};
+use crate::{engine, frames, integers, records, replies, texts};
 use std::alloc::Global;
 
 /// At most one value of each kind.
@@ -30,6 +30,7 @@ impl Probe {
         match *subject {
             "image" => self.image.answer(alloc, words),
             "device" => self.device.answer(alloc, words),
+            "engine" => engine::answer(alloc, &mut self.device.device, words),
             "file" => self.file.answer(rt, alloc, words)?.ok_or(Cause::NoCall),
             "heap" => self.heap.answer(alloc, words),
             "pipe" => self.pipe.answer(alloc, words),

@@ -1,0 +1,269 @@
+//! Images that are opened again after a crash, and one call on each.
+ghost use Rattle.std.specs.Prelude.{◌≡◌, false, IfOk};
+ghost use Rattle.pmem.specs.Sim.{state_of};
+ghost use Rattle.model.specs.Image.{Image};
+ghost use Rattle.standby.specs.Following.{Follows};
+ghost use Rattle.wbl_engine.specs.Contents.{IsDurable};
+ghost use Rattle.wbl_engine.specs.Freeing.{AreEnded};
+ghost use Rattle.wbl_engine.specs.Reopening.{Reopens};
+
+use crate::answers::{add_word, hexed, none, refused};
+use crate::cause::Cause;
+use crate::versions::{
+    add_pair, entries_text, record_text, take_entries, take_lines, versions_text,
+};
+use crate::words::{changes, record_id};
+use cmd_core::Lookup;
+use extent_heap::ExtentHeap;
+use kv_types::{EntryNo, RecordId, Refusal};
+use model::Role;
+use mv_keyspace::{Keyspace, ListKeyspace};
+use placing::rebuild as rebuild_from;
+use pmem::{Crashing, Pmem, SimPmem};
+use standby::{Frame, Standby};
+use std::alloc::Global;
+use wbl_engine::{Durable, Freed, Versions, WblEngine};
+
+/// What a call answered, and the device.
+pub type Answered = Result<(String, SimPmem), Cause>;
+
+type Engine = WblEngine<SimPmem>;
+
+type Node = Standby<Engine, ListKeyspace>;
+
+/// The record that is written then, and all versions; or the refusal.
+pub fn reopen(alloc: Global, device: SimPmem, role: Role) -> Answered {
+    match crash_and_reopen(alloc, device, role) {
+        Ok((engine, versions)) => {
+            let answer = opened_text(alloc, &engine, &versions);
+            let device = engine.into_device();
+            Ok((answer?, device))
+        }
+        Err((refusal, device)) => Ok((refused(alloc, refusal)?, device)),
+    }
+}
+
+/// Crashes, so that each word has one candidate, its oldest, and opens the image again.
+fn crash_and_reopen(
+    alloc: Global,
+    device: SimPmem,
+    role: Role,
+) -> Result<(Engine, Versions), (Refusal, SimPmem)>
+    ensures reopens { IfOk result (λ o. (image : Image) × Reopens (state_of device).lines image role
+        (⟦<WblEngine<SimPmem> as Durable>⟧.contents o.0) o.1.counted.items o.1.gapped.items) }
+    ensures durable { IfOk result (λ o. IsDurable (⟦<WblEngine<SimPmem> as Durable>⟧.device o.0) (⟦<WblEngine<SimPmem> as Durable>⟧.contents o.0)) }
+    ensures sound { IfOk result (λ o. ⟦<WblEngine<SimPmem> as Durable>⟧.is_faulted o.0 ≡ false) }
+{
+    let mut device = device;
+    device.crash(&[]);
+    WblEngine::reopen(alloc, device, role)
+}
+
+fn opened_text(alloc: Global, engine: &Engine, versions: &Versions) -> Result<String, Cause> {
+    let current = record_text(alloc, engine.record())?;
+    let versions = versions_text(alloc, versions)?;
+    Ok(format!(in alloc; "{current} / {versions}")?)
+}
+
+/// Clears gaps, the oldest first: what each call has made free, and the record then; or the refusal.
+pub fn clear(alloc: Global, device: SimPmem, role: Role, times: u64) -> Answered {
+    match crash_and_reopen(alloc, device, role) {
+        Ok((engine, _)) => {
+            let mut engine = engine;
+            let answer = clear_gaps(alloc, &mut engine, times);
+            let device = engine.into_device();
+            Ok((answer?, device))
+        }
+        Err((refusal, device)) => Ok((refused(alloc, refusal)?, device)),
+    }
+}
+
+fn clear_gaps(alloc: Global, engine: &mut Engine, times: u64) -> Result<String, Cause> {
+    let mut answer = String::new(alloc);
+    for _ in 0..times {
+        let freed = engine.clear_gap(alloc);
+        answer.push_str(&freed_text(alloc, freed)?)?;
+        answer.push_str(" / ")?;
+    }
+    answer.push_str(&record_text(alloc, engine.record())?)?;
+    Ok(answer)
+}
+
+/// The entries that a call has made free, and each extent as `LINE=LINES`; or the refusal.
+fn freed_text(alloc: Global, freed: Result<Freed, Refusal>) -> Result<String, Cause> {
+    match freed {
+        Ok(freed) => {
+            let mut answer = entries_text(alloc, &freed.entries)?;
+            for extent in freed.extents.iter() {
+                add_pair(alloc, &mut answer, extent.first_line, extent.lines)?;
+            }
+            Ok(answer)
+        }
+        Err(refusal) => refused(alloc, refusal),
+    }
+}
+
+/// Crashes and opens the image again, with what a node keeps in memory; and the entries of the versions that have ended.
+fn wake(
+    alloc: Global,
+    device: SimPmem,
+    role: Role,
+) -> Result<(Node, Vec<EntryNo>), (Refusal, SimPmem)>
+    ensures follows { IfOk result (λ o. Follows (⟦<WblEngine<SimPmem> as Durable>⟧.contents o.0.engine)
+        (⟦<ListKeyspace as Keyspace>⟧.table o.0.keyspace) o.0.heap) }
+    ensures durable { IfOk result (λ o. IsDurable (⟦<WblEngine<SimPmem> as Durable>⟧.device o.0.engine) (⟦<WblEngine<SimPmem> as Durable>⟧.contents o.0.engine)) }
+    ensures sound { IfOk result (λ o. ⟦<WblEngine<SimPmem> as Durable>⟧.is_faulted o.0.engine ≡ false) }
+    ensures ended { IfOk result (λ o. AreEnded (⟦<WblEngine<SimPmem> as Durable>⟧.contents o.0.engine) o.1.items) }
+{
+    let lines = device.lines();
+    let (engine, versions) = crash_and_reopen(alloc, device, role)?;
+    let mut keyspace = ListKeyspace::new(alloc);
+    match rebuild_from(
+        alloc,
+        &mut keyspace,
+        lines,
+        versions.counted,
+        &versions.gapped,
+    ) {
+        Ok(rebuilt) => {
+            let node = Standby {
+                engine,
+                keyspace,
+                heap: rebuilt.heap,
+            };
+            Ok((node, rebuilt.ended))
+        }
+        Err(refusal) => Err((refusal, engine.into_device())),
+    }
+}
+
+/// What a node keeps in memory: how many records and how many keys, the value of each of these records, the runs of free lines and of free
+/// entries, and the entries of versions that have ended; or the refusal.
+pub fn rebuild(alloc: Global, device: SimPmem, role: Role, ids: &[&str]) -> Answered {
+    let entries = device.lines() / 8;
+    match wake(alloc, device, role) {
+        Ok((node, ended)) => {
+            let Standby {
+                engine,
+                keyspace,
+                heap,
+            } = node;
+            let device = engine.into_device();
+            let records = keyspace_text(alloc, &keyspace, ids)?;
+            let room = room_text(alloc, heap, entries)?;
+            let ended = entries_text(alloc, &ended)?;
+            Ok((format!(in alloc; "{records} / {room} / {ended}")?, device))
+        }
+        Err((refusal, device)) => Ok((refused(alloc, refusal)?, device)),
+    }
+}
+
+fn keyspace_text(alloc: Global, keyspace: &ListKeyspace, ids: &[&str]) -> Result<String, Cause> {
+    let mut answer = format!(in alloc; "{} {}", keyspace.len(), keyspace.count_keys())?;
+    for id in ids {
+        add_word(
+            &mut answer,
+            &value_text(alloc, keyspace, &record_id(alloc, id)?)?,
+        )?;
+    }
+    Ok(answer)
+}
+
+/// The value of a record as BYTES, or `none`.
+fn value_text(alloc: Global, keyspace: &ListKeyspace, id: &RecordId) -> Result<String, Cause> {
+    let found = match id {
+        RecordId::Str(key) => keyspace.string(key.as_slice()),
+        RecordId::Field(key, field) => keyspace.field(key.as_slice(), field.as_slice()),
+    };
+    match found {
+        Some(value) => Ok(hexed(alloc, value.as_slice())?),
+        None => none(alloc),
+    }
+}
+
+fn room_text(alloc: Global, heap: ExtentHeap, entries: u64) -> Result<String, Cause> {
+    let mut heap = heap;
+    let lines = take_lines(alloc, &mut heap)?;
+    let entries = take_entries(alloc, &mut heap, entries)?;
+    Ok(format!(in alloc; "{lines} / {entries}")?)
+}
+
+/// Frees the first `count` entries of versions that have ended: what the call has made free, and the record then; or the refusal.
+pub fn free(alloc: Global, device: SimPmem, role: Role, count: u64) -> Answered {
+    match wake(alloc, device, role) {
+        Ok((node, ended)) => {
+            let mut engine = node.engine;
+            let freed = free_first(alloc, &mut engine, ended, count);
+            let answer = freed_and_record_text(alloc, freed, &engine);
+            let device = engine.into_device();
+            Ok((answer?, device))
+        }
+        Err((refusal, device)) => Ok((refused(alloc, refusal)?, device)),
+    }
+}
+
+/// Frees the first `count` of these entries.
+fn free_first<E: Durable>(
+    alloc: Global,
+    engine: &mut E,
+    ended: Vec<EntryNo>,
+    count: u64,
+) -> Result<Freed, Refusal>
+    requires { AreEnded (E.contents engine.old) ended.items }
+{
+    let mut ended = ended;
+    ended.truncate(count as usize);
+    engine.free(alloc, &ended)
+}
+
+fn freed_and_record_text(
+    alloc: Global,
+    freed: Result<Freed, Refusal>,
+    engine: &Engine,
+) -> Result<String, Cause> {
+    let freed = freed_text(alloc, freed)?;
+    let current = record_text(alloc, engine.record())?;
+    Ok(format!(in alloc; "{freed} / {current}")?)
+}
+
+/// Takes groups, each one position on: the record then, or the first refusal.
+pub fn take(alloc: Global, device: SimPmem, role: Role, groups: &[&str]) -> Answered {
+    match wake(alloc, device, role) {
+        Ok((node, _)) => {
+            let mut node = node;
+            let answer = take_groups(alloc, &mut node, groups);
+            let device = node.into_device();
+            Ok((answer?, device))
+        }
+        Err((refusal, device)) => Ok((refused(alloc, refusal)?, device)),
+    }
+}
+
+fn take_groups<E: Durable, K: Keyspace>(
+    alloc: Global,
+    node: &mut Standby<E, K>,
+    groups: &[&str],
+) -> Result<String, Cause>
+    requires follows { Follows (E.contents node.old.engine) (K.table node.old.keyspace) node.old.heap }
+    requires durable { IsDurable (E.device node.old.engine) (E.contents node.old.engine) }
+    requires sound { E.is_faulted node.old.engine ≡ false }
+{
+    for group in groups {
+        let frame = next_frame(alloc, node.epoch(), node.position(), group)?;
+        if let Err(refusal) = node.on_frame(alloc, &frame) {
+            return refused(alloc, refusal);
+        }
+    }
+    record_text(alloc, node.engine.record())
+}
+
+/// The frame that comes after a position, with these changes, between which are commas.
+fn next_frame(alloc: Global, epoch: u64, before: u64, group: &str) -> Result<Frame, Cause> {
+    let words: Vec<&str> = group.split(',').collect(alloc)?;
+    Ok(Frame {
+        epoch,
+        before,
+        after: before.saturating_add(1),
+        changes: changes(alloc, &words)?,
+    })
+}
