@@ -1,5 +1,5 @@
 """Images as words, from docs/image.md: a reader that checks each rule of a whole image, the room of an image, and a writer
-of formatting and of commits of groups."""
+of formatting, of commits of groups and of reopenings."""
 
 import dataclasses
 import typing
@@ -47,6 +47,14 @@ class Record(typing.NamedTuple):
 
     def counts(self, stamp):
         return 1 <= stamp <= self.cp and not any(first <= stamp <= last for first, last in self.gaps)
+
+
+class Versions(typing.NamedTuple):
+    """The entries of an image: those whose begin counts, each with its end, or 0 where that does not count; and the others that were
+    begun."""
+
+    counted: list
+    gapped: list
 
 
 class Entry(typing.NamedTuple):
@@ -101,8 +109,56 @@ def read_image(device):
         raise BadImage(WRONG_SIZE, "lines in the superblock")
     _whole(entries == device.lines // 8, "number of entries")
     record = _read_record(device, root)
-    versions = [Entry(*device.line(DIRECTORY_LINE + entry)) for entry in range(entries)]
-    return Image(record, _read_map(device, record, versions))
+    return Image(record, _read_map(device, record, _read_entries(device)))
+
+
+def read_versions(device, record):
+    """The entries of a whole image under its record."""
+    counted, gapped = [], []
+    for number, entry in enumerate(_read_entries(device)):
+        if record.counts(entry.begin):
+            counted.append((number, entry.end if record.counts(entry.end) else 0))
+        elif entry.begin:
+            gapped.append(number)
+    return Versions(counted, gapped)
+
+
+def free_lines(device, record):
+    """The lines of extents that no version has, also none that has ended."""
+    taken = set()
+    for entry in _read_entries(device):
+        if record.counts(entry.begin):
+            taken.update(range(entry.line, entry.line + entry.lines))
+    return [line for line in range(extents_begin(device.lines), device.lines) if line not in taken]
+
+
+def free_entries(device):
+    return [number for number, entry in enumerate(_read_entries(device)) if entry.begin == 0]
+
+
+def _read_entries(device):
+    return [Entry(*device.line(DIRECTORY_LINE + entry)) for entry in range(device.lines // 8)]
+
+
+def record_words(record):
+    """The words of a record in its slot."""
+    flat = [bound for gap in record.gaps for bound in gap]
+    head = [record.number, record.position, record.cp, record.cd, record.epoch, len(record.gaps)]
+    return [*head, *flat, *[0] * (2 * MOST_GAPS - len(flat)), record.role, 0]
+
+
+def without_oldest_gap(record):
+    """The record that clearing a gap writes."""
+    return record._replace(number=record.number + 1, gaps=record.gaps[1:])
+
+
+def reopened(record):
+    """The records that a reopening writes, one after another."""
+    written = [without_oldest_gap(record)] if len(record.gaps) == MOST_GAPS else []
+    last = written[-1] if written else record
+    gaps = (*last.gaps, (last.cp + 1, last.cd - 1))
+    cd = last.cd + STAMPS_BETWEEN_RECORDS
+    return [*written, last._replace(number=last.number + 1, cp=last.cd, cd=cd, gaps=gaps)]
 
 
 def _whole(holds, rule):
@@ -201,7 +257,7 @@ def is_ended_by(change, name):
 
 
 class Writer:
-    """A new image, to which groups are committed one after another."""
+    """A new image, to which groups are committed one after another, and which is opened again between them."""
 
     def __init__(self, lines, role):
         self.lines = lines
@@ -226,8 +282,13 @@ class Writer:
             else:
                 self._make(changes, cp + 1, position + len(parts))
         number, position, cp = self.record.number + 1, position + len(parts), cp + stamps
-        self.record = Record(number, position, cp, cp + STAMPS_BETWEEN_RECORDS, 1, (), self.role)
+        self.record = self.record._replace(number=number, position=position, cp=cp, cd=cp + STAMPS_BETWEEN_RECORDS)
         self._put_record()
+
+    def reopen(self):
+        """A reopening of an image in which no stamp lies in a gap."""
+        for self.record in reopened(self.record):
+            self._put_record()
 
     def _make(self, changes, stamp, position):
         """The ends of what each change replaces or removes, and the versions that it writes."""
@@ -253,9 +314,8 @@ class Writer:
 
     def _put_record(self):
         """The record in its slot, and its number as the root."""
-        number, position, cp, cd, epoch, _, role = self.record
-        words = [number, position, cp, cd, epoch, 0] + 16 * [0] + [role, 0]
-        self._put(RECORD_LINES[number % 2] * WORDS_OF_LINE, words)
+        number = self.record.number
+        self._put(RECORD_LINES[number % 2] * WORDS_OF_LINE, record_words(self.record))
         self._put(4, [number])
 
     def _put(self, at, words):

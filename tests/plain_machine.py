@@ -15,6 +15,12 @@ OPEN_CHANGES = 64
 FORMAT_FENCES = 3
 COMMIT_FENCES = 3
 
+# What a node does to its image when it is opened again, beside the groups that it commits.
+REOPENING = "reopening"
+
+# The nodes that have to run for an event: for most the primary. Those that crash and open again need not run.
+NODES_OF = {"open_link": ("primary", "standby"), "deliver": ("standby",), "apply": ("standby",), "crash": (), "reopen": ()}
+
 DEFAULT_LINES = (4_096, 4_096)
 
 
@@ -44,13 +50,15 @@ class Connection:
 
 
 class Node:
-    """An image that takes one commit for each group, a pair of the positions before and after it. `fail` is the number of the
-    fence that fails, 0 for none."""
+    """An image that takes one commit for each group, a pair of the positions before and after it. `history` has the groups and the
+    reopenings, in order. `fail` is the number of the fence that fails, 0 for none."""
 
     def __init__(self, lines, fail):
+        self.lines = lines
         self.room = plain_image.Room(lines)
         self.position = 0
-        self.groups = []
+        self.history = []
+        self.runs = True
         self.fences = 0
         self.fail = fail
         self.fence(FORMAT_FENCES)
@@ -62,8 +70,21 @@ class Node:
 
     def commit(self, group):
         self.fence(COMMIT_FENCES)
-        self.groups.append(group)
+        self.history.append(group)
         self.position = group[1]
+
+    def crash(self):
+        """Whether it ran. What it had committed stays."""
+        was_running, self.runs = self.runs, False
+        return was_running
+
+    def reopen(self):
+        """Whether it had crashed."""
+        if self.runs:
+            return False
+        self.history.append(REOPENING)
+        self.runs = True
+        return True
 
 
 class Machine:
@@ -76,16 +97,8 @@ class Machine:
         self.done = []
         self.ended = None
         self.redis = plain_redis.Redis(plain_image.Room(lines[0]))
-        self.closed = 0
-        self.closed_groups = []
-        self.stage = ("ready", None)
-        self.local = 0
-        self.sending = []
-        self.kept = []
-        self.again = []
+        self._begin(0)
         self.frames = []
-        self.known = 0
-        self.remote = 0
         self.arrived = []
         self.acknowledgements = []
         try:
@@ -93,14 +106,26 @@ class Machine:
         except Fault:
             self.ended = "formatting"
 
+    def _begin(self, position):
+        """What a primary holds that begins at this position: nothing waits for the committer or the link."""
+        self.closed = self.local = position
+        self.closed_groups = []
+        self.stage = ("ready", None)
+        self.sending = []
+        self.kept = []
+        self.again = []
+        self.known = self.remote = 0
+
     def play(self, events):
         """Plays events as the simulator spells them, without `repeat`."""
         if self.ended is not None:
             return self
         for place, event in enumerate(events):
             name, *words = event.split()
+            name = name.replace("-", "_")
             try:
-                self.done.append(bool(getattr(self, name.replace("-", "_"))(*words)))
+                is_awake = all(getattr(self, node).runs for node in NODES_OF.get(name, ("primary",)))
+                self.done.append(is_awake and bool(getattr(self, name)(*words)))
             except Fault:
                 self.ended = place
                 break
@@ -263,3 +288,25 @@ class Machine:
             connection.is_open = False
             self.redis.leave(int(c))
             return True
+
+    # ---- crashes: between two events no word of an image has several candidates, so the picks choose nothing
+
+    def crash(self, node, *_picks):
+        if not getattr(self, node).crash():
+            return False
+        if node == "standby":
+            self.arrived = []
+        else:
+            self._crash_primary(self.primary.position)
+        return True
+
+    def _crash_primary(self, position):
+        """All connections are over, and the calls after this position, that of the image, are gone."""
+        for connection in self.connections:
+            connection.is_open = False
+        self.calls = [call for call in self.calls if call[3] <= position]
+        self.redis.crash(position, plain_image.Room(self.primary.lines))
+        self._begin(position)
+
+    def reopen(self, node):
+        return getattr(self, node).reopen()

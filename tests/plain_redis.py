@@ -3,7 +3,7 @@ section "Transactions"). Memory runs out only where `refuse` says so."""
 
 import plain_commands
 import spelling
-from plain_keyspace import Keyspace
+from plain_keyspace import Keyspace, keyspace_after
 from plain_replies import (
     ABORTED, DISCARD_OUTSIDE, EXEC_OUTSIDE, LONG_TRANSACTION, NESTED_MULTI, NO_ROOM, NULL_ARRAY, OK, QUEUED, TOO_LARGE, WATCH_INSIDE,
     CommandError, array, error,
@@ -99,6 +99,16 @@ class Redis:
     def leave(self, connection):
         """A connection is over: what it had begun is gone."""
         self._sessions.pop(connection, None)
+
+    def crash(self, position, room):
+        """It goes on from its first changing calls, up to this position, with a room to which nothing was written yet, and without
+        connections."""
+        self.parts = self.parts[:position]
+        self.keyspace = keyspace_after(self.parts)
+        self._sessions = {}
+        self._room = room
+        for part in self.parts:
+            self._room.take(part)
 
     def call(self, connection, item):
         """The bytes of the reply to an item of a connection: the words of a request, or a fault. All that it changes is one

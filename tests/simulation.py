@@ -241,13 +241,13 @@ class Runs(common.Cases):
     """Tests of whole runs. What the plain machine tells of a run beforehand has to be so, word for word."""
 
     def play(self, schedule, *options, lines=plain_machine.DEFAULT_LINES, fail=(0, 0), crash=None):
-        """The trace of a run, with both images, after it was compared with the plain machine."""
+        """The trace of a run, with both images, after it was compared with the plain machine. `crash` is a last event."""
         head = [f"fail {node} {fence}" for node, fence in zip(NODES, fail) if fence]
-        tail = [f"crash {crash}"] if crash else []
+        events = [*schedule.events, f"crash {crash}"] if crash else schedule.events
         sizes = ["--lines", "%d,%d" % lines] if lines != plain_machine.DEFAULT_LINES else []
-        trace = simulate(head + schedule.events + tail, "--map", "--images", *sizes, *options)
-        machine = plain_machine.Machine(lines, fail).play(schedule.events)
-        self.assert_played(trace, machine, len(schedule.events), len(head))
+        trace = simulate(head + events, "--map", "--images", *sizes, *options)
+        machine = plain_machine.Machine(lines, fail).play(events)
+        self.assert_played(trace, machine, len(events), len(head))
         if machine.ended is None:
             for place, node in enumerate(NODES):
                 self.assert_image(trace, machine, node, lines[place])
@@ -273,11 +273,14 @@ class Runs(common.Cases):
         self.assertEqual(trace.ended, whole.get(machine.ended, at))
 
     def assert_image(self, trace, machine, node, lines):
-        """The image is, word for word, that of the groups that the node committed, and it reads so."""
+        """The image is, word for word, that of the groups that the node committed and of its reopenings, and it reads so."""
         parts = machine.redis.parts
         writer = plain_image.Writer(lines, ROLES[node])
-        for before, after in getattr(machine, node).groups:
-            writer.commit(parts[before:after])
+        for done in getattr(machine, node).history:
+            if done == plain_machine.REOPENING:
+                writer.reopen()
+            else:
+                writer.commit(parts[slice(*done)])
         image = plain_image.read_image(plain_image.Words(lines, trace.words[node]))
         wrong = sorted(set(trace.words[node].items()) ^ set(writer.words.items()))
         self.assertEqual(wrong[:5], [], f"words of the {node} that are not as they should be, or should be and are not")

@@ -1,9 +1,15 @@
-"""What is measured comes out as it should: free lines, fences, items through a pipe, marks, arrivals (the page of crates/bench says what the
-program prints)."""
+"""What is measured comes out as it should: free lines, fences, calls of commits, a reopened image, frames, items through a pipe, marks,
+arrivals (the page of crates/bench says what the program prints)."""
 
 import common
 
 PROGRAMS = ["bench"]
+
+
+def commit(sets, kind, ended):
+    """The calls of a commit of so many SETs of one line each, `ended` of them for each SET ending a version, by docs/image.md: of each SET the
+    words of a line and of an entry, then the 24 words of a record in three lines, then the root."""
+    return f"commit {sets} {kind}: {sets * (8 + 8 + ended) + 24 + 1} stores, {sets * (2 + ended) + 3 + 1} flushes, 3 fences"
 
 
 class Measured(common.Cases):
@@ -13,6 +19,12 @@ class Measured(common.Cases):
         "device": [
             *(f"device of {lines} lines: 524288 stores, 65536 flushes, 1 fence" for lines in (65_536, 1_048_576)),
             *2 * ["round 1: fence succeeded: true", "round 2: fence succeeded: true"],
+        ],
+        "engine": [commit(sets, kind, ended) for sets in (1, 64) for kind, ended in (("new", 0), ("overwriting", 1))],
+        "reopen": [f"reopen: 819200 lines, position 100000: 100000 records, {819_200 - 8 - 819_200 // 8 - 100_000} lines are free"],
+        "stream": [
+            "stream: 100000 frames, 10000000 bytes",
+            *(f"stream: pieces of {piece}: position 100000" for piece in (1, 7, 4096)),
         ],
         "ring": ["ring: 1000000 items in order: true"],
         "marks": ["marks: 1000000 raises, no reading fell: true"],

@@ -1,4 +1,4 @@
-"""Events in any order, drawn by a seed, against one plain Redis: the promise of docs/promises.md, looked at from
+"""Events in any order, drawn by a seed, with crashes and reopenings, against one plain Redis: the promise of docs/promises.md, looked at from
 outside."""
 
 import draws
@@ -18,6 +18,8 @@ CONNECTIONS = 5
 GUESTS = 8
 REQUESTS_OF_A_GUEST = 30
 EVENTS = 10_000
+# So many crashes of nodes, about, with a reopening of each.
+CRASHES = 6
 REQUESTS_OF_EACH = (240, 200, 150, 100, 60)
 
 # Images that take all that is drawn, and images that the longest values fill.
@@ -28,20 +30,30 @@ NO_ROOM = plain_replies.error(plain_replies.NO_ROOM)
 # Frames come in pieces of fewer bytes than this.
 LONGEST_PIECE = 60
 
+# A crash leaves the oldest or newest candidate of a word, or one between.
+PICKS = [0, 2**64 - 1, 1, 2]
+
 # Pieces of a connection's bytes, and of what is written to it, are shorter than one of these.
 PIECES = [24, 24, 24, 24, 200, 2_000, 20_000]
 
 
 class Order:
     """Events drawn by a seed, and what the connections still have to send. One connection more than have entered
-    is drawn too, and so are those that left."""
+    is drawn too, and so are those that left. `crashing` are the nodes that crash, and are opened again."""
 
-    def __init__(self, seed):
+    def __init__(self, seed, crashing):
         self.draws = draws.numbers(f"order {seed}")
-        counts = (*REQUESTS_OF_EACH, *(GUESTS * [REQUESTS_OF_A_GUEST]))
-        self.scripts = [draws.Script(self.draws, count) for count in counts]
-        self.entered = CONNECTIONS
-        self.schedule = Schedule(CONNECTIONS)
+        self.crashing = crashing
+        self.schedule = Schedule()
+        # of each connection that entered
+        self.scripts = []
+        # those that entered since the primary was opened last
+        self.present = []
+        self.guests = []
+        for count in REQUESTS_OF_EACH:
+            self.enter(count)
+        # after how many events a node crashed or was opened again
+        self.fronts = []
         # how many times a frame was to be sent, and an acknowledgement to be made
         self.frames = 0
         self.acknowledgements = 0
@@ -54,18 +66,49 @@ class Order:
                 self.deliver_all()
             if self.draws.randrange(events) < 3 * GUESTS:
                 self.come_or_go()
-            self.draws.choice([*3 * [self.draw_of_connection], *2 * [self.draw_of_nodes]])()
+            if self.draws.randrange(events) < CRASHES:
+                self.crash_and_reopen(self.draws.choice(self.crashing))
+            self.draw_one()
+
+    def draw_one(self):
+        self.draws.choice([*3 * [self.draw_of_connection], *2 * [self.draw_of_nodes]])()
+
+    def enter(self, count):
+        """A connection enters that will send so many requests."""
+        self.present.append(len(self.scripts))
+        self.scripts.append(draws.Script(self.draws, count))
+        self.schedule.add("enter")
 
     def come_or_go(self):
         """A guest enters or leaves; one may leave that is not there yet, or no more."""
-        if self.draws.randrange(2) and self.entered < CONNECTIONS + GUESTS:
-            self.schedule.add("enter")
-            self.entered += 1
+        if self.draws.randrange(2) and len(self.guests) < GUESTS:
+            self.guests.append(len(self.scripts))
+            self.enter(REQUESTS_OF_A_GUEST)
         else:
-            self.schedule.add(f"leave {CONNECTIONS + self.draws.randrange(GUESTS)}")
+            self.schedule.add(f"leave {self.draws.choice([*self.guests, len(self.scripts)])}")
+
+    def crash_and_reopen(self, node):
+        """A node crashes, other events come, and it is opened again. Of a primary most often all that it has committed was sent
+        before, since nothing else would ever bring it to the standby; new connections enter then."""
+        if node == "primary" and self.draws.randrange(8):
+            self.schedule.add("raise-local", "hand", *8 * ["send"])
+            self.frames += 8
+        self.schedule.add(" ".join(["crash", node, *(str(self.draws.choice(PICKS)) for _ in range(self.draws.randint(1, 3)))]))
+        self.fronts.append(len(self.schedule.events))
+        for _ in range(self.draws.randrange(30)):
+            self.draw_one()
+        if node == "primary":
+            self.schedule.add("enter")
+        self.schedule.add(f"reopen {node}")
+        self.fronts.append(len(self.schedule.events))
+        if node == "primary":
+            self.present = []
+            for count in REQUESTS_OF_EACH:
+                self.enter(count)
 
     def draw_of_connection(self):
-        c, count = self.draws.randrange(self.entered + 1), self.draws.randrange(self.draws.choice(PIECES))
+        c = self.draws.choice(self.present) if self.draws.randrange(12) else self.draws.randrange(len(self.scripts) + 1)
+        count = self.draws.randrange(self.draws.choice(PIECES))
         names = ["feed", "offer", "turn", "hold", "read local", "read remote", "release", "write"]
         (name,) = self.draws.choices(names, [4, 4, 4, 3, 1, 1, 1, 2])
         if name == "feed":
@@ -90,7 +133,7 @@ class Order:
         self.schedule.add(" ".join(words))
 
     def feed(self, c, count=None):
-        self.schedule.feed(c, self.scripts[c].take(count) if c < self.entered else b"no such connection")
+        self.schedule.feed(c, self.scripts[c].take(count) if c < len(self.scripts) else b"no such connection")
 
     def deliver_all(self):
         self.schedule.take(*range(self.frames))
@@ -114,22 +157,39 @@ class Orders(Runs):
     machine's part."""
 
     def check(self, seed, lines, is_finished):
-        order = Order(seed)
+        # what a primary lost on its way to the standby never comes there, and then no run can be served to its end
+        order = Order(seed, ["standby"] if is_finished else ["primary", "primary", "standby"])
         order.draw(EVENTS)
         if is_finished:
             order.finish()
         trace = simulate(order.schedule.events, "--map", "--images", "--lines", f"{lines},{lines}")
         self.assertEqual(trace.ended, f"after all {len(order.schedule.events)} events")
         positions = self.check_calls(trace, lines)
+        self.check_front(trace, order, lines)
         stands = [self.check_image(trace, node, lines) for node in NODES]
         with self.case("positions", stands=stands):
             self.assertTrue(stands[1] == stands[0] if is_finished else stands[1] <= stands[0])
-            self.check_draws(trace, stands[1])
-        for c, script in enumerate(order.scripts[:order.entered]):
+            self.check_draws(trace, stands[0])
+        for c, script in enumerate(order.scripts):
             is_whole = is_finished and c < CONNECTIONS
             self.check_requests(trace, c, script, is_whole)
             self.check_released(trace, c, positions, stands[1], is_whole)
         self.check_machine(trace, order.schedule.events, lines)
+
+    def check_front(self, last, order, lines):
+        """At a front of the run, a crash or a reopening: both images stand where their lines say, the standby not ahead, and each call of
+        which a byte was released is in both, and in the list at the end of the run, at its place and with its reply."""
+        count = order.draws.choice(order.fronts) if order.fronts else 0
+        trace = simulate(order.schedule.events[:count], "--map", "--images", "--lines", f"{lines},{lines}")
+        positions = self.check_calls(trace, lines)
+        stands = [self.check_image(trace, node, lines) for node in NODES]
+        with self.case("front", count=count):
+            self.assertLessEqual(stands[1], stands[0])
+            for c, released in enumerate(trace.released):
+                self.check_released(trace, c, positions, stands[1], False)
+                self.assert_bytes(last.released[c][:len(released)], released)
+            told = sum(position <= stands[1] for position in positions)
+            self.assertEqual(last.calls[:told], trace.calls[:told])
 
     def check_draws(self, trace, position):
         """The draws lead somewhere: to groups of several changes, to every command but not always to QUIT, and to transactions

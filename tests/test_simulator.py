@@ -48,9 +48,10 @@ BAD_LINES = [
     "read 0 Local", "release", "release 0 0", "leave", "leave 0 0", "leave x", "write", "write 0", "write 0 0 0", "write 0 -1",
     f"write 0 {10 * ABOVE_U64}", "repeat", "repeat 2", "repeat x enter", "repeat 01 enter", "repeat enter",
     "repeat 2 repeat 2 enter", "repeat 2 nonsense", "repeat 2 # nothing", "repeat 2 fail primary 1",
-    "repeat 2 crash primary 0", f"repeat {MOST_EVENTS + 1} enter", f"repeat {ABOVE_U64 - 1} enter",
+    "repeat 2 crash primary", f"repeat {MOST_EVENTS + 1} enter", f"repeat {ABOVE_U64 - 1} enter",
     f"repeat {ABOVE_U64} enter", "fail", "fail primary", "fail 1 primary", "fail third 1", "fail primary 01",
     "fail primary 1 2", "crash", "crash primary", "crash third 0", "crash 0", "crash primary x", "crash primary 00",
+    "crash primary 0 x", f"crash primary {ABOVE_U64}", "reopen", "reopen third", "reopen primary 0", "reopen 0", "repeat 2 reopen",
 ]
 
 BAD_COMMAND_LINES = [
@@ -141,6 +142,18 @@ class Lines(Cases):
         self.assertEqual(trace.done, 7 * [True] + [False, True])
         self.assertEqual(trace.ended, "after all 9 events")
 
+    def test_crashes_and_reopenings(self):
+        trace = simulate(["repeat 2 crash primary 0 1", "enter", "repeat 2 reopen primary", "enter", "repeat 2 reopen standby",
+                          f"crash  standby   {ABOVE_U64 - 1}  7", "apply", "reopen standby", "open-link"])
+        self.assertEqual(trace.event_lines, [1, 1, 2, 3, 3, 4, 5, 5, 6, 7, 8, 9])
+        self.assertEqual(trace.done, [True, False, False, True, False, True, False, False, True, False, True, True])
+        self.assertEqual([(line.record, line.gaps) for line in trace.nodes.values()], [(2, 1), (2, 1)])
+
+    def test_many_reopenings(self):
+        # of the gaps of nine reopenings the oldest was cleared, in a record of its own
+        trace = simulate([*(9 * ["crash primary 0", "reopen primary"])])
+        self.assertEqual((trace.nodes["primary"].record, trace.nodes["primary"].gaps), (11, 8))
+
     def test_greatest_numbers(self):
         most = ABOVE_U64 - 1
         trace = simulate(["enter", f"offer {most}", f"write 0 {most}", f"deliver {most}"])
@@ -185,8 +198,7 @@ class Misuse(Cases):
     def test_words_out_of_their_place(self):
         for text, line in [
             (b"enter\nfail primary 1\n", 2),
-            (b"enter\ncrash primary 0\nenter\n", 3),
-            (b"crash standby 0\nrepeat 2 enter\n", 2),
+            (b"crash standby 0\nfail standby 5\n", 2),
         ]:
             with self.case("text", text=text):
                 self.assert_bad_line(text, line)

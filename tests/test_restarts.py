@@ -1,0 +1,95 @@
+"""Nodes that crash between two events and go on from their images: what is lost of the list, of the connections and of what was on
+its way, and what is kept."""
+
+from simulation import NODES, Runs, Schedule
+from spelling import spell
+from worked_cases import GET_A, NULL, OK, ONE, SET_A
+
+PROGRAMS = ["simulator"]
+
+SET_B = spell("SET", "b", "2")
+
+
+class Restarts(Runs):
+    """Runs with crashes and reopenings."""
+
+    def served(self, schedule, c, number, request):
+        """A connection's request is served to its end, as the group and the frame of this number."""
+        schedule.group(c, request)
+        schedule.replicate(number)
+        schedule.read_marks(c)
+        schedule.write_out(c)
+
+    def asked_after(self, before, request):
+        """The trace of a run in which a connection has set a, with these events after its turn, and the primary crashed; then another
+        sends a request, and both marks are read."""
+        schedule = Schedule(1)
+        schedule.feed(0, SET_A)
+        schedule.serve(0)
+        schedule.add(*before, "crash primary 0", "reopen primary", "enter")
+        schedule.feed(1, request)
+        schedule.serve(1)
+        schedule.add("send")
+        schedule.take(0)
+        schedule.add("open-link")
+        schedule.acknowledge(0)
+        schedule.read_marks(1)
+        schedule.write_out(1)
+        return self.play(schedule)
+
+    def test_a_set_that_was_not_committed_is_lost(self):
+        for name, before in {"alone": [], "in a group": ["close-group"]}.items():
+            with self.case(name):
+                trace = self.asked_after(before, GET_A)
+                self.assertEqual([call.reply for call in trace.calls], [NULL])
+                self.assertEqual(trace.released, [b"", NULL])
+                self.assertEqual(trace.records, {node: [] for node in NODES})
+
+    def test_a_set_that_was_committed_is_kept(self):
+        way = ["close-group", "commit", "raise-local", "hand", "send"]
+        for count in range(2, 6):
+            with self.case("events", count=count):
+                trace = self.asked_after(way[:count], GET_A)
+                self.assertEqual([call.reply for call in trace.calls], [OK, ONE])
+                # what was not sent before the crash never comes to the standby, so nobody is told of it
+                was_sent = count == 5
+                self.assertEqual(trace.released, [b"", ONE if was_sent else b""])
+                self.assertEqual([line.position for line in trace.nodes.values()], [1, int(was_sent)])
+
+    def test_frames_that_a_standby_lost_come_again(self):
+        schedule = Schedule(1)
+        self.served(schedule, 0, 0, SET_A)
+        schedule.group(0, SET_B)
+        schedule.add("send", "deliver 1", "crash standby 0", "apply", "deliver 1", "open-link", "reopen standby", "apply")
+        schedule.add("open-link", "send", "deliver 2", "apply", "ack-delivered 2", "raise-remote")
+        schedule.read_marks(0)
+        schedule.write_out(0)
+        trace = self.play(schedule)
+        self.assertEqual(trace.released, [2 * OK])
+        self.assertEqual(trace.records["standby"], [((b"a",), b"1"), ((b"b",), b"2")])
+        self.assertEqual([(line.position, line.record, line.gaps) for line in trace.nodes.values()], [(2, 3, 0), (2, 4, 1)])
+
+    def test_a_primary_that_is_opened_twice(self):
+        schedule = Schedule(1)
+        self.served(schedule, 0, 0, SET_A)
+        schedule.add("crash primary 0", "reopen primary", "crash primary 1", "reopen primary", "offer 0", "enter")
+        self.served(schedule, 1, 1, SET_B)
+        trace = self.play(schedule)
+        self.assertEqual(trace.released, [OK, OK])
+        # the stamps 2 to 4097 and 4099 to 8194 are in gaps, and the second SET has the one after 8195
+        self.assertEqual(tuple(trace.nodes["primary"])[:4], (2, 5, 8_196, 12_293))
+        self.assertEqual([line.gaps for line in trace.nodes.values()], [2, 0])
+
+    def test_nine_reopenings_of_each_node(self):
+        # a record has eight gaps at most: the oldest goes
+        schedule = Schedule(1)
+        self.served(schedule, 0, 0, SET_A)
+        for number in range(1, 10):
+            for node in NODES:
+                schedule.add(f"crash {node} 0 1", f"reopen {node}")
+            schedule.add("enter")
+            self.served(schedule, number, number, spell("SET", "a", str(number)))
+        trace = self.play(schedule)
+        self.assertEqual(trace.released, 10 * [OK])
+        self.assertEqual([line.gaps for line in trace.nodes.values()], [8, 8])
+        self.assertEqual(trace.records["primary"], [((b"a",), b"9")])
