@@ -136,6 +136,9 @@ def read_edit(crate, file):
                 break
             edit.pairs.append((path, old, line.removeprefix("new:").removeprefix(" ")))
             old = None
+        elif line.strip():
+            edit.bad = f"a line begins with none of 'file:', 'old:' and 'new:': {line}"
+            break
     return edit
 
 
