@@ -1,8 +1,10 @@
 -- What a group does to the versions of an image, and all that a commit requires of it.
 use Rattle.std.specs.Prelude.{◌≡◌, ℕ, ◌+◌, ◌<◌, ◌≤◌, Bool, true, false, not, ◌&&◌, ◌||◌, ◌⊎◌, ◌↔◌, nat_eq, if◌then◌else◌, List, [], ◌∷◌, length, map, Contains, Option, Some, None, IsTrue}
-use Rattle.std.specs.List.{flat_map, AllByRecursion}
+use Rattle.std.specs.List.{flat_map, list_any, AllByRecursion}
 use Rattle.std.specs.Ordering.{eq_by_cmp}
 use Rattle.std.specs.Cmp.Lexicographic.{pointwise}
+use Rattle.kv_types.specs.declared.place.EntryNo.{EntryNo}
+use Rattle.kv_types.specs.declared.place.Extent.{Extent}
 use Rattle.kv_types.specs.declared.record_id.RecordId.{RecordId}
 use Rattle.kv_types.specs.declared.record_id.RecordId.TheVariants.{Str, Field}
 use Rattle.kv_types.specs.declared.change.Change.{Change}
@@ -215,3 +217,36 @@ after_group contents group =
 pub record IsConsistent (contents : Contents) : Type 0 where
   pub free : (i : ℕ) → IsTrue (contents.is_free i) → contents.versions i ≡ None
   pub beyond : (i : ℕ) → entries_of_lines contents.lines ≤ i → contents.versions i ≡ None
+
+-- ---- entries of versions that have ended
+
+abbrev pub is_listed : ℕ → List EntryNo → Bool
+is_listed i entries = list_any (λ entry. nat_eq i entry.0) entries
+
+-- each of the entries holds a version that has ended, and none is listed twice
+abbrev pub AreEnded : Contents → List EntryNo → Type 0
+AreEnded contents [] = Unit {0}
+AreEnded contents (entry ∷ entries) =
+    (entry.0 < entries_of_lines contents.lines)
+    × IsTrue (is_ended_version (contents.versions entry.0))
+    × (is_listed entry.0 entries ≡ false)
+    × AreEnded contents entries
+
+-- the versions of these entries are gone, and the entries are free
+abbrev pub without : (ℕ → Bool) → Contents → Contents
+without gone contents =
+    record contents {
+      versions = λ i. if gone i then None else contents.versions i;
+      is_free = λ i. contents.is_free i || gone i;
+    }
+
+abbrev pub after_free : List EntryNo → Contents → Contents
+after_free entries = without (λ i. is_listed i entries)
+
+abbrev pub extent_of : Option Version → List Extent
+extent_of None = []
+extent_of (Some version) = record { first_line = version.first_line; lines = version.lines } ∷ []
+
+-- the extents of the versions in these entries
+abbrev pub extents_of : Versions → List EntryNo → List Extent
+extents_of versions = flat_map (λ entry. extent_of (versions entry.0))

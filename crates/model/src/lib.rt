@@ -11,6 +11,7 @@ mod laws;
 mod layout;
 mod outcome;
 mod record;
+mod work;
 
 pub use call::{Call, MAX_CHANGE_TEXT_BYTES};
 pub use group::{Group, MAX_PARTS, Part, PlacedChange, Put};
@@ -28,3 +29,4 @@ pub use layout::{
 };
 pub use outcome::{Outcome, closes, outcome_of};
 pub use record::{FIRST_EPOCH, Gap, MAX_GAPS, Record, Role};
+pub use work::{FreeList, Work};

@@ -1,5 +1,5 @@
 //! A pipe within one thread.
-ghost use Rattle.std.specs.Prelude.{◌≡◌, ◌-◌, ◌≤◌, ◌==◌, [], length, IfOk};
+ghost use Rattle.std.specs.Prelude.{◌≡◌, ◌-◌, ◌≤◌, ◌==◌, ◌∷◌, ◌++◌, List, [], length, IfOk, MatchOption};
 ghost use Rattle.std.specs.VecDeque.{deque_capacity};
 ghost use Rattle.pipes.specs.declared.limits.TheConstants.{PIPE_ITEMS};
 
@@ -44,6 +44,20 @@ impl<T> LocalPipe<T> {
         ensures { result ≡ length self.now.items }
     {
         self.waiting.len()
+    }
+
+    /// The items that wait, oldest first: those of the first slice and then those of the second.
+    pub fn as_slices(&self) -> (&[T], &[T])
+        ensures { result.0.now ++ result.1.now ≡ self.now.items }
+    {
+        self.waiting.as_slices()
+    }
+
+    /// The oldest item that waits.
+    pub fn first(&self) -> Option<&T>
+        ensures { MatchOption result (self.now.items ≡ []) (λ item. (rest : List T) × (self.now.items ≡ item.now ∷ rest)) }
+    {
+        self.waiting.front()
     }
 
     /// Whether no item waits.
