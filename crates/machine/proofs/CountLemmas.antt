@@ -6,9 +6,10 @@ use Rattle.model.specs.declared.call.Call.{Call}
 use Rattle.model.specs.Call.{position_of}
 use Rattle.machine.specs.declared.event.Node.TheVariants as nodes
 use Rattle.machine.specs.declared.event.Event.{Event}
-use Rattle.machine.specs.declared.event.Event.TheVariants.{Enter, Feed, Offer, Turn, CloseGroup, Commit, RaiseLocal, Hand, OpenLink, Send, Deliver, Apply, AckDelivered, RaiseRemote, Hold, Read, Release, Write, Leave, Crash, Reopen}
+use Rattle.machine.specs.declared.event.Event.TheVariants.{Enter, Feed, Offer, Turn, CloseGroup, Commit, RaiseLocal, Hand, Free, AcceptFreed, ClearGap, OpenLink, Send, Deliver, Apply, AckDelivered, RaiseRemote, Hold, Read, Release, Write, Leave, Crash, Reopen}
 use Rattle.machine.specs.Event.{Connection, World, new_connection, changed_at, with_inbound, with_outbound, with_made, called, fed_with, offered_next, taken_first, held_first, having_read, having_released, written, left, Happens, Step, Run, start_with, last_world}
 use Rattle.machine.proofs.ConnectionLemmas.{length-changed_at}
+use Rattle.machine.proofs.WorkLemmas.{closes-queues}
 
 abbrev pub count : World → ℕ
 count w = length w.primary.connections
@@ -37,10 +38,13 @@ count-happens w Enter new h =
 count-happens w (Feed c piece) new h = changed w new c (with_inbound (fed_with piece)) (ap count h)
 count-happens w (Offer c) new h = changed w new c (with_inbound offered_next) (ap count h)
 count-happens w (Turn c) new h = called-once w new c h.call h.now
-count-happens w CloseGroup new h = same w new (ap count h)
+count-happens w CloseGroup new h = same w new (ap count (closes-queues w new h).now)
 count-happens w Commit new h = same w new (ap count h)
 count-happens w RaiseLocal new h = same w new (ap count h)
 count-happens w Hand new h = same w new (ap count h)
+count-happens w Free new h = same w new (ap count h)
+count-happens w AcceptFreed new h = same w new (ap count h)
+count-happens w ClearGap new h = same w new (ap count h)
 count-happens w OpenLink new h = same w new (ap count h)
 count-happens w Send new h = same w new (ap count h)
 count-happens w (Deliver frame piece) new h = same w new (ap count h)
@@ -54,7 +58,7 @@ count-happens w (Write c n) new h = changed w new c (with_outbound (written n)) 
 count-happens w (Leave c) new h = changed w new c left (ap count h)
 count-happens w (Crash nodes.Primary picks) new h = same w new (ap count h ∙ length-map w.primary.connections left)
 count-happens w (Crash nodes.Standby picks) new h = same w new (ap count h)
-count-happens w (Reopen nodes.Primary) new h = same w new (ap count h)
+count-happens w (Reopen nodes.Primary) new h = same w new (ap count h.1)
 count-happens w (Reopen nodes.Standby) new h = same w new (ap count h)
 
 pub count-step : (old : World) (event : Event) (did : Bool) (new : World) → Step old event did new → Counts (count old) (count new)

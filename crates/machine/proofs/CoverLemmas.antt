@@ -8,7 +8,7 @@ use Rattle.model.proofs.PrefixLemmas.{IsPrefix-itself, IsPrefix-none, IsPrefix-c
 use Rattle.model.proofs.ServesLemmas.{IsPrefix-replies_to}
 use Rattle.machine.specs.declared.event.Node.TheVariants as nodes
 use Rattle.machine.specs.declared.event.Event.{Event}
-use Rattle.machine.specs.declared.event.Event.TheVariants.{Enter, Feed, Offer, Turn, CloseGroup, Commit, RaiseLocal, Hand, OpenLink, Send, Deliver, Apply, AckDelivered, RaiseRemote, Hold, Read, Release, Write, Leave, Crash, Reopen}
+use Rattle.machine.specs.declared.event.Event.TheVariants.{Enter, Feed, Offer, Turn, CloseGroup, Commit, RaiseLocal, Hand, Free, AcceptFreed, ClearGap, OpenLink, Send, Deliver, Apply, AckDelivered, RaiseRemote, Hold, Read, Release, Write, Leave, Crash, Reopen}
 use Rattle.machine.specs.declared.event.Mark.{Mark}
 use Rattle.machine.specs.declared.event.Mark.TheVariants.{Local, Remote}
 use Rattle.machine.specs.Event.{Connection, World, get_connection, is_open, changed_at, with_inbound, with_outbound, on_inbound, with_call, fed_with, offered_next, taken_first, held_first, having_read, having_released, written, left, may_happen, Happens, Step, Run, start_with, last_world}
@@ -17,6 +17,7 @@ use Rattle.machine.specs.Sound.{Sound}
 use Rattle.machine.proofs.ConnectionLemmas.{get-changed_other, get-entered, same-changed}
 use Rattle.machine.proofs.CrashLemmas.{get-over}
 use Rattle.machine.proofs.SoundConnection.{both}
+use Rattle.machine.proofs.WorkLemmas.{closes-queues}
 use Rattle.machine.proofs.SoundEvents.{enabled-may, sound-step}
 use Rattle.machine.proofs.RunLemmas.{sound-start}
 use Rattle.machine.proofs.PromiseLemmas.{released-begins, released-covered}
@@ -70,10 +71,15 @@ writes-happens w (Turn d) new c e h =
       released = ap (λ x. released_in x c) h.now ∙ same-changed (λ connection. connection.outbound.released) d (with_outbound _) taken.primary.connections (λ connection. refl) c
           ∙ same-changed (λ connection. connection.outbound.released) d (with_inbound taken_first) w.primary.connections (λ connection. refl) c;
     })
-writes-happens w CloseGroup new c e h = inl (unchanged c w new (ap (λ x. x.primary.calls) h) (ap (λ x. x.primary.connections) h))
+writes-happens w CloseGroup new c e h =
+    let now = (closes-queues w new h).now in
+    inl (unchanged c w new (ap (λ x. x.primary.calls) now) (ap (λ x. x.primary.connections) now))
 writes-happens w Commit new c e h = inl (unchanged c w new (ap (λ x. x.primary.calls) h) (ap (λ x. x.primary.connections) h))
 writes-happens w RaiseLocal new c e h = inl (unchanged c w new (ap (λ x. x.primary.calls) h) (ap (λ x. x.primary.connections) h))
 writes-happens w Hand new c e h = inl (unchanged c w new (ap (λ x. x.primary.calls) h) (ap (λ x. x.primary.connections) h))
+writes-happens w Free new c e h = inl (unchanged c w new (ap (λ x. x.primary.calls) h) (ap (λ x. x.primary.connections) h))
+writes-happens w AcceptFreed new c e h = inl (unchanged c w new (ap (λ x. x.primary.calls) h) (ap (λ x. x.primary.connections) h))
+writes-happens w ClearGap new c e h = inl (unchanged c w new (ap (λ x. x.primary.calls) h) (ap (λ x. x.primary.connections) h))
 writes-happens w OpenLink new c e h = inl (unchanged c w new (ap (λ x. x.primary.calls) h) (ap (λ x. x.primary.connections) h))
 writes-happens w Send new c e h = inl (unchanged c w new (ap (λ x. x.primary.calls) h) (ap (λ x. x.primary.connections) h))
 writes-happens w (Deliver frame piece) new c e h = inl (unchanged c w new (ap (λ x. x.primary.calls) h) (ap (λ x. x.primary.connections) h))
@@ -104,7 +110,7 @@ writes-happens w (Crash nodes.Primary picks) new c e h =
       released = ap (λ x. released_in x c) h ∙ ap (λ (connection : Connection). connection.outbound.released) (get-over w.primary.connections c);
     })
 writes-happens w (Crash nodes.Standby picks) new c e h = inl (unchanged c w new (ap (λ x. x.primary.calls) h) (ap (λ x. x.primary.connections) h))
-writes-happens w (Reopen nodes.Primary) new c e h = inl (unchanged c w new (ap (λ x. x.primary.calls) h) (ap (λ x. x.primary.connections) h))
+writes-happens w (Reopen nodes.Primary) new c e h = inl (unchanged c w new (ap (λ x. x.primary.calls) h.1) (ap (λ x. x.primary.connections) h.1))
 writes-happens w (Reopen nodes.Standby) new c e h = inl (unchanged c w new (ap (λ x. x.primary.calls) h) (ap (λ x. x.primary.connections) h))
 
 -- ---- what was released before

@@ -2,13 +2,14 @@
 use Rattle.std.proofs.Common.{◌≡◌, ℕ, ◌<◌, Bool, true, false, not, cond, List, [], ◌∷◌, ◌++◌, length, refl, sym, ap, ◌∙◌, append_assoc, append-nil, eq-eqb, ne_eqb}
 use Rattle.machine.specs.declared.event.Node.TheVariants as nodes
 use Rattle.machine.specs.declared.event.Event.{Event}
-use Rattle.machine.specs.declared.event.Event.TheVariants.{Enter, Feed, Offer, Turn, CloseGroup, Commit, RaiseLocal, Hand, OpenLink, Send, Deliver, Apply, AckDelivered, RaiseRemote, Hold, Read, Release, Write, Leave, Crash, Reopen}
+use Rattle.machine.specs.declared.event.Event.TheVariants.{Enter, Feed, Offer, Turn, CloseGroup, Commit, RaiseLocal, Hand, Free, AcceptFreed, ClearGap, OpenLink, Send, Deliver, Apply, AckDelivered, RaiseRemote, Hold, Read, Release, Write, Leave, Crash, Reopen}
 use Rattle.machine.specs.Event.{Inbound, Outbound, Connection, World, connection_of, with_inbound, with_outbound, on_inbound, on_outbound, is_closed_by, is_open, may_happen, with_call, fed_with, offered_next, taken_first, held_first, having_read, having_released, written, left, Happens, Step, Run, start_with, last_world}
 use Rattle.machine.specs.Promise.{fed_by, fed_to}
 use Rattle.machine.proofs.ConnectionLemmas.{each-changed, get-entered, open-lt, same-changed}
 use Rattle.machine.proofs.CrashLemmas.{get-over}
 use Rattle.machine.proofs.SoundEvents.{enabled-may}
 use Rattle.machine.proofs.SoundConnection.{both}
+use Rattle.machine.proofs.WorkLemmas.{closes-queues}
 
 abbrev fed_in : World → ℕ → List ℕ
 fed_in w c = (connection_of w c).inbound.fed
@@ -41,10 +42,13 @@ fed-happens w (Offer c) new d e h = nothing (ap (λ x. fed_in x d) h ∙ fed-inb
 fed-happens w (Turn c) new d e h =
     let called_once = on_inbound c taken_first (with_call h.call w) in
     nothing (ap (λ x. fed_in x d) h.now ∙ fed-outbound called_once c d _ ∙ fed-inbound (with_call h.call w) c d taken_first (λ inbound. refl))
-fed-happens w CloseGroup new d e h = nothing (ap (λ x. fed_in x d) h)
+fed-happens w CloseGroup new d e h = nothing (ap (λ x. fed_in x d) (closes-queues w new h).now)
 fed-happens w Commit new d e h = nothing (ap (λ x. fed_in x d) h)
 fed-happens w RaiseLocal new d e h = nothing (ap (λ x. fed_in x d) h)
 fed-happens w Hand new d e h = nothing (ap (λ x. fed_in x d) h)
+fed-happens w Free new d e h = nothing (ap (λ x. fed_in x d) h)
+fed-happens w AcceptFreed new d e h = nothing (ap (λ x. fed_in x d) h)
+fed-happens w ClearGap new d e h = nothing (ap (λ x. fed_in x d) h)
 fed-happens w OpenLink new d e h = nothing (ap (λ x. fed_in x d) h)
 fed-happens w Send new d e h = nothing (ap (λ x. fed_in x d) h)
 fed-happens w (Deliver frame piece) new d e h = nothing (ap (λ x. fed_in x d) h)
@@ -58,7 +62,7 @@ fed-happens w (Write c n) new d e h = nothing (ap (λ x. fed_in x d) h ∙ fed-o
 fed-happens w (Leave c) new d e h = nothing (ap (λ x. fed_in x d) h ∙ same-changed (λ connection. connection.inbound.fed) c left w.primary.connections (λ connection. refl) d)
 fed-happens w (Crash nodes.Primary picks) new d e h = nothing (ap (λ x. fed_in x d) h ∙ ap (λ (x : Connection). x.inbound.fed) (get-over w.primary.connections d))
 fed-happens w (Crash nodes.Standby picks) new d e h = nothing (ap (λ x. fed_in x d) h)
-fed-happens w (Reopen nodes.Primary) new d e h = nothing (ap (λ x. fed_in x d) h)
+fed-happens w (Reopen nodes.Primary) new d e h = nothing (ap (λ x. fed_in x d) h.1)
 fed-happens w (Reopen nodes.Standby) new d e h = nothing (ap (λ x. fed_in x d) h)
 
 fed_by-not : (d : ℕ) (event : Event) → fed_by d event false ≡ []

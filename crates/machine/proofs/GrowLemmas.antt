@@ -1,21 +1,22 @@
 -- What a later world has: lists only grow at the end, and no number falls.
-use Rattle.std.proofs.Common.{◌≡◌, ℕ, zero, suc, ◌≤◌, Bool, true, false, List, [], ◌∷◌, ◌++◌, take, drop, cond, nat_eq, Option, Some, None, slice_get, refl, sym, ap, subst, ◌∙◌, arith, le_refl, inl, inr}
+use Rattle.std.proofs.Common.{◌≡◌, ℕ, zero, suc, ◌+◌, ◌-◌, ◌≤◌, Bool, true, false, List, [], ◌∷◌, ◌++◌, take, drop, cond, nat_eq, Option, Some, None, slice_get, refl, sym, ap, subst, ◌∙◌, arith, le_refl, inl, inr}
 use Rattle.model.specs.declared.call.Call.{Call}
 use Rattle.model.specs.Call.{IsPrefix, cut_at, keyspace_after, position_of}
 use Rattle.model.proofs.PrefixLemmas.{IsPrefix-append, IsPrefix-itself, IsPrefix-of_append, IsPrefix-trans}
 use Rattle.model.proofs.CallsLemmas.{IsPrefix-cut_at, IsPrefix-into-cut_at, keyspace_after-cut_at-append, position_of-cut_at}
 use Rattle.machine.specs.declared.event.Node.TheVariants as nodes
 use Rattle.machine.specs.declared.event.Event.{Event}
-use Rattle.machine.specs.declared.event.Event.TheVariants.{Enter, Feed, Offer, Turn, CloseGroup, Commit, RaiseLocal, Hand, OpenLink, Send, Deliver, Apply, AckDelivered, RaiseRemote, Hold, Read, Release, Write, Leave, Crash, Reopen}
+use Rattle.machine.specs.declared.event.Event.TheVariants.{Enter, Feed, Offer, Turn, CloseGroup, Commit, RaiseLocal, Hand, Free, AcceptFreed, ClearGap, OpenLink, Send, Deliver, Apply, AckDelivered, RaiseRemote, Hold, Read, Release, Write, Leave, Crash, Reopen}
 use Rattle.machine.specs.declared.event.Mark.{Mark}
 use Rattle.machine.specs.declared.event.Mark.TheVariants.{Local, Remote}
-use Rattle.machine.specs.Event.{Inbound, Outbound, Connection, Span, Frame, Acknowledgement, Committer, Life, Link, Running, Standby, World, crashed_standby, reopened_standby, with_primary, get_connection, changed_at, with_inbound, with_outbound, with_connections, on_inbound, on_outbound, with_call, with_committer, with_link, with_standby, with_acknowledged, fed_with, offered_next, taken_first, with_made, called, closed_group, committed_first, raised_local, ready_again, handed, handed_to, opened_link, acknowledgement_of, next_to_send, framed, delivered, without_first, Takes, told, knowing, raised_remote, held_first, having_read, having_released, written, left, option_items, Happens, Step, Run, start_with, last_world}
+use Rattle.machine.specs.Event.{Inbound, Outbound, Connection, Frame, Acknowledgement, Work, Commits, Frees, Committer, Link, Standby, World, crashed_standby, reopened_primary, reopened_standby, with_primary, get_connection, changed_at, with_inbound, with_outbound, with_connections, on_inbound, on_outbound, with_call, with_committer, with_link, with_standby, with_acknowledged, spans_of, from_group, fed_with, offered_next, taken_first, with_made, called, with_ended, with_notices, with_gaps, committed_first, freed_first, raised_local, ready_again, handed, handed_to, opened_link, acknowledgement_of, next_to_send, framed, delivered, without_first, Takes, told, knowing, raised_remote, held_first, having_read, having_released, written, left, option_items, Happens, Step, Run, start_with, last_world}
 use Rattle.machine.specs.Promise.{released_in}
 use Rattle.machine.specs.Sound.{IsChain, Sound}
 use Rattle.machine.specs.Law.{Grows}
 use Rattle.machine.proofs.ConnectionLemmas.{get-entered}
 use Rattle.machine.proofs.CrashLemmas.{get-over}
 use Rattle.machine.proofs.GroupLemmas.{chain-le}
+use Rattle.machine.proofs.WorkLemmas.{queued, closes-queues, spans_of-from_group}
 use Rattle.machine.proofs.SoundEvents.{sound-step}
 use Rattle.machine.proofs.RunLemmas.{run-take, run-drop, sound-run}
 
@@ -105,10 +106,24 @@ grows-committer w committer le =
       standby_position = g.standby_position;
     }
 
-grows-committed : (w : World) (groups : List Span) → IsChain w.primary.committer.position groups w.primary.committer.closed → Grows w (with_committer (committed_first groups w.primary.committer) w)
+grows-committed : (w : World) (works : List Work) → IsChain w.primary.committer.position (spans_of works) w.primary.committer.closed → Grows w (with_committer (committed_first works w.primary.committer) w)
 grows-committed w [] chain = grows-itself w
-grows-committed w (group ∷ groups) chain =
-    grows-committer w (committed_first (group ∷ groups) w.primary.committer) (omega (arith, chain.1))
+grows-committed w (Frees newest ∷ works) chain = grows-itself w
+grows-committed w (Commits group ∷ works) chain =
+    grows-committer w (committed_first (Commits group ∷ works) w.primary.committer) (omega (arith, chain.1))
+
+-- what has ended, notices of what was freed, and gaps: whatever they are
+grows-room : (w : World) (ended newest notices gaps : ℕ) → Grows w (with_gaps gaps (with_notices notices (with_ended ended newest w)))
+grows-room w ended newest notices gaps =
+    let g = grows-itself w in
+    record {
+      calls = g.calls;
+      released = g.released;
+      frames = g.frames;
+      acknowledgements = g.acknowledgements;
+      primary_position = g.primary_position;
+      standby_position = g.standby_position;
+    }
 
 grows-link : (w : World) (link : Link) → Grows w (with_link link w)
 grows-link w link =
@@ -166,8 +181,8 @@ grows-takes frame old new told takes =
       | inr (inr (inr (inr gap))) ↦ subst P (sym gap.3) (le_refl old.position)
     ]
 
-grows-life : (w : World) (life : Life) → Grows w (with_primary (record w.primary { life = life }) w)
-grows-life w life =
+grows-reopened : (w : World) (ended : ℕ) → Grows w (with_primary (reopened_primary ended w.primary) w)
+grows-reopened w ended =
     let g = grows-itself w in
     record {
       calls = g.calls;
@@ -190,13 +205,25 @@ grows-happens w Enter new h s =
 grows-happens w (Feed c piece) new h s = subst (Grows w) (sym h) (grows-inbound w c (fed_with piece))
 grows-happens w (Offer c) new h s = subst (Grows w) (sym h) (grows-inbound w c offered_next)
 grows-happens w (Turn c) new h s = subst (Grows w) (sym h.now) (grows-called w c h.call)
-grows-happens w CloseGroup new h s = subst (Grows w) (sym h) (grows-committer w (closed_group (position_of w.primary.calls) w.primary.committer) (le_refl w.primary.committer.position))
-grows-happens w Commit new h s = subst (Grows w) (sym h) (grows-committed w w.primary.committer.waiting s.committer.waiting)
+grows-happens w CloseGroup new h s =
+    let queues = closes-queues w new h in
+    let after = queued queues.closed queues.work w.primary.committer in
+    subst (Grows w) (sym queues.now) (grows-trans (grows-committer w after (le_refl w.primary.committer.position))
+    (grows-room (with_committer after w) queues.ended queues.newest w.primary.notices w.primary.gaps))
+grows-happens w Commit new h s =
+    let committer = w.primary.committer in
+    subst (Grows w) (sym h) (grows-committed w (from_group committer.waiting) (subst (λ groups. IsChain committer.position groups committer.closed) (sym (spans_of-from_group committer.waiting)) s.committer.waiting))
 grows-happens w RaiseLocal new h s = subst (Grows w) (sym h) (grows-committer w (raised_local w.primary.committer) (le_refl w.primary.committer.position))
 grows-happens w Hand new h s =
     let middle = with_committer (ready_again w.primary.committer) w in
     subst (Grows w) (sym h) (grows-trans (grows-committer w (ready_again w.primary.committer) (le_refl w.primary.committer.position))
     (grows-link middle (handed_to (handed w.primary.committer.stage) w.primary.link)))
+grows-happens w Free new h s =
+    let after = freed_first w in
+    subst (Grows w) (sym h) (grows-trans (grows-committer w after (le_refl w.primary.committer.position))
+    (grows-room (with_committer after w) w.primary.ended w.primary.newest (w.primary.notices + 1) w.primary.gaps))
+grows-happens w AcceptFreed new h s = subst (Grows w) (sym h) (grows-room w w.primary.ended w.primary.newest (w.primary.notices - 1) w.primary.gaps)
+grows-happens w ClearGap new h s = subst (Grows w) (sym h) (grows-room w w.primary.ended w.primary.newest (w.primary.notices + 1) (w.primary.gaps - 1))
 grows-happens w OpenLink new h s =
     let told = acknowledgement_of w.standby ∷ [] in
     subst (Grows w) (sym h) (grows-trans (grows-standby w w.standby told (le_refl w.standby.position))
@@ -231,7 +258,7 @@ grows-happens w (Crash nodes.Primary picks) new h s =
       standby_position = le_refl w.standby.position;
     })
 grows-happens w (Crash nodes.Standby picks) new h s = subst (Grows w) (sym h) (grows-delivered w (crashed_standby w.standby) (le_refl w.standby.position))
-grows-happens w (Reopen nodes.Primary) new h s = subst (Grows w) (sym h) (grows-life w Running)
+grows-happens w (Reopen nodes.Primary) new h s = subst (Grows w) (sym h.1) (grows-reopened w h.0)
 grows-happens w (Reopen nodes.Standby) new h s = subst (Grows w) (sym h) (grows-delivered w (reopened_standby w.standby) (le_refl w.standby.position))
 
 pub grows-step : (old : World) (event : Event) (did : Bool) (new : World) → Step old event did new → Sound old → Grows old new

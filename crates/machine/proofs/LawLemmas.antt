@@ -4,7 +4,7 @@ use Rattle.std.proofs.lemmas.List.Elements.{All-weaker}
 use Rattle.model.specs.State.{start_state}
 use Rattle.model.specs.Call.{state_after, position_of}
 use Rattle.machine.specs.declared.event.Event.{Event}
-use Rattle.machine.specs.declared.event.Event.TheVariants.{Enter, Feed, Offer, Turn, CloseGroup, Commit, RaiseLocal, Hand, OpenLink, Send, Deliver, Apply, AckDelivered, RaiseRemote, Hold, Read, Release, Write, Leave, Crash, Reopen}
+use Rattle.machine.specs.declared.event.Event.TheVariants.{Enter, Feed, Offer, Turn, CloseGroup, Commit, RaiseLocal, Hand, Free, AcceptFreed, ClearGap, OpenLink, Send, Deliver, Apply, AckDelivered, RaiseRemote, Hold, Read, Release, Write, Leave, Crash, Reopen}
 use Rattle.machine.specs.Event.{World, Frame, Acknowledgement, Link, told, knowing, nodes_run, may_happen, is_enabled, Happens, Step, Run, start_with, last_world}
 use Rattle.machine.specs.Sound.{IsFrameWithin, IsToldWithin, Sound, answers_from, answers_to}
 use Rattle.machine.specs.Law.{IsInOrder, FramesAreCommitted, AnswersBearPositions, RaisesNoRemote, NothingIsReleasedUnacknowledged, OnlyWhatWasMadeIsDelivered}
@@ -12,6 +12,7 @@ use Rattle.machine.proofs.AnswerLemmas.{answers_from-append, answers_to-push_own
 use Rattle.machine.proofs.GroupLemmas.{chain-le, frames_within-weaker}
 use Rattle.machine.proofs.SoundEvents.{sent-remote}
 use Rattle.machine.proofs.RunLemmas.{sound-run}
+use Rattle.machine.proofs.WorkLemmas.{closes-queues}
 use Rattle.machine.specs.Promise.{SomeWorld, HasMarks}
 use Rattle.model.specs.declared.call.Call.{Call}
 use Rattle.machine.specs.declared.event.Node.TheVariants as nodes
@@ -66,10 +67,13 @@ remote-happens w Enter new none h = le_of (ap (λ x. x.primary.link.remote) h)
 remote-happens w (Feed c piece) new none h = le_of (ap (λ x. x.primary.link.remote) h)
 remote-happens w (Offer c) new none h = le_of (ap (λ x. x.primary.link.remote) h)
 remote-happens w (Turn c) new none h = le_of (ap (λ x. x.primary.link.remote) h.now)
-remote-happens w CloseGroup new none h = le_of (ap (λ x. x.primary.link.remote) h)
+remote-happens w CloseGroup new none h = le_of (ap (λ x. x.primary.link.remote) (closes-queues w new h).now)
 remote-happens w Commit new none h = le_of (ap (λ x. x.primary.link.remote) h)
 remote-happens w RaiseLocal new none h = le_of (ap (λ x. x.primary.link.remote) h)
 remote-happens w Hand new none h = le_of (ap (λ x. x.primary.link.remote) h)
+remote-happens w Free new none h = le_of (ap (λ x. x.primary.link.remote) h)
+remote-happens w AcceptFreed new none h = le_of (ap (λ x. x.primary.link.remote) h)
+remote-happens w ClearGap new none h = le_of (ap (λ x. x.primary.link.remote) h)
 remote-happens w OpenLink new none h = le_of (ap (λ x. x.primary.link.remote) h)
 remote-happens w Send new none h = le_of (ap (λ x. x.primary.link.remote) h ∙ sent-remote w.primary.link.again w.primary.link)
 remote-happens w (Deliver frame piece) new none h = le_of (ap (λ x. x.primary.link.remote) h)
@@ -83,7 +87,7 @@ remote-happens w (Write c n) new none h = le_of (ap (λ x. x.primary.link.remote
 remote-happens w (Leave c) new none h = le_of (ap (λ x. x.primary.link.remote) h)
 remote-happens w (Crash nodes.Primary picks) new none h = let zero : new.primary.link.remote ≡ 0 = ap (λ x. x.primary.link.remote) h in omega (arith, zero)
 remote-happens w (Crash nodes.Standby picks) new none h = le_of (ap (λ x. x.primary.link.remote) h)
-remote-happens w (Reopen nodes.Primary) new none h = le_of (ap (λ x. x.primary.link.remote) h)
+remote-happens w (Reopen nodes.Primary) new none h = le_of (ap (λ x. x.primary.link.remote) h.1)
 remote-happens w (Reopen nodes.Standby) new none h = le_of (ap (λ x. x.primary.link.remote) h)
 
 raises-parts : (event : Event) (did : Bool) (events : List Event) (done : List Bool) → RaisesNoRemote (event ∷ events) (did ∷ done) → RaisesNoRemote (event ∷ []) (did ∷ []) × RaisesNoRemote events done

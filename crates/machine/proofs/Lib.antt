@@ -5,6 +5,7 @@ pub mod InboundLemmas
 pub mod OutboundLemmas
 pub mod OverLemmas
 pub mod CrashLemmas
+pub mod WorkLemmas
 pub mod CommitterLemmas
 pub mod LinkLemmas
 pub mod StandbyLemmas

@@ -1,5 +1,5 @@
 -- Each event keeps what holds of the pair of nodes.
-use Rattle.std.proofs.Common.{◌≡◌, ℕ, ◌<◌, ◌≤◌, max, Bool, true, false, cond, nat_lt, nat_eq, List, [], ◌∷◌, length, All, Option, Some, None, slice_get, refl, sym, subst, arith, le_refl}
+use Rattle.std.proofs.Common.{◌≡◌, ℕ, ◌+◌, ◌-◌, ◌<◌, ◌≤◌, max, Bool, true, false, not, ◌||◌, cond, nat_lt, nat_eq, List, [], ◌∷◌, length, drop, All, Option, Some, None, slice_get, refl, sym, subst, arith, le_refl, inl, inr}
 use Rattle.std.proofs.lemmas.Bool.{ltb-true}
 use Rattle.std.proofs.lemmas.List.Elements.{All-head}
 use Rattle.model.specs.Call.{IsPrefix, cut_at, is_nonempty, items_of, position_of}
@@ -8,42 +8,85 @@ use Rattle.machine.specs.declared.event.Node.{Node}
 use Rattle.machine.specs.declared.event.Node.TheVariants as nodes
 use Rattle.machine.specs.declared.event.TheConstants.{PIPE_ITEMS}
 use Rattle.machine.specs.declared.event.Event.{Event}
-use Rattle.machine.specs.declared.event.Event.TheVariants.{Enter, Feed, Offer, Turn, CloseGroup, Commit, RaiseLocal, Hand, OpenLink, Send, Deliver, Apply, AckDelivered, RaiseRemote, Hold, Read, Release, Write, Leave, Crash, Reopen}
-use Rattle.machine.specs.Event.{Span, Acknowledgement, Link, Standby, World, connection_of, with_committer, with_link, with_standby, with_acknowledged, open_changes, has_room, is_ready, nodes_run, may_happen, is_enabled, closed_group, committed_first, raised_local, ready_again, handed, handed_to, opened_link, acknowledgement_of, sent_waiting, sent_next, next_to_send, framed, sent, delivered, without_first, Applies, told, knowing, raised_remote, option_items, Happens, Step, asked, crashed, is_open, new_committer, reopened}
+use Rattle.machine.specs.declared.event.Event.TheVariants.{Enter, Feed, Offer, Turn, CloseGroup, Commit, RaiseLocal, Hand, Free, AcceptFreed, ClearGap, OpenLink, Send, Deliver, Apply, AckDelivered, RaiseRemote, Hold, Read, Release, Write, Leave, Crash, Reopen}
+use Rattle.machine.specs.Event.{Span, Work, Commits, Frees, Acknowledgement, Link, Standby, World, connection_of, with_committer, with_link, with_standby, with_acknowledged, open_changes, has_room, spans_of, from_group, is_ready, nodes_run, may_commit, reached_lists, first_is_within, may_happen, is_enabled, with_ended, with_notices, with_gaps, closed_group, closed_list, Closes, committed_first, freed_first, freed, accepted, cleared, raised_local, ready_again, handed, handed_to, opened_link, acknowledgement_of, sent_waiting, sent_next, next_to_send, framed, sent, delivered, without_first, Applies, told, knowing, raised_remote, option_items, Happens, Step, asked, crashed, is_open, new_committer, Reopens}
 use Rattle.machine.specs.Sound.{IsChain, IsFrameWithin, IsToldWithin, SoundOutbound, SoundOver, SoundCommitter, SoundStandby, Sound}
 use Rattle.machine.proofs.GroupLemmas.{chain-le, framed-within, frames_within-weaker}
 use Rattle.machine.proofs.OutboundLemmas.{outbound-marked}
 use Rattle.machine.proofs.OverLemmas.{over-moved, sound-released}
 use Rattle.machine.proofs.InboundLemmas.{inbound-items}
 use Rattle.machine.proofs.CrashLemmas.{all-over, count-over, get-over, over-crashed}
-use Rattle.machine.proofs.CommitterLemmas.{committer-new, committer-closed_group, committer-committed, committer-raised, committer-handed}
+use Rattle.machine.proofs.WorkLemmas.{none-waits, spans_of-from_group, spans_of-none}
+use Rattle.machine.proofs.CommitterLemmas.{committer-new, committer-closed_group, committer-closed_list, committer-committed, committer-listed, committer-raised, committer-handed}
 use Rattle.machine.proofs.LinkLemmas.{link-new, link-committed, link-raised, link-handed, link-opened, link-sent, link-knowing, link-raised_remote}
 use Rattle.machine.proofs.StandbyLemmas.{all-at, standby-crashed, standby-sent, standby-known, standby-delivered, standby-without_first, standby-first, standby-takes, TakesWell, told-one, wire-sent, wire-told}
 use Rattle.machine.proofs.SoundConnection.{both, both_ways, sound-Enter, sound-Feed, sound-Hold, sound-Leave, sound-Offer, sound-Read, sound-Release, sound-Turn, sound-Write, three}
 
 -- ---- the committer
 
-sound-CloseGroup : (w : World) → may_happen w CloseGroup ≡ true → Sound w → Sound (with_committer (closed_group (position_of w.primary.calls) w.primary.committer) w)
-sound-CloseGroup w e s =
-    let committer = w.primary.committer in
-    let parts = both (nat_lt 0 (open_changes w)) (has_room committer.waiting) e in
+-- the committer's queue is for the committer alone
+sound-queue : (w : World) (closed : ℕ) (waiting : List Work) (aside : List ℕ) → let committer = record w.primary.committer { closed = closed; waiting = waiting; aside = aside } in
+    SoundCommitter (position_of w.primary.calls) committer → Sound w → Sound (with_committer committer w)
+sound-queue w closed waiting aside committer s =
     record {
       connections = s.connections;
       legal = s.legal;
       inbound = s.inbound;
       outbound = s.outbound;
       over = s.over;
-      committer = committer-closed_group (position_of w.primary.calls) committer (ltb-true 0 (open_changes w) parts.0) (ltb-true (length committer.waiting) PIPE_ITEMS parts.1) s.committer;
+      committer = committer;
       sent = s.sent;
       link = s.link;
       standby = s.standby;
       wire = s.wire;
     }
 
-sound-committed : (w : World) (groups : List Span) → is_nonempty groups ≡ true → IsChain w.primary.committer.position groups w.primary.committer.closed → is_ready w.primary.committer.stage ≡ true
-    → length w.primary.link.waiting < PIPE_ITEMS → SoundCommitter (position_of w.primary.calls) (committed_first groups w.primary.committer) → Sound w → Sound (with_committer (committed_first groups w.primary.committer) w)
-sound-committed w [] some chain ready room committer s = cc
-sound-committed w (group ∷ groups) some chain ready room committer s =
+-- what has ended, notices of what was freed, and gaps: whatever they are
+sound-room : (w : World) (ended newest notices gaps : ℕ) → Sound w → Sound (with_gaps gaps (with_notices notices (with_ended ended newest w)))
+sound-room w ended newest notices gaps s =
+    record {
+      connections = s.connections;
+      legal = s.legal;
+      inbound = s.inbound;
+      outbound = s.outbound;
+      over = s.over;
+      committer = s.committer;
+      sent = s.sent;
+      link = s.link;
+      standby = s.standby;
+      wire = s.wire;
+    }
+
+sound-closed_group : (w : World) (ended newest : ℕ) → nat_lt 0 (open_changes w) ≡ true → length w.primary.committer.waiting < PIPE_ITEMS → Sound w
+    → Sound (with_ended ended newest (with_committer (closed_group (position_of w.primary.calls) w.primary.committer) w))
+sound-closed_group w ended newest some room s =
+    let committer = w.primary.committer in
+    let position = position_of w.primary.calls in
+    let after = closed_group position committer in
+    sound-room (with_committer after w) ended newest w.primary.notices w.primary.gaps
+    (sound-queue w position after.waiting committer.aside (committer-closed_group position committer (ltb-true 0 (open_changes w) some) room s.committer) s)
+
+sound-closed_list : (w : World) (ended newest : ℕ) → length w.primary.committer.waiting < PIPE_ITEMS → Sound w → Sound (with_ended ended newest (with_committer (closed_list newest w.primary.committer) w))
+sound-closed_list w ended newest room s =
+    let committer = w.primary.committer in
+    let after = closed_list newest committer in
+    sound-room (with_committer after w) ended newest w.primary.notices w.primary.gaps
+    (sound-queue w committer.closed after.waiting committer.aside (committer-closed_list (position_of w.primary.calls) newest committer room s.committer) s)
+
+sound-CloseGroup : (w new : World) → may_happen w CloseGroup ≡ true → Closes w new → Sound w → Sound new
+sound-CloseGroup w new e closes s =
+    let waiting = w.primary.committer.waiting in
+    let room = ltb-true (length waiting) PIPE_ITEMS (both (nat_lt 0 (open_changes w) || nat_lt 0 w.primary.ended) (has_room waiting) e).1 in
+    elim closes [
+      | inl group ↦ subst Sound (sym group.1.now) (sound-closed_group w (w.primary.ended + group.1.ends) group.1.newest group.0 room s)
+      | inr list ↦ subst Sound (sym list.1) (sound-closed_list w 0 w.primary.newest room s)
+    ]
+
+sound-committed : (w : World) (works : List Work) → IsChain w.primary.committer.position (spans_of works) w.primary.committer.closed → is_ready w.primary.committer.stage ≡ true
+    → length w.primary.link.waiting < PIPE_ITEMS → SoundCommitter (position_of w.primary.calls) (committed_first works w.primary.committer) → Sound w → Sound (with_committer (committed_first works w.primary.committer) w)
+sound-committed w [] chain ready room committer s = s
+sound-committed w (Frees newest ∷ works) chain ready room committer s = s
+sound-committed w (Commits group ∷ works) chain ready room committer s =
     record {
       connections = s.connections;
       legal = s.legal;
@@ -57,12 +100,13 @@ sound-committed w (group ∷ groups) some chain ready room committer s =
       wire = s.wire;
     }
 
-sound-Commit : (w : World) → may_happen w Commit ≡ true → Sound w → Sound (with_committer (committed_first w.primary.committer.waiting w.primary.committer) w)
+sound-Commit : (w : World) → may_happen w Commit ≡ true → Sound w → Sound (with_committer (committed_first (from_group w.primary.committer.waiting) w.primary.committer) w)
 sound-Commit w e s =
     let committer = w.primary.committer in
-    let parts = three (is_ready committer.stage) (is_nonempty committer.waiting) (has_room w.primary.link.waiting) e in
-    sound-committed w committer.waiting parts.1 s.committer.waiting parts.0 (ltb-true (length w.primary.link.waiting) PIPE_ITEMS parts.2)
-    (committer-committed (position_of w.primary.calls) committer parts.0 parts.1 s.committer) s
+    let works = from_group committer.waiting in
+    let parts = three (is_ready committer.stage) (is_nonempty works) (has_room w.primary.link.waiting) e in
+    let chain = subst (λ groups. IsChain committer.position groups committer.closed) (sym (spans_of-from_group committer.waiting)) s.committer.waiting in
+    sound-committed w works chain parts.0 (ltb-true (length w.primary.link.waiting) PIPE_ITEMS parts.2) (committer-committed (position_of w.primary.calls) committer parts.0 s.committer) s
 
 sound-RaiseLocal : (w : World) → Sound w → Sound (with_committer (raised_local w.primary.committer) w)
 sound-RaiseLocal w s =
@@ -97,6 +141,34 @@ sound-Hand w e s =
       standby = s.standby;
       wire = s.wire;
     }
+
+-- Where the link has room, no group is among what waits: all of it is free lists.
+committer-freed_first : (w : World) → is_ready w.primary.committer.stage ≡ true → not (may_commit w) ≡ true → SoundCommitter (position_of w.primary.calls) w.primary.committer
+    → SoundCommitter (position_of w.primary.calls) (freed_first w)
+committer-freed_first w ready may_not s =
+    let committer = w.primary.committer in
+    let position = position_of w.primary.calls in
+    let room = has_room w.primary.link.waiting in
+    let aside = drop 1 (reached_lists w) in
+    elim room as (λ b. room ≡ b → SoundCommitter position (record committer { waiting = cond b [] committer.waiting; aside = aside })) [
+      | true ↦ λ e.
+          let none = spans_of-none committer.waiting (none-waits (is_ready committer.stage) (is_nonempty (from_group committer.waiting)) room may_not ready e) in
+          committer-listed position committer [] aside (sym none) (omega arith) s
+      | false ↦ λ e. committer-listed position committer committer.waiting aside refl s.few s
+    ] refl
+
+sound-Free : (w : World) → may_happen w Free ≡ true → Sound w → Sound (freed w)
+sound-Free w e s =
+    let parts = three (is_ready w.primary.committer.stage) (not (may_commit w)) (first_is_within w.primary.link.remote (reached_lists w)) e in
+    let after = freed_first w in
+    sound-room (with_committer after w) w.primary.ended w.primary.newest (w.primary.notices + 1) w.primary.gaps
+    (sound-queue w after.closed after.waiting after.aside (committer-freed_first w parts.0 parts.1 s.committer) s)
+
+sound-AcceptFreed : (w : World) → Sound w → Sound (accepted w)
+sound-AcceptFreed w s = sound-room w w.primary.ended w.primary.newest (w.primary.notices - 1) w.primary.gaps s
+
+sound-ClearGap : (w : World) → Sound w → Sound (cleared w)
+sound-ClearGap w s = sound-room w w.primary.ended w.primary.newest (w.primary.notices + 1) (w.primary.gaps - 1) s
 
 -- ---- the link and the standby
 
@@ -277,9 +349,9 @@ sound-Crash w nodes.Primary s =
       wire = record { frames = frames_within-weaker epoch s.sent position w.wire.frames later s.wire.frames; acknowledged = s.wire.acknowledged };
     }
 
-sound-Reopen : (w : World) (node : Node) → Sound w → Sound (reopened node w)
-sound-Reopen w nodes.Standby s =
-    record {
+sound-Reopen : (w : World) (node : Node) (new : World) → Reopens node w new → Sound w → Sound new
+sound-Reopen w nodes.Standby new h s =
+    subst Sound (sym h) (record {
       connections = s.connections;
       legal = s.legal;
       inbound = s.inbound;
@@ -290,9 +362,9 @@ sound-Reopen w nodes.Standby s =
       link = s.link;
       standby = record { epoch_is = s.standby.epoch_is; frames = s.standby.frames; behind = s.standby.behind; known = s.standby.known };
       wire = s.wire;
-    }
-sound-Reopen w nodes.Primary s =
-    record {
+    })
+sound-Reopen w nodes.Primary new h s =
+    subst Sound (sym h.1) (record {
       connections = s.connections;
       legal = s.legal;
       inbound = s.inbound;
@@ -303,7 +375,7 @@ sound-Reopen w nodes.Primary s =
       link = s.link;
       standby = s.standby;
       wire = s.wire;
-    }
+    })
 
 -- ---- any event
 
@@ -312,10 +384,13 @@ sound-may w Enter new e h s = subst Sound (sym h) (sound-Enter w e s)
 sound-may w (Feed c piece) new e h s = subst Sound (sym h) (sound-Feed w c piece e s)
 sound-may w (Offer c) new e h s = subst Sound (sym h) (sound-Offer w c e s)
 sound-may w (Turn c) new e h s = sound-Turn w c new e h s
-sound-may w CloseGroup new e h s = subst Sound (sym h) (sound-CloseGroup w e s)
+sound-may w CloseGroup new e h s = sound-CloseGroup w new e h s
 sound-may w Commit new e h s = subst Sound (sym h) (sound-Commit w e s)
 sound-may w RaiseLocal new e h s = subst Sound (sym h) (sound-RaiseLocal w s)
 sound-may w Hand new e h s = subst Sound (sym h) (sound-Hand w e s)
+sound-may w Free new e h s = subst Sound (sym h) (sound-Free w e s)
+sound-may w AcceptFreed new e h s = subst Sound (sym h) (sound-AcceptFreed w s)
+sound-may w ClearGap new e h s = subst Sound (sym h) (sound-ClearGap w s)
 sound-may w OpenLink new e h s = subst Sound (sym h) (sound-OpenLink w s)
 sound-may w Send new e h s = subst Sound (sym h) (sound-Send w e s)
 sound-may w (Deliver frame piece) new e h s = subst Sound (sym h) (sound-Deliver w frame s)
@@ -329,7 +404,7 @@ sound-may w (Release c) new e h s = subst Sound (sym h) (sound-Release w c e s)
 sound-may w (Write c n) new e h s = subst Sound (sym h) (sound-Write w c n e s)
 sound-may w (Leave c) new e h s = subst Sound (sym h) (sound-Leave w c e s)
 sound-may w (Crash node picks) new e h s = subst Sound (sym h) (sound-Crash w node s)
-sound-may w (Reopen node) new e h s = subst Sound (sym h) (sound-Reopen w node s)
+sound-may w (Reopen node) new e h s = sound-Reopen w node new h s
 
 -- what is enabled has something to do
 pub enabled-may : (w : World) (event : Event) → is_enabled w event ≡ true → may_happen w event ≡ true

@@ -9,13 +9,14 @@ use Rattle.model.proofs.ServesLemmas.{IsPrefix-calls_of, calls_of-push_other}
 use Rattle.machine.specs.declared.event.TheConstants.{OPEN_CHANGES}
 use Rattle.machine.specs.declared.event.Node.TheVariants as nodes
 use Rattle.machine.specs.declared.event.Event.{Event}
-use Rattle.machine.specs.declared.event.Event.TheVariants.{Enter, Feed, Offer, Turn, CloseGroup, Commit, RaiseLocal, Hand, OpenLink, Send, Deliver, Apply, AckDelivered, RaiseRemote, Hold, Read, Release, Write, Leave, Crash, Reopen}
+use Rattle.machine.specs.declared.event.Event.TheVariants.{Enter, Feed, Offer, Turn, CloseGroup, Commit, RaiseLocal, Hand, Free, AcceptFreed, ClearGap, OpenLink, Send, Deliver, Apply, AckDelivered, RaiseRemote, Hold, Read, Release, Write, Leave, Crash, Reopen}
 use Rattle.machine.specs.Event.{Connection, World, new_connection, connection_of, changed_at, with_inbound, with_outbound, with_connections, on_inbound, is_open, asked, is_closed_by, open_changes, has_room, may_happen, fed_with, offered_next, taken_first, with_call, called, held_first, having_read, having_released, written, left, left_inbound, left_outbound, Happens, Step, Run, start_with, last_world}
 use Rattle.machine.specs.Law.{StaysOver}
 use Rattle.machine.specs.Sound.{HasNothing, Sound}
 use Rattle.machine.proofs.ConnectionLemmas.{get-before, get-changed_other, length-changed_at}
 use Rattle.machine.proofs.SoundConnection.{both, both_ways, three, four}
 use Rattle.machine.proofs.CrashLemmas.{get-over}
+use Rattle.machine.proofs.WorkLemmas.{closes-queues}
 use Rattle.machine.proofs.SoundEvents.{enabled-may, sound-step}
 use Rattle.machine.proofs.RunLemmas.{run-take, run-drop, sound-run}
 use Rattle.machine.proofs.GrowLemmas.{last_world-split}
@@ -72,10 +73,14 @@ stays-happens w (Turn d) new c nothing lt shut e h =
     let connection = connection_of w d in
     let is_one = (four (is_open w d) (is_nonempty connection.inbound.waiting) (has_room connection.outbound.made) (nat_lt (open_changes w) OPEN_CHANGES) e).0 in
     subst (StaysOver c w) (sym h.now) (stays-called w c d h.call lt h.connection (differs w c d shut is_one))
-stays-happens w CloseGroup new c nothing lt shut e h = subst (StaysOver c w) (sym h) (record { entered = lt; connection = refl; calls = IsPrefix-itself (calls_of c w.primary.calls) })
+stays-happens w CloseGroup new c nothing lt shut e h =
+    subst (StaysOver c w) (sym (closes-queues w new h).now) (record { entered = lt; connection = refl; calls = IsPrefix-itself (calls_of c w.primary.calls) })
 stays-happens w Commit new c nothing lt shut e h = subst (StaysOver c w) (sym h) (record { entered = lt; connection = refl; calls = IsPrefix-itself (calls_of c w.primary.calls) })
 stays-happens w RaiseLocal new c nothing lt shut e h = subst (StaysOver c w) (sym h) (record { entered = lt; connection = refl; calls = IsPrefix-itself (calls_of c w.primary.calls) })
 stays-happens w Hand new c nothing lt shut e h = subst (StaysOver c w) (sym h) (record { entered = lt; connection = refl; calls = IsPrefix-itself (calls_of c w.primary.calls) })
+stays-happens w Free new c nothing lt shut e h = subst (StaysOver c w) (sym h) (record { entered = lt; connection = refl; calls = IsPrefix-itself (calls_of c w.primary.calls) })
+stays-happens w AcceptFreed new c nothing lt shut e h = subst (StaysOver c w) (sym h) (record { entered = lt; connection = refl; calls = IsPrefix-itself (calls_of c w.primary.calls) })
+stays-happens w ClearGap new c nothing lt shut e h = subst (StaysOver c w) (sym h) (record { entered = lt; connection = refl; calls = IsPrefix-itself (calls_of c w.primary.calls) })
 stays-happens w OpenLink new c nothing lt shut e h = subst (StaysOver c w) (sym h) (record { entered = lt; connection = refl; calls = IsPrefix-itself (calls_of c w.primary.calls) })
 stays-happens w Send new c nothing lt shut e h = subst (StaysOver c w) (sym h) (record { entered = lt; connection = refl; calls = IsPrefix-itself (calls_of c w.primary.calls) })
 stays-happens w (Deliver frame piece) new c nothing lt shut e h = subst (StaysOver c w) (sym h) (record { entered = lt; connection = refl; calls = IsPrefix-itself (calls_of c w.primary.calls) })
@@ -96,7 +101,7 @@ stays-happens w (Crash nodes.Primary picks) new c nothing lt shut e h =
       calls = IsPrefix-calls_of c (IsPrefix-cut_at w.primary.calls w.primary.committer.position);
     })
 stays-happens w (Crash nodes.Standby picks) new c nothing lt shut e h = subst (StaysOver c w) (sym h) (record { entered = lt; connection = refl; calls = IsPrefix-itself (calls_of c w.primary.calls) })
-stays-happens w (Reopen nodes.Primary) new c nothing lt shut e h = subst (StaysOver c w) (sym h) (record { entered = lt; connection = refl; calls = IsPrefix-itself (calls_of c w.primary.calls) })
+stays-happens w (Reopen nodes.Primary) new c nothing lt shut e h = subst (StaysOver c w) (sym h.1) (record { entered = lt; connection = refl; calls = IsPrefix-itself (calls_of c w.primary.calls) })
 stays-happens w (Reopen nodes.Standby) new c nothing lt shut e h = subst (StaysOver c w) (sym h) (record { entered = lt; connection = refl; calls = IsPrefix-itself (calls_of c w.primary.calls) })
 
 pub stays-step : (old : World) (event : Event) (did : Bool) (new : World) (c : ℕ) → c < length old.primary.connections → is_open old c ≡ false → Sound old → Step old event did new → StaysOver c old new

@@ -11,9 +11,9 @@ use Rattle.cmd_table.specs.Row.{is_named}
 use Rattle.multi_watch.specs.Verb.{verb_of}
 use Rattle.model.specs.declared.call.Call.{Call}
 use Rattle.model.specs.Call.{MayReply, state_after}
-use Rattle.machine.specs.declared.event.Event.TheVariants.{Feed, Offer, Turn, Apply}
+use Rattle.machine.specs.declared.event.Event.TheVariants.{Feed, Offer, Turn, CloseGroup, Apply}
 use Rattle.model.specs.declared.record.TheConstants.{FIRST_EPOCH}
-use Rattle.machine.specs.Event.{Inbound, Outbound, Span, Frame, Stage, Ready, Durable, Shown, Committer, Link, Running, Standby, Wire, World, Step, Run, start, connection_of, with_connections, left}
+use Rattle.machine.specs.Event.{Inbound, Outbound, Span, Frame, Stage, Ready, Durable, Shown, Work, Commits, Committer, Link, Running, Standby, Wire, World, Step, Run, start, connection_of, with_connections, left}
 use Rattle.machine.specs.Promise.{released_in}
 use Rattle.machine.proofs.RunLemmas.{step-does, step-stays}
 use Rattle.machine.specs.Worked.{set_request, worked_events, worked_done, FirstCaseIsARun}
@@ -44,8 +44,8 @@ reply = record { reply = ok; position = 1 } ∷ []
 abbrev text : List ℕ
 text = codes "+OK\r\n"
 
-abbrev committer : ℕ → List Span → Stage → ℕ → ℕ → Committer
-committer closed waiting stage position local = record { closed = closed; waiting = waiting; stage = stage; position = position; local = local }
+abbrev committer : ℕ → List Work → Stage → ℕ → ℕ → Committer
+committer closed waiting stage position local = record { closed = closed; waiting = waiting; aside = []; stage = stage; position = position; local = local }
 
 abbrev link : List Span → List Span → ℕ → ℕ → Link
 link waiting kept known remote = record { waiting = waiting; kept = kept; again = []; known = known; remote = remote }
@@ -72,7 +72,19 @@ abbrev world : Inbound → Outbound → List Call → Committer → Link → Far
 world i o calls c l s =
     record {
       restarts = false;
-      primary = record { life = Running; epoch = FIRST_EPOCH; opened = 0; connections = record { is_open = true; inbound = i; outbound = o } ∷ []; calls = calls; committer = c; link = l };
+      primary = record {
+        life = Running;
+        epoch = FIRST_EPOCH;
+        opened = 0;
+        connections = record { is_open = true; inbound = i; outbound = o } ∷ [];
+        calls = calls;
+        committer = c;
+        link = l;
+        ended = 0;
+        newest = 0;
+        notices = 0;
+        gaps = 0;
+      };
       standby = s.node;
       wire = s.between;
     }
@@ -127,7 +139,7 @@ worked_worlds =
     idle new_inbound ∷ idle (inbound set_request 0 []) ∷ idle (inbound set_request 1 (item ∷ [])) ∷ called_once
     ∷ waits 0 0 new_committer new_link new_standby ∷ waits 0 0 new_committer new_link new_standby ∷ waits 0 0 new_committer new_link new_standby
     ∷ waits 0 0 new_committer new_link new_standby ∷ waits 0 0 new_committer new_link new_standby
-    ∷ waits 0 0 (committer 1 (group ∷ []) Ready 0 0) new_link new_standby
+    ∷ waits 0 0 (committer 1 (Commits group ∷ []) Ready 0 0) new_link new_standby
     ∷ waits 0 0 (committer 1 [] (Durable group) 1 0) new_link new_standby
     ∷ waits 0 0 (committer 1 [] (Shown group) 1 1) new_link new_standby
     ∷ waits 1 0 (committer 1 [] (Shown group) 1 1) new_link new_standby
@@ -159,6 +171,11 @@ may_reply = inr (inr (inl (omega arith, refl)))
 turns : Step (idle (inbound set_request 1 (item ∷ []))) (Turn 0) true called_once
 unfolding outcome_of_words verb_of closes is_named
 turns = step-does refl (record { call = call; connection = refl; first = refl; reply = may_reply; now = refl })
+
+-- a key that was not there is set: no version ends
+closes_one : Step (waits 0 0 new_committer new_link new_standby) CloseGroup true (waits 0 0 (committer 1 (Commits group ∷ []) Ready 0 0) new_link new_standby)
+unfolding outcome_of_words verb_of closes is_named
+closes_one = step-does refl (inl (refl, record { ends = 0; newest = 0; none = λ e. refl; some = λ lt. absurd (omega (arith, lt)); now = refl }))
 
 applies : Step (waits 1 0 handed_on (link [] (group ∷ []) 0 0) (far (frame ∷ []) 0 (frame ∷ []) (0 ∷ []))) Apply true (waits 1 0 handed_on (link [] (group ∷ []) 0 0) took_it)
 unfolding outcome_of_words verb_of closes is_named
@@ -193,7 +210,7 @@ worked_run = (
                 (
                   step-stays refl,
                   (
-                    step-does refl refl,
+                    closes_one,
                     (
                       step-does refl refl,
                       (

@@ -1,12 +1,13 @@
 -- The pair of nodes as a machine (this project's profile): which event may happen, what it does, and what a run is. The state is defined in
 -- `World`, whose definitions this file re-exports.
-pub use Rattle.machine.specs.World.{Inbound, Outbound, Connection, Span, Frame, Acknowledgement, Stage, Ready, Durable, Shown, Committer, Link, Life, Running, Stopped, Crashed, Primary, Standby, Wire, World, no_connection, new_connection, new_committer, new_link, start_at, start_with, start, is_running, is_crashed, get_connection, connection_of, is_open, count_open, changed_at, with_inbound, with_outbound, with_primary, with_connections, on_inbound, on_outbound, with_committer, with_link, with_standby, with_sent, with_acknowledged, asked, is_closed_by, open_changes, has_room, is_ready, is_durable, is_shown, is_covered, covered_prefix, uncovered_rest, texts_of}
+pub use Rattle.machine.specs.World.{Inbound, Outbound, Connection, Span, Frame, Acknowledgement, Stage, Ready, Durable, Shown, Work, Commits, Frees, Committer, Link, Life, Running, Stopped, Crashed, Primary, Standby, Wire, World, no_connection, new_connection, new_committer, new_link, start_at, start_with, start, is_running, is_crashed, get_connection, connection_of, is_open, count_open, changed_at, with_inbound, with_outbound, with_primary, with_connections, on_inbound, on_outbound, with_committer, with_link, with_standby, with_sent, with_acknowledged, asked, is_closed_by, open_changes, has_room, spans_of, lists_of, lists_before, from_group, is_ready, is_durable, is_shown, is_covered, covered_prefix, uncovered_rest, texts_of}
 use Rattle.std.specs.Prelude.{◌≡◌, ◌⊎◌, ℕ, ◌+◌, ◌-◌, ◌<◌, ◌≤◌, Bool, true, false, not, ◌&&◌, ◌||◌, nat_lt, nat_le, nat_eq, if◌then◌else◌, max, List, [], ◌∷◌, ◌++◌, length, take, drop, map, filter, ◌≢◌, slice_get, Option, Some, None}
 use Rattle.kv_types.specs.declared.reply.Held.{Held}
 use Rattle.model.specs.declared.call.Call.{Call}
+use Rattle.model.specs.declared.record.TheConstants.{MAX_GAPS}
 use Rattle.model.specs.Call.{MayReply, cut_at, is_nonempty, position_of, state_after}
 use Rattle.machine.specs.declared.event.Event.{Event}
-use Rattle.machine.specs.declared.event.Event.TheVariants.{Enter, Feed, Offer, Turn, CloseGroup, Commit, RaiseLocal, Hand, OpenLink, Send, Deliver, Apply, AckDelivered, RaiseRemote, Hold, Read, Release, Write, Leave, Crash, Reopen}
+use Rattle.machine.specs.declared.event.Event.TheVariants.{Enter, Feed, Offer, Turn, CloseGroup, Commit, RaiseLocal, Hand, Free, AcceptFreed, ClearGap, OpenLink, Send, Deliver, Apply, AckDelivered, RaiseRemote, Hold, Read, Release, Write, Leave, Crash, Reopen}
 use Rattle.machine.specs.declared.event.Node.{Node}
 use Rattle.machine.specs.declared.event.Node.TheVariants as node
 use Rattle.machine.specs.declared.event.Mark.{Mark}
@@ -29,6 +30,22 @@ nodes_run w (Crash node picks) = true
 nodes_run w (Reopen node) = true
 nodes_run w event = is_running w.primary.life
 
+-- nothing is in the committer's hand, a group waits for it, and the link has room for that group
+abbrev pub may_commit : World → Bool
+may_commit w = is_ready w.primary.committer.stage && is_nonempty (from_group w.primary.committer.waiting) && has_room w.primary.link.waiting
+
+-- The free lists that the committer has reached, by their positions: those aside and, where the link has room, those that wait. Where it may not commit
+-- either, no group is among what waits then.
+abbrev pub reached_lists : World → List ℕ
+reached_lists w =
+    let committer = w.primary.committer in
+    if has_room w.primary.link.waiting then committer.aside ++ lists_of committer.waiting else committer.aside
+
+-- there is a first of these positions, and it is at most this one
+abbrev pub first_is_within : ℕ → List ℕ → Bool
+first_is_within high [] = false
+first_is_within high (position ∷ positions) = nat_le position high
+
 -- there is something for the event to do, and room for what it makes
 abbrev pub may_happen : World → Event → Bool
 may_happen w Enter = nat_lt (count_open w.primary.connections) SEATS
@@ -39,10 +56,15 @@ may_happen w (Offer c) =
 may_happen w (Turn c) =
     let connection = connection_of w c in
     is_open w c && is_nonempty connection.inbound.waiting && has_room connection.outbound.made && nat_lt (open_changes w) OPEN_CHANGES
-may_happen w CloseGroup = nat_lt 0 (open_changes w) && has_room w.primary.committer.waiting
-may_happen w Commit = is_ready w.primary.committer.stage && is_nonempty w.primary.committer.waiting && has_room w.primary.link.waiting
+may_happen w CloseGroup = (nat_lt 0 (open_changes w) || nat_lt 0 w.primary.ended) && has_room w.primary.committer.waiting
+may_happen w Commit = may_commit w
 may_happen w RaiseLocal = is_durable w.primary.committer.stage
 may_happen w Hand = is_shown w.primary.committer.stage
+may_happen w Free = is_ready w.primary.committer.stage && not (may_commit w) && first_is_within w.primary.link.remote (reached_lists w)
+may_happen w AcceptFreed = nat_lt 0 w.primary.notices
+may_happen w ClearGap =
+    let committer = w.primary.committer in
+    is_ready committer.stage && has_room w.primary.link.waiting && not (is_nonempty committer.waiting) && not (is_nonempty committer.aside) && nat_lt 0 w.primary.gaps
 may_happen w OpenLink = true
 may_happen w Send = is_nonempty w.primary.link.again || (is_nonempty w.primary.link.waiting && nat_lt (length w.primary.link.kept) KEPT_GROUPS)
 may_happen w (Deliver frame piece) = nat_lt frame (length w.wire.frames)
@@ -100,11 +122,40 @@ pub record Turns (w : World) (c : ℕ) (new : World) : Type 0 where
 -- all waiting changing commands, up to this position of the list, become a group
 abbrev pub closed_group : ℕ → Committer → Committer
 closed_group position committer =
-    record committer { closed = position; waiting = committer.waiting ++ record { before = committer.closed; after = position } ∷ [] }
+    record committer { closed = position; waiting = committer.waiting ++ Commits (record { before = committer.closed; after = position }) ∷ [] }
 
-abbrev pub committed_first : List Span → Committer → Committer
+-- how many versions have ended and are in no free list, and the position at which the newest of them ended
+abbrev pub with_ended : ℕ → ℕ → World → World
+with_ended ended newest w = record w { primary = record w.primary { ended = ended; newest = newest } }
+
+-- the waiting changing commands become a group; those of its versions that ended join the others that are in no free list
+pub record ClosesGroup (w new : World) : Type 0 where
+  -- how many versions the group's commands ended
+  pub ends : ℕ
+  -- the position at which the newest ended
+  pub newest : ℕ
+  pub none : ends ≡ 0 → newest ≡ w.primary.newest
+  pub some : 0 < ends → (w.primary.committer.closed < newest) × (newest ≤ position_of w.primary.calls)
+  pub now : new ≡ with_ended (w.primary.ended + ends) newest (with_committer (closed_group (position_of w.primary.calls) w.primary.committer) w)
+
+-- the free list at this position waits for the committer
+abbrev pub closed_list : ℕ → Committer → Committer
+closed_list position committer = record committer { waiting = committer.waiting ++ Frees position ∷ [] }
+
+-- the versions that have ended and are in no free list become one
+abbrev pub listed : World → World
+listed w = with_ended 0 w.primary.newest (with_committer (closed_list w.primary.newest w.primary.committer) w)
+
+-- where changing commands wait they become a group, and where none does a free list is closed
+abbrev pub Closes : World → World → Type 0
+Closes w new = ((nat_lt 0 (open_changes w) ≡ true) × ClosesGroup w new) ⊎ ((nat_lt 0 (open_changes w) ≡ false) × (new ≡ listed w))
+
+-- The first group of what waits, given from there on, leaves the queue; the free lists before it go aside.
+abbrev pub committed_first : List Work → Committer → Committer
 committed_first [] committer = committer
-committed_first (group ∷ groups) committer = record committer { waiting = groups; stage = Durable group; position = group.after }
+committed_first (Commits group ∷ works) committer =
+    record committer { waiting = works; aside = committer.aside ++ lists_before committer.waiting; stage = Durable group; position = group.after }
+committed_first (Frees position ∷ works) committer = committer
 
 abbrev pub shown : Stage → Stage
 shown Ready = Ready
@@ -124,6 +175,29 @@ ready_again committer = record committer { stage = Ready }
 
 abbrev pub handed_to : List Span → Link → Link
 handed_to groups link = record link { waiting = link.waiting ++ groups }
+
+abbrev pub with_notices : ℕ → World → World
+with_notices notices w = record w { primary = record w.primary { notices = notices } }
+
+abbrev pub with_gaps : ℕ → World → World
+with_gaps gaps w = record w { primary = record w.primary { gaps = gaps } }
+
+-- the first of the reached free lists is freed, and the others are aside
+abbrev pub freed_first : World → Committer
+freed_first w =
+    let committer = w.primary.committer in
+    record committer { waiting = if has_room w.primary.link.waiting then [] else committer.waiting; aside = drop 1 (reached_lists w) }
+
+-- and the sequencer is to be told
+abbrev pub freed : World → World
+freed w = with_notices (w.primary.notices + 1) (with_committer (freed_first w) w)
+
+abbrev pub accepted : World → World
+accepted w = with_notices (w.primary.notices - 1) w
+
+-- what lies in one gap is freed, and the sequencer is to be told
+abbrev pub cleared : World → World
+cleared w = with_notices (w.primary.notices + 1) (with_gaps (w.primary.gaps - 1) w)
 
 -- all kept groups are to be sent again
 abbrev pub opened_link : Link → Link
@@ -236,7 +310,7 @@ option_items (Some x) = x ∷ []
 -- ---- a crash, and what comes after it
 
 -- What is left of a primary is its image, which stands at the position of its record: the calls after that are gone, all connections are over, and
--- whatever was on its way to the committer or the link is gone.
+-- whatever was on its way to the committer or the link is gone, and so is what was known of versions that have ended. The gaps are in the record.
 abbrev pub crashed_primary : Primary → Primary
 crashed_primary primary =
     record primary {
@@ -246,14 +320,22 @@ crashed_primary primary =
       calls = cut_at primary.calls primary.committer.position;
       committer = new_committer primary.committer.position;
       link = new_link;
+      ended = 0;
+      newest = primary.committer.position;
+      notices = 0;
     }
 
 -- what is left of a standby is its image
 abbrev pub crashed_standby : Standby → Standby
 crashed_standby standby = record standby { life = Crashed; waiting = [] }
 
-abbrev pub reopened_primary : Primary → Primary
-reopened_primary primary = record primary { life = Running }
+-- how many gaps a record has when it is opened again: one more, where it has room for it
+abbrev pub gaps_reopened : ℕ → ℕ
+gaps_reopened gaps = if nat_eq gaps MAX_GAPS then MAX_GAPS else gaps + 1
+
+-- an image with this many versions that have ended is opened again
+abbrev pub reopened_primary : ℕ → Primary → Primary
+reopened_primary ended primary = record primary { life = Running; ended = ended; gaps = gaps_reopened primary.gaps }
 
 abbrev pub reopened_standby : Standby → Standby
 reopened_standby standby = record standby { life = Running }
@@ -262,9 +344,10 @@ abbrev pub crashed : Node → World → World
 crashed node.Primary w = with_primary (crashed_primary w.primary) w
 crashed node.Standby w = with_standby (crashed_standby w.standby) w
 
-abbrev pub reopened : Node → World → World
-reopened node.Primary w = with_primary (reopened_primary w.primary) w
-reopened node.Standby w = with_standby (reopened_standby w.standby) w
+-- how many versions in the image have ended is for the image to tell
+abbrev pub Reopens : Node → World → World → Type 0
+Reopens node.Primary w new = (ended : ℕ) × (new ≡ with_primary (reopened_primary ended w.primary) w)
+Reopens node.Standby w new = new ≡ with_standby (reopened_standby w.standby) w
 
 -- what an enabled event may do
 abbrev pub Happens : World → Event → World → Type 0
@@ -272,10 +355,13 @@ Happens w Enter new = new ≡ entered w
 Happens w (Feed c piece) new = new ≡ on_inbound c (fed_with piece) w
 Happens w (Offer c) new = new ≡ on_inbound c offered_next w
 Happens w (Turn c) new = Turns w c new
-Happens w CloseGroup new = new ≡ with_committer (closed_group (position_of w.primary.calls) w.primary.committer) w
-Happens w Commit new = new ≡ with_committer (committed_first w.primary.committer.waiting w.primary.committer) w
+Happens w CloseGroup new = Closes w new
+Happens w Commit new = new ≡ with_committer (committed_first (from_group w.primary.committer.waiting) w.primary.committer) w
 Happens w RaiseLocal new = new ≡ with_committer (raised_local w.primary.committer) w
 Happens w Hand new = new ≡ with_link (handed_to (handed w.primary.committer.stage) w.primary.link) (with_committer (ready_again w.primary.committer) w)
+Happens w Free new = new ≡ freed w
+Happens w AcceptFreed new = new ≡ accepted w
+Happens w ClearGap new = new ≡ cleared w
 Happens w OpenLink new = new ≡ with_link (opened_link w.primary.link) (with_acknowledged (acknowledgement_of w.standby ∷ []) w)
 Happens w Send new = new ≡ sent w
 Happens w (Deliver frame piece) new = new ≡ with_standby (delivered (option_items (slice_get w.wire.frames frame)) w.standby) w
@@ -288,7 +374,7 @@ Happens w (Release c) new = new ≡ on_outbound c having_released w
 Happens w (Write c n) new = new ≡ on_outbound c (written n) w
 Happens w (Leave c) new = new ≡ with_connections (changed_at c left w.primary.connections) w
 Happens w (Crash node picks) new = new ≡ crashed node w
-Happens w (Reopen node) new = new ≡ reopened node w
+Happens w (Reopen node) new = Reopens node w new
 
 -- One event: it does its step exactly where it is enabled, and otherwise changes nothing.
 pub record Step (old : World) (event : Event) (did : Bool) (new : World) : Type 0 where

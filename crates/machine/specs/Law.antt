@@ -7,7 +7,7 @@ use Rattle.model.specs.declared.call.Call.{Call}
 use Rattle.model.specs.Call.{IsLegal, IsPrefix, Serves, calls_of, cut_at, items_of, keyspace_after, position_of, replies_to}
 use Rattle.machine.specs.declared.event.Event.{Event}
 use Rattle.machine.specs.declared.event.Event.TheVariants.{AckDelivered, Deliver, RaiseRemote}
-use Rattle.machine.specs.Event.{World, Step, Run, start_with, last_world, connection_of, is_open, count_open, asked, texts_of, is_enabled}
+use Rattle.machine.specs.Event.{World, Step, Run, start_with, last_world, connection_of, is_open, count_open, asked, spans_of, texts_of, is_enabled}
 use Rattle.machine.specs.Promise.{IsReleased, released_in, fed_to}
 use Rattle.machine.specs.Sound.{HasNothing, IsChain, IsFrameWithin, Sound, answers_to}
 use Rattle.machine.specs.declared.event.TheConstants.{SEATS}
@@ -147,7 +147,7 @@ PositionsAreInOrder = AfterEveryRun IsInOrder
 
 -- the groups that wait for the committer lead from its record's position to the position up to which groups were closed
 abbrev pub GroupsAreInOrder : Type 0
-GroupsAreInOrder = AfterEveryRun (λ w. IsChain w.primary.committer.position w.primary.committer.waiting w.primary.committer.closed)
+GroupsAreInOrder = AfterEveryRun (λ w. IsChain w.primary.committer.position (spans_of w.primary.committer.waiting) w.primary.committer.closed)
 
 -- each frame, sent or waiting at the standby, is of the primary's epoch and tells only changes that the primary committed
 abbrev pub FramesAreCommitted : Type 0

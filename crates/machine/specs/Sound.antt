@@ -5,7 +5,7 @@ use Rattle.model.specs.declared.call.Call.{Call}
 use Rattle.model.specs.State.{State, start_state}
 use Rattle.model.specs.Call.{IsLegal, IsPrefix, after_call, is_changing, items_of, position_of}
 use Rattle.machine.specs.declared.event.TheConstants.{SEATS, PIPE_ITEMS, OPEN_CHANGES, KEPT_GROUPS}
-use Rattle.machine.specs.Event.{Span, Frame, Acknowledgement, Stage, Ready, Durable, Shown, Inbound, Outbound, Connection, Committer, Link, Standby, Wire, World, asked, connection_of, is_open, count_open, texts_of}
+use Rattle.machine.specs.Event.{Span, Frame, Acknowledgement, Stage, Ready, Durable, Shown, Inbound, Outbound, Connection, Committer, Link, Standby, Wire, World, asked, connection_of, is_open, count_open, spans_of, texts_of}
 
 -- ---- replies
 
@@ -118,7 +118,8 @@ pub record SoundOver (calls : List Call) (c : ℕ) (position : ℕ) (connection 
 
 -- what holds of the committer, given the position of the list of calls
 pub record SoundCommitter (position : ℕ) (committer : Committer) : Type 0 where
-  pub waiting : IsChain committer.position committer.waiting committer.closed
+  -- the waiting groups, whatever free lists lie between them, lead from its position to the one up to which groups were closed
+  pub waiting : IsChain committer.position (spans_of committer.waiting) committer.closed
   pub closed : committer.closed ≤ position
   pub few_open : position ≤ committer.closed + OPEN_CHANGES
   pub few : length committer.waiting ≤ PIPE_ITEMS

@@ -1,4 +1,5 @@
--- The first worked case as a run written out: one connection sends SET a 1. Each kind of event happens in it.
+-- The first worked case as a run written out: one connection sends SET a 1. Each kind of event happens in it but those
+-- that free what has ended, and crashes and reopenings.
 use Rattle.std.specs.Prelude.{◌≡◌, ℕ, Bool, true, false, List, [], ◌∷◌, take, codes, All}
 use Rattle.machine.specs.declared.event.Event.{Event}
 use Rattle.machine.specs.declared.event.Event.TheVariants.{Enter, Feed, Offer, Turn, CloseGroup, Commit, RaiseLocal, Hand, OpenLink, Send, Deliver, Apply, AckDelivered, RaiseRemote, Hold, Read, Release, Write, Leave}

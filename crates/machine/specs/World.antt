@@ -68,12 +68,21 @@ pub data Stage : Type 0 where
   -- it has shown it, and not handed it on yet
   Shown : Span → Stage
 
+-- an item of the committer's queue
+pub data Work : Type 0 where
+  -- a group to commit
+  Commits : Span → Work
+  -- the free list at this position: versions that have ended, the newest of them here
+  Frees : ℕ → Work
+
 -- the primary's committer
 pub record Committer : Type 0 where
   -- groups were closed up to this position
   pub closed : ℕ
-  -- groups that wait for it
-  pub waiting : List Span
+  -- what waits for it: groups, and free lists between them
+  pub waiting : List Work
+  -- free lists that were taken from the queue and wait for the standby, by their positions
+  pub aside : List ℕ
   pub stage : Stage
   -- the position of the primary's record
   pub position : ℕ
@@ -111,6 +120,14 @@ pub record Primary : Type 0 where
   pub calls : List Call
   pub committer : Committer
   pub link : Link
+  -- how many versions that have ended are in no free list
+  pub ended : ℕ
+  -- the position at which the newest of them ended
+  pub newest : ℕ
+  -- how many notices of what was freed wait for the sequencer
+  pub notices : ℕ
+  -- how many gaps the record has
+  pub gaps : ℕ
 
 -- the node that follows it
 pub record Standby : Type 0 where
@@ -148,7 +165,7 @@ new_connection = record no_connection { is_open = true }
 
 -- a committer over an image at this position, to which nothing was handed yet
 abbrev pub new_committer : ℕ → Committer
-new_committer position = record { closed = position; waiting = []; stage = Ready; position = position; local = position }
+new_committer position = record { closed = position; waiting = []; aside = []; stage = Ready; position = position; local = position }
 
 -- a link that has sent nothing and knows of no acknowledgement
 abbrev pub new_link : Link
@@ -166,6 +183,10 @@ start_at epoch restarts = record {
     calls = [];
     committer = new_committer 0;
     link = new_link;
+    ended = 0;
+    newest = 0;
+    notices = 0;
+    gaps = 0;
   };
   standby = record { life = Running; epoch = epoch; waiting = []; position = 0 };
   wire = record { frames = []; acknowledgements = [] };
@@ -261,6 +282,30 @@ open_changes w = position_of w.primary.calls - w.primary.committer.closed
 
 abbrev pub has_room : {X : Type 0} → List X → Bool
 has_room items = nat_lt (length items) PIPE_ITEMS
+
+-- the groups among what waits for the committer
+abbrev pub spans_of : List Work → List Span
+spans_of [] = []
+spans_of (Commits group ∷ works) = group ∷ spans_of works
+spans_of (Frees position ∷ works) = spans_of works
+
+-- the free lists among it, by their positions
+abbrev pub lists_of : List Work → List ℕ
+lists_of [] = []
+lists_of (Commits group ∷ works) = lists_of works
+lists_of (Frees position ∷ works) = position ∷ lists_of works
+
+-- the free lists before the first group; all, where there is none
+abbrev pub lists_before : List Work → List ℕ
+lists_before [] = []
+lists_before (Commits group ∷ works) = []
+lists_before (Frees position ∷ works) = position ∷ lists_before works
+
+-- what waits from the first group on; nothing, where there is none
+abbrev pub from_group : List Work → List Work
+from_group [] = []
+from_group (Commits group ∷ works) = Commits group ∷ works
+from_group (Frees position ∷ works) = from_group works
 
 abbrev pub is_ready : Stage → Bool
 is_ready Ready = true

@@ -43,14 +43,22 @@ pub enum Event {
     Offer(u64),
     /// The sequencer runs the first waiting item of a connection.
     Turn(u64),
-    /// All changing commands that wait are handed to the committer as one group.
+    /// All changing commands that wait are handed to the committer as one group. Where none waits, the versions that have ended are handed to it as
+    /// one free list.
     CloseGroup,
-    /// The committer commits the first group that waits.
+    /// The committer commits the first group that waits, and lays the free lists before it aside.
     Commit,
     /// The committer shows its commit by raising the local mark.
     RaiseLocal,
     /// The committer hands the group to the link.
     Hand,
+    /// The committer, where it may not commit, frees the first free list that it has reached, which the remote mark has to cover, and leaves a notice
+    /// of it for the sequencer.
+    Free,
+    /// The sequencer takes a notice of what was freed, and may use its room again.
+    AcceptFreed,
+    /// The committer, where nothing waits for it, frees what lies in one gap of the record, and leaves a notice of it for the sequencer.
+    ClearGap,
     /// The link to the standby opens: the standby tells its position, and the link sends again from there.
     OpenLink,
     /// The link sends one frame.

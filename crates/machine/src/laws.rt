@@ -91,7 +91,7 @@ pub fn nothing_comes_of_nothing()
     ensures delivered { OnlyWhatWasMadeIsDelivered }
 {}
 
-/// The run of one `SET a 1`, with each event in it: `+OK` is released once both marks are 1, and nothing before.
+/// The run of one `SET a 1`, with each event in it but those that free, crash and reopen: `+OK` is released once both marks are 1, and nothing before.
 pub fn first_case_is_a_run()
     ensures { FirstCaseIsARun }
 {}
