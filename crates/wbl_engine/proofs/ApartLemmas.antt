@@ -123,7 +123,8 @@ still_fresh versions part later fresh puts_are put among i version is =
           (among-all (IsFresh versions) later put among (all-back (IsFresh versions) puts later fresh) i old was)
     ]
 
-parts_apart : (parts : List Part) (versions : Versions) → AreVersionsApart versions → AllByRecursion (IsFresh versions) (puts_of_parts parts)
+-- after parts they are too
+pub parts_apart : (parts : List Part) (versions : Versions) → AreVersionsApart versions → AllByRecursion (IsFresh versions) (puts_of_parts parts)
     → AreAllApart (puts_of_parts parts) → AreVersionsApart (parts_versions versions parts)
 parts_apart [] versions apart fresh puts_are = apart
 parts_apart (part ∷ parts) versions apart fresh puts_are =

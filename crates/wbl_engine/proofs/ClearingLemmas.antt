@@ -184,6 +184,7 @@ clears {r} {d} {gap} {begins} {ends} c clearing lines made =
       lines_are = lines;
       versions = same_versions c clearing.rest lines (cleared_new clearing made);
       is_free = cleared_free c clearing lines made;
+      within = λ i listed. (begins_where clearing i listed).0;
       were_not_free = λ i listed. (begun_in_gap clearing i listed).0;
       held_none = λ i listed. (begun_in_gap clearing i listed).1;
       once = subst (λ (l : List EntryNo). IsDistinct nat_eq (map (λ (entry : EntryNo). entry.0) l)) (sym clearing.begins_are)

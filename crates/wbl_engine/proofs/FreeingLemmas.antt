@@ -1,17 +1,17 @@
 -- Versions that have ended are freed.
 use Rattle.std.proofs.Common.{◌≡◌, ℕ, ◌<◌, Bool, true, false, cond, ◌&&◌, ◌||◌, ◌==◌, IsTrue, List, [], ◌∷◌, ◌++◌, inl, inr, Option, None, Some, map, refl, sym, ap, subst, ◌∙◌, arith}
 use Rattle.std.specs.Prelude.{nat_eq, nat_lt}
-use Rattle.std.proofs.lemmas.Bool.{cond-true, cond-false, cases_Bool, or_cases, and_parts, and_from, eqb-true, eq-eqb, lt-ltb, le-ltb, cases_lt, both_ways}
+use Rattle.std.proofs.lemmas.Bool.{cond-true, cond-false, or_cases, and_parts, and_from, eqb-true, eq-eqb, lt-ltb, le-ltb, cases_lt, both_ways}
 use Rattle.kv_types.specs.declared.place.EntryNo.{EntryNo}
 use Rattle.kv_types.specs.declared.place.Extent.{Extent}
-use Rattle.kv_types.specs.declared.record_id.RecordId.{RecordId}
 use Rattle.pmem.specs.Device.{State}
 use Rattle.pmem.specs.Crash.{image_of}
 use Rattle.pmem.specs.Runs.{LeavesOnly, Staged, IsPartlyStored, written}
 use Rattle.pmem.proofs.Leaving.{LeavesOnly-weaken, none_leaves}
 use Rattle.model.specs.declared.record.Record.{Record}
-use Rattle.model.specs.Image.{Image, IsLive, Version, entry_word, entries_of_lines, counts, version_at, version_in}
+use Rattle.model.specs.Image.{Image, IsMapOf, Version, entry_word, entries_of_lines, counts, version_at, version_in}
 use Rattle.model.specs.Group.{Contents, Versions, is_ended_version}
+use Rattle.model.proofs.MapLemmas.{IsMapOf-same}
 use Rattle.wbl_engine.specs.AtRest.{IsAtRest, contents_of}
 use Rattle.wbl_engine.specs.Contents.{Same}
 use Rattle.wbl_engine.specs.Erasing.{erase_pairs, erase_lines, extent_in}
@@ -19,6 +19,7 @@ use Rattle.wbl_engine.specs.Freeing.{AreEnded, KeepsMap, KeepsWithoutSome, after
 use Rattle.wbl_engine.specs.Stage.{AreWithin}
 use Rattle.wbl_engine.proofs.Erased.{IsErased, erased_version, version_within}
 use Rattle.wbl_engine.proofs.ErasedStamps.{AreErased, AreGone, IsErasing, erased_over, listed_begin, made_free, made_over, partly_keeps, staged_rest}
+use Rattle.wbl_engine.proofs.WithoutLemmas.{IsMapOf-without}
 
 -- ---- what is asked of the entries
 
@@ -150,71 +151,11 @@ freed_none r d entries rest ended =
 
 -- ---- the map
 
--- a live version is not one that has ended
-still_live : (contents : Contents) (entries : List EntryNo) (i : ℕ) (id : RecordId) (value : List ℕ) → AreEnded contents entries
-    → IsLive contents.versions i id value → IsLive (after_free entries contents).versions i id value
-still_live contents entries i id value ended live =
-    elim (cases_Bool (is_listed i entries)) [
-      | inl listed ↦
-          let is : IsTrue (live.version.is_ended) =
-          sym (ap is_ended_version live.begun) ∙ (ended_within contents entries i ended listed).1 in
-          absurd (both_ways live.version.is_ended live.not_ended is)
-      | inr unlisted ↦
-          record {
-            version = live.version;
-            begun = cond-false (is_listed i entries) None (contents.versions i) unlisted ∙ live.begun;
-            not_ended = live.not_ended;
-            id_is = live.id_is;
-            value_is = live.value_is;
-          }
-    ]
-
-was_live : (contents : Contents) (entries : List EntryNo) (new : Contents) (i : ℕ) (id : RecordId) (value : List ℕ)
-    → ((j : ℕ) → new.versions j ≡ (after_free entries contents).versions j) → IsLive new.versions i id value → IsLive contents.versions i id value
-was_live contents entries new i id value same live =
-    record {
-      version = live.version;
-      begun = some_left (is_listed i entries) (contents.versions i) live.version (sym (same i) ∙ live.begun);
-      not_ended = live.not_ended;
-      id_is = live.id_is;
-      value_is = live.value_is;
-    }
-  where
-    none_some : {X : Type 0} {x : X} → None ≡ Some x → ⊥
-    none_some e = cc
-
-    some_left : (b : Bool) (v : Option Version) (w : Version) → cond b None v ≡ Some w → v ≡ Some w
-    some_left true v w e = absurd (none_some e)
-    some_left false v w e = e
-
-now_live : (versions other : Versions) (i : ℕ) (id : RecordId) (value : List ℕ) → ((j : ℕ) → other j ≡ versions j) → IsLive versions i id value
-    → IsLive other i id value
-now_live versions other i id value same live =
-    record {
-      version = live.version;
-      begun = same i ∙ live.begun;
-      not_ended = live.not_ended;
-      id_is = live.id_is;
-      value_is = live.value_is;
-    }
-
 -- Freeing what has ended leaves the map.
 pub freed_map : (old new : Contents) (entries : List EntryNo) → AreEnded old entries → Same (after_free entries old) new → KeepsMap old new
 freed_map old new entries ended same s map =
-    let within : (i : ℕ) → i < entries_of_lines old.lines → i < entries_of_lines new.lines =
-    λ i below. subst (λ (n : ℕ). i < entries_of_lines n) (sym same.lines) below in
-    let back : (i : ℕ) → i < entries_of_lines new.lines → i < entries_of_lines old.lines =
-    λ i below. subst (λ (n : ℕ). i < entries_of_lines n) same.lines below in
-    record {
-      held = λ id value at.
-          let found = map.held id value at in (
-            found.0,
-            within found.0 found.1,
-            now_live (after_free entries old).versions new.versions found.0 id value same.versions
-                (still_live old entries found.0 id value ended found.2),
-          );
-      found = λ i id value below live. map.found i id value (back i below) (was_live old entries new i id value same.versions live);
-      once = λ i j id v w below_i below_j live_i live_j.
-          map.once i j id v w (back i below_i) (back j below_j) (was_live old entries new i id v same.versions live_i)
-          (was_live old entries new j id w same.versions live_j);
-    }
+    let left : Versions = (after_free entries old).versions in
+    subst (λ (n : ℕ). IsMapOf new.versions (entries_of_lines n) s) (sym same.lines)
+    (IsMapOf-same left new.versions (entries_of_lines old.lines) s (λ i within. sym (same.versions i))
+    (IsMapOf-without (λ i. is_listed i entries) old.versions (entries_of_lines old.lines) s
+    (λ i listed. (ended_within old entries i ended listed).1) map))

@@ -48,3 +48,4 @@ pub mod StagingLemmas
 pub mod StoredBy
 pub mod SuccessorLemmas
 pub mod VersionLemmas
+pub mod WithoutLemmas

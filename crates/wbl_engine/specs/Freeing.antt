@@ -1,44 +1,13 @@
 -- What is left of contents when versions that have ended are freed, and when a gap is cleared.
-use Rattle.std.specs.Prelude.{◌≡◌, ℕ, ◌+◌, ◌<◌, ◌||◌, Bool, false, nat_eq, if◌then◌else◌, IsTrue, List, [], ◌∷◌, drop, map, Option, Some, None}
-use Rattle.std.specs.List.{IsDistinct, list_any, flat_map}
+pub use Rattle.model.specs.Group.{AreEnded, after_free, extent_of, extents_of, is_listed, without}
+use Rattle.std.specs.Prelude.{◌≡◌, ℕ, ◌+◌, ◌<◌, ◌||◌, Bool, false, nat_eq, IsTrue, List, drop, map, None}
+use Rattle.std.specs.List.{IsDistinct}
 use Rattle.kv_types.specs.Keyspace.{Keyspace}
 use Rattle.kv_types.specs.declared.place.EntryNo.{EntryNo}
-use Rattle.kv_types.specs.declared.place.Extent.{Extent}
 use Rattle.model.specs.declared.record.Record.{Record}
-use Rattle.model.specs.Group.{Contents, Versions, is_ended_version}
-use Rattle.model.specs.Image.{Image, IsMapOf, Version, entries_of_lines}
+use Rattle.model.specs.Group.{Contents}
+use Rattle.model.specs.Image.{Image, IsMapOf, entries_of_lines}
 use Rattle.wbl_engine.specs.Contents.{Keeps}
-
-abbrev pub is_listed : ℕ → List EntryNo → Bool
-is_listed i entries = list_any (λ entry. nat_eq i entry.0) entries
-
--- the versions of these entries are gone, and the entries are free
-abbrev pub without : (ℕ → Bool) → Contents → Contents
-without gone contents =
-    record contents {
-      versions = λ i. if gone i then None else contents.versions i;
-      is_free = λ i. contents.is_free i || gone i;
-    }
-
-abbrev pub after_free : List EntryNo → Contents → Contents
-after_free entries = without (λ i. is_listed i entries)
-
--- each of the entries holds a version that has ended, and none is listed twice
-abbrev pub AreEnded : Contents → List EntryNo → Type 0
-AreEnded contents [] = Unit {0}
-AreEnded contents (entry ∷ entries) =
-    (entry.0 < entries_of_lines contents.lines)
-    × IsTrue (is_ended_version (contents.versions entry.0))
-    × (is_listed entry.0 entries ≡ false)
-    × AreEnded contents entries
-
-abbrev pub extent_of : Option Version → List Extent
-extent_of None = []
-extent_of (Some version) = record { first_line = version.first_line; lines = version.lines } ∷ []
-
--- the extents of the versions in these entries
-abbrev pub extents_of : Versions → List EntryNo → List Extent
-extents_of versions = flat_map (λ entry. extent_of (versions entry.0))
 
 -- the image holds what is left where some of the entries are freed
 abbrev pub KeepsWithoutSome : List EntryNo → Contents → Image → Type 0
@@ -66,7 +35,8 @@ pub record Clears (old : Contents) (cleared : List EntryNo) (new : Contents) : T
   pub lines_are : new.lines ≡ old.lines
   pub versions : (i : ℕ) → new.versions i ≡ old.versions i
   pub is_free : (i : ℕ) → new.is_free i ≡ (old.is_free i || is_listed i cleared)
-  -- none of them was free, or held a version
+  -- each of them is in the directory, and none was free, or held a version
+  pub within : (i : ℕ) → IsTrue (is_listed i cleared) → i < entries_of_lines old.lines
   pub were_not_free : (i : ℕ) → IsTrue (is_listed i cleared) → old.is_free i ≡ false
   pub held_none : (i : ℕ) → IsTrue (is_listed i cleared) → old.versions i ≡ None
   pub once : IsDistinct nat_eq (map (λ entry. entry.0) cleared)

@@ -1,15 +1,17 @@
 //! Laws of the definitions, each the contract of a function that does nothing.
-ghost use Rattle.std.specs.Prelude.{◌≡◌, ◌⊎◌, ℕ, ◌≤◌, List};
+ghost use Rattle.std.specs.Prelude.{◌≡◌, ◌⊎◌, ℕ, ◌+◌, ◌<◌, ◌≤◌, Bool, IsTrue, List};
 ghost use Rattle.kv_types.specs.declared.place.EntryNo.{EntryNo};
 ghost use Rattle.kv_types.specs.declared.refusal.Refusal.{Refusal};
 ghost use Rattle.kv_types.specs.declared.refusal.Refusal.TheVariants.{Exhausted, Memory};
+ghost use Rattle.kv_types.specs.Keyspace.{Keyspace};
 ghost use Rattle.heap_layout.specs.declared.entry.Entry.{Entry};
 ghost use Rattle.model.specs.declared.group.Group.{Group};
-ghost use Rattle.model.specs.declared.image.TheConstants.{MIN_LINES, MAX_LINES};
+ghost use Rattle.model.specs.declared.image.TheConstants.{COUNTER_LIMIT, MIN_LINES, MAX_LINES};
 ghost use Rattle.model.specs.declared.record.Role.{Role};
-ghost use Rattle.model.specs.Group.{Contents, IsGroup, after_group};
-ghost use Rattle.model.specs.Image.{Image};
+ghost use Rattle.model.specs.Group.{Contents, IsConsistent, IsGroup, after_group, is_ended_version};
+ghost use Rattle.model.specs.Image.{Image, IsMapOf, entries_of_lines};
 ghost use Rattle.wbl_engine.specs.Contents.{Keeps, IsNew, Same, Exhausts};
+ghost use Rattle.wbl_engine.specs.Freeing.{Clears, without};
 ghost use Rattle.wbl_engine.specs.Lawful.{AreLawful, IsUndamaged};
 ghost use Rattle.wbl_engine.specs.Reopening.{ExhaustsReopening, KeepsThrough, RefusesReopening, Reopens};
 
@@ -28,6 +30,25 @@ pub fn groups_keep_contents_lawful()
 /// Contents that say the same as contents that obey the rules obey them too.
 pub fn same_contents_are_lawful()
     ensures { (old new : Contents) → Same old new → AreLawful old → AreLawful new }
+{}
+
+/// Contents that obey the rules do so without some of the versions that have ended, and the map is the one that it was. Free entries still have no
+/// version.
+pub fn freed_contents_are_lawful()
+    ensures lawful { (contents : Contents) (gone : ℕ → Bool) → ((i : ℕ) → IsTrue (gone i) → IsTrue (is_ended_version (contents.versions i)))
+        → AreLawful contents → AreLawful (without gone contents) }
+    ensures map { (contents : Contents) (gone : ℕ → Bool) (s : Keyspace)
+        → ((i : ℕ) → IsTrue (gone i) → IsTrue (is_ended_version (contents.versions i)))
+        → IsMapOf contents.versions (entries_of_lines contents.lines) s
+        → IsMapOf (without gone contents).versions (entries_of_lines contents.lines) s }
+    ensures consistent { (contents : Contents) (gone : ℕ → Bool) → IsConsistent contents → IsConsistent (without gone contents) }
+{}
+
+/// Contents that obey the rules do so once their oldest gap is cleared, where the record is not the last. Free entries still have no version.
+pub fn cleared_contents_are_lawful()
+    ensures lawful { (old new : Contents) (cleared : List EntryNo) → Clears old cleared new → old.current.number + 1 < COUNTER_LIMIT
+        → AreLawful old → AreLawful new }
+    ensures consistent { (old new : Contents) (cleared : List EntryNo) → Clears old cleared new → IsConsistent old → IsConsistent new }
 {}
 
 /// An image that holds contents that obey the rules breaks no rule of the format: it is never refused as damaged.
