@@ -31,7 +31,7 @@ still : (has is : Bool) → IsTrue has → is ≡ false → IsTrue (has && not i
 still has is own none = ap (λ b. b && not is) own ∙ ap not none
 
 -- a line of one of two runs that are apart is none of the other
-not_line_of : (extent : Extent) (first lines line : ℕ) → AreApart extent.first_line extent.lines first lines → first ≤ line → line < first + lines → is_line_of extent line ≡ false
+pub not_line_of : (extent : Extent) (first lines line : ℕ) → AreApart extent.first_line extent.lines first lines → first ≤ line → line < first + lines → is_line_of extent line ≡ false
 not_line_of extent first lines line apart from before =
     false_from_ne_true (is_line_of extent line) (λ is.
     let bounds = line_bounds extent line is in
@@ -68,14 +68,20 @@ pub record Claiming (start : Room) (all : List (EntryNo × Entry)) (room : Room)
   pub can : CanClaimAll room rest
   pub lines : (line : ℕ) → (is_free_line room line && not (has_line_read rest line)) ≡ (is_free_line start line && not (has_line_read all line))
   pub entries : (i : ℕ) → (is_free_entry room i && not (has_entry_read rest i)) ≡ (is_free_entry start i && not (has_entry_read all i))
+  pub held : room.held + length rest ≡ start.held + length all
+  pub end_line : room.end_line ≡ start.end_line
+  pub end_entry : room.end_entry ≡ start.end_entry
 
 pub claiming-start : (start : Room) (all : List (EntryNo × Entry)) → CanClaimAll start all → Claiming start all start all
-claiming-start start all can = record { can = can; lines = λ line. refl; entries = λ i. refl }
+claiming-start start all can = record { can = can; lines = λ line. refl; entries = λ i. refl; held = refl; end_line = refl; end_entry = refl }
 
 pub claiming-end : (start : Room) (all : List (EntryNo × Entry)) (room : Room) → Claiming start all room [] → ClaimsAll start all room
 claiming-end start all room claiming = record {
   lines = λ line. sym (without_none (is_free_line room line)) ∙ claiming.lines line;
   entries = λ i. sym (without_none (is_free_entry room i)) ∙ claiming.entries i;
+  held = let held = claiming.held in omega (arith, held);
+  end_line = claiming.end_line;
+  end_entry = claiming.end_entry;
 }
 
 module _ (start : Room) (all : List (EntryNo × Entry)) (room : Room) (n : ℕ) (read : EntryNo × Entry) (claiming : Claiming start all room (drop n all)) (lt : n < length all) (is : read ≡ get_or all n read) where
@@ -88,6 +94,9 @@ module _ (start : Room) (all : List (EntryNo × Entry)) (room : Room) (n : ℕ) 
   pub claiming-step : (between new : Room) → ClaimsExtent room read.1.extent between → ClaimsEntry between read.0 new → Claiming start all new (drop (n + 1) all)
   claiming-step between new extent entry =
       let rest = drop (n + 1) all in
+      let before = at_read.held in
+      let one = extent.held in
+      let same = entry.held in
       record {
         can = can_still_all room read between new extent entry rest at_read.can.1 at_read.can.2;
         lines = λ line.
@@ -96,6 +105,9 @@ module _ (start : Room) (all : List (EntryNo × Entry)) (room : Room) (n : ℕ) 
         entries = λ i.
             ap (λ b. b && not (has_entry_read rest i)) (claimed_entry room read between new extent entry i)
             ∙ without_both (is_free_entry room i) (nat_eq i read.0.0) (has_entry_read rest i) ∙ at_read.entries i;
+        held = omega (arith, before, one, same);
+        end_line = entry.end_line ∙ extent.end_line ∙ at_read.end_line;
+        end_entry = entry.end_entry ∙ extent.end_entry ∙ at_read.end_entry;
       }
 
 -- ---- entries alone
@@ -105,12 +117,21 @@ pub record ClaimingEntries (start : Room) (all : List EntryNo) (room : Room) (re
   pub once : IsDistinct nat_eq (numbers_of rest)
   pub lines : (line : ℕ) → is_free_line room line ≡ is_free_line start line
   pub entries : (i : ℕ) → (is_free_entry room i && not (has_entry rest i)) ≡ (is_free_entry start i && not (has_entry all i))
+  pub held : room.held ≡ start.held
+  pub end_line : room.end_line ≡ start.end_line
+  pub end_entry : room.end_entry ≡ start.end_entry
 
 pub entries-start : (start : Room) (all : List EntryNo) → AreFreeEntries start all → IsDistinct nat_eq (numbers_of all) → ClaimingEntries start all start all
-entries-start start all free once = record { free = free; once = once; lines = λ line. refl; entries = λ i. refl }
+entries-start start all free once = record { free = free; once = once; lines = λ line. refl; entries = λ i. refl; held = refl; end_line = refl; end_entry = refl }
 
 pub entries-end : (start : Room) (all : List EntryNo) (room : Room) → ClaimingEntries start all room [] → ClaimsEntries start all room
-entries-end start all room claiming = record { lines = claiming.lines; free = λ i. sym (without_none (is_free_entry room i)) ∙ claiming.entries i }
+entries-end start all room claiming = record {
+  lines = claiming.lines;
+  free = λ i. sym (without_none (is_free_entry room i)) ∙ claiming.entries i;
+  held = claiming.held;
+  end_line = claiming.end_line;
+  end_entry = claiming.end_entry;
+}
 
 free_still : (room : Room) (entry : EntryNo) (new : Room) → ClaimsEntry room entry new → (rest : List EntryNo) → AllByRecursion (λ m. nat_eq entry.0 m ≡ false) (numbers_of rest) → AreFreeEntries room rest → AreFreeEntries new rest
 free_still room entry new claims [] apart free = tt
@@ -136,4 +157,7 @@ module _ (start : Room) (all : List EntryNo) (room : Room) (n : ℕ) (entry : En
         entries = λ i.
             ap (λ b. b && not (has_entry rest i)) (claims.taken i)
             ∙ without_both (is_free_entry room i) (nat_eq i entry.0) (has_entry rest i) ∙ at_entry.entries i;
+        held = claims.held ∙ at_entry.held;
+        end_line = claims.end_line ∙ at_entry.end_line;
+        end_entry = claims.end_entry ∙ at_entry.end_entry;
       }

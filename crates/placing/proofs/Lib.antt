@@ -6,5 +6,9 @@ pub mod PartsLemmas
 pub mod AddingLemmas
 pub mod MemberLemmas
 pub mod ClaimLemmas
+pub mod GivingLemmas
+pub mod CountLemmas
+pub mod BackLemmas
 pub mod RebuiltLemmas
 pub mod ReadLemmas
+pub mod FreedPlaces

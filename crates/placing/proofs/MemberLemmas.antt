@@ -23,6 +23,13 @@ first_or_later x y xs m = member_at x y xs m.0 m.1 m.2
 pub no_member : {X : Type 0} (y : X) → Contains {X = X} [] y → ⊥
 no_member y m = let lt = m.1 in omega arith
 
+pub mapped_member : {X A : Type 0} (made : X → A) (xs : List X) (x : X) → Contains xs x → Contains (map made xs) (made x)
+mapped_member made [] x m = absurd (no_member x m)
+mapped_member made (y ∷ xs) x m =
+    ⊎_elim (λ (same : y ≡ x). subst (λ z. Contains (made y ∷ map made xs) (made z)) same (here (made y) (map made xs)))
+    (λ (rest : Contains xs x). later (made y) (made x) (map made xs) (mapped_member made xs x rest))
+    (first_or_later y x xs m)
+
 -- ---- elements that pass a test
 
 pub member-from_any : {X : Type 0} (test : X → Bool) (xs : List X) → IsTrue (list_any test xs) → (x : X) × Contains xs x × IsTrue (test x)

@@ -1,6 +1,7 @@
 -- What is made of the versions of an image is that of its contents.
 use Rattle.std.proofs.Common.{◌≡◌, ◌≢◌, ◌↔◌, ℕ, ◌<◌, ◌≤◌, ◌&&◌, ◌||◌, ◌==◌, ⊎_elim, Bool, true, false, not, IsTrue, List, [], ◌∷◌, Contains, nat_eq, Option, Some, None, refl, sym, ap, ap₂, subst, subst₂, ◌∙◌, arith, eq-eqb, eqb-true, ne_eqb}
 use Rattle.std.proofs.lemmas.Bool.{and_parts, true≢false, false_from_ne_true}
+use Rattle.std.proofs.lemmas.List.{length-map}
 use Rattle.std.proofs.lemmas.Map.Keys.{IsDistinct-head, IsDistinct-tail}
 use Rattle.std.specs.List.{IsDistinct}
 use Rattle.std.specs.Option.{is_some}
@@ -13,7 +14,7 @@ use Rattle.kv_types.proofs.LookUpLemmas.{is_same, is_same_key}
 use Rattle.heap_layout.specs.declared.entry.Entry.{Entry}
 use Rattle.heap_layout.specs.Version.{version_of}
 use Rattle.extent_heap.specs.Extents.{is_line_of}
-use Rattle.extent_heap.specs.Room.{Room, is_free_entry, is_free_line}
+use Rattle.extent_heap.specs.Room.{Room, fresh_room, is_free_entry, is_free_line}
 use Rattle.extent_heap.proofs.RunsLemmas.{line_bounds, line_within}
 use Rattle.model.specs.Group.{Contents, Versions, IsConsistent, is_ended_version}
 use Rattle.model.specs.Image.{Version, IsLive, counts, entries_of_lines, first_extent_line}
@@ -22,9 +23,11 @@ use Rattle.mv_keyspace.specs.Loading.{excludes, AreCompatible, HasRows}
 use Rattle.mv_keyspace.specs.Row.{numbers_of}
 use Rattle.mv_keyspace.specs.Table.{Cell, Table, cell_at, IsCellOf, IsTable}
 use Rattle.placing.specs.Left.{IsLeftOf}
+use Rattle.placing.specs.Out.{HasOut, has_version}
 use Rattle.placing.specs.Read.{AreOf, ended_read, numbers_read, row_read, rows_read}
 use Rattle.placing.specs.Rebuilt.{AreEndedOf, AreFreeEntries, CanClaim, CanClaimAll, ClaimsAll, ClaimsEntries, IsHeapOf, IsLineOfVersion, IsRebuilt, LiesApart, has_entry, has_entry_read, has_line_read}
-use Rattle.placing.proofs.MemberLemmas.{here, later, no_member, first_or_later, any-from_member, any_false, all_other, member-from_chosen, chosen-from_member, distinct_chosen}
+use Rattle.placing.proofs.CountLemmas.{listed_counted}
+use Rattle.placing.proofs.MemberLemmas.{mapped_member, here, later, no_member, first_or_later, any-from_member, any_false, all_other, member-from_chosen, chosen-from_member, distinct_chosen}
 
 -- ---- records of one keyspace that clash are the same
 
@@ -60,6 +63,13 @@ pub fresh_entries : (contents : Contents) (fresh : Room) (lines count : ℕ) →
     → ((i : ℕ) → IsTrue (is_free_entry fresh i) ↔ (i < count)) → (i : ℕ) → IsTrue (is_free_entry fresh i) ↔ (i < entries_of_lines contents.lines)
 fresh_entries contents fresh lines count is count_is told =
     subst (λ (n : ℕ). (i : ℕ) → IsTrue (is_free_entry fresh i) ↔ (i < n)) (count_is ∙ ap entries_of_lines (sym is)) told
+
+pub fresh_end_line : (contents : Contents) (fresh : Room) (first lines count : ℕ) → contents.lines ≡ lines → fresh ≡ fresh_room first lines count → fresh.end_line ≡ contents.lines
+fresh_end_line contents fresh first lines count is room = ap (λ (r : Room). r.end_line) room ∙ sym is
+
+pub fresh_end_entry : (contents : Contents) (fresh : Room) (first lines count : ℕ) → contents.lines ≡ lines → count ≡ entries_of_lines lines → fresh ≡ fresh_room first lines count
+    → fresh.end_entry ≡ entries_of_lines contents.lines
+fresh_end_entry contents fresh first lines count is count_is room = ap (λ (r : Room). r.end_entry) room ∙ count_is ∙ ap entries_of_lines (sym is)
 
 -- ---- what was read, and the contents
 
@@ -243,12 +253,33 @@ module _ (contents : Contents) (counted : List (EntryNo × Entry)) (gapped : Lis
             none_beyond i past None is = is
             none_beyond i past (Some v) is = let lt = (are.lawful.begun i v is).0 in absurd (omega (arith, lt, past))
 
-        pub rebuilt_of : (table : Table) → IsTable versions table → IsRebuilt contents table room
-        rebuilt_of table table_is = record {
+        -- a version has its number among those that were read
+        number_read : (i : ℕ) (entry : Option Version) → versions i ≡ entry → IsTrue (has_version entry) → Contains (numbers_read counted) i
+        number_read i None is has = cc
+        number_read i (Some v) is has =
+            let read = read_of i v is in
+            subst (λ k. Contains (numbers_read counted) k) read.2 (mapped_member (λ (other : EntryNo × Entry). other.0.0) counted read.0 read.1)
+
+        -- each version took an extent
+        out_of : fresh.end_line ≡ contents.lines → fresh.end_entry ≡ entries_of_lines contents.lines → HasOut contents room 0
+        out_of end_line end_entry =
+            let few = listed_counted (numbers_read counted) versions (entries_of_lines contents.lines) (λ i has. number_read i (versions i) refl has) in
+            let length_is = length-map counted (λ (other : EntryNo × Entry). other.0.0) in
+            let all = claims.held in
+            let same = gaps.held in
+            record {
+              end_line = gaps.end_line ∙ claims.end_line ∙ end_line;
+              end_entry = gaps.end_entry ∙ claims.end_entry ∙ end_entry;
+              held = omega (arith, few, length_is, all, same);
+            }
+
+        pub rebuilt_of : fresh.end_line ≡ contents.lines → fresh.end_entry ≡ entries_of_lines contents.lines → (table : Table) → IsTable versions table → IsRebuilt contents table room
+        rebuilt_of end_line end_entry table table_is = record {
           consistent = consistent_of;
           table_is = table_is;
           heap_is = heap_of;
           left = left_of;
+          out = out_of end_line end_entry;
           beside = record { versions = versions; table_is = table_is; empty = λ i free. empty_of_free i (versions i) refl ((free_entry i).0 free).1 };
         }
 

@@ -1,12 +1,12 @@
 -- What was taken from a heap was free before and is taken afterwards, and no two places have anything in common.
-use Rattle.std.proofs.Common.{◌≡◌, ℕ, ◌+◌, ◌<◌, ◌≤◌, Bool, false, ◌||◌, IsTrue, List, [], ◌∷◌, ◌++◌, refl, sym, ap, subst, ◌∙◌, arith, ne_eqb}
+use Rattle.std.proofs.Common.{◌≡◌, ℕ, ◌+◌, ◌<◌, ◌≤◌, Bool, false, ◌||◌, IsTrue, List, [], ◌∷◌, ◌++◌, length, refl, sym, ap, subst, ◌∙◌, arith, ne_eqb}
 use Rattle.std.proofs.lemmas.Bool.{false≢true, false_from_ne_true}
 use Rattle.std.specs.List.{AllByRecursion}
 use Rattle.model.specs.declared.group.Put.{Put}
 use Rattle.model.specs.Group.{AreApart, IsApartFrom, AreAllApart, HasItsLines, is_put_at}
 use Rattle.mv_keyspace.proofs.PartTables.{AreDistinct}
 use Rattle.extent_heap.specs.Room.{Room, is_free_line, is_free_entry, IsFreeRun}
-use Rattle.extent_heap.proofs.Rooms.{TakesEntry-gone, TakesEntry-free, TakesEntry-line, TakesExtent-gone, TakesExtent-free, TakesExtent-entry}
+use Rattle.extent_heap.proofs.Rooms.{out_entry_again, TakesEntry-gone, TakesEntry-free, TakesEntry-line, TakesExtent-gone, TakesExtent-free, TakesExtent-entry}
 use Rattle.placing.specs.Place.{TakesPlace, TakesPlaces}
 use Rattle.placing.specs.Left.{HasNoFreeLine, IsTaken}
 use Rattle.placing.proofs.PlacesLemmas.{some_lines}
@@ -70,7 +70,7 @@ place_within old put new takes = record {
 pub free_within : (small large : Room) (put : Put) → IsWithin small large → IsFree small put → IsFree large put
 free_within small large put within free = record { entry = within.entries put.entry.0 free.entry; some = free.some; run = λ line low high. within.lines line (free.run line low high) }
 
-not_free : (a b : Bool) → (IsTrue a → IsTrue b) → b ≡ false → a ≡ false
+pub not_free : (a b : Bool) → (IsTrue a → IsTrue b) → b ≡ false → a ≡ false
 not_free a b into none = false_from_ne_true a (λ free. false≢true (sym none ∙ into free))
 
 pub lines_within : (small large : Room) (first lines : ℕ) → IsWithin small large → HasNoFreeLine large first lines → HasNoFreeLine small first lines
@@ -107,6 +107,43 @@ places_taken old (put ∷ puts) new takes =
 pub places_fitting : (old : Room) (puts : List Put) (new : Room) → TakesPlaces old puts new → AllByRecursion HasItsLines puts
 places_fitting old [] new takes = tt
 places_fitting old (put ∷ puts) new takes = (takes.1.fitting, places_fitting takes.0 puts new takes.2)
+
+-- ---- how many are out
+
+-- each put took one extent, and the ends stayed
+pub record HasTaken (old : Room) (puts : List Put) (new : Room) : Type 0 where
+  pub held : new.held ≡ old.held + length puts
+  pub end_line : new.end_line ≡ old.end_line
+  pub end_entry : new.end_entry ≡ old.end_entry
+
+pub places_held : (old : Room) (puts : List Put) (new : Room) → TakesPlaces old puts new → HasTaken old puts new
+places_held old [] new same = record {
+  held = let held = ap (λ (room : Room). room.held) same in omega (arith, held);
+  end_line = ap (λ (room : Room). room.end_line) same;
+  end_entry = ap (λ (room : Room). room.end_entry) same;
+}
+places_held old (put ∷ puts) new takes =
+    let rest = places_held takes.0 puts new takes.2 in
+    let entry = takes.1.entry.after in
+    let extent = takes.1.extent.after in
+    let others = rest.held in
+    let one = extent.held in
+    let none = entry.held in
+    record {
+      held = omega (arith, others, one, none);
+      end_line = rest.end_line ∙ extent.end_line ∙ entry.end_line;
+      end_entry = rest.end_entry ∙ extent.end_entry ∙ entry.end_entry;
+    }
+
+pub places_below : (old : Room) (puts : List Put) (new : Room) → TakesPlaces old puts new → AllByRecursion (λ (put : Put). put.entry.0 < old.end_entry) puts
+places_below old [] new takes = tt
+places_below old (put ∷ puts) new takes =
+    let entry = takes.1.entry.after in
+    let first = (out_entry_again old put.entry takes.1.between takes.1.entry).within in
+    let ends : takes.0.end_entry ≡ old.end_entry = takes.1.extent.after.end_entry ∙ entry.end_entry in (
+      subst (λ n. put.entry.0 < n) entry.end_entry first,
+      subst (λ n. AllByRecursion (λ (other : Put). other.entry.0 < n) puts) ends (places_below takes.0 puts new takes.2),
+    )
 
 -- ---- apart
 
@@ -147,6 +184,13 @@ not_put_at room [] i taken free = refl
 not_put_at room (put ∷ puts) i taken free =
     ap (λ b. b || is_put_at i puts) (ne_eqb i put.entry.0 (λ same. false≢true (sym taken.0.entry ∙ subst (λ j. IsTrue (is_free_entry room j)) same free)))
     ∙ not_put_at room puts i taken.1 free
+
+-- nor is an entry that is not free the entry of a put whose place is still free
+pub not_put_at_free : (room : Room) (puts : List Put) (i : ℕ) → AllByRecursion (IsFree room) puts → is_free_entry room i ≡ false → is_put_at i puts ≡ false
+not_put_at_free room [] i free out = refl
+not_put_at_free room (put ∷ puts) i free out =
+    ap (λ b. b || is_put_at i puts) (ne_eqb i put.entry.0 (λ same. false≢true (sym out ∙ subst (λ j. IsTrue (is_free_entry room j)) (sym same) free.0.entry)))
+    ∙ not_put_at_free room puts i free.1 out
 
 apart_distinct : (put : Put) (puts : List Put) → AllByRecursion (IsApartFrom put) puts → is_put_at put.entry.0 puts ≡ false
 apart_distinct put [] apart = refl

@@ -1,5 +1,5 @@
 -- What a node makes of the versions of its image.
-use Rattle.std.specs.Prelude.{◌≡◌, ◌≢◌, ◌↔◌, ℕ, ◌+◌, ◌<◌, ◌≤◌, Bool, not, ◌&&◌, nat_eq, List, [], ◌∷◌, Contains, Some, IsTrue}
+use Rattle.std.specs.Prelude.{◌≡◌, ◌≢◌, ◌↔◌, ℕ, ◌+◌, ◌<◌, ◌≤◌, Bool, not, ◌&&◌, nat_eq, List, [], ◌∷◌, length, Contains, Some, IsTrue}
 use Rattle.std.specs.List.{AllByRecursion, IsDistinct, list_any}
 use Rattle.std.specs.List.Sorted.{IsStrictlySortedBy}
 use Rattle.std.specs.Ordering.{nat_cmp}
@@ -11,6 +11,7 @@ use Rattle.model.specs.Group.{Contents, Versions, AreApart, IsConsistent, is_end
 use Rattle.model.specs.Image.{Version, entries_of_lines, first_extent_line}
 use Rattle.mv_keyspace.specs.Table.{Table, IsTable}
 use Rattle.placing.specs.Left.{IsLeftOf, IsBeside}
+use Rattle.placing.specs.Out.{HasOut}
 use Rattle.placing.specs.Read.{numbers_read}
 
 -- ---- what is claimed of a heap
@@ -41,19 +42,25 @@ has_entry_read counted i = list_any (λ read. nat_eq i read.0.0) counted
 abbrev pub has_entry : List EntryNo → ℕ → Bool
 has_entry entries i = list_any (λ entry. nat_eq i entry.0) entries
 
--- These entries and their extents are no longer free. What else was free still is.
+-- These entries and their extents are no longer free, and each extent is out. Nothing else changed.
 pub record ClaimsAll (old : Room) (counted : List (EntryNo × Entry)) (new : Room) : Type 0 where
   pub lines : (line : ℕ) → is_free_line new line ≡ (is_free_line old line && not (has_line_read counted line))
   pub entries : (i : ℕ) → is_free_entry new i ≡ (is_free_entry old i && not (has_entry_read counted i))
+  pub held : new.held ≡ old.held + length counted
+  pub end_line : new.end_line ≡ old.end_line
+  pub end_entry : new.end_entry ≡ old.end_entry
 
 -- each of the entries is free
 abbrev pub AreFreeEntries : Room → List EntryNo → Type 0
 AreFreeEntries room entries = AllByRecursion (λ entry. IsTrue (is_free_entry room entry.0)) entries
 
--- These entries are no longer free. What else was free still is.
+-- These entries are no longer free. Nothing else changed.
 pub record ClaimsEntries (old : Room) (entries : List EntryNo) (new : Room) : Type 0 where
   pub lines : (line : ℕ) → is_free_line new line ≡ is_free_line old line
   pub free : (i : ℕ) → is_free_entry new i ≡ (is_free_entry old i && not (has_entry entries i))
+  pub held : new.held ≡ old.held
+  pub end_line : new.end_line ≡ old.end_line
+  pub end_entry : new.end_entry ≡ old.end_entry
 
 -- ---- what is made
 
@@ -82,6 +89,7 @@ pub record IsRebuilt (contents : Contents) (table : Table) (room : Room) : Type 
   pub table_is : IsTable contents.versions table
   pub heap_is : IsHeapOf contents room
   pub left : IsLeftOf contents room
+  pub out : HasOut contents room 0
   pub beside : IsBeside table room
 
 -- numbers that rise, where those that were read do

@@ -2,11 +2,13 @@
 //! versions of an image.
 #![tactic(auto)]
 
+mod giving;
 mod laws;
 mod performing;
 mod places;
 mod rebuilding;
 
+pub use giving::give_all;
 pub use laws::images_are_read_by_entries;
 pub use performing::{empty_part, perform};
 pub use rebuilding::{Rebuilt, rebuild};

@@ -7,7 +7,7 @@ use Rattle.mv_keyspace.specs.Loading.{AreCompatible, HasRows}
 use Rattle.placing.specs.Read.{ended_read}
 use Rattle.placing.specs.Rebuilt.{AreEndedOf, CanClaimAll, ClaimsAll}
 use Rattle.placing.proofs.MemberLemmas.{chosen_rise}
-use Rattle.placing.proofs.RebuiltLemmas.{can_claim_all, ended_are, free_gaps, fresh_entries, fresh_lines, rebuilt_of, rows_compatible, table_of_versions}
+use Rattle.placing.proofs.RebuiltLemmas.{can_claim_all, ended_are, free_gaps, fresh_end_entry, fresh_end_line, fresh_entries, fresh_lines, rebuilt_of, rows_compatible, table_of_versions}
 use Rattle.placing.proofs.rebuilding.rebuild.Goals as goal
 
 pub claim_places-requires : goal.claim_places-requires
@@ -46,7 +46,10 @@ returns-clause-ok g c = λ contents is are.
           (fresh_lines contents heap c.args.lines c.first_extent_line.result is c.first_extent_line.ensures c.in_ok-heap.ensures.lines)
           (fresh_entries contents heap c.args.lines c.entries_of_lines.result is c.entries_of_lines.ensures c.in_ok-heap.ensures.entries)
           c.claim_places.new.heap (subst (λ read. ClaimsAll heap read c.claim_places.new.heap) c.deref.ensures.value c.in_ok-claim_places.ensures.ok)
-          c.claim_entries.new.heap c.claim_entries.ensures table (table_of_versions contents counted gapped are table has),
+          c.claim_entries.new.heap c.claim_entries.ensures
+          (fresh_end_line contents heap c.first_extent_line.result c.args.lines c.entries_of_lines.result is c.in_ok-heap.ensures.room)
+          (fresh_end_entry contents heap c.first_extent_line.result c.args.lines c.entries_of_lines.result is c.entries_of_lines.ensures c.in_ok-heap.ensures.room)
+          table (table_of_versions contents counted gapped are table has),
       subst (AreEndedOf contents) (sym ended) (ended_are contents counted gapped are),
     )
 
