@@ -71,7 +71,7 @@ some_changes part some = λ none. some (no_items part.changes.items none)
 
 module _ (old mid new : Sequencing) (requests : List (List (List ℕ))) (replies : List Reply) (running : Running)
     (under : AreUnderWay (stored old) (old.position + 1) requests replies [] running (stored mid))
-    (position : mid.position ≡ old.position) (waiting : mid.waiting ≡ old.waiting) (epoch : mid.epoch ≡ old.epoch) (before : mid.before ≡ old.before) (over : Finishes mid running.part new) where
+    (position : mid.position ≡ old.position) (waiting : mid.waiting ≡ old.waiting) (epoch : mid.epoch ≡ old.epoch) (before : mid.before ≡ old.before) (ended : mid.ended ≡ old.ended) (newest : mid.newest ≡ old.newest) (over : Finishes mid running.part new) where
   moved_by : (items : List PlacedChange) → running.part.changes.items ≡ items → Moves (changes_of_part running.part) old new
   moved_by [] e =
       let over_none = over.none e in
@@ -104,6 +104,8 @@ module _ (old mid new : Sequencing) (requests : List (List (List ℕ))) (replies
         marks = subst₂ (λ (cs : List Change) (sessions : Sessions). Marks (records old.table) cs old.sessions sessions) (sym same) (sym over.sessions) under.marks;
         epoch = over.epoch ∙ epoch;
         before = over.before ∙ before;
+        ended = over.ended ∙ ended;
+        newest = over.newest ∙ newest;
       }
 
 -- ---- what was to be done was done
@@ -117,6 +119,8 @@ acts-answer old reply = record {
   marks = marks-none (records old.table) old.sessions;
   epoch = refl;
   before = refl;
+  ended = refl;
+  newest = refl;
 }
 
 pub acts-run : (old : Sequencing) (words : List (List ℕ)) (reply : Reply) (new : Sequencing) → Runs old (words ∷ []) (reply ∷ []) new
@@ -131,6 +135,8 @@ acts-run old words reply new runs full_only =
       marks = subst (λ (cs : List Change). Marks (records old.table) cs old.sessions new.sessions) same runs.marks;
       epoch = runs.epoch;
       before = runs.before;
+      ended = runs.ended;
+      newest = runs.newest;
     }
 
 pub acts-run_all : (old : Sequencing) (requests : List (List (List ℕ))) (replies : List Reply) (reply : Reply) (new : Sequencing) → reply ≡ Array replies → Runs old requests replies new
@@ -148,6 +154,8 @@ acts-run_all old requests replies reply new is runs =
       marks = subst (λ (cs : List Change). Marks (records old.table) cs old.sessions new.sessions) same runs.marks;
       epoch = runs.epoch;
       before = runs.before;
+      ended = runs.ended;
+      newest = runs.newest;
     }
 
 pub array-known : (admission : Admission) (replies : List Reply) (reply : Reply) → reply ≡ Array replies → RefusesMemory admission reply
@@ -195,6 +203,8 @@ acts-refused old admission =
       marks = subst (λ (cs : List Change). Marks (records old.table) cs old.sessions old.sessions) (sym none) (marks-none (records old.table) old.sessions);
       epoch = refl;
       before = refl;
+      ended = refl;
+      newest = refl;
     }
 
 -- ---- an item was answered
@@ -208,6 +218,8 @@ pub record Answered (old : Sequencing) (seat : ℕ) (item : Item) (reply : Reply
   pub moves : Moves (changes_of (state_of old) (call_of seat item reply)) old mid
   pub epoch : mid.epoch ≡ old.epoch
   pub before : mid.before ≡ old.before
+  pub ended : mid.ended ≡ old.ended
+  pub newest : mid.newest ≡ old.newest
   pub slots : (other : ℕ) → slot mid.sessions other
       ≡ option_map (modified_where (modifies (records old.table) (changes_of (state_of old) (call_of seat item reply)))) (cond (nat_eq seat other) (Some left) (slot old.sessions other))
 
@@ -289,6 +301,8 @@ module _ (old : Sequencing) (seat : ℕ) (item : Item) (reply : Reply) (left : S
     moves = answered.moves;
     epoch = answered.epoch;
     before = answered.before;
+    ended = answered.ended;
+    newest = answered.newest;
     sessions = λ other. session_mid other ∙ ap (λ own. modified_where marks (cond (nat_eq seat other) own (session_at old.sessions other))) (sym same);
     closed = λ other. closed_mid other ∙ ap (λ b. cond (nat_eq seat other) b (is_closed old other)) (sym stays);
   })
@@ -310,6 +324,8 @@ module _ (old : Sequencing) (seat : ℕ) (item : Item) (reply : Reply) (left : S
         moves = moves;
         epoch = over.epoch ∙ answered.epoch;
         before = over.before ∙ answered.before;
+        ended = over.ended ∙ answered.ended;
+        newest = over.newest ∙ answered.newest;
         sessions = λ other. elim (cases_eq other seat) [
           | inl same ↦
               let here : nat_eq seat other ≡ true = eq-eqb seat other (sym same) in
@@ -355,6 +371,8 @@ answered-request old seat words reply mid answers =
           (subst (λ (s : Keyspace). Moves (changes_for s admission reply) between mid) keyspace answers.acts.moves);
       epoch = answers.acts.epoch ∙ seated.epoch;
       before = answers.acts.before ∙ seated.before;
+      ended = answers.acts.ended ∙ seated.ended;
+      newest = answers.acts.newest ∙ seated.newest;
       slots = λ other.
           subst (λ (s : Keyspace). slot mid.sessions other ≡ option_map (modified_where (modifies s (changes_for s admission reply))) (slot between.sessions other)) keyspace (answers.acts.marks other)
           ∙ ap (option_map (modified_where (modifies (records old.table) (changes_for (records old.table) admission reply)))) (slot_moved old.sessions between.sessions seat other _ seated.sessions);
@@ -374,6 +392,8 @@ answered-fault old seat fault reply seated may = record {
   moves = record { table = refl; room = refl; position = refl; waiting = refl };
   epoch = refl;
   before = refl;
+  ended = refl;
+  newest = refl;
   slots = λ other.
       marks-none (records old.table) old.sessions other ∙ ap (option_map (modified_where (modifies (records old.table) []))) (elim (cases_eq other seat) [
         | inl same ↦ ap (slot old.sessions) same ∙ there (slot old.sessions seat) seated ∙ sym (ap (λ b. cond b (Some (session_at old.sessions seat)) (slot old.sessions other)) (eq-eqb seat other (sym same)))

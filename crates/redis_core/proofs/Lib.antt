@@ -6,3 +6,8 @@ mod AdmissionLemmas
 pub mod AnswersLemmas
 mod SeatsLemmas
 mod MarkingLemmas
+pub mod BegunLemmas
+pub mod ListedLemmas
+pub mod ExpectingLemmas
+pub mod LeadingLemmas
+pub mod ReturningLemmas

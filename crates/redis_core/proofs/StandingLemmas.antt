@@ -2,6 +2,7 @@
 use Rattle.std.proofs.Common.{◌≡◌, ℕ, ◌+◌, ◌<◌, ◌≤◌, List, [], ◌∷◌, ◌++◌, length, Option, None, inl, refl, sym, ap, subst, ◌∙◌, arith}
 use Rattle.std.specs.List.{AllByRecursion}
 use Rattle.kv_types.specs.declared.change.Change.{Change}
+use Rattle.kv_types.specs.declared.place.EntryNo.{EntryNo}
 use Rattle.model.specs.declared.group.Group.{Group}
 use Rattle.model.specs.declared.group.Part.{Part}
 use Rattle.model.specs.declared.group.Put.{Put}
@@ -19,7 +20,7 @@ use Rattle.placing.proofs.LeftLemmas.{placed_of_free, unused_of_free, left_withi
 use Rattle.placing.proofs.PartsLemmas.{parts_versions-append, last_position-append, AreParts-append, puts_of_parts-append}
 use Rattle.multi_watch.specs.Session.{Session}
 use Rattle.multi_watch.specs.Sessions.{Sessions}
-use Rattle.redis_core.specs.Sequencing.{Sequencing, puts_of_parts, IsAheadOf, MovesSeat, Underlies, HandsOut, starts}
+use Rattle.redis_core.specs.Sequencing.{Sequencing, puts_of_parts, ended_by_parts, newest_end, NamesOnce, IsAheadOf, MovesSeat, Underlies, HandsOut, starts}
 use Rattle.redis_core.specs.Turn.{Moves}
 
 -- the entries of new puts hold nothing, also after the parts that wait
@@ -40,9 +41,9 @@ module _ (s : Sequencing) (contents : Contents) (stands : IsAheadOf s contents) 
   new_distinct : AreDistinct (puts_of_part part)
   new_distinct = AreDistinct-from_apart (puts_of_part part) (places_apart s.room (puts_of_part part) room takes)
 
-  pub IsAheadOf-part : (sessions : Sessions) → part.position ≡ s.position + 1 → AreEnded part.position s.table part.changes.items part.ended.items
-      → IsAheadOf (record { table = place_all part.position s.table part.changes.items; room = room; position = part.position; epoch = s.epoch; before = s.before; waiting = s.waiting ++ part ∷ []; sessions = sessions }) contents
-  IsAheadOf-part sessions next ended =
+  pub IsAheadOf-part : (listed : List EntryNo) (newest : ℕ) (sessions : Sessions) → part.position ≡ s.position + 1 → AreEnded part.position s.table part.changes.items part.ended.items
+      → IsAheadOf (record { table = place_all part.position s.table part.changes.items; room = room; position = part.position; epoch = s.epoch; before = s.before; waiting = s.waiting ++ part ∷ []; ended = listed; newest = newest; sessions = sessions }) contents
+  IsAheadOf-part listed newest sessions next ended =
       let old = puts_of_parts s.waiting in
       let new = puts_of_part part in
       let puts = puts_of_parts-append s.waiting part in
@@ -54,10 +55,13 @@ module _ (s : Sequencing) (contents : Contents) (stands : IsAheadOf s contents) 
         last = last_position-append s.before s.waiting part;
         parts = AreParts-append s.before contents.versions s.waiting part stands.parts (omega (arith, stands.last, next))
             (names-ended (parts_versions contents.versions s.waiting) s.table part new_empty new_distinct stands.table ended);
+        once = All-append NamesOnce s.waiting (part ∷ []) stands.once (ended.once, tt);
         placed = All (IsPlaced contents.lines) stands.placed (All-map (IsFree s.room) (IsPlaced contents.lines) (λ put. placed_of_free contents s.room put stands.left) new new_free);
         fitting = All HasItsLines stands.fitting (places_fitting s.room new room takes);
         unused = All (IsUnused contents.versions contents.is_free) stands.unused
             (All-map (IsFree s.room) (IsUnused contents.versions contents.is_free) (λ put. unused_of_free contents s.room put stands.left) new new_free);
+        empty = All (λ put. contents.versions put.entry.0 ≡ None) stands.empty
+            (All-map (IsFree s.room) (λ put. contents.versions put.entry.0 ≡ None) (λ put free. (stands.left.entries put.entry.0 free.entry).2) new new_free);
         apart = subst AreAllApart (sym puts) (AreAllApart-append s.room old new stands.apart (places_apart s.room new room takes) stands.taken new_free);
         taken = All (IsTaken room) (All-map (IsTaken s.room) (IsTaken room) (λ put. taken_within room s.room put within) old stands.taken) (places_taken s.room new room takes);
         left = left_within contents room s.room within stands.left;
@@ -65,16 +69,19 @@ module _ (s : Sequencing) (contents : Contents) (stands : IsAheadOf s contents) 
             (IsTable-changes part.position (parts_versions contents.versions s.waiting) s.table part.changes.items new_empty new_distinct stands.table);
       }
 
--- what sessions there are does not matter
-pub IsAheadOf-sessions : (s : Sequencing) (sessions : Sessions) (contents : Contents) → IsAheadOf s contents → IsAheadOf (record s { sessions = sessions }) contents
-IsAheadOf-sessions s sessions contents stands = record {
+-- what sessions there are does not matter, nor what is listed
+pub IsAheadOf-others : (s : Sequencing) (listed : List EntryNo) (newest : ℕ) (sessions : Sessions) (contents : Contents) → IsAheadOf s contents
+    → IsAheadOf (record s { ended = listed; newest = newest; sessions = sessions }) contents
+IsAheadOf-others s listed newest sessions contents stands = record {
   epoch = stands.epoch;
   before = stands.before;
   last = stands.last;
   parts = stands.parts;
+  once = stands.once;
   placed = stands.placed;
   fitting = stands.fitting;
   unused = stands.unused;
+  empty = stands.empty;
   apart = stands.apart;
   taken = stands.taken;
   left = stands.left;
@@ -85,19 +92,22 @@ IsAheadOf-sessions s sessions contents stands = record {
 pub IsAheadOf-seat : (old : Sequencing) (seat : ℕ) (now : Option Session) (new : Sequencing) → MovesSeat old seat now new → (contents : Contents) → IsAheadOf old contents → IsAheadOf new contents
 IsAheadOf-seat old seat now new moves contents stands =
     subst (λ s. IsAheadOf s contents)
-    (λ i. record { table = sym moves.table i; room = sym moves.room i; position = sym moves.position i; epoch = sym moves.epoch i; before = sym moves.before i; waiting = sym moves.waiting i; sessions = new.sessions })
-    (IsAheadOf-sessions old new.sessions contents stands)
+    (λ i. record { table = sym moves.table i; room = sym moves.room i; position = sym moves.position i; epoch = sym moves.epoch i; before = sym moves.before i; waiting = sym moves.waiting i; ended = new.ended; newest = new.newest; sessions = new.sessions })
+    (IsAheadOf-others old new.ended new.newest new.sessions contents stands)
 
 -- a new sequencer is ahead of the contents that its tables are of
-pub IsAheadOf-starts : (table : Table) (room : Room) (position epoch : ℕ) (sessions : Sessions) (contents : Contents) → Underlies contents table room position epoch → IsAheadOf (starts table room position epoch sessions) contents
-IsAheadOf-starts table room position epoch sessions contents under = record {
+pub IsAheadOf-starts : (table : Table) (room : Room) (ended : List EntryNo) (position epoch : ℕ) (sessions : Sessions) (contents : Contents) → Underlies contents table room position epoch
+    → IsAheadOf (starts table room ended position epoch sessions) contents
+IsAheadOf-starts table room ended position epoch sessions contents under = record {
   epoch = under.epoch_is;
   before = under.position_is;
   last = refl;
   parts = tt;
+  once = tt;
   placed = tt;
   fitting = tt;
   unused = tt;
+  empty = tt;
   apart = tt;
   taken = tt;
   left = under.left;
@@ -110,6 +120,8 @@ IsAheadOf-starts table room position epoch sessions contents under = record {
 pub IsAheadOf-group : (old : Sequencing) (group : Group) (new : Sequencing) → HandsOut old group new → (contents : Contents) → IsAheadOf old contents → IsGroup contents group × IsAheadOf new (after_group contents group)
 IsAheadOf-group old group new hands contents stands =
     let parts = old.waiting in
+    let listed = old.ended ++ ended_by_parts parts in
+    let newest = newest_end old.newest parts in
     let is : (P : List Part → Type 0) → P parts → P group.parts.items = λ P h. subst P (sym hands.all) h in
     let group_is : IsGroup contents group = record {
       epoch = inl (hands.epoch ∙ stands.epoch);
@@ -122,31 +134,33 @@ IsAheadOf-group old group new hands contents stands =
       unused = is (λ items. AllByRecursion (IsUnused contents.versions contents.is_free) (puts_of_parts items)) stands.unused;
       apart = is (λ items. AreAllApart (puts_of_parts items)) stands.apart;
     } in
-    let later : IsAheadOf (record old { before = old.position; waiting = [] }) (after_parts group.epoch contents parts) = record {
+    let later : IsAheadOf (record old { before = old.position; waiting = []; ended = listed; newest = newest }) (after_parts group.epoch contents parts) = record {
       epoch = sym hands.epoch;
       before = sym stands.last ∙ ap (λ first. last_position first parts) stands.before;
       last = refl;
       parts = tt;
+      once = tt;
       placed = tt;
       fitting = tt;
       unused = tt;
+      empty = tt;
       apart = tt;
       taken = tt;
       left = left-after_parts group.epoch contents old.room parts stands.left stands.taken;
       table = stands.table;
     } in
-    (group_is, subst (λ s. IsAheadOf s (after_group contents group)) (sym hands.after) (is (λ items. IsAheadOf (record old { before = old.position; waiting = [] }) (after_parts group.epoch contents items)) later))
+    (group_is, subst (λ s. IsAheadOf s (after_group contents group)) (sym hands.after) (is (λ items. IsAheadOf (record old { before = old.position; waiting = []; ended = listed; newest = newest }) (after_parts group.epoch contents items)) later))
 
 -- whatever a call moved, the sequencer stays ahead of the contents
 pub IsAheadOf-moves : (changes : List Change) (old new : Sequencing) → Moves changes old new → new.epoch ≡ old.epoch → new.before ≡ old.before → (contents : Contents) → IsAheadOf old contents → IsAheadOf new contents
 IsAheadOf-moves [] old new moves epoch before contents stands =
     subst (λ s. IsAheadOf s contents)
-    (λ i. record { table = sym moves.table i; room = sym moves.room i; position = sym moves.position i; epoch = sym epoch i; before = sym before i; waiting = sym moves.waiting i; sessions = new.sessions })
-    (IsAheadOf-sessions old new.sessions contents stands)
+    (λ i. record { table = sym moves.table i; room = sym moves.room i; position = sym moves.position i; epoch = sym epoch i; before = sym before i; waiting = sym moves.waiting i; ended = new.ended; newest = new.newest; sessions = new.sessions })
+    (IsAheadOf-others old new.ended new.newest new.sessions contents stands)
 IsAheadOf-moves (change ∷ changes) old new moves epoch before contents stands =
     let part = moves.0 in
     let adds = moves.1 in
     let performs = adds.performs in
     subst (λ s. IsAheadOf s contents)
-    (λ i. record { table = sym performs.table_is i; room = new.room; position = sym adds.position i; epoch = sym epoch i; before = sym before i; waiting = sym adds.waiting i; sessions = new.sessions })
-    (IsAheadOf-part old contents stands part new.room performs.places new.sessions performs.position_is performs.ended)
+    (λ i. record { table = sym performs.table_is i; room = new.room; position = sym adds.position i; epoch = sym epoch i; before = sym before i; waiting = sym adds.waiting i; ended = new.ended; newest = new.newest; sessions = new.sessions })
+    (IsAheadOf-part old contents stands part new.room performs.places new.ended new.newest new.sessions performs.position_is performs.ended)

@@ -27,6 +27,8 @@ pub record Runs (old : Sequencing) (requests : List (List (List ℕ))) (replies 
   pub marks : Marks (records old.table) (all_made (records old.table) requests replies) old.sessions new.sessions
   pub epoch : new.epoch ≡ old.epoch
   pub before : new.before ≡ old.before
+  pub ended : new.ended ≡ old.ended
+  pub newest : new.newest ≡ old.newest
 
 -- What was to be done was done, and this is its reply.
 pub record Acts (old : Sequencing) (admission : Admission) (reply : Reply) (new : Sequencing) : Type 0 where
@@ -38,6 +40,8 @@ pub record Acts (old : Sequencing) (admission : Admission) (reply : Reply) (new 
   pub marks : Marks (records old.table) (changes_for (records old.table) admission reply) old.sessions new.sessions
   pub epoch : new.epoch ≡ old.epoch
   pub before : new.before ≡ old.before
+  pub ended : new.ended ≡ old.ended
+  pub newest : new.newest ≡ old.newest
 
 -- That memory was refused is answered only where the session answers it, or where one request was run.
 abbrev pub RefusesMemory : Admission → Reply → Type 0
@@ -56,5 +60,7 @@ pub record Finishes (old : Sequencing) (part : Part) (new : Sequencing) : Type 0
   pub sessions : new.sessions ≡ old.sessions
   pub epoch : new.epoch ≡ old.epoch
   pub before : new.before ≡ old.before
+  pub ended : new.ended ≡ old.ended
+  pub newest : new.newest ≡ old.newest
   pub none : part.changes.items ≡ [] → (new.position ≡ old.position) × (new.waiting ≡ old.waiting)
   pub some : part.changes.items ≢ [] → (new.position ≡ part.position) × (new.waiting ≡ old.waiting ++ part ∷ [])

@@ -1,6 +1,8 @@
 -- What calls are run on, and what running the requests of a call does to it.
-use Rattle.std.specs.Prelude.{◌≡◌, ◌≢◌, ℕ, ◌+◌, ◌<◌, ◌≤◌, List, [], ◌++◌, Option}
+use Rattle.std.specs.Prelude.{◌≡◌, ◌≢◌, ℕ, ◌+◌, ◌<◌, ◌≤◌, List, [], ◌++◌, ◌||◌, Option, None, IsTrue}
 use Rattle.kv_types.specs.declared.change.Change.{Change}
+use Rattle.kv_types.specs.declared.place.EntryNo.{EntryNo}
+use Rattle.kv_types.specs.declared.place.Extent.{Extent}
 use Rattle.kv_types.specs.declared.reply.Reply.{Reply}
 use Rattle.kv_types.specs.Change.{changes_size}
 use Rattle.multi_watch.specs.Session.{Session}
@@ -9,10 +11,11 @@ use Rattle.model.specs.declared.call.TheConstants.{MAX_CHANGE_TEXT_BYTES}
 use Rattle.model.specs.declared.image.TheConstants.{COUNTER_LIMIT}
 use Rattle.model.specs.Call.{MayStand, MayStandAll, made, all_made, full_reply}
 use Rattle.model.specs.Command.{outcome_of}
-use Rattle.model.specs.Group.{changes_of_part}
+use Rattle.model.specs.Group.{Versions, changes_of_part, is_listed}
 use Rattle.model.specs.declared.group.Part.{Part}
-use Rattle.extent_heap.specs.Room.{Room}
-use Rattle.mv_keyspace.specs.Table.{Table, records}
+use Rattle.extent_heap.specs.Room.{Room, is_free_entry}
+use Rattle.mv_keyspace.specs.Table.{Table, IsTable, records}
+use Rattle.placing.specs.Back.{GivesAll}
 use Rattle.placing.specs.Performs.{Performs, AddsTo, IsSamePart}
 use Rattle.placing.specs.Left.{IsBeside}
 use Rattle.placing.specs.Place.{HasRoomFor}
@@ -75,3 +78,15 @@ pub record AreUnderWay (start : Stored) (position : ℕ) (requests : List (List 
 -- All requests of a call were run, and each got its reply.
 abbrev pub RunsAll : Stored → ℕ → List (List (List ℕ)) → List Reply → Running → Stored → Type 0
 RunsAll start position requests replies = AreUnderWay start position requests replies []
+
+-- the table is that of some versions, and neither a free entry of the heap nor one of these has a version
+pub record IsBesideWith (table : Table) (room : Room) (entries : List EntryNo) : Type 0 where
+  pub versions : Versions
+  pub table_is : IsTable versions table
+  pub empty : (i : ℕ) → IsTrue (is_free_entry room i || is_listed i entries) → versions i ≡ None
+
+-- Places came back to the heap, and nothing else moved.
+pub record GivesBack (old : Stored) (entries : List EntryNo) (extents : List Extent) (new : Stored) : Type 0 where
+  pub table : new.table ≡ old.table
+  pub room : GivesAll old.room entries extents new.room
+  pub sessions : new.sessions ≡ old.sessions

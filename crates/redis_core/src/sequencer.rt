@@ -1,19 +1,21 @@
 //! The sequencer: one list of calls for all seats, and the groups of what they changed.
 ghost use Rattle.std.specs.Prelude.{◌≡◌, ◌≢◌, ◌+◌, ◌<◌, ◌≤◌, ◌↔◌, ◌⊎◌, ◌++◌, ◌∷◌, [], List, true, false, length, vec_capacity, replicate, Some, None, IsTrue, IfOk, IfErr, IsErrOf, OnOk, OnErr};
 ghost use Rattle.kv_types.specs.declared.item.Item.{Item};
+ghost use Rattle.kv_types.specs.declared.place.EntryNo.{EntryNo};
+ghost use Rattle.kv_types.specs.declared.place.Extent.{Extent};
 ghost use Rattle.kv_types.specs.declared.reply.Reply.{Reply, Array};
 ghost use Rattle.kv_types.specs.Fault.{fault_message};
 ghost use Rattle.multi_watch.specs.Session.{idle_session};
 ghost use Rattle.multi_watch.specs.Admission.{act_now};
 ghost use Rattle.multi_watch.specs.Sessions.{HasRoom};
-ghost use Rattle.model.specs.declared.group.Group.{Group};
 ghost use Rattle.model.specs.Call.{full_reply, memory_reply};
 ghost use Rattle.model.specs.Command as meaning;
-ghost use Rattle.model.specs.Group.{Contents, IsGroup, after_group};
+ghost use Rattle.model.specs.Group.{Contents};
 ghost use Rattle.mv_keyspace.specs.Table.{records};
+ghost use Rattle.placing.specs.Back.{HasOut};
 ghost use Rattle.placing.specs.Left.{IsBeside};
 ghost use Rattle.placing.specs.Place.{HasRoomFor};
-ghost use Rattle.redis_core.specs.Sequencing.{IsAheadOf, HandsOut, MovesSeat, Underlies, is_closed, starts};
+ghost use Rattle.redis_core.specs.Sequencing.{Expects, IsAheadOf, MovesSeat, TakesBack, Underlies, is_closed, starts};
 ghost use Rattle.redis_core.specs.Serving.{Acts, AnswersRequest, Finishes, RefusesMemory, Runs};
 ghost use Rattle.redis_core.specs.Turn.{Answers, OnServed, OnIdle, OnBlocked, OnGroupFull, OnEnded, OnUnserved};
 
@@ -21,12 +23,12 @@ use crate::error::{memory_reply, refusal_reply};
 use crate::seats::Seats;
 use crate::store::Store;
 use crate::turn::Turn;
-use extent_heap::ExtentHeap;
-use kv_types::{Held, Item, Listed, ProtocolFault, Refusal, Reply, Request};
-use model::{COUNTER_LIMIT, Group, MAX_PARTS, Part, closes};
+use kv_types::{EntryNo, Extent, Held, Item, Listed, ProtocolFault, Refusal, Reply, Request};
+use model::{COUNTER_LIMIT, FreeList, MAX_PARTS, Part, closes};
 use multi_watch::Act;
 use mv_keyspace::Keyspace;
 use pipes::{Inlet, MAX_SEATS, Outlet, Seat};
+use placing::Rebuilt;
 use std::alloc::Global;
 use std::hash::RandomState;
 use std::marker::Model;
@@ -37,12 +39,14 @@ use std::marker::Model;
 /// `Sequencing`.
 #[derive(Drop)]
 pub struct Sequencer<K: Keyspace> {
-    store: Store<K>,
-    position: u64,
+    pub(crate) store: Store<K>,
+    pub(crate) position: u64,
     // Of each group that it hands out.
-    epoch: u64,
-    before: u64,
-    waiting: Vec<Part>,
+    pub(crate) epoch: u64,
+    pub(crate) before: u64,
+    pub(crate) waiting: Vec<Part>,
+    // What groups that were handed out ended, and what had ended before.
+    pub(crate) listed: FreeList,
 }
 
 impl<K: Keyspace> Model for Sequencer<K> {
@@ -59,6 +63,8 @@ impl<K: Keyspace> Model for Sequencer<K> {
       epoch = s.epoch;
       before = s.before;
       waiting = s.waiting.items;
+      ended = s.listed.entries.items;
+      newest = s.listed.position;
       sessions = s.store.sessions;
     } };
 
@@ -66,8 +72,9 @@ impl<K: Keyspace> Model for Sequencer<K> {
 }
 
 impl<K: Keyspace + Drop> Sequencer<K> {
-    /// A sequencer over a keyspace at this position of the list, with a heap of what is free beside it, whose groups are of this epoch. All seats
-    /// are closed and nothing waits. Watched keys are hashed with `hash_builder`, on which nothing that is promised depends.
+    /// A sequencer over a keyspace at this position of the list, with a heap of what is free beside it and the entries of versions that have ended,
+    /// whose groups are of this epoch. All seats are closed and nothing waits. Watched keys are hashed with `hash_builder`, on which nothing that is
+    /// promised depends.
     ///
     /// # Errors
     ///
@@ -75,14 +82,15 @@ impl<K: Keyspace + Drop> Sequencer<K> {
     pub fn new(
         alloc: Global,
         keyspace: K,
-        heap: ExtentHeap,
+        room: Rebuilt,
         position: u64,
         epoch: u64,
         hash_builder: RandomState,
     ) -> Result<Sequencer<K>, Refusal>
-        requires { IsBeside (K.table keyspace) heap }
-        ensures ok { IfOk result (λ s. s ≡ starts (K.table keyspace) heap position epoch (replicate MAX_SEATS None)) }
-        ensures stands { IfOk result (λ s. (contents : Contents) → Underlies contents (K.table keyspace) heap position epoch → IsAheadOf s contents) }
+        requires { IsBeside (K.table keyspace) room.heap }
+        ensures ok { IfOk result (λ s. s ≡ starts (K.table keyspace) room.heap room.ended.items position epoch (replicate MAX_SEATS None)) }
+        ensures stands { IfOk result (λ s. (contents : Contents) → Underlies contents (K.table keyspace) room.heap position epoch → IsAheadOf s contents) }
+        ensures expects { IfOk result (λ s. (contents : Contents) → HasOut contents room.heap 0 → Expects s contents [] []) }
         ensures causes { IfErr result (λ refusal. (refusal ≡ Refusal.Exhausted) ⊎ (refusal ≡ Refusal.Memory)) }
         ensures exhausted_only { IsErrOf result Refusal.Exhausted ↔ (COUNTER_LIMIT ≤ position) }
     {
@@ -92,11 +100,15 @@ impl<K: Keyspace + Drop> Sequencer<K> {
         let waiting = Vec::with_capacity(alloc, MAX_PARTS)?;
         let seats = Seats::new(alloc, hash_builder)?;
         Ok(Sequencer {
-            store: Store::new(keyspace, heap, seats),
+            store: Store::new(keyspace, room.heap, seats),
             position,
             epoch,
             before: position,
             waiting,
+            listed: FreeList {
+                position,
+                entries: room.ended,
+            },
         })
     }
 }
@@ -119,6 +131,8 @@ impl<K: Keyspace> Sequencer<K> {
         ensures cause { IfErr result (λ refusal. refusal ≡ Refusal.Memory) }
         ensures err { OnErr result (self.new ≡ self.old) }
         ensures stands { (contents : Contents) → IsAheadOf self.old contents → IsAheadOf self.new contents }
+        ensures expects { (contents : Contents) (entries : List EntryNo) (extents : List Extent) → IsAheadOf self.old contents
+            → Expects self.old contents entries extents → Expects self.new contents entries extents }
     {
         self.store.open(alloc, seat)
     }
@@ -127,6 +141,8 @@ impl<K: Keyspace> Sequencer<K> {
     pub fn close_seat(&mut self, seat: &Seat)
         ensures closed { MovesSeat self.old seat.now None self.new }
         ensures stands { (contents : Contents) → IsAheadOf self.old contents → IsAheadOf self.new contents }
+        ensures expects { (contents : Contents) (entries : List EntryNo) (extents : List Extent) → IsAheadOf self.old contents
+            → Expects self.old contents entries extents → Expects self.new contents entries extents }
     {
         self.store.close(seat);
     }
@@ -157,6 +173,8 @@ impl<K: Keyspace> Sequencer<K> {
             → I.known_items inlet.old ≢ [] → result ≡ Turn.Served }
         ensures same { O.is_same outlet.old outlet.new }
         ensures stands { (contents : Contents) → IsAheadOf self.old contents → IsAheadOf self.new contents }
+        ensures expects { (contents : Contents) (entries : List EntryNo) (extents : List Extent) → IsAheadOf self.old contents
+            → Expects self.old contents entries extents → Expects self.new contents entries extents }
     {
         if self.store.is_closed(seat) {
             return Turn::Ended;
@@ -181,40 +199,15 @@ impl<K: Keyspace> Sequencer<K> {
         }
     }
 
-    /// Hands out all parts that wait, as one group of the sequencer's epoch.
-    ///
-    /// # Errors
-    ///
-    /// `PipeFull` where there was no known room, `Memory` where a growth was refused. The parts keep waiting.
-    pub fn close_group<G: Outlet<Item = Group>>(
-        &mut self,
-        alloc: Global,
-        outlet: &mut G,
-    ) -> Result<(), Refusal>
-        requires { (self.old).waiting ≢ [] }
-        ensures ok { OnOk result ((group : Group) × (G.offered outlet.new ≡ G.offered outlet.old ++ group ∷ [])
-            × HandsOut self.old group self.new
-            × ((contents : Contents) → IsAheadOf self.old contents → IsGroup contents group × IsAheadOf self.new (after_group contents group))) }
-        ensures err { OnErr result ((self.new ≡ self.old) × (G.offered outlet.new ≡ G.offered outlet.old)) }
-        ensures causes { IfErr result (λ refusal. (refusal ≡ Refusal.PipeFull) ⊎ (refusal ≡ Refusal.Memory)) }
-        ensures full_only { IsErrOf result Refusal.PipeFull → G.known_room outlet.old ≡ 0 }
-        ensures same { G.is_same outlet.old outlet.new }
+    /// What was freed on the image is free in the heap again. It takes no memory.
+    pub fn accept_freed(&mut self, entries: &[EntryNo], extents: &[Extent])
+        requires expected { (contents : Contents) × (rest : List EntryNo) × (others : List Extent) × IsAheadOf self.old contents
+            × Expects self.old contents (entries.now ++ rest) (extents.now ++ others) }
+        ensures back { TakesBack self.old entries.now extents.now self.new }
+        ensures stands { (contents : Contents) (rest : List EntryNo) (others : List Extent) → IsAheadOf self.old contents
+            → Expects self.old contents (entries.now ++ rest) (extents.now ++ others) → IsAheadOf self.new contents × Expects self.new contents rest others }
     {
-        if outlet.room() == 0 {
-            return Err(Refusal::PipeFull);
-        }
-        let empty = Vec::with_capacity(alloc, MAX_PARTS)?;
-        let parts = std::mem::replace(&mut self.waiting, empty);
-        let before = std::mem::replace(&mut self.before, self.position);
-        let group = Group {
-            epoch: self.epoch,
-            before,
-            parts,
-        };
-        match outlet.offer(group) {
-            Ok(()) => Ok(()),
-            Err(_) => unreachable!(),
-        }
+        self.store.accept(entries, extents);
     }
 
     /// Answers an item and makes all its changes. One that closes its connection closes the seat.
@@ -223,6 +216,8 @@ impl<K: Keyspace> Sequencer<K> {
         requires few { length (self.old).waiting < MAX_PARTS }
         ensures answers { Answers self.old seat.now item result self.new }
         ensures stands { (contents : Contents) → IsAheadOf self.old contents → IsAheadOf self.new contents }
+        ensures expects { (contents : Contents) (entries : List EntryNo) (extents : List Extent) → IsAheadOf self.old contents
+            → Expects self.old contents entries extents → Expects self.new contents entries extents }
     {
         let is_last = closes(&item);
         let reply = match item {

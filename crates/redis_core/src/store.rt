@@ -3,22 +3,23 @@ ghost use Rattle.std.specs.Prelude.{◌≡◌, ◌≤◌, ℕ, List, [], length,
 ghost use Rattle.multi_watch.specs.Session.{idle_session};
 ghost use Rattle.multi_watch.specs.Admission.{act_now, step, session_after_refusal};
 ghost use Rattle.multi_watch.specs.Sessions.{session_at, HasRoom};
+ghost use Rattle.placing.specs.Back.{CanGiveAll};
 ghost use Rattle.placing.specs.Left.{IsBeside};
 ghost use Rattle.redis_core.specs.Seats.{is_closed_at};
 ghost use Rattle.placing.specs.Place.{HasRoomFor};
-ghost use Rattle.redis_core.specs.Stored.{AreUnderWay, IsSame, IsTooFull, Makes, MovesOne, RunsRequest};
+ghost use Rattle.redis_core.specs.Stored.{AreUnderWay, GivesBack, IsBesideWith, IsSame, IsTooFull, Makes, MovesOne, RunsRequest};
 
 use crate::error::{error, refusal_reply};
 use crate::marking::{cleared_keys, mark};
 use crate::running::{Running, left_after};
 use crate::seats::Seats;
 use extent_heap::ExtentHeap;
-use kv_types::{Change, Refusal, Reply, Request};
+use kv_types::{Change, EntryNo, Extent, Refusal, Reply, Request};
 use model::{COUNTER_LIMIT, MAX_CHANGE_TEXT_BYTES, Outcome, outcome_of};
 use multi_watch::Act;
 use mv_keyspace::Keyspace;
 use pipes::Seat;
-use placing::{empty_part, perform};
+use placing::{empty_part, give_all, perform};
 use std::alloc::Global;
 use std::marker::Model;
 
@@ -79,6 +80,15 @@ impl<K: Keyspace> Store<K> {
         ensures { MovesOne self.old seat.now None self.new }
     {
         self.seats.close(seat);
+    }
+
+    /// Places that are free on the image come back to the heap. It takes no memory.
+    pub(crate) fn accept(&mut self, entries: &[EntryNo], extents: &[Extent])
+        requires room { CanGiveAll (self.old).room entries.now extents.now }
+        requires beside { IsBesideWith (self.old).table (self.old).room entries.now }
+        ensures { GivesBack self.old entries.now extents.now self.new }
+    {
+        give_all(&mut self.heap, entries, extents);
     }
 
     /// What is to be done for a request of the connection at an open seat.

@@ -4,6 +4,7 @@ use Rattle.model.specs.Call.{changes_of}
 use Rattle.redis_core.specs.Sequencing.{Sequencing, MovesSeat, state_of}
 use Rattle.redis_core.specs.Turn.{call_of}
 use Rattle.redis_core.proofs.AnswersLemmas.{Replied, replied-request, replied-fault, replied-open, replied-closed}
+use Rattle.redis_core.proofs.ExpectingLemmas.{Expects-moves}
 use Rattle.redis_core.proofs.StandingLemmas.{IsAheadOf-moves}
 use Rattle.redis_core.proofs.sequencer.Sequencer.answer.Goals as goal
 use Rattle.redis_core.proofs.sequencer.Sequencer.answer.Goals.{in-Request, in-Fault}
@@ -31,6 +32,8 @@ returns-then-is_last-clause-answers g c =
       epoch = inside.epoch;
       before = inside.before;
       waiting = inside.waiting.items;
+      ended = inside.listed.entries.items;
+      newest = inside.listed.position;
       sessions = inside.store.sessions;
     } in
     let new : Sequencing = record {
@@ -40,6 +43,8 @@ returns-then-is_last-clause-answers g c =
       epoch = inside.epoch;
       before = inside.before;
       waiting = inside.waiting.items;
+      ended = inside.listed.entries.items;
+      newest = inside.listed.position;
       sessions = store.sessions;
     } in
     let over : MovesSeat view seat None new = record {
@@ -49,6 +54,8 @@ returns-then-is_last-clause-answers g c =
       epoch = refl;
       before = refl;
       waiting = refl;
+      ended = refl;
+      newest = refl;
       sessions = c.close.ensures.sessions;
     } in
     replied-closed old seat c.args.item c.match-item.reply c.match-item.self new replied (sym c.closes-is_last.ensures ∙ c.if-is_last.true) (subst (λ (mid : Sequencing). MovesSeat mid seat None new) c.self.view_is over)
@@ -78,3 +85,13 @@ pub returns-else-is_last-clause-stands : goal.returns-else-is_last-clause-stands
 returns-else-is_last-clause-stands g c =
     let answers = returns-else-is_last-clause-answers g c in
     IsAheadOf-moves (changes_of (state_of c.args.self.now) (call_of c.args.seat.now c.args.item c.match-item.reply)) c.args.self.now _ answers.moves answers.epoch answers.before
+
+pub returns-then-is_last-clause-expects : goal.returns-then-is_last-clause-expects
+returns-then-is_last-clause-expects g c =
+    let answers = returns-then-is_last-clause-answers g c in
+    Expects-moves (changes_of (state_of c.args.self.now) (call_of c.args.seat.now c.args.item c.match-item.reply)) c.args.self.now _ answers.moves
+
+pub returns-else-is_last-clause-expects : goal.returns-else-is_last-clause-expects
+returns-else-is_last-clause-expects g c =
+    let answers = returns-else-is_last-clause-answers g c in
+    Expects-moves (changes_of (state_of c.args.self.now) (call_of c.args.seat.now c.args.item c.match-item.reply)) c.args.self.now _ answers.moves

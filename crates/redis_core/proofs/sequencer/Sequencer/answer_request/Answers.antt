@@ -17,6 +17,8 @@ returns-in-Err g c =
       epoch = inside.epoch;
       before = inside.before;
       waiting = inside.waiting.items;
+      ended = inside.listed.entries.items;
+      newest = inside.listed.position;
       sessions = inside.store.sessions;
     } in
     let store = c.call.new.self in
@@ -27,12 +29,14 @@ returns-in-Err g c =
       epoch = inside.epoch;
       before = inside.before;
       waiting = inside.waiting.items;
+      ended = inside.listed.entries.items;
+      newest = inside.listed.position;
       sessions = store.sessions;
     } in
     let moves = c.in-Err.ensures.err in
     let refused : AnswersRequest old seat c.args.request (refusal_reply c.in-Err.refusal) mid = subst (λ reply. AnswersRequest old seat c.args.request reply mid) (sym (ap refusal_reply c.in-Err.ensures.cause)) (record {
       between = mid;
-      session = record { table = moves.table; room = moves.room; position = refl; epoch = refl; before = refl; waiting = refl; sessions = moves.sessions };
+      session = record { table = moves.table; room = moves.room; position = refl; epoch = refl; before = refl; waiting = refl; ended = refl; newest = refl; sessions = moves.sessions };
       acts = acts-refused mid (admit (session_at old.sessions seat) c.args.request);
     }) in
     subst (λ reply. AnswersRequest c.args.self.now seat c.args.request reply mid) (sym c.refusal_reply.ensures)

@@ -1,9 +1,10 @@
 use Rattle.std.proofs.Common.{◌≡◌, ◌≢◌, ◌<◌, ◌≤◌, [], ◌∷◌, ◌++◌, List, length, Vec, Global, refl, ap, subst, ◌∙◌, arith}
 use Rattle.model.specs.declared.group.Group.{Group}
 use Rattle.model.specs.declared.group.Part.{Part}
+use Rattle.model.specs.declared.work.Work.TheVariants as Work
 use Rattle.model.specs.declared.group.TheConstants.{MAX_PARTS}
-use Rattle.redis_core.specs.Sequencing.{Sequencing, HandsOut}
-use Rattle.redis_core.proofs.StandingLemmas.{IsAheadOf-group}
+use Rattle.redis_core.specs.Sequencing.{Sequencing, HandsOut, ended_by_parts, newest_end}
+use Rattle.redis_core.proofs.LeadingLemmas.{LeadsOn-group}
 use Rattle.redis_core.proofs.sequencer.Sequencer.close_group.Goals as goal
 
 some : (parts : List Part) → parts ≢ [] → 0 < length parts
@@ -22,6 +23,7 @@ returns-clause-ok g c =
       all = ap (λ (parts : Vec Part Global). parts.items) c.replace-parts.ensures.value ∙ waits;
       epoch = ap (λ (s : Sequencing). s.epoch) c.self.view_is;
       before = c.replace-before.ensures.value ∙ ap (λ (s : Sequencing). s.before) c.self.view_is;
-      after = rw (c.replace-before.ensures.after, emptied) (ap (λ (s : Sequencing). record s { before = s.position; waiting = [] }) c.self.view_is);
+      after = rw (c.replace-before.ensures.after, emptied, c.in_ok-list_ended.ensures.entries, c.in_ok-list_ended.ensures.position, c.deref.ensures.value)
+          (ap (λ (s : Sequencing). record s { before = s.position; waiting = []; ended = s.ended ++ ended_by_parts s.waiting; newest = newest_end s.newest s.waiting }) c.self.view_is);
     } in
-    (group, c.in-Ok.ensures.last ∙ ap (λ items. items ++ group ∷ []) c.room.ensures.unchanged, hands, IsAheadOf-group old group _ hands)
+    (group, c.in-Ok.ensures.last ∙ ap (λ items. items ++ Work.Commit group ∷ []) c.room.ensures.unchanged, hands, LeadsOn-group old group _ hands)

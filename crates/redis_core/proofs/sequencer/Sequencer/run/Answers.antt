@@ -27,6 +27,8 @@ returns-clause-ran g c =
       epoch = inside.epoch;
       before = inside.before;
       waiting = inside.waiting.items;
+      ended = inside.listed.entries.items;
+      newest = inside.listed.position;
       sessions = inside.store.sessions;
     } in
     let mid : Sequencing = record {
@@ -36,9 +38,11 @@ returns-clause-ran g c =
       epoch = inside.epoch;
       before = inside.before;
       waiting = inside.waiting.items;
+      ended = inside.listed.entries.items;
+      newest = inside.listed.position;
       sessions = c.run-reply.new.self.sessions;
     } in
     let under = underway-more inside.store (inside.position + 1) (words ∷ []) [] words [] c.begin-running.result inside.store c.run-reply.result c.run-reply.new.running c.run-reply.new.self
     (c.begin-running.ensures (words ∷ [])) c.run-reply.ensures in
     subst (λ (s : Sequencing). Runs s (words ∷ []) (c.run-reply.result ∷ []) c.finish.new.self) c.self.view_is
-    (runs-finished old mid c.finish.new.self (words ∷ []) (c.run-reply.result ∷ []) c.run-reply.new.running under refl refl refl refl c.finish.ensures)
+    (runs-finished old mid c.finish.new.self (words ∷ []) (c.run-reply.result ∷ []) c.run-reply.new.running under refl refl refl refl refl refl c.finish.ensures)

@@ -27,6 +27,8 @@ returns g c =
       epoch = inside.epoch;
       before = inside.before;
       waiting = inside.waiting.items;
+      ended = inside.listed.entries.items;
+      newest = inside.listed.position;
       sessions = inside.store.sessions;
     } in
     let mid : Sequencing = record {
@@ -36,11 +38,13 @@ returns g c =
       epoch = inside.epoch;
       before = inside.before;
       waiting = inside.waiting.items;
+      ended = inside.listed.entries.items;
+      newest = inside.listed.position;
       sessions = store.sessions;
     } in
     let under = c.run_all-replies.ensures (inside.position + 1) (c.begin-running.ensures requests) in (
       replies,
       ap Array c.from_vec.ensures,
       subst (λ (s : Sequencing). Runs s requests replies c.finish.new.self) c.self.view_is
-          (runs-finished old mid c.finish.new.self requests replies c.run_all-replies.new.running under refl refl refl refl c.finish.ensures),
+          (runs-finished old mid c.finish.new.self requests replies c.run_all-replies.new.running under refl refl refl refl refl refl c.finish.ensures),
     )

@@ -1,0 +1,76 @@
+-- What a sequencer expects to come back to its heap stays so, whatever calls do.
+use Rattle.std.proofs.Common.{ℕ, Bool, IsTrue, List, [], ◌∷◌, ◌++◌, nat_eq, refl, sym, subst₂}
+use Rattle.kv_types.specs.declared.change.Change.{Change}
+use Rattle.kv_types.specs.declared.place.EntryNo.{EntryNo}
+use Rattle.kv_types.specs.declared.place.Extent.{Extent}
+use Rattle.extent_heap.specs.Room.{Room}
+use Rattle.model.specs.declared.group.Part.{Part}
+use Rattle.model.specs.declared.record.Record.{Record}
+use Rattle.model.specs.Group.{Contents, Versions, puts_of_part}
+use Rattle.mv_keyspace.specs.Table.{Table}
+use Rattle.multi_watch.specs.Sessions.{Sessions}
+use Rattle.placing.specs.Back.{ComesBack, HasOut}
+use Rattle.placing.specs.Place.{TakesPlaces}
+use Rattle.placing.proofs.BackLemmas.{comes-back-part}
+use Rattle.placing.proofs.LeftLemmas.{after_parts, left-after_parts}
+use Rattle.placing.proofs.MemberLemmas.{distinct_none}
+use Rattle.redis_core.specs.Sequencing.{Sequencing, Expects, IsAheadOf, contents_ahead, starts}
+use Rattle.redis_core.specs.Turn.{Moves}
+
+-- ---- contents that differ in nothing that counts
+
+-- the record of the contents does not matter, and what is free may be more
+pub comes_back-like : (lines : ℕ) (versions : Versions) (current current' : Record) (is_free is_free' : ℕ → Bool) → ((i : ℕ) → IsTrue (is_free i) → IsTrue (is_free' i))
+    → (room : Room) (entries : List EntryNo) (extents : List Extent)
+    → ComesBack (record { current = current; lines = lines; versions = versions; is_free = is_free }) room entries extents
+    → ComesBack (record { current = current'; lines = lines; versions = versions; is_free = is_free' }) room entries extents
+comes_back-like lines versions current current' is_free is_free' more room entries extents back = record {
+  once = back.once;
+  entries_back = λ i listed.
+      let was = back.entries_back i listed in
+      record { within = was.within; is_free = more i was.is_free; none = was.none; out = was.out };
+  apart = back.apart;
+  some = back.some;
+  lines_back = λ line has.
+      let was = back.lines_back line has in
+      record { above = was.above; within = was.within; none = was.none; out = was.out };
+  out = record { end_line = back.out.end_line; end_entry = back.out.end_entry; held = back.out.held };
+}
+
+-- ---- a new sequencer
+
+-- it expects nothing
+pub Expects-starts : (table : Table) (room : Room) (ended : List EntryNo) (position epoch : ℕ) (sessions : Sessions) (contents : Contents) → HasOut contents room 0
+    → Expects (starts table room ended position epoch sessions) contents [] []
+Expects-starts table room ended position epoch sessions contents out = record {
+  once = distinct_none nat_eq;
+  entries_back = λ i listed. cc;
+  apart = tt;
+  some = tt;
+  lines_back = λ line has. cc;
+  out = record { end_line = out.end_line; end_entry = out.end_entry; held = out.held };
+}
+
+-- ---- one more part waits
+
+module _ (s : Sequencing) (contents : Contents) (part : Part) (room : Room) (entries : List EntryNo) (extents : List Extent) where
+  expects_part : IsAheadOf s contents → TakesPlaces s.room (puts_of_part part) room → Expects s contents entries extents → ComesBack (contents_ahead contents (s.waiting ++ part ∷ [])) room entries extents
+  expects_part stands takes expects =
+      let ahead = contents_ahead contents s.waiting in
+      let before = after_parts 0 contents s.waiting in
+      let after = after_parts 0 contents (s.waiting ++ part ∷ []) in
+      comes_back-like contents.lines after.versions after.current contents.current after.is_free after.is_free (λ i free. free) room entries extents
+      (comes-back-part 0 0 contents s.waiting part s.room room entries extents takes (λ i free. ((left-after_parts 0 contents s.room s.waiting stands.left stands.taken).entries i free).2)
+      (comes_back-like contents.lines before.versions contents.current before.current before.is_free before.is_free (λ i free. free) s.room entries extents expects))
+
+-- ---- calls
+
+-- whatever a call moved, as much is expected
+pub Expects-moves : (changes : List Change) (old new : Sequencing) → Moves changes old new → (contents : Contents) (entries : List EntryNo) (extents : List Extent) → IsAheadOf old contents
+    → Expects old contents entries extents → Expects new contents entries extents
+Expects-moves [] old new moves contents entries extents stands expects =
+    subst₂ (λ waiting room. ComesBack (contents_ahead contents waiting) room entries extents) (sym moves.waiting) (sym moves.room) expects
+Expects-moves (change ∷ changes) old new moves contents entries extents stands expects =
+    let adds = moves.1 in
+    subst₂ (λ waiting room. ComesBack (contents_ahead contents waiting) room entries extents) (sym adds.waiting) refl
+    (expects_part old contents moves.0 new.room entries extents stands adds.performs.places expects)
