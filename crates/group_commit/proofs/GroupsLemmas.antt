@@ -3,8 +3,7 @@ use Rattle.std.proofs.Common.{◌≡◌, List, [], ◌∷◌, ◌++◌, refl, sy
 use Rattle.model.specs.declared.group.Group.{Group}
 use Rattle.model.specs.Group.{Contents, IsGroup, after_group}
 use Rattle.wbl_engine.specs.Contents.{Same}
-use Rattle.pipes.specs.Waiting.{Waiting, LocalTakes}
-use Rattle.group_commit.specs.Group.{AreGroups, GivesGroup, after_groups}
+use Rattle.group_commit.specs.Group.{AreGroups, after_groups}
 
 -- ---- a group comes
 
@@ -17,10 +16,6 @@ after_groups-push contents [] group = refl
 after_groups-push contents (first ∷ groups) group = after_groups-push (after_group contents first) groups group
 
 -- ---- a group goes
-
--- a pipe of such groups gives what a commit asks for
-pub GivesGroup-first : (contents : Contents) (pipe : Waiting Group) → AreGroups contents pipe.items → GivesGroup LocalTakes pipe contents
-GivesGroup-first contents pipe are = λ group after takes. (subst (AreGroups contents) takes are).0
 
 -- contents that say the same of each entry are one
 pub Same-is : (old new : Contents) → Same old new → new ≡ old

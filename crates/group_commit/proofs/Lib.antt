@@ -1,1 +1,5 @@
+pub mod FreedLemmas
 pub mod GroupsLemmas
+pub mod TakingLemmas
+pub mod TurnLemmas
+pub mod WorkLemmas

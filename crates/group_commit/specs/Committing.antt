@@ -28,9 +28,9 @@ module _ {E : Type 0} (device : E → State) (contents : E → Contents) (is_fau
     -- a fence failed, in this call or an earlier one, and each later commit is refused so
     pub fault : IsErrOf result Fault → (is_faulted old.engine ≡ true) ⊎ ((device old.engine).failures < (device new.engine).failures)
     pub stopped : IsErrOf result Fault → is_faulted new.engine ≡ true
-    pub faulted : is_faulted old.engine ≡ true → (result ≡ Err Fault) × (new ≡ old)
-    -- a counter would reach 2^62, and nothing changed
-    pub exhausted : IsErrOf result Exhausted → Exhausts (contents old.engine) group × (new ≡ old)
+    pub faulted : is_faulted old.engine ≡ true → (result ≡ Err Fault) × (new.engine ≡ old.engine)
+    -- a counter would reach 2^62, and the engine did not change
+    pub exhausted : IsErrOf result Exhausted → Exhausts (contents old.engine) group × (new.engine ≡ old.engine)
     pub exhausts : is_faulted old.engine ≡ false → Exhausts (contents old.engine) group → result ≡ Err Exhausted
     pub local : new.local ≡ old.local
     pub moments : is_faulted old.engine ≡ false

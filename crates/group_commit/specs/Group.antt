@@ -1,7 +1,10 @@
--- Groups that wait to be committed, one after another.
-use Rattle.std.specs.Prelude.{List, [], ◌∷◌, Option, Some}
+-- Groups that wait to be committed, one after another, and free lists among them.
+use Rattle.std.specs.Prelude.{List, [], ◌∷◌}
 use Rattle.model.specs.declared.group.Group.{Group}
-use Rattle.model.specs.Group.{Contents, IsGroup, after_group}
+use Rattle.model.specs.declared.work.FreeList.{FreeList}
+use Rattle.model.specs.declared.work.Work.{Work}
+use Rattle.model.specs.declared.work.Work.TheVariants as work
+use Rattle.model.specs.Group.{AreEnded, Contents, IsGroup, after_group}
 
 -- each group is what a commit asks for, after those before it
 abbrev pub AreGroups : Contents → List Group → Type 0
@@ -13,6 +16,30 @@ abbrev pub after_groups : Contents → List Group → Contents
 after_groups contents [] = contents
 after_groups contents (group ∷ groups) = after_groups (after_group contents group) groups
 
--- a group that this end of a pipe may give next, if it gives one, is what a commit asks for
-abbrev pub GivesGroup : {I : Type 0} → (I → Option Group → I → Type 0) → I → Contents → Type 0
-GivesGroup {I} take_gives inlet contents = (group : Group) (after : I) → take_gives inlet (Some group) after → IsGroup contents group
+-- ---- groups and free lists
+
+-- each group is what a commit asks for, after those before it, and the entries of each list have ended by then
+abbrev pub AreWork : Contents → List Work → Type 0
+AreWork contents [] = Unit {0}
+AreWork contents (work.Commit group ∷ items) = IsGroup contents group × AreWork (after_group contents group) items
+AreWork contents (work.Free list ∷ items) = AreEnded contents list.entries.items × AreWork contents items
+
+abbrev pub groups_of : List Work → List Group
+groups_of [] = []
+groups_of (work.Commit group ∷ items) = group ∷ groups_of items
+groups_of (work.Free list ∷ items) = groups_of items
+
+abbrev pub lists_of : List Work → List FreeList
+lists_of [] = []
+lists_of (work.Commit group ∷ items) = lists_of items
+lists_of (work.Free list ∷ items) = list ∷ lists_of items
+
+-- the lists before the first group
+abbrev pub lists_before : List Work → List FreeList
+lists_before [] = []
+lists_before (work.Commit group ∷ items) = []
+lists_before (work.Free list ∷ items) = list ∷ lists_before items
+
+-- the contents after all of the groups: the lists wait
+abbrev pub after_work : Contents → List Work → Contents
+after_work contents items = after_groups contents (groups_of items)

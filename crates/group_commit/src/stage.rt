@@ -1,5 +1,6 @@
 //! How far a committer is with a group, and what a turn of it came to.
 use model::Group;
+use wbl_engine::Freed;
 
 /// How far the committer is with a group.
 #[derive(Debug, Drop)]
@@ -13,7 +14,7 @@ pub enum Stage {
 }
 
 /// What a turn came to.
-#[derive(Clone, Copy, Debug, PartialEq, Eq)]
+#[derive(Debug, Drop)]
 pub enum Done {
     /// A group was taken and committed.
     Committed,
@@ -21,6 +22,11 @@ pub enum Done {
     Raised,
     /// The group was handed on.
     Handed,
-    /// There was nothing to do, or no known room at the link. Nothing changed.
+    /// The oldest free list aside was freed.
+    Freed(Freed),
+    /// The oldest gap of the record was cleared. It gives back no extent.
+    Cleared(Freed),
+    /// There was nothing to do: no group came, or the link has no known room; and what may be freed or cleared is not due. Nothing changed, but that free
+    /// lists may have been set aside.
     Idle,
 }

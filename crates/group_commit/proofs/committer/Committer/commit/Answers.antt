@@ -1,57 +1,46 @@
-use Rattle.std.proofs.Common.{Err, inl, refl, ap, ◌∙◌, arith}
+use Rattle.std.proofs.Common.{Err, refl, ap, ◌∙◌}
 use Rattle.std.proofs.lemmas.Result.{err_from_is_err_and}
 use Rattle.group_commit.proofs.committer.Committer.commit.Goals as goal
 
-pub returns-in_err-commit-clause-goes : goal.returns-in_err-commit-clause-goes
-returns-in_err-commit-clause-goes g c =
+pub returns-in_err-commit-clause-commits : goal.returns-in_err-commit-clause-commits
+returns-in_err-commit-clause-commits g c =
     let exit = err_from_is_err_and c.from_residual.result c.from_residual.ensures.1 in
     let engine = c.in_err-commit.ensures in
-    let same = λ (engine : g.row.E.Denot). record c.args.self.now { engine = engine } in
-    rw (exit.1 ∙ ap Err exit.2) (inl (
-      c.in-Some.group,
-      c.in-Some.ensures,
-      omega (arith, c.room.ensures.value, c.if-room-eq0.false),
-      record {
-        answer = tt;
-        in_hand = tt;
-        moved = tt;
-        durable = tt;
-        sound = tt;
-        causes = engine.causes;
-        dropped = c.requires.ready;
-        stays = engine.stays;
-        fault = λ is. engine.fault (cc);
-        stopped = λ is. engine.stopped (cc);
-        faulted = λ was. let told = engine.faulted was in (cc, ap same told.1);
-        exhausted = λ is. let told = engine.exhausted (cc) in (told.0, ap same told.1);
-        exhausts = λ sound reached. let told = engine.exhausts sound reached in cc;
-        local = refl;
-        moments = engine.moments;
-      },
-    ))
+    rw (exit.1 ∙ ap Err exit.2) record {
+      answer = tt;
+      in_hand = tt;
+      moved = tt;
+      durable = tt;
+      sound = tt;
+      causes = engine.causes;
+      dropped = c.requires.ready;
+      stays = engine.stays;
+      fault = λ is. engine.fault (cc);
+      stopped = λ is. engine.stopped (cc);
+      faulted = λ was. let told = engine.faulted was in (cc, told.1);
+      exhausted = λ is. engine.exhausted (cc);
+      exhausts = λ sound reached. let told = engine.exhausts sound reached in cc;
+      local = refl;
+      moments = engine.moments;
+    }
 
-pub returns-clause-goes : goal.returns-clause-goes
-returns-clause-goes g c =
+pub returns-clause-commits : goal.returns-clause-commits
+returns-clause-commits g c =
     let engine = c.in_ok-commit.ensures in
-    inl (
-      c.in-Some.group,
-      c.in-Some.ensures,
-      omega (arith, c.room.ensures.value, c.if-room-eq0.false),
-      record {
-        answer = refl;
-        in_hand = refl;
-        moved = engine.moved;
-        durable = engine.durable;
-        sound = engine.sound;
-        causes = tt;
-        dropped = tt;
-        stays = tt;
-        fault = λ is. cc;
-        stopped = λ is. cc;
-        faulted = λ was. let told = engine.faulted was in cc;
-        exhausted = λ is. cc;
-        exhausts = λ sound reached. let told = engine.exhausts sound reached in cc;
-        local = refl;
-        moments = engine.moments;
-      },
-    )
+    record {
+      answer = refl;
+      in_hand = refl;
+      moved = engine.moved;
+      durable = engine.durable;
+      sound = engine.sound;
+      causes = tt;
+      dropped = tt;
+      stays = tt;
+      fault = λ is. cc;
+      stopped = λ is. cc;
+      faulted = λ was. let told = engine.faulted was in cc;
+      exhausted = λ is. cc;
+      exhausts = λ sound reached. let told = engine.exhausts sound reached in cc;
+      local = refl;
+      moments = engine.moments;
+    }
