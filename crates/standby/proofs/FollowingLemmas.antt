@@ -1,6 +1,8 @@
 -- A standby that has taken a whole frame still follows, and the commit asked of its engine meets the engine's contract.
-use Rattle.std.proofs.Common.{◌≡◌, ℕ, ◌<◌, ◌≤◌, ◌⊎◌, inl, inr, List, [], ◌∷◌, map, None, refl, sym, ap, subst, ◌∙◌}
+use Rattle.std.proofs.Common.{◌≡◌, ℕ, ◌<◌, ◌≤◌, ◌||◌, ◌⊎◌, inl, inr, ⊎_elim, Bool, true, false, not, IsTrue, List, [], ◌∷◌, map, Option, Some, None, refl, sym, ap, subst, ◌∙◌, arith}
+use Rattle.std.proofs.lemmas.Bool.{cases_Bool, cases_lt, or_left, or_right, true≢false}
 use Rattle.std.specs.List.{AllByRecursion}
+use Rattle.kv_types.specs.declared.place.EntryNo.{EntryNo}
 use Rattle.kv_types.specs.Keyspace.{play_all}
 use Rattle.kv_types.specs.declared.record_id.RecordId.{RecordId}
 use Rattle.pmem.specs.Device.{State}
@@ -10,27 +12,33 @@ use Rattle.model.specs.declared.group.Group.{Group}
 use Rattle.model.specs.declared.group.Part.{Part}
 use Rattle.model.specs.declared.group.Put.{Put}
 use Rattle.model.specs.declared.record.Record.{Record}
-use Rattle.model.specs.Image.{Image, IsMapOf, entries_of_lines, first_extent_line}
-use Rattle.model.specs.Group.{Contents, Versions, IsGroup, after_group, change_of, puts_of_part, parts_versions, last_position, IsPlaced, IsUnused, AreAllApart}
-use Rattle.model.proofs.GroupsLemmas.{IsConsistent-after_group}
+use Rattle.model.specs.Image.{Image, IsMapOf, Version, entries_of_lines, first_extent_line}
+use Rattle.model.specs.Group.{AreEnded as AreEndedIn, Contents, Versions, IsConsistent, IsGroup, after_group, change_of, puts_of_part, part_versions, parts_versions, last_position, IsPlaced, IsUnused, AreAllApart, NamesEnded, is_ended_version, is_listed, is_live_version, is_put_at}
+use Rattle.model.proofs.GroupsLemmas.{IsConsistent-after_group, changes_versions-none}
 use Rattle.extent_heap.specs.Room.{Room}
 use Rattle.mv_keyspace.specs.Table.{Cell, Table, IsCellOf, IsTable, AreEnded, place_all, records}
 use Rattle.mv_keyspace.proofs.TableLemmas.{records-place_all}
 use Rattle.mv_keyspace.proofs.VersionTables.{AreEmpty}
 use Rattle.mv_keyspace.proofs.PartTables.{AreDistinct, IsTable-changes, names-ended, map-from_table}
+use Rattle.placing.specs.Back.{ComesBack, HasOut, count_versions, has_version}
 use Rattle.placing.specs.Left.{IsTaken, IsLeftOf}
 use Rattle.placing.specs.Place.{TakesPlaces}
 use Rattle.placing.proofs.TakenLemmas.{All-map, IsFree, IsWithin, places_within, places_free, places_taken, places_fitting, places_apart, AreDistinct-from_apart}
 use Rattle.placing.proofs.LeftLemmas.{placed_of_free, unused_of_free, left_within, after_parts, left-after}
+use Rattle.placing.proofs.BackLemmas.{comes-back-taken}
+use Rattle.placing.proofs.CountLemmas.{same_count}
+use Rattle.placing.proofs.MemberLemmas.{distinct_none}
 use Rattle.placing.proofs.PartsLemmas.{IsGroup-alone}
 use Rattle.wbl_engine.specs.Contents.{Keeps, Same}
+use Rattle.wbl_engine.proofs.ApartLemmas.{group_apart}
 use Rattle.standby.specs.declared.frame.Frame.{Frame}
 use Rattle.standby.specs.Following.{Follows, HasTaken, IsWhole, IsBeforeOrWhole}
+use Rattle.standby.proofs.EndedLemmas.{AreEnded-from_members, AreEnded-same, KeepsWithoutSome-none, listed-from_member}
 
 -- ---- the frame as a group of one part
 
 -- places were taken for the puts of a part, and its ended entries are those of the table
-module _ (contents : Contents) (table : Table) (room : Room) (follows : Follows contents table room) (part : Part) (left : Room) (takes : TakesPlaces room (puts_of_part part) left)
+module _ (contents : Contents) (table : Table) (room : Room) (follows : Follows contents table room []) (part : Part) (left : Room) (takes : TakesPlaces room (puts_of_part part) left)
     (ended : AreEnded part.position table part.changes.items part.ended.items) where
   abbrev puts : List Put
   puts = puts_of_part part
@@ -63,25 +71,90 @@ module _ (contents : Contents) (table : Table) (room : Room) (follows : Follows 
   left_after : (epoch : ℕ) → IsLeftOf (after_parts epoch contents (part ∷ [])) left
   left_after epoch = left-after epoch contents left part (left_within contents left room within follows.left) taken
 
+  -- ---- what it ended
+
+  names : NamesEnded contents.versions part
+  names = names-ended contents.versions table part empty distinct follows.table_is ended
+
+  abbrev made : Versions
+  made = part_versions contents.versions part
+
+  -- a version that has not ended is live
+  live_or_none : (old : Option Version) → (IsTrue (is_ended_version old) → ⊥) → IsTrue (is_live_version old) ⊎ (old ≡ None)
+  live_or_none None not_ended = inr refl
+  live_or_none (Some version) not_ended = inl (not_false version.is_ended not_ended)
+    where
+      not_false : (b : Bool) → (IsTrue b → ⊥) → IsTrue (not b)
+      not_false true none = absurd (none refl)
+      not_false false none = refl
+
+  pub was_live : (i : ℕ) → IsTrue (is_ended_version (made i)) → IsTrue (is_live_version (contents.versions i) || is_put_at i puts)
+  was_live i is =
+      elim (cases_Bool (is_put_at i puts)) [
+        | inl put ↦ or_right (is_live_version (contents.versions i)) (is_put_at i puts) put
+        | inr not_put ↦
+            ⊎_elim (λ (live : IsTrue (is_live_version (contents.versions i))). or_left (is_live_version (contents.versions i)) (is_put_at i puts) live)
+            (λ (none : contents.versions i ≡ None).
+            absurd (true≢false (sym is ∙ ap is_ended_version (changes_versions-none part.position contents.versions part.changes.items i none not_put))))
+            (live_or_none (contents.versions i) (λ was. true≢false (sym (follows.all i was))))
+      ]
+
+  -- exactly these versions have ended after it
+  listed_after : (i : ℕ) → IsTrue (is_ended_version (made i)) → IsTrue (is_listed i part.ended.items)
+  listed_after i is = listed-from_member i part.ended.items ((names i).1 (was_live i is, is))
+
+  ended_after : (new : Contents) → new.versions ≡ made → IsConsistent new → AreEndedIn new part.ended.items
+  ended_after new versions_are consistent =
+      AreEnded-from_members new part.ended.items ended.once
+      (λ i m.
+      let is : IsTrue (is_ended_version (new.versions i)) = ap (λ (versions : Versions). is_ended_version (versions i)) versions_are ∙ ((names i).0 m).1 in (
+        ⊎_elim (λ (lt : i < entries_of_lines new.lines). lt)
+            (λ (past : entries_of_lines new.lines ≤ i). absurd (true≢false (sym is ∙ ap is_ended_version (consistent.beyond i past))))
+            (cases_lt i (entries_of_lines new.lines)),
+        is,
+      ))
+
+  out_after : (epoch : ℕ) → HasOut (after_parts epoch contents (part ∷ [])) left 0
+  out_after epoch =
+      let nothing : ComesBack contents room [] [] =
+      record {
+        once = distinct_none _;
+        entries_back = λ i listed. absurd (true≢false (sym listed));
+        apart = tt;
+        some = tt;
+        lines_back = λ line has. absurd (true≢false (sym has));
+        out = follows.out;
+      } in
+      let out = (comes-back-taken contents part.position room left part.changes.items [] [] takes (λ i free. (follows.left.entries i free).2) nothing).out in
+      record { end_line = out.end_line; end_entry = out.end_entry; held = out.held }
+
   -- the tables follow what the commit makes of the contents
-  pub Follows-after : (group : Group) → group.parts.items ≡ part ∷ [] → IsGroup contents group → Follows (after_group contents group) (place_all part.position table part.changes.items) left
-  Follows-after group one is = record {
-    consistent = IsConsistent-after_group contents group follows.consistent is;
-    left = subst (λ items. IsLeftOf (after_parts group.epoch contents items) left) (sym one) (left_after group.epoch);
-    table_is = subst (λ items. IsTable (parts_versions contents.versions items) (place_all part.position table part.changes.items)) (sym one)
-        (IsTable-changes part.position contents.versions table part.changes.items empty distinct follows.table_is);
-  }
+  pub Follows-after : (group : Group) → group.parts.items ≡ part ∷ [] → IsGroup contents group
+      → Follows (after_group contents group) (place_all part.position table part.changes.items) left part.ended.items
+  Follows-after group one is =
+      let consistent = IsConsistent-after_group contents group follows.consistent is in
+      let versions_are = ap (parts_versions contents.versions) one in
+      record {
+        consistent = consistent;
+        left = subst (λ items. IsLeftOf (after_parts group.epoch contents items) left) (sym one) (left_after group.epoch);
+        table_is = subst (λ items. IsTable (parts_versions contents.versions items) (place_all part.position table part.changes.items)) (sym one)
+            (IsTable-changes part.position contents.versions table part.changes.items empty distinct follows.table_is);
+        apart = group_apart contents group follows.apart is;
+        out = subst (λ items. HasOut (after_parts group.epoch contents items) left 0) (sym one) (out_after group.epoch);
+        listed = ended_after (after_group contents group) versions_are consistent;
+        all = λ i was. listed_after i (sym (ap (λ (versions : Versions). is_ended_version (versions i)) versions_are) ∙ was);
+      }
 
 -- ---- contents that say the same
 
-cell_along : (old new : Versions) (id : RecordId) (cell : Cell) → new cell.entry ≡ old cell.entry → IsCellOf old id cell → IsCellOf new id cell
+pub cell_along : (old new : Versions) (id : RecordId) (cell : Cell) → new cell.entry ≡ old cell.entry → IsCellOf old id cell → IsCellOf new id cell
 cell_along old new id cell same is = record {
   live = record { version = is.live.version; begun = same ∙ is.live.begun; not_ended = is.live.not_ended; id_is = is.live.id_is; value_is = is.live.value_is };
   position_is = is.position_is;
 }
 
-pub Follows-same : (old new : Contents) (table : Table) (room : Room) → Same old new → Follows old table room → Follows new table room
-Follows-same old new table room same follows = record {
+pub Follows-same : (old new : Contents) (table : Table) (room : Room) (ended : List EntryNo) → Same old new → Follows old table room ended → Follows new table room ended
+Follows-same old new table room ended same follows = record {
   consistent = record {
     free = λ i is. same.versions i ∙ follows.consistent.free i (sym (same.is_free i) ∙ is);
     beyond = λ i le. same.versions i ∙ follows.consistent.beyond i (subst (λ lines. entries_of_lines lines ≤ i) same.lines le);
@@ -98,6 +171,19 @@ Follows-same old new table room same follows = record {
     live = λ id cell found. cell_along old.versions new.versions id cell (same.versions cell.entry) (follows.table_is.live id cell found);
     found = λ id cell is. follows.table_is.found id cell (cell_along new.versions old.versions id cell (sym (same.versions cell.entry)) is);
   };
+  apart = λ i j v w differ is_v is_w. follows.apart i j v w differ (sym (same.versions i) ∙ is_v) (sym (same.versions j) ∙ is_w);
+  out =
+      let count : count_versions new.versions (entries_of_lines new.lines) ≡ count_versions old.versions (entries_of_lines old.lines) =
+      ap (λ lines. count_versions new.versions (entries_of_lines lines)) same.lines
+      ∙ same_count old.versions new.versions (entries_of_lines old.lines) (λ i lt. ap has_version (same.versions i)) in
+      let held = follows.out.held in
+      record {
+        end_line = follows.out.end_line ∙ sym same.lines;
+        end_entry = follows.out.end_entry ∙ ap entries_of_lines (sym same.lines);
+        held = omega (arith, count, held);
+      };
+  listed = AreEnded-same old new ended same follows.listed;
+  all = λ i is. follows.all i (sym (ap is_ended_version (same.versions i)) ∙ is);
 }
 
 -- ---- the frame whole
@@ -119,22 +205,37 @@ module _ (contents : Contents) (table : Table) (frame : Frame) (part : Part) (sa
     epoch = ap (λ (r : Record). r.epoch) stays.current ∙ own;
   }
 
-  pub IsWhole-group : (room : Room) → Follows (after_group contents group) (place_all part.position table part.changes.items) room → IsWhole frame contents table (after_group contents group)
-  IsWhole-group room follows = record {
-    position = position_after;
-    line_count = refl;
-    role = refl;
-    epoch = own;
-    consistent = follows.consistent;
-    map = subst (IsMapOf (after_group contents group).versions (entries_of_lines contents.lines)) keyspace_after
-        (map-from_table (after_group contents group).versions (entries_of_lines contents.lines) (place_all part.position table part.changes.items) follows.consistent.beyond follows.table_is);
-  }
+  module _ (room : Room) (ended : List EntryNo) (follows : Follows (after_group contents group) (place_all part.position table part.changes.items) room ended) where
+    pub IsWhole-group : IsWhole frame contents table (after_group contents group)
+    IsWhole-group = record {
+      position = position_after;
+      line_count = refl;
+      role = refl;
+      epoch = own;
+      consistent = follows.consistent;
+      map = subst (IsMapOf (after_group contents group).versions (entries_of_lines contents.lines)) keyspace_after
+          (map-from_table (after_group contents group).versions (entries_of_lines contents.lines) (place_all part.position table part.changes.items) follows.consistent.beyond follows.table_is);
+    }
 
-  -- at each moment of the commit
-  pub LeavesOnly-group : (device device' : State) (room : Room) → Follows (after_group contents group) (place_all part.position table part.changes.items) room
-      → LeavesOnly device device' (λ image. Keeps contents image ⊎ Keeps (after_group contents group) image) → LeavesOnly device device' (IsBeforeOrWhole frame contents table)
-  LeavesOnly-group device device' room follows run = LeavesOnly-weaken (IsBeforeOrWhole frame contents table) (λ image. whole image) run
-    where
-      whole : (image : Image) → Keeps contents image ⊎ Keeps (after_group contents group) image → IsBeforeOrWhole frame contents table image
-      whole image (inl before) = inl before
-      whole image (inr keeps) = inr (after_group contents group, IsWhole-group room follows, keeps)
+    -- at each moment of the commit
+    pub LeavesOnly-group : (device device' : State) → LeavesOnly device device' (λ image. Keeps contents image ⊎ Keeps (after_group contents group) image)
+        → LeavesOnly device device' (IsBeforeOrWhole frame [] contents table)
+    LeavesOnly-group device device' run = LeavesOnly-weaken (IsBeforeOrWhole frame [] contents table) (λ image. whole image) run
+      where
+        whole : (image : Image) → Keeps contents image ⊎ Keeps (after_group contents group) image → IsBeforeOrWhole frame [] contents table image
+        whole image (inl before) = inl (KeepsWithoutSome-none [] contents image before)
+        whole image (inr keeps) = inr (after_group contents group, IsWhole-group, keeps)
+
+-- ---- a frame that was taken
+
+pub IsWhole-taken : (frame : Frame) (before after : Contents) (old new : Table) (room : Room) (ended : List EntryNo) → HasTaken frame before after old new → Follows after new room ended
+    → IsWhole frame before old after
+IsWhole-taken frame before after old new room ended taken follows = record {
+  position = taken.position;
+  line_count = taken.lines;
+  role = taken.role;
+  epoch = taken.epoch;
+  consistent = follows.consistent;
+  map = subst (IsMapOf after.versions (entries_of_lines after.lines)) taken.keyspace
+      (map-from_table after.versions (entries_of_lines after.lines) new follows.consistent.beyond follows.table_is);
+}

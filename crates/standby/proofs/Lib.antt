@@ -1,3 +1,5 @@
+pub mod EndedLemmas
 pub mod FollowingLemmas
+pub mod FreedLemmas
 pub mod NewLemmas
 pub mod Restarted

@@ -1,23 +1,40 @@
 -- What a standby holds, and what a frame does to it.
-use Rattle.std.specs.Prelude.{◌≡◌, ℕ, ◌+◌, ◌<◌, ◌≤◌, ◌⊎◌}
+use Rattle.std.specs.Prelude.{◌≡◌, ◌≢◌, ℕ, ◌+◌, ◌<◌, ◌≤◌, ◌⊎◌, List, [], Some, IsTrue}
+use Rattle.kv_types.specs.declared.place.EntryNo.{EntryNo}
 use Rattle.kv_types.specs.Keyspace.{play_all}
 use Rattle.extent_heap.specs.Room.{Room}
 use Rattle.model.specs.declared.image.TheConstants.{COUNTER_LIMIT, STAMP_WINDOW}
 use Rattle.model.specs.declared.record.Record.{Record}
-use Rattle.model.specs.Image.{Image, IsMapOf, entries_of_lines}
-use Rattle.model.specs.Group.{Contents, IsConsistent}
+use Rattle.model.specs.Image.{Image, IsMapOf, Version, entries_of_lines}
+use Rattle.model.specs.Group.{AreApart, Contents, IsConsistent, is_ended_version}
 use Rattle.mv_keyspace.specs.Table.{Table, IsTable, records}
+use Rattle.placing.specs.Back.{GivesAll, HasOut}
 use Rattle.placing.specs.Left.{IsLeftOf}
-use Rattle.wbl_engine.specs.Contents.{Keeps}
+use Rattle.wbl_engine.specs.Contents.{Keeps, Same}
+use Rattle.wbl_engine.specs.Freeing.{AreEnded, KeepsWithoutSome, after_free, extents_of, is_listed}
 use Rattle.standby.specs.declared.frame.Frame.{Frame}
 
 -- ---- the invariant
 
--- The keyspace and the heap of a node are those of the contents of its engine.
-pub record Follows (contents : Contents) (table : Table) (room : Room) : Type 0 where
+-- The keyspace and the heap of a node are those of the contents of its engine, and these are the entries of all versions that have ended.
+pub record Follows (contents : Contents) (table : Table) (room : Room) (ended : List EntryNo) : Type 0 where
   pub consistent : IsConsistent contents
   pub left : IsLeftOf contents room
   pub table_is : IsTable contents.versions table
+  -- no two versions have a line in common
+  pub apart : (i j : ℕ) (v w : Version) → i ≢ j → contents.versions i ≡ Some v → contents.versions j ≡ Some w
+      → AreApart v.first_line v.lines w.first_line w.lines
+  -- the heap can take back the places of all versions
+  pub out : HasOut contents room 0
+  pub listed : AreEnded contents ended
+  -- nothing that has ended is forgotten
+  pub all : (i : ℕ) → IsTrue (is_ended_version (contents.versions i)) → IsTrue (is_listed i ended)
+
+-- What had ended is freed and its places are back in the heap. Nothing else changed.
+pub record HasFreed (ended : List EntryNo) (old new : Contents) (room room' : Room) (left : List EntryNo) : Type 0 where
+  pub contents_are : Same (after_free ended old) new
+  pub given : GivesAll room ended (extents_of old.versions ended) room'
+  pub none : left ≡ []
 
 -- ---- frames
 
@@ -58,6 +75,11 @@ pub record IsWhole (frame : Frame) (before : Contents) (table : Table) (after : 
   pub consistent : IsConsistent after
   pub map : IsMapOf after.versions (entries_of_lines after.lines) (play_all (records table) frame.changes.items)
 
--- the image holds what it held before the frame, or all of the frame
-abbrev pub IsBeforeOrWhole : Frame → Contents → Table → Image → Type 0
-IsBeforeOrWhole frame before table image = Keeps before image ⊎ ((after : Contents) × IsWhole frame before table after × Keeps after image)
+-- The image holds what it held before the frame, perhaps without some of what had ended, or all of the frame.
+abbrev pub IsBeforeOrWhole : Frame → List EntryNo → Contents → Table → Image → Type 0
+IsBeforeOrWhole frame ended before table image =
+    KeepsWithoutSome ended before image ⊎ ((after : Contents) × IsWhole frame before table after × Keeps after image)
+
+-- What is held after a frame that was not acknowledged: what was held before it, or that without what had ended, or the whole frame.
+abbrev pub EndsAs : Frame → List EntryNo → Contents → Table → Contents → Type 0
+EndsAs frame ended before table new = Same before new ⊎ Same (after_free ended before) new ⊎ IsWhole frame before table new

@@ -5,6 +5,7 @@ mod frame;
 mod part;
 mod restarting;
 mod standby;
+mod taking;
 
 pub use frame::{Ack, Frame};
 pub use standby::Standby;

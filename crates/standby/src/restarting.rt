@@ -21,8 +21,8 @@ use std::alloc::Global;
 use wbl_engine::Restarting;
 
 impl<E: Restarting, K: Keyspace + Drop> Standby<E, K> {
-    /// Crashes the engine's device now, with picks as at `pmem::Crashing::crash`. The engine is faulted until the standby is restarted. The keyspace
-    /// and the heap stay as they are until then.
+    /// Crashes the engine's device now, with picks as at `pmem::Crashing::crash`. The engine is faulted until the standby is restarted. The keyspace,
+    /// the heap and the list of what has ended stay as they are until then.
     pub fn crash(&mut self, picks: &[u64])
         ensures settled { IsSettled (E.device self.new.engine).words }
         ensures image { IsImage (E.device self.old.engine).words (image_of (E.device self.new.engine).words) }
@@ -35,20 +35,22 @@ impl<E: Restarting, K: Keyspace + Drop> Standby<E, K> {
         ensures moments { LeavesOnly (E.device self.old.engine) (E.device self.new.engine) (IsImage (E.device self.old.engine).words) }
         ensures keyspace { self.new.keyspace ≡ self.old.keyspace }
         ensures heap { self.new.heap ≡ self.old.heap }
+        ensures ended { self.new.ended ≡ self.old.ended }
     {
         self.engine.crash(picks);
     }
 
-    /// Opens the image of the engine's device again as a standby's, and makes the keyspace and the heap from its versions. The places of versions
-    /// that have ended are not free.
+    /// Opens the image of the engine's device again as a standby's, and makes the keyspace and the heap from its versions. Those that have ended are
+    /// listed, and freed with the next frame.
     ///
     /// # Errors
     ///
     /// As at `WblEngine::reopen`, with the standby as it was. `Memory` also where the engine was opened again and there was no memory for the
-    /// keyspace and the heap, which are then as they were; the image can be opened again. After `Fault` the image has to be opened again.
+    /// keyspace and the heap, which are then as they were, with the list of what has ended; the image can be opened again. After `Fault` the image
+    /// has to be opened again.
     pub fn restart(&mut self, alloc: Global) -> Result<(), Refusal>
         requires settled { (word : ℕ) → Only ((E.device self.old.engine).words word) (image_of (E.device self.old.engine).words word) }
-        ensures follows { OnOk result (Follows (E.contents self.new.engine) (K.table self.new.keyspace) self.new.heap) }
+        ensures follows { OnOk result (Follows (E.contents self.new.engine) (K.table self.new.keyspace) self.new.heap self.new.ended.items) }
         ensures reopens { OnOk result (IsReopened (E.device self.old.engine).lines (image_of (E.device self.old.engine).words) Role.Standby
             (E.contents self.new.engine)) }
         ensures durable { OnOk result (IsDurable (E.device self.new.engine) (E.contents self.new.engine)) }
@@ -76,6 +78,7 @@ impl<E: Restarting, K: Keyspace + Drop> Standby<E, K> {
         )?;
         self.keyspace = keyspace;
         self.heap = rebuilt.heap;
+        self.ended = rebuilt.ended;
         Ok(())
     }
 }

@@ -3,16 +3,17 @@ ghost use Rattle.std.specs.Prelude.{◌≡◌, ◌≢◌, ◌⊎◌, ◌↔◌, 
 ghost use Rattle.kv_types.specs.declared.refusal.Refusal.TheVariants.{WrongEpoch, PositionGap, Full, Memory, Fault, Exhausted};
 ghost use Rattle.pmem.specs.Runs.{LeavesOnly};
 ghost use Rattle.placing.specs.Place.{HasRoomFor};
-ghost use Rattle.wbl_engine.specs.Contents.{IsDurable, Same};
+ghost use Rattle.wbl_engine.specs.Contents.{IsDurable};
+ghost use Rattle.wbl_engine.specs.Freeing.{KeepsWithoutSome};
 ghost use Rattle.wbl_engine.specs.Lawful.{AreLawful};
-ghost use Rattle.standby.specs.Following.{Follows, IsNext, HasTaken, WouldExhaust, IsBeforeOrWhole};
+ghost use Rattle.standby.specs.Following.{Follows, IsNext, HasFreed, HasTaken, WouldExhaust, IsBeforeOrWhole, EndsAs};
 
 use crate::frame::{Ack, Frame};
-use crate::part::make_part;
 use extent_heap::ExtentHeap;
-use kv_types::Refusal;
-use model::{COUNTER_LIMIT, Group, Record, STAMP_WINDOW};
+use kv_types::{EntryNo, Refusal};
+use model::{COUNTER_LIMIT, Record, STAMP_WINDOW};
 use mv_keyspace::Keyspace;
+use placing::Rebuilt;
 use std::alloc::Global;
 use wbl_engine::Durable;
 
@@ -22,17 +23,20 @@ pub struct Standby<E: Durable, K: Keyspace> {
     pub engine: E,
     pub keyspace: K,
     pub heap: ExtentHeap,
+    /// The entries of versions that have ended and are not freed yet.
+    pub ended: Vec<EntryNo>,
 }
 
 impl<E: Durable, K: Keyspace> Standby<E, K> {
-    /// A standby over an engine, with the keyspace that its image holds and a heap of the image's free room.
-    pub fn new(engine: E, keyspace: K, heap: ExtentHeap) -> Standby<E, K>
-        ensures { result ≡ record { engine = engine; keyspace = keyspace; heap = heap } }
+    /// A standby over an engine, with the keyspace that its image holds, a heap of the image's free room and the entries of versions that have ended.
+    pub fn new(engine: E, keyspace: K, room: Rebuilt) -> Standby<E, K>
+        ensures { result ≡ record { engine = engine; keyspace = keyspace; heap = room.heap; ended = room.ended } }
     {
         Standby {
             engine,
             keyspace,
-            heap,
+            heap: room.heap,
+            ended: room.ended,
         }
     }
 
@@ -60,16 +64,18 @@ impl<E: Durable, K: Keyspace> Standby<E, K> {
         }
     }
 
-    /// Takes a frame. One that ends at the standby's position or below it is acknowledged again. One that begins at its position moves the
-    /// standby by all the frame's changes under one record, and is acknowledged.
+    /// Takes a frame. One that ends at the standby's position or below it is acknowledged again. One that begins at its position first frees what
+    /// has ended, moves the standby by all the frame's changes under one record, frees what they ended, and is acknowledged. Where there is no memory
+    /// to free what they ended, that is left for the next frame.
     ///
     /// # Errors
     ///
-    /// `WrongEpoch` for a frame of another epoch, `PositionGap` for one that begins elsewhere, `Exhausted` if a counter would reach 2^62,
-    /// `Full` if the image has no room for its puts, `Memory` if an allocation was refused: nothing changed. `Fault` if a fence failed: the
-    /// engine still holds what it held, but the keyspace and the heap may be ahead of it, so the image has to be reopened.
+    /// `WrongEpoch` for a frame of another epoch, `PositionGap` for one that begins elsewhere, `Exhausted` if a counter would reach 2^62: nothing
+    /// changed. `Full` if the image has no room for its puts, `Memory` if an allocation was refused: nothing changed, or what had ended is freed and
+    /// nothing else changed. `Fault` if a fence failed: the engine holds what it held, perhaps without what had ended, or the whole frame, but the
+    /// keyspace and the heap may be ahead of it or behind it, so the image has to be reopened.
     pub fn on_frame(&mut self, alloc: Global, frame: &Frame) -> Result<Ack, Refusal>
-        requires follows { Follows (E.contents self.old.engine) (K.table self.old.keyspace) self.old.heap }
+        requires follows { Follows (E.contents self.old.engine) (K.table self.old.keyspace) self.old.heap self.old.ended.items }
         requires sound { E.is_faulted self.old.engine ≡ false }
         requires durable { IsDurable (E.device self.old.engine) (E.contents self.old.engine) }
         ensures epoch { frame.now.epoch ≢ (E.contents self.old.engine).current.epoch → (result ≡ Err WrongEpoch) × (self.new ≡ self.old) }
@@ -91,29 +97,33 @@ impl<E: Durable, K: Keyspace> Standby<E, K> {
         ensures exhausts { frame.now.epoch ≡ (E.contents self.old.engine).current.epoch → IsNext (E.contents self.old.engine).current.position frame.now
             → WouldExhaust (E.contents self.old.engine).current frame.now.after → result ≡ Err Exhausted }
 
-        // each refusal has its cause, and all but a failed fence change nothing
-        ensures full { IsErrOf result Full → ¬ HasRoomFor self.old.heap frame.now.changes.items }
-        ensures exhausted { IsErrOf result Exhausted → WouldExhaust (E.contents self.old.engine).current frame.now.after }
+        // each refusal has its cause, and all but a failed fence change nothing, or free what had ended
+        ensures full { IsErrOf result Full → ¬ HasRoomFor self.new.heap frame.now.changes.items }
+        ensures exhausted { IsErrOf result Exhausted → WouldExhaust (E.contents self.old.engine).current frame.now.after × (self.new ≡ self.old) }
         ensures fault { IsErrOf result Fault
             → (E.is_faulted self.new.engine ≡ true) × ((E.device self.old.engine).failures < (E.device self.new.engine).failures) }
-        ensures refused { ¬ IsErrOf result Fault → OnErr result ((self.new.engine ≡ self.old.engine)
-            × (K.table self.new.keyspace ≡ K.table self.old.keyspace) × (self.new.heap ≡ self.old.heap)) }
+        ensures refused { ¬ IsErrOf result Fault → OnErr result ((K.table self.new.keyspace ≡ K.table self.old.keyspace) × ((self.new ≡ self.old)
+            ⊎ HasFreed self.old.ended.items (E.contents self.old.engine) (E.contents self.new.engine) self.old.heap self.new.heap self.new.ended.items)) }
 
         // for any frame
         ensures one_epoch { IfOk result (λ ack. (ack.epoch ≡ frame.now.epoch) × (ack.epoch ≡ (E.contents self.new.engine).current.epoch)
             × (ack.position ≡ (E.contents self.new.engine).current.position)) }
-        ensures still { ¬ IsErrOf result Fault → Follows (E.contents self.new.engine) (K.table self.new.keyspace) self.new.heap }
+        ensures still { ¬ IsErrOf result Fault → Follows (E.contents self.new.engine) (K.table self.new.keyspace) self.new.heap self.new.ended.items }
         ensures sound { ¬ IsErrOf result Fault
             → (E.is_faulted self.new.engine ≡ false) × ((E.device self.new.engine).failures ≡ (E.device self.old.engine).failures) }
         ensures durable { ¬ IsErrOf result Fault → IsDurable (E.device self.new.engine) (E.contents self.new.engine) }
         ensures lawful { AreLawful (E.contents self.old.engine) → ¬ IsErrOf result Fault → AreLawful (E.contents self.new.engine) }
-        ensures stays { OnErr result (Same (E.contents self.old.engine) (E.contents self.new.engine)) }
+        ensures stays { OnErr result (EndsAs frame.now self.old.ended.items (E.contents self.old.engine) (K.table self.old.keyspace) (E.contents self.new.engine)) }
         ensures epoch_stays { (E.contents self.new.engine).current.epoch ≡ (E.contents self.old.engine).current.epoch }
 
         // at any moment of the call
         ensures moments { frame.now.epoch ≡ (E.contents self.old.engine).current.epoch → IsNext (E.contents self.old.engine).current.position frame.now
             → LeavesOnly (E.device self.old.engine) (E.device self.new.engine)
-            (IsBeforeOrWhole frame.now (E.contents self.old.engine) (K.table self.old.keyspace)) }
+            (IsBeforeOrWhole frame.now self.old.ended.items (E.contents self.old.engine) (K.table self.old.keyspace)) }
+        // at any moment of a call that refuses the frame
+        ensures rests { frame.now.epoch ≡ (E.contents self.old.engine).current.epoch → IsNext (E.contents self.old.engine).current.position frame.now
+            → ¬ IsErrOf result Fault → OnErr result (LeavesOnly (E.device self.old.engine) (E.device self.new.engine)
+            (KeepsWithoutSome self.old.ended.items (E.contents self.old.engine))) }
     {
         if frame.epoch != self.epoch() {
             return Err(Refusal::WrongEpoch);
@@ -129,48 +139,6 @@ impl<E: Durable, K: Keyspace> Standby<E, K> {
             return Err(Refusal::Exhausted);
         }
         self.take(alloc, frame)
-    }
-
-    /// Takes the frame that comes next, which brings no counter to its limit: one commit of one part.
-    fn take(&mut self, alloc: Global, frame: &Frame) -> Result<Ack, Refusal>
-        requires follows { Follows (E.contents self.old.engine) (K.table self.old.keyspace) self.old.heap }
-        requires sound { E.is_faulted self.old.engine ≡ false }
-        requires durable { IsDurable (E.device self.old.engine) (E.contents self.old.engine) }
-        requires next { IsNext (E.contents self.old.engine).current.position frame.now }
-        requires epoch { frame.now.epoch ≡ (E.contents self.old.engine).current.epoch }
-        requires counters { ¬ WouldExhaust (E.contents self.old.engine).current frame.now.after }
-        ensures ack { IfOk result (λ ack. ack ≡ record { epoch = frame.now.epoch; position = frame.now.after }) }
-        ensures taken { OnOk result (HasTaken frame.now (E.contents self.old.engine) (E.contents self.new.engine) (K.table self.old.keyspace) (K.table self.new.keyspace)) }
-        ensures causes { IfErr result (λ refusal. (refusal ≡ Full) ⊎ (refusal ≡ Memory) ⊎ (refusal ≡ Fault)) }
-        ensures full { IsErrOf result Full → ¬ HasRoomFor self.old.heap frame.now.changes.items }
-        ensures fault { IsErrOf result Fault
-            → (E.is_faulted self.new.engine ≡ true) × ((E.device self.old.engine).failures < (E.device self.new.engine).failures) }
-        ensures refused { ¬ IsErrOf result Fault → OnErr result ((self.new.engine ≡ self.old.engine)
-            × (K.table self.new.keyspace ≡ K.table self.old.keyspace) × (self.new.heap ≡ self.old.heap)) }
-        ensures still { ¬ IsErrOf result Fault → Follows (E.contents self.new.engine) (K.table self.new.keyspace) self.new.heap }
-        ensures sound { ¬ IsErrOf result Fault
-            → (E.is_faulted self.new.engine ≡ false) × ((E.device self.new.engine).failures ≡ (E.device self.old.engine).failures) }
-        ensures durable { ¬ IsErrOf result Fault → IsDurable (E.device self.new.engine) (E.contents self.new.engine) }
-        ensures lawful { AreLawful (E.contents self.old.engine) → ¬ IsErrOf result Fault → AreLawful (E.contents self.new.engine) }
-        ensures stays { OnErr result (Same (E.contents self.old.engine) (E.contents self.new.engine)) }
-        ensures epoch_stays { (E.contents self.new.engine).current.epoch ≡ (E.contents self.old.engine).current.epoch }
-        ensures moments { LeavesOnly (E.device self.old.engine) (E.device self.new.engine)
-            (IsBeforeOrWhole frame.now (E.contents self.old.engine) (K.table self.old.keyspace)) }
-    {
-        let mut parts = Vec::with_capacity(alloc, 1)?;
-        let part = make_part(alloc, &mut self.keyspace, &mut self.heap, frame)?;
-        parts.push_reserved(part);
-        let epoch = frame.epoch;
-        let group = Group {
-            epoch,
-            before: frame.before,
-            parts,
-        };
-        self.engine.commit(&group)?;
-        Ok(Ack {
-            epoch: frame.epoch,
-            position: frame.after,
-        })
     }
 }
 

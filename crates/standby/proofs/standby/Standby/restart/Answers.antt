@@ -24,5 +24,6 @@ rebuild-requires-clause-read g c =
 pub returns-clause-follows : goal.returns-clause-follows
 returns-clause-follows g c =
     let contents = g.E.Durable.contents c.restart.new.self in
-    follows_rebuilt contents (g.K.Keyspace.table c.rebuild.new.keyspace) c.in_ok-rebuilt.rebuilt.heap
-    (c.in_ok-rebuilt.ensures.ok contents (sym c.lines-lines.ensures) (are_of g (goal.at.returns-clause-follows g c).After-deref)).0
+    let of = are_of g (goal.at.returns-clause-follows g c).After-deref in
+    let rebuilt = c.in_ok-rebuilt.ensures.ok contents (sym c.lines-lines.ensures) of in
+    follows_rebuilt contents (g.K.Keyspace.table c.rebuild.new.keyspace) c.in_ok-rebuilt.rebuilt.heap c.in_ok-rebuilt.rebuilt.ended.items of.lawful rebuilt.0 rebuilt.1
