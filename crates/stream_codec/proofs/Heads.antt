@@ -67,13 +67,13 @@ Before epoch = Then (IsLong 0 (2 ^ 64 - 2)) (After epoch)
 abbrev Epoch : Head → List ℕ → Type 0
 Epoch = Then (IsLong 0 (2 ^ 64 - 1)) Before
 
-abbrev size_at : ℕ → ℕ → ℕ → List ℕ → Read Head
+abbrev pub size_at : ℕ → ℕ → ℕ → List ℕ → Read Head
 size_at epoch before after bytes = long_at 0 MAX_BODY_BYTES bytes >>= λ size. Ok (head.Group epoch before after size.0, size.1)
 
-abbrev after_at : ℕ → ℕ → List ℕ → Read Head
+abbrev pub after_at : ℕ → ℕ → List ℕ → Read Head
 after_at epoch before bytes = long_at (before + 1) (2 ^ 64 - 1) bytes >>= λ after. size_at epoch before after.0 after.1
 
-abbrev before_at : ℕ → List ℕ → Read Head
+abbrev pub before_at : ℕ → List ℕ → Read Head
 before_at epoch bytes = long_at 0 (2 ^ 64 - 2) bytes >>= λ before. after_at epoch before.0 before.1
 
 size_reads : (epoch before after : ℕ) → Reads (size_at epoch before after) (Size epoch before after)
@@ -220,7 +220,7 @@ byte-head_kind_of byte k e =
       ]
     ]
 
-abbrev IsByte : HeadKind → List ℕ → Type 0
+abbrev pub IsByte : HeadKind → List ℕ → Type 0
 IsByte k text = text ≡ byte_of k ∷ []
 
 known_takes : (byte : ℕ) (bytes : List ℕ) (o : Option HeadKind) → head_kind_of byte ≡ o → (k : HeadKind) (rest : List ℕ) → known bytes o ≡ Ok (k, rest) → (text : List ℕ) × IsByte k text × (byte ∷ bytes ≡ text ++ rest)
@@ -250,7 +250,7 @@ byte_stays : (bytes more : List ℕ) → head_kind_at bytes ≡ Err Broken → h
 byte_stays [] more e = absurd cc
 byte_stays (byte ∷ bytes) more e = known_stays bytes more (head_kind_of byte) e
 
-byte_reads : Reads head_kind_at IsByte
+pub byte_reads : Reads head_kind_at IsByte
 byte_reads =
     record {
       begins = λ e. absurd cc;

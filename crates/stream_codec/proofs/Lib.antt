@@ -7,5 +7,7 @@ pub mod Numbers
 pub mod Putting
 pub mod Readers
 pub mod Skipping
+pub mod Stepping
 pub mod Streams
+pub mod Waiting
 pub mod WorkedCases

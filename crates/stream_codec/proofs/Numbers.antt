@@ -140,6 +140,24 @@ number_stays (place ∷ places) least most sum (byte ∷ bytes) more e =
       | inr f ↦ cond_false (fits place places least most sum byte) (number_from places least most (sum + byte * place) (bytes ++ more)) (Err Broken) f
     ]
 
+-- what was read stays read, and each place takes a byte, whatever the bounds are
+pub number_grows : (places : List ℕ) (least most sum : ℕ) (bytes more : List ℕ) (n : ℕ) (rest : List ℕ) → number_from places least most sum bytes ≡ Ok (n, rest) → (number_from places least most sum (bytes ++ more) ≡ Ok (n, rest ++ more)) × (text : List ℕ) × (bytes ≡ text ++ rest) × (length text ≡ length places)
+number_grows [] least most sum bytes more n rest e =
+    let same = read_is sum n bytes rest e in
+    let done : ℕ → List ℕ → Read ℕ = λ m b. Ok (m, b) in
+    (ap (λ m. done m (bytes ++ more)) same.0 ∙ ap (λ b. done n (b ++ more)) same.1, [], same.1, refl)
+number_grows (place ∷ places) least most sum [] more n rest e = absurd cc
+number_grows (place ∷ places) least most sum (byte ∷ bytes) more n rest e =
+    elim (true_or_false (fits place places least most sum byte)) [
+      | inl t ↦ let k = number_grows places least most (sum + byte * place) bytes more n rest (sym (cond_true (fits place places least most sum byte) (number_from places least most (sum + byte * place) bytes) (Err Broken) t) ∙ e) in (
+        cond_true (fits place places least most sum byte) (number_from places least most (sum + byte * place) (bytes ++ more)) (Err Broken) t ∙ k.0,
+        byte ∷ k.1,
+        ap (λ b. byte ∷ b) k.2,
+        ap suc k.3,
+      )
+      | inr f ↦ let broken = sym (cond_false (fits place places least most sum byte) (number_from places least most (sum + byte * place) bytes) (Err Broken) f) ∙ e in absurd cc
+    ]
+
 -- a number within the bounds
 pub record IsNumber (places : List ℕ) (least most n : ℕ) (text : List ℕ) : Type 0 where
   pub least_is : least ≤ n

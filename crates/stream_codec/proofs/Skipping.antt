@@ -1,12 +1,12 @@
 -- Changes that are skipped, and frames that are looked at in steps.
-use Rattle.std.proofs.Common.{◌≡◌, ℕ, ◌-◌, ◌<◌, ◌≤◌, List, [], ◌∷◌, ◌++◌, length, take, drop, Option, None, Some, Ok, Err, refl, sym, ap, ◌∙◌, arith}
+use Rattle.std.proofs.Common.{◌≡◌, ℕ, zero, suc, ◌+◌, ◌-◌, ◌<◌, ◌≤◌, true, false, List, [], ◌∷◌, ◌++◌, length, take, drop, Option, None, Some, Ok, Err, refl, sym, ap, ◌∙◌, arith}
+use Rattle.std.proofs.lemmas.Bool.Decides.{nat_tests}
 use Rattle.std.proofs.lemmas.List.{take-append-drop, drop_at, append_assoc, append-nil, length-append}
 use Rattle.kv_types.specs.declared.change.Change.{Change}
 use Rattle.kv_types.specs.Change.{change_text}
 use Rattle.kv_types.proofs.ChangeTextLemmas.{change_text_nonempty}
 use Rattle.stream_codec.specs.declared.reading.Stop.{Stop}
 use Rattle.stream_codec.specs.declared.reading.Stop.TheVariants.{Short, Broken}
-use Rattle.stream_codec.specs.declared.head.Head.{Head}
 use Rattle.stream_codec.specs.declared.head.Head.TheVariants as head
 use Rattle.standby.specs.declared.frame.Ack.{Ack}
 use Rattle.stream_codec.specs.Message.{Sent, Changes, Acknowledged, IsChange, sent_of}
@@ -15,13 +15,16 @@ use Rattle.stream_codec.specs.Reading.{change_at, changes_at, head_at, body_at, 
 use Rattle.std.specs.Prelude.{option_map}
 use Rattle.std.specs.Option.{IsSome}
 use Rattle.stream_codec.specs.declared.message.Message.{Message}
-use Rattle.stream_codec.specs.Scanning.{skipped, with_front, IsEnd, EndsAlike, IsBehind, IsAt, end_from, sent_of_all}
+use Rattle.stream_codec.specs.declared.scan.Progress.{Progress}
+use Rattle.stream_codec.specs.declared.step.Next.{Next}
+use Rattle.stream_codec.specs.declared.step.Next.TheVariants as next
+use Rattle.stream_codec.specs.Stepping.{skipped, is_more, end_from}
+use Rattle.stream_codec.specs.Scanning.{with_front, IsEnd, Waits, EndsAlike, IsAt, IsTaken, sent_of_all}
 use Rattle.stream_codec.specs.Stream.{with_first, stream_at}
 use Rattle.stream_codec.proofs.Readers.{bind_ok, read_is, grows}
-use Rattle.stream_codec.proofs.Streams.{behind, stream_at-read}
+use Rattle.stream_codec.proofs.Streams.{behind, stream_at-read, stream_at-short}
 use Rattle.stream_codec.proofs.Bodies.{changes_at-step, changes_at-stop, changes_at-none}
 use Rattle.stream_codec.proofs.Changes.{IsChangeWithin, change_reads}
-use Rattle.stream_codec.proofs.Heads.{IsHeadText, head_reads}
 
 -- ---- what is skipped
 
@@ -61,20 +64,13 @@ taken_size left rest c after h e =
     let k = ap length t.1.text_is in
     (omega (arith, n, k), t.1.fits, change_text_nonempty c, t.1.within, (t.0, t.2))
 
-pub ends_alike_step : (left : ℕ) (rest : List ℕ) (c : Change) (after : List ℕ) → 0 < left → change_at left rest ≡ Ok (c, after) → EndsAlike left rest (left - (length rest - length after)) after
-ends_alike_step left rest c after h e more =
+pub passed_size : (left : ℕ) (rest : List ℕ) (c : Change) (after : List ℕ) → 0 < left → change_at left rest ≡ Ok (c, after) → (more : List ℕ) → skipped (changes_at left (rest ++ more)) ≡ skipped (changes_at (left - (length rest - length after)) (after ++ more))
+passed_size left rest c after h e more =
     let size = (taken_size left rest c after h e).0 in
     let grown = grows (change_at left) (IsChangeWithin left) (change_reads left (omega (arith, h))) rest more c after e in
     ap skipped (changes_at-step left (rest ++ more) c (after ++ more) h grown)
     ∙ skipped_map (changes_at (left - length (change_text c)) (after ++ more)) (λ others. c ∷ others)
     ∙ ap (λ n. skipped (changes_at (left - n) (after ++ more))) (sym size)
-
-pub EndsAlike-then : (a : ℕ) (x : List ℕ) (b : ℕ) (y : List ℕ) (d : ℕ) (z : List ℕ) → EndsAlike a x b y → EndsAlike b y d z → EndsAlike a x d z
-EndsAlike-then a x b y d z p q more = p more ∙ q more
-
--- with nothing more to come
-pub EndsAlike-now : (a : ℕ) (x : List ℕ) (b : ℕ) (y : List ℕ) → EndsAlike a x b y → skipped (changes_at a x) ≡ skipped (changes_at b y)
-EndsAlike-now a x b y p = ap (λ s. skipped (changes_at a s)) (sym (append-nil x)) ∙ p [] ∙ ap (λ s. skipped (changes_at b s)) (append-nil y)
 
 -- the changes read so far and those that are left
 regrouped : (front : List Change) (c : Change) (r : Read (List Change)) → with_front front (r >>= λ others. Ok (c ∷ others.0, others.1)) ≡ with_front (front ++ c ∷ []) r
@@ -90,15 +86,6 @@ with_front_step front left rest c after h e =
 
 -- ---- frames
 
-pub group_ends : (bytes : List ℕ) (epoch before after size : ℕ) (rest : List ℕ) → head_at bytes ≡ Ok (head.Group epoch before after size, rest) → (more : List ℕ) → skipped (message_at (bytes ++ more)) ≡ skipped (changes_at size (rest ++ more))
-unfolding message_at
-group_ends bytes epoch before after size rest e more =
-    let grown = grows head_at IsHeadText head_reads bytes more (head.Group epoch before after size) rest e in
-    ap (λ r. skipped (r >>= λ h. body_at h.0 h.1)) grown ∙ skipped_map (changes_at size (rest ++ more)) (λ changes. Changes epoch before after changes)
-
-pub head_end : (bytes : List ℕ) (h : Head) (rest : List ℕ) → head_at bytes ≡ Ok (h, rest) → IsEnd bytes rest
-head_end bytes h rest e = let t = head_reads.takes bytes h rest e in (t.0, t.2)
-
 pub ack_ends : (bytes : List ℕ) (ack : Ack) (rest : List ℕ) → head_at bytes ≡ Ok (head.Ack ack, rest) → message_at bytes ≡ Ok (Acknowledged ack.epoch ack.position, rest)
 unfolding message_at
 ack_ends bytes ack rest e = ap (λ r. r >>= λ h. body_at h.0 h.1) e
@@ -111,43 +98,67 @@ pub head_stops : (bytes : List ℕ) (stop : Stop) → head_at bytes ≡ Err stop
 unfolding message_at
 head_stops bytes stop e = ap (λ r. r >>= λ h. body_at h.0 h.1) e
 
--- ---- where the changes of a frame end
+-- ---- where a frame ends
 
-pub broken_after : (a : ℕ) (x : List ℕ) (b : ℕ) (y : List ℕ) (stop : Stop) → EndsAlike a x b y → changes_at b y ≡ Err stop → changes_at a x ≡ Err stop
-broken_after a x b y stop p e = skipped_err (changes_at a x) stop (EndsAlike-now a x b y p ∙ ap skipped e)
+-- with nothing more to come
+pub EndsAlike-now : (a : Next) (x : List ℕ) (b : Next) (y : List ℕ) → EndsAlike a x b y → end_from a x ≡ end_from b y
+EndsAlike-now a x b y p = ap (end_from a) (sym (append-nil x)) ∙ p [] ∙ ap (end_from b) (append-nil y)
 
-pub whole_after : (a : ℕ) (x : List ℕ) (b : ℕ) (y : List ℕ) → EndsAlike a x b y → b ≤ 0 → skipped (changes_at a x) ≡ Ok y
-whole_after a x b y p h =
-    let none : b ≡ 0 = omega (arith, h) in
-    EndsAlike-now a x b y p ∙ ap (λ n. skipped (changes_at n y)) none ∙ ap skipped (changes_at-none y)
+pub stopped_after : (a : Next) (x : List ℕ) (b : Next) (y : List ℕ) (stop : Stop) → EndsAlike a x b y → end_from b y ≡ Err stop → end_from a x ≡ Err stop
+stopped_after a x b y stop p e = EndsAlike-now a x b y p ∙ e
 
-behind_now : (bytes : List ℕ) (left : ℕ) (body : List ℕ) → IsBehind bytes left body → skipped (message_at bytes) ≡ skipped (changes_at left body)
-behind_now bytes left body p = ap (λ s. skipped (message_at s)) (sym (append-nil bytes)) ∙ p [] ∙ ap (λ s. skipped (changes_at left s)) (append-nil body)
+ended : (next : Next) (bytes : List ℕ) → is_more next ≡ false → end_from next bytes ≡ Ok bytes
+ended next.Kind bytes e = absurd cc
+ended next.Epoch bytes e = absurd cc
+ended next.Before bytes e = absurd cc
+ended (next.After least) bytes e = absurd cc
+ended next.Size bytes e = absurd cc
+ended next.AckEpoch bytes e = absurd cc
+ended next.AckPosition bytes e = absurd cc
+ended (next.Changes zero) bytes e = ap skipped (changes_at-none bytes)
+ended (next.Changes (suc left)) bytes e = let more : is_more (next.Changes (suc left)) ≡ true = grind (arith, nat_tests) in absurd cc
 
-pub look_whole : (bytes : List ℕ) (left : ℕ) (body rest : List ℕ) → IsBehind bytes left body → IsEnd bytes body → (skipped (changes_at left body) ≡ Ok rest) × IsEnd body rest → (skipped (message_at bytes) ≡ Ok rest) × IsEnd bytes rest
-look_whole bytes left body rest p end h = (behind_now bytes left body p ∙ h.0, IsEnd-then bytes body rest end h.1)
+pub whole_after : (a : Next) (x : List ℕ) (b : Next) (y : List ℕ) → EndsAlike a x b y → is_more b ≡ false → end_from a x ≡ Ok y
+whole_after a x b y p e = EndsAlike-now a x b y p ∙ ended b y e
 
-pub look_begun : (bytes : List ℕ) (left : ℕ) (body : List ℕ) (others : ℕ) (rest : List ℕ) → IsBehind bytes left body → IsEnd bytes body → EndsAlike left body others rest × IsEnd body rest × (changes_at others rest ≡ Err Short) → (message_at bytes ≡ Err Short) × IsAt bytes (record { at = length bytes - length rest; left = Some others })
-look_begun bytes left body others rest p end h =
-    let last = IsEnd-then bytes body rest end h.1 in (
-      skipped_err (message_at bytes) Short (behind_now bytes left body p ∙ EndsAlike-now left body others rest h.0 ∙ ap skipped h.2),
+-- what is at the front, from a place in it on
+from_place : (bytes : List ℕ) (progress : Progress) → IsAt bytes progress → skipped (message_at bytes) ≡ end_from progress.next (drop progress.at bytes)
+from_place bytes progress i = ap (λ s. skipped (message_at s)) (sym (append-nil bytes)) ∙ i.same [] ∙ ap (end_from progress.next) (append-nil (drop progress.at bytes))
+
+-- the bytes from the place on
+place_end : (bytes : List ℕ) (at : ℕ) (body : List ℕ) → body ≡ drop at bytes → IsEnd bytes body
+place_end bytes at body is = (take at bytes, sym (take-append-drop at bytes) ∙ ap (λ s. take at bytes ++ s) (sym is))
+
+pub look_whole : (bytes : List ℕ) (progress : Progress) (body rest : List ℕ) → IsAt bytes progress → body ≡ drop progress.at bytes → (end_from progress.next body ≡ Ok rest) × IsEnd body rest → (skipped (message_at bytes) ≡ Ok rest) × IsEnd bytes rest
+look_whole bytes progress body rest i is h =
+    (from_place bytes progress i ∙ ap (end_from progress.next) (sym is) ∙ h.0, IsEnd-then bytes body rest (place_end bytes progress.at body is) h.1)
+
+pub look_begun : (bytes : List ℕ) (progress : Progress) (body : List ℕ) (next : Next) (rest : List ℕ) (wanted missing : ℕ) → IsAt bytes progress → body ≡ drop progress.at bytes → EndsAlike progress.next body next rest → IsEnd body rest → end_from next rest ≡ Err Short → Waits (end_from next) rest missing → wanted ≤ length bytes + missing → (message_at bytes ≡ Err Short) × IsAt bytes (record { at = length bytes - length rest; next = next; wanted = wanted })
+look_begun bytes progress body next rest wanted missing i is alike end short waits fits =
+    let last = IsEnd-then bytes body rest (place_end bytes progress.at body is) end in
+    let same : (more : List ℕ) → skipped (message_at (bytes ++ more)) ≡ end_from next (rest ++ more) = λ more. i.same more ∙ ap (λ d. end_from progress.next (d ++ more)) (sym is) ∙ alike more in (
+      skipped_err (message_at bytes) Short (from_place bytes progress i ∙ ap (end_from progress.next) (sym is) ∙ EndsAlike-now progress.next body next rest alike ∙ short),
       record {
         within = omega arith;
-        same = λ more. p more ∙ h.0 more ∙ ap (λ d. skipped (changes_at others (d ++ more))) (sym (IsEnd-drop bytes rest last));
+        same = λ more. same more ∙ ap (λ d. end_from next (d ++ more)) (sym (IsEnd-drop bytes rest last));
+        waits = λ more h. skipped_err (message_at (bytes ++ more)) Short (same more ∙ waits more (omega (arith, h, fits)));
       },
     )
 
-pub look_broken : (bytes : List ℕ) (left : ℕ) (body : List ℕ) → IsBehind bytes left body → changes_at left body ≡ Err Broken → message_at bytes ≡ Err Broken
-look_broken bytes left body p e = skipped_err (message_at bytes) Broken (behind_now bytes left body p ∙ ap skipped e)
+pub look_broken : (bytes : List ℕ) (progress : Progress) (body : List ℕ) → IsAt bytes progress → body ≡ drop progress.at bytes → end_from progress.next body ≡ Err Broken → message_at bytes ≡ Err Broken
+look_broken bytes progress body i is e = skipped_err (message_at bytes) Broken (from_place bytes progress i ∙ ap (end_from progress.next) (sym is) ∙ e)
 
-pub at_start : (bytes : List ℕ) → IsAt bytes (record { at = 0; left = None })
-at_start bytes = record { within = omega arith; same = λ more. refl }
+-- with fewer bytes than are wanted there is no frame, and no fault
+pub still_taken : (bytes : List ℕ) (progress : Progress) (messages : List Message) → IsAt bytes progress → length bytes < progress.wanted → messages ≡ [] → IsTaken bytes messages false bytes progress
+still_taken bytes progress messages i h none =
+    let begun : message_at bytes ≡ Err Short = ap message_at (sym (append-nil bytes)) ∙ i.waits [] (omega (arith, h)) in
+    record {
+      stream = stream_at-short bytes begun ∙ ap (λ m. record { messages = sent_of_all m; unread = Some bytes }) (sym none);
+      at = i;
+    }
 
-pub behind_at : (bytes : List ℕ) (at : ℕ) (left : Option ℕ) (n : ℕ) → IsAt bytes (record { at = at; left = left }) → left ≡ Some n → IsBehind bytes n (drop at bytes)
-behind_at bytes at left n i e more = i.same more ∙ ap (λ l. end_from l (drop at bytes ++ more)) e
-
-pub drop_end : (bytes : List ℕ) (at : ℕ) → IsEnd bytes (drop at bytes)
-drop_end bytes at = (take at bytes, sym (take-append-drop at bytes))
+pub at_start : (bytes : List ℕ) → IsAt bytes (record { at = 0; next = next.Kind; wanted = 0 })
+at_start bytes = record { within = omega arith; same = λ more. refl; waits = λ more h. absurd (omega (arith, h)) }
 
 -- ---- frames that are read
 

@@ -4,4 +4,5 @@ pub mod Puts
 pub mod Reading
 pub mod Scanning
 pub mod Shown
+pub mod Stepping
 pub mod Stream

@@ -1,21 +1,19 @@
 -- What the code knows of a frame of which not all bytes are there.
-use Rattle.std.specs.Prelude.{◌≡◌, ℕ, Bool, true, false, ◌≤◌, List, ◌++◌, length, drop, map, Option, None, Some, Result, Ok, Err, IfSome}
+use Rattle.std.specs.Prelude.{◌≡◌, ℕ, ◌+◌, ◌-◌, ◌<◌, ◌≤◌, Bool, true, false, List, ◌++◌, length, drop, map, Option, None, Some, Result, Ok, Err, IfSome}
 use Rattle.stream_codec.specs.declared.reading.Stop.{Stop}
 use Rattle.stream_codec.specs.declared.reading.Stop.TheVariants.{Short, Broken}
 use Rattle.stream_codec.specs.declared.message.Message.{Message}
 use Rattle.stream_codec.specs.declared.scan.Progress.{Progress}
 use Rattle.stream_codec.specs.declared.scan.Look.{Look}
 use Rattle.stream_codec.specs.declared.scan.Look.TheVariants as look
-use Rattle.stream_codec.specs.declared.scan.Skip.{Skip}
-use Rattle.stream_codec.specs.declared.scan.Skip.TheVariants as skip
+use Rattle.stream_codec.specs.declared.scan.Pass.{Pass}
+use Rattle.stream_codec.specs.declared.scan.Pass.TheVariants as pass
+use Rattle.stream_codec.specs.declared.step.Next.{Next}
 use Rattle.stream_codec.specs.Message.{Sent, sent_of}
 use Rattle.stream_codec.specs.Bytes.{Read, ◌>>=◌}
-use Rattle.stream_codec.specs.Reading.{changes_at, message_at}
+use Rattle.stream_codec.specs.Reading.{name_at, value_at, message_at}
+use Rattle.stream_codec.specs.Stepping.{skipped, IsMore, end_from}
 use Rattle.stream_codec.specs.Stream.{stream_at}
-
--- the bytes after what was read
-abbrev pub skipped : {A : Type 0} → Read A → Result (List ℕ) Stop
-skipped read = read >>= λ x. Ok x.1
 
 -- the values already read, followed by those that `read` gives
 abbrev pub with_front : {A : Type 0} → List A → Read (List A) → Read (List A)
@@ -25,29 +23,28 @@ with_front front read = read >>= λ x. Ok (front ++ x.0, x.1)
 abbrev pub IsEnd : List ℕ → List ℕ → Type 0
 IsEnd bytes rest = (prefix : List ℕ) × (bytes ≡ prefix ++ rest)
 
--- whatever comes, changes of `left` bytes from here on end where those of `all_left` bytes do
-abbrev pub EndsAlike : ℕ → List ℕ → ℕ → List ℕ → Type 0
-EndsAlike all_left bytes left rest = (more : List ℕ) → skipped (changes_at all_left (bytes ++ more)) ≡ skipped (changes_at left (rest ++ more))
+-- with fewer bytes more than are missing, `read` has only the beginning of what it reads, whatever they are
+abbrev pub Waits : {A : Type 0} → (List ℕ → Result A Stop) → List ℕ → ℕ → Type 0
+Waits read bytes missing = (more : List ℕ) → length more < missing → read (bytes ++ more) ≡ Err Short
 
--- how far changes of `left` bytes go
-abbrev pub IsSkip : ℕ → List ℕ → Skip → Type 0
-IsSkip left bytes (skip.Whole rest) = (skipped (changes_at left bytes) ≡ Ok rest.now) × IsEnd bytes rest.now
-IsSkip left bytes (skip.Begun others rest) = EndsAlike left bytes others rest.now × IsEnd bytes rest.now × (changes_at others rest.now ≡ Err Short)
-IsSkip left bytes skip.Broken = changes_at left bytes ≡ Err Broken
+abbrev pub field_and_value_at : ℕ → List ℕ → Read (List ℕ)
+field_and_value_at spare bytes = name_at spare bytes >>= λ field. value_at (spare - length field.0) field.1
 
--- what follows the frame, from a place in it on: `None` at its first byte, `Some left` where `left` bytes of its changes are still to come
-abbrev pub end_from : Option ℕ → List ℕ → Result (List ℕ) Stop
-end_from None bytes = skipped (message_at bytes)
-end_from (Some left) bytes = skipped (changes_at left bytes)
+-- whatever comes, the frame ends where it does from what comes next on
+abbrev pub EndsAlike : Next → List ℕ → Next → List ℕ → Type 0
+EndsAlike first bytes later rest = (more : List ℕ) → end_from first (bytes ++ more) ≡ end_from later (rest ++ more)
 
--- whatever comes, the frame ends where it does from this place in it on
+-- how far a frame goes, from what comes next on
+abbrev pub IsPass : Next → List ℕ → Pass → Type 0
+IsPass first bytes (pass.Whole rest) = (end_from first bytes ≡ Ok rest.now) × IsEnd bytes rest.now
+IsPass first bytes (pass.Begun later rest) = EndsAlike first bytes later rest.now × IsEnd bytes rest.now × IsMore later × (end_from later rest.now ≡ Err Short)
+IsPass first bytes pass.Broken = end_from first bytes ≡ Err Broken
+
+-- whatever comes, the frame ends where it does from this place in it on, and with fewer bytes than are wanted it is only begun
 pub record IsAt (bytes : List ℕ) (progress : Progress) : Type 0 where
   pub within : progress.at ≤ length bytes
-  pub same : (more : List ℕ) → skipped (message_at (bytes ++ more)) ≡ end_from progress.left (drop progress.at bytes ++ more)
-
--- whatever comes, the frame ends where changes of `left` bytes from here on do
-abbrev pub IsBehind : List ℕ → ℕ → List ℕ → Type 0
-IsBehind bytes left body = (more : List ℕ) → skipped (message_at (bytes ++ more)) ≡ skipped (changes_at left (body ++ more))
+  pub same : (more : List ℕ) → skipped (message_at (bytes ++ more)) ≡ end_from progress.next (drop progress.at bytes ++ more)
+  pub waits : (more : List ℕ) → length bytes + length more < progress.wanted → message_at (bytes ++ more) ≡ Err Short
 
 -- what is at the front
 abbrev pub IsLook : List ℕ → Look → Type 0

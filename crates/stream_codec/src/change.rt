@@ -23,7 +23,7 @@ pub(crate) enum Kind {
 
 impl Kind {
     /// How many bytes a change of this kind has at least: its first byte and its lengths.
-    fn least_size(self) -> u64
+    pub fn least_size(self) -> u64
         ensures { result ≡ least_size self }
     {
         match self {
@@ -52,7 +52,7 @@ fn kind_of(byte: u8) -> Option<Kind>
 }
 
 /// The kind of a change of at most `left` bytes.
-fn kind_at(bytes: &[u8], left: u64) -> Result<(Kind, &[u8]), Stop>
+pub(crate) fn kind_at(bytes: &[u8], left: u64) -> Result<(Kind, &[u8]), Stop>
     ensures { Gives (λ x. (x.0, x.1.now)) result (kind_at left bytes.now) }
 {
     match bytes.split_first() {
@@ -65,7 +65,7 @@ fn kind_at(bytes: &[u8], left: u64) -> Result<(Kind, &[u8]), Stop>
 }
 
 /// A key or a field, where the names and the value of the change have at most `spare` bytes more.
-fn name_at(bytes: &[u8], spare: u64) -> Result<(&[u8], &[u8]), Stop>
+pub(crate) fn name_at(bytes: &[u8], spare: u64) -> Result<(&[u8], &[u8]), Stop>
     ensures { Gives (λ x. (x.0.now, x.1.now)) result (name_at spare bytes.now) }
 {
     let (len, rest) = u16_at(bytes, spare.min(MAX_KEY_BYTES as u64))?;

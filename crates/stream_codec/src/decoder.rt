@@ -53,6 +53,12 @@ impl Begun {
         ensures err { OnErr result ((self.new.unread.items ≡ self.old.unread.items) × (self.new.progress ≡ self.old.progress)) }
     {
         let alloc = *self.unread.allocator();
+        if self.unread.len() < self.progress.wanted {
+            return Ok(Taken {
+                messages: Vec::new(alloc),
+                is_broken: false,
+            });
+        }
         let split = split_frames(alloc, self.unread.as_slice(), self.progress)?;
         let given = self.unread.len() - split.rest.len();
         let messages = split.messages;

@@ -33,7 +33,8 @@ fn head_kind_of(byte: u8) -> Option<HeadKind>
     }
 }
 
-fn head_kind_at(bytes: &[u8]) -> Result<(HeadKind, &[u8]), Stop>
+/// The kind of the message at the front.
+pub(crate) fn head_kind_at(bytes: &[u8]) -> Result<(HeadKind, &[u8]), Stop>
     ensures { Gives (λ x. (x.0, x.1.now)) result (head_kind_at bytes.now) }
 {
     match bytes.split_first() {

@@ -7,8 +7,10 @@ mod frames;
 mod head;
 mod laws;
 mod message;
+mod missing;
 mod reading;
 mod scan;
+mod step;
 mod writing;
 
 pub use decoder::Decoder;

@@ -1,51 +1,69 @@
 //! How far the frame at the front of bytes goes, without copying it.
 ghost use Rattle.std.specs.Prelude.{◌≡◌, ◌≤◌, length};
-ghost use Rattle.stream_codec.specs.Scanning.{IsEnd, IsSkip, IsAt, IsBehind, IsLook};
+ghost use Rattle.stream_codec.specs.Stepping.{IsMore, end_from};
+ghost use Rattle.stream_codec.specs.Scanning.{IsAt, IsPass, IsLook, Waits};
 
-use crate::change::change_at;
-use crate::head::{Head, head_at};
+use crate::missing::missing_of_change;
 use crate::reading::Stop;
+use crate::step::{Next, step_at};
 
-/// A place in the frame at the front, up to which it was looked at.
+/// A place in the frame at the front, up to which it was read.
 #[derive(Clone, Copy, Debug, PartialEq, Eq)]
 pub(crate) struct Progress {
-    /// How many bytes of the frame were looked at.
+    /// How many bytes of the frame were read.
     pub at: usize,
-    /// How many bytes of its changes are still to come, or `None` if not all of its numbers are there.
-    pub left: Option<u64>,
+    /// What comes there.
+    pub next: Next,
+    /// How many bytes there must be before it is of use to look at them: with fewer the frame is begun, whatever they are.
+    pub wanted: usize,
 }
 
 /// The first byte of a frame.
-pub(crate) const START: Progress = Progress { at: 0, left: None };
+pub(crate) const START: Progress = Progress {
+    at: 0,
+    next: Next::Kind,
+    wanted: 0,
+};
 
-/// How far changes go.
+/// How far a frame goes.
 #[derive(Clone, Copy, Debug, Drop)]
-enum Skip<'a> {
-    /// They are all there, and these bytes follow them.
+enum Pass<'a> {
+    /// It is all there, and these bytes follow it.
     Whole(&'a [u8]),
-    /// So many bytes of them are still to come, and these bytes begin them.
-    Begun(u64, &'a [u8]),
-    /// No continuation of the bytes is such changes.
+    /// This comes next, and these bytes begin it.
+    Begun(Next, &'a [u8]),
+    /// No continuation of the bytes is a frame.
     Broken,
 }
 
-/// Skips the whole ones of changes that have `left` bytes together.
-fn skip_changes(bytes: &[u8], left: u64) -> Skip<'_>
-    ensures { IsSkip left bytes.now result }
+/// Passes what of a frame is there, from what comes next on.
+fn pass_on(bytes: &[u8], next: Next) -> Pass<'_>
+    ensures { IsPass next bytes.now result }
 {
-    let mut left = left;
+    let mut next = next;
     let mut rest = bytes;
-    while left > 0 {
-        match change_at(rest, left) {
-            Ok((_, after)) => {
-                left -= (rest.len() - after.len()) as u64;
+    while next.is_more() {
+        match step_at(rest, next) {
+            Ok((later, after)) => {
+                next = later;
                 rest = after;
             }
-            Err(Stop::Short) => return Skip::Begun(left, rest),
-            Err(Stop::Broken) => return Skip::Broken,
+            Err(Stop::Short) => return Pass::Begun(next, rest),
+            Err(Stop::Broken) => return Pass::Broken,
         }
     }
-    Skip::Whole(rest)
+    Pass::Whole(rest)
+}
+
+/// How many bytes are missing before there is more than the beginning of what comes next, whatever they are.
+fn missing_of(bytes: &[u8], next: Next) -> u64
+    requires { IsMore next }
+    ensures { Waits (end_from next) bytes.now result }
+{
+    match next {
+        Next::Changes(left) => missing_of_change(bytes, left),
+        _ => 0,
+    }
 }
 
 /// What is at the front of bytes.
@@ -59,37 +77,19 @@ pub(crate) enum Look<'a> {
     Broken,
 }
 
-/// Looks at the frame at the front from a place in it on: what was looked at before is not looked at again.
+/// Looks at the frame at the front from a place in it on: what was read before is not read again.
 pub(crate) fn look_at(bytes: &[u8], progress: Progress) -> Look<'_>
     requires { IsAt bytes.now progress }
     ensures { IsLook bytes.now result }
 {
-    match progress.left {
-        Some(left) => {
-            let (_, body) = bytes.split_at(progress.at);
-            look_behind(bytes, body, left)
-        }
-        None => match head_at(bytes) {
-            Ok((Head::Group(_, _, _, size), rest)) => look_behind(bytes, rest, size),
-            Ok((Head::Ack(_), rest)) => Look::Whole(rest),
-            Err(Stop::Short) => Look::Begun(START),
-            Err(Stop::Broken) => Look::Broken,
-        },
-    }
-}
-
-/// Looks at the frame at the front from its changes on, of which `left` bytes are still to come.
-fn look_behind<'a>(bytes: &'a [u8], body: &'a [u8], left: u64) -> Look<'a>
-    requires same { IsBehind bytes.now left body.now }
-    requires end { IsEnd bytes.now body.now }
-    ensures { IsLook bytes.now result }
-{
-    match skip_changes(body, left) {
-        Skip::Whole(rest) => Look::Whole(rest),
-        Skip::Begun(left, rest) => Look::Begun(Progress {
+    let (_, rest) = bytes.split_at(progress.at);
+    match pass_on(rest, progress.next) {
+        Pass::Whole(rest) => Look::Whole(rest),
+        Pass::Begun(next, rest) => Look::Begun(Progress {
             at: bytes.len() - rest.len(),
-            left: Some(left),
+            next,
+            wanted: bytes.len().saturating_add(missing_of(rest, next) as usize),
         }),
-        Skip::Broken => Look::Broken,
+        Pass::Broken => Look::Broken,
     }
 }
