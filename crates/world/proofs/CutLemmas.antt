@@ -30,7 +30,7 @@ keyspace_after-cut_at-cut calls n p le =
 
 -- ---- nodes
 
-AreContentsAt-cut : (holder : Holder) (calls : List Call) (n p : ℕ) (contents : Contents) → p ≤ n → AreContentsAt holder calls p contents → AreContentsAt holder (cut_at calls n) p contents
+pub AreContentsAt-cut : (holder : Holder) (calls : List Call) (n p : ℕ) (contents : Contents) → p ≤ n → AreContentsAt holder calls p contents → AreContentsAt holder (cut_at calls n) p contents
 AreContentsAt-cut holder calls n p contents le are = record {
   at = are.at;
   role_is = are.role_is;
@@ -49,7 +49,8 @@ EngineStands-cut holder calls n p device contents is_faulted le stands = record 
   durable = stands.durable;
 }
 
-pub IsDown-cut : (holder : Holder) (calls : List Call) (n p : ℕ) (device : State) → p ≤ n → IsDown holder calls p device → IsDown holder (cut_at calls n) p device
+-- with the contents that it had
+abbrev pub IsDown-cut : (holder : Holder) (calls : List Call) (n p : ℕ) (device : State) → p ≤ n → IsDown holder calls p device → IsDown holder (cut_at calls n) p device
 IsDown-cut holder calls n p device le down = record {
   contents = down.contents;
   contents_at = AreContentsAt-cut holder calls n p down.contents le down.contents_at;

@@ -1,5 +1,7 @@
 -- The images of nodes that crashed: what a crash leaves of an engine over the list of calls, and what a reopening makes of it.
-use Rattle.std.proofs.Common.{◌≡◌, ◌⊎◌, inl, inr, ℕ, ◌≤◌, Bool, false, List, ◌++◌, refl, sym, ap, subst, ◌∙◌, arith}
+use Rattle.std.proofs.Common.{◌≡◌, ◌⊎◌, inl, inr, ℕ, ◌+◌, ◌≤◌, Bool, false, nat_eq, List, [], ◌∷◌, ◌++◌, length, drop, refl, sym, ap, subst, ◌∙◌, arith}
+use Rattle.std.proofs.lemmas.Bool.{cond-false, cond-true, eqb-true}
+use Rattle.std.proofs.lemmas.List.{length-append, length-drop}
 use Rattle.kv_types.specs.declared.place.EntryNo.{EntryNo}
 use Rattle.kv_types.specs.declared.refusal.Refusal.{Refusal}
 use Rattle.kv_types.specs.declared.refusal.Refusal.TheVariants.{Exhausted, Memory}
@@ -11,6 +13,7 @@ use Rattle.pmem.proofs.Staging.{IsImage-settled}
 use Rattle.model.specs.declared.call.Call.{Call}
 use Rattle.model.specs.declared.record.Record.{Record}
 use Rattle.model.specs.declared.record.Role.{Role}
+use Rattle.model.specs.declared.record.TheConstants.{MAX_GAPS}
 use Rattle.model.specs.Call.{keyspace_after, cut_at, position_of}
 use Rattle.model.specs.Image.{Image, IsMapOf, HasRecord, Holds, entries_of_lines}
 use Rattle.model.specs.Group.{Contents}
@@ -19,10 +22,11 @@ use Rattle.model.proofs.MapLemmas.{IsMapOf-same}
 use Rattle.model.proofs.StandingLemmas.{Holds-versions}
 use Rattle.wbl_engine.specs.Contents.{Keeps, IsDurable}
 use Rattle.wbl_engine.specs.Lawful.{IsUndamaged}
-use Rattle.wbl_engine.specs.Reopening.{ExhaustsReopening, KeepsThrough, RefusesReopening, Reopens, StaysReadable, reopened}
+use Rattle.wbl_engine.specs.Reopening.{ExhaustsReopening, KeepsThrough, RefusesReopening, Reopens, StaysReadable, open_gap, reopened, with_room}
 use Rattle.wbl_engine.proofs.LawfulLemmas.{lawful_undamaged}
 use Rattle.wbl_engine.proofs.ReopeningLaws.{keeps_through, lawful_refusal, reopening_lawful}
 use Rattle.wbl_engine.proofs.RoomLemmas.{room_cases}
+use Rattle.machine.specs.Event.{gaps_reopened}
 use Rattle.world.specs.Committing.{AreContentsAt, EngineStands, IsDown, Moves, Stands, StandsAtEither}
 use Rattle.world.proofs.EngineLemmas.{AreContentsAt-grows, Stands-engine, keeps-stands}
 
@@ -46,8 +50,8 @@ settled-image words image settled is =
 
 -- ---- a crash
 
--- an engine over the list of calls that crashes leaves its image
-pub down-crashed : (holder : Holder) (calls : List Call) (p : ℕ) (device device' : State) (contents : Contents) (is_faulted : Bool) → EngineStands holder calls p device contents is_faulted
+-- an engine over the list of calls that crashes leaves its image, with the contents that it had
+abbrev pub down-crashed : (holder : Holder) (calls : List Call) (p : ℕ) (device device' : State) (contents : Contents) (is_faulted : Bool) → EngineStands holder calls p device contents is_faulted
     → contents.lines ≡ device.lines → IsSettled device'.words → IsImage device.words (image_of device'.words) → device'.lines ≡ device.lines → IsDown holder calls p device'
 down-crashed holder calls p device device' contents is_faulted stands sized settled is lines =
     record {
@@ -129,6 +133,33 @@ down-reopened holder calls p device device' contents' counted gapped down reopen
       sound = refl;
       durable = durable;
     }
+
+-- a record that is opened again has one gap more, where it has room for it
+gaps-reopened : (r : Record) → length (reopened r).gaps.items ≡ gaps_reopened (length r.gaps.items)
+gaps-reopened r =
+    let count = length r.gaps.items in
+    let one : length (reopened r).gaps.items ≡ length (with_room r).gaps.items + 1 = length-append (with_room r).gaps.items (open_gap (with_room r) ∷ []) in
+    elim (room_cases r) [
+      | inl full ↦
+          let e : count ≡ MAX_GAPS = eqb-true count MAX_GAPS full.0 in
+          let gaps : length (with_room r).gaps.items ≡ length (drop 1 r.gaps.items) = ap (λ (q : Record). length q.gaps.items) full.1 in
+          let all : length (reopened r).gaps.items ≡ MAX_GAPS = omega (arith, one, gaps, e, length-drop 1 r.gaps.items) in
+          all ∙ sym (cond-true (nat_eq count MAX_GAPS) MAX_GAPS (count + 1) full.0)
+      | inr roomy ↦
+          let gaps : length (with_room r).gaps.items ≡ count = ap (λ (q : Record). length q.gaps.items) roomy.1 in
+          let more : length (reopened r).gaps.items ≡ count + 1 = omega (arith, one, gaps) in
+          more ∙ sym (cond-false (nat_eq count MAX_GAPS) MAX_GAPS (count + 1) roomy.0)
+    ]
+
+-- so has the record of an image
+pub down-gaps : (holder : Holder) (calls : List Call) (p : ℕ) (device : State) (contents' : Contents) (counted : _) (gapped : List EntryNo) (down : IsDown holder calls p device)
+    → Reopens device.lines (image_of device.words) holder.role contents' counted gapped → length contents'.current.gaps.items ≡ gaps_reopened (length down.contents.current.gaps.items)
+down-gaps holder calls p device contents' counted gapped down reopens =
+    let image = image_of device.words in
+    let own : Reopens down.contents.lines image holder.role contents' counted gapped =
+    subst (λ n. Reopens n image holder.role contents' counted gapped) (sym down.sized) reopens in
+    let through = keeps_through down.contents contents' image holder.role counted gapped down.lawful down.keeps own in
+    ap (λ (r : Record). length r.gaps.items) through.current ∙ gaps-reopened down.contents.current
 
 -- an image that reopening may leave stands where the first one stood
 readable-stands : (holder : Holder) (calls : List Call) (p : ℕ) (contents : Contents) (image image' : Image) → AreContentsAt holder calls p contents → Keeps contents image

@@ -1,33 +1,43 @@
--- New images, and the tables and heaps with which they begin.
-use Rattle.std.proofs.Common.{◌≡◌, ℕ, ◌<◌, ◌≤◌, ◌⊎◌, Bool, true, false, true≢false, ◌∙◌, List, [], ◌∷◌, Ok, Err, refl, sym, ap, subst, arith, inl, inr, Vec, Global}
+-- New images, the tables and heaps with which they begin, and a primary that nothing waits for.
+use Rattle.std.proofs.Common.{◌≡◌, ℕ, ◌<◌, ◌≤◌, ◌⊎◌, ◌↔◌, Bool, true, false, true≢false, IsTrue, ◌∙◌, List, [], ◌∷◌, length, Ok, Err, refl, sym, ap, subst, arith, inl, inr, Vec, Global}
 use Rattle.std.proofs.lemmas.Bool.{cases_lt}
 use Rattle.multi_watch.specs.Sessions.{Sessions}
-use Rattle.model.specs.Image.{entries_of_lines}
+use Rattle.model.specs.Image.{entries_of_lines, first_extent_line}
 use Rattle.model.specs.declared.image.TheConstants.{COUNTER_LIMIT, MAX_LINES, MIN_LINES}
-use Rattle.model.specs.Group.{Contents}
+use Rattle.model.specs.Group.{AreEnded, Contents}
 use Rattle.model.specs.declared.group.Group.{Group}
+use Rattle.model.specs.declared.work.FreeList.{FreeList}
+use Rattle.model.specs.declared.work.Work.{Work}
+use Rattle.model.specs.declared.call.Call.{Call}
 use Rattle.model.specs.declared.record.Role.{Role}
+use Rattle.model.specs.declared.record.Gap.{Gap}
 use Rattle.model.specs.declared.record.TheConstants.{FIRST_EPOCH}
 use Rattle.model.proofs.MapLemmas.{IsMapOf-none}
 use Rattle.model.specs.Standing.{Holder, new_holder}
 use Rattle.pmem.specs.Device.{State}
 use Rattle.pmem.proofs.Leaving.{none_leaves}
-use Rattle.extent_heap.specs.Room.{Room}
+use Rattle.kv_types.specs.declared.place.EntryNo.{EntryNo}
+use Rattle.extent_heap.specs.Room.{Room, fresh_room, is_free_entry, is_free_line}
+use Rattle.placing.specs.Back.{HasOut}
+use Rattle.placing.proofs.BackLemmas.{fresh-has_out}
 use Rattle.mv_keyspace.specs.Table.{Table, records}
+use Rattle.wbl_engine.specs.declared.freeing.Freed.{Freed}
 use Rattle.wbl_engine.specs.Contents.{IsNew, IsDurable}
 use Rattle.wbl_engine.specs.Formatting.{IsFormatting}
 use Rattle.wbl_engine.proofs.LawfulLemmas.{new_lawful}
-use Rattle.redis_core.specs.Sequencing.{Sequencing, IsAheadOf, Underlies, starts}
+use Rattle.redis_core.specs.Sequencing.{Expects, Sequencing, IsAheadOf, Underlies, starts}
 use Rattle.standby_stream.specs.Stream.{Stream, new_stream}
 use Rattle.standby.proofs.NewLemmas.{HasAll, new-table, left-new, new-consistent, follows-new}
+use Rattle.standby.specs.Following.{Follows}
+use Rattle.machine.specs.Event.{new_committer}
 use Rattle.machine.proofs.RunLemmas.{sound-start}
 use Rattle.kv_types.specs.declared.refusal.Refusal.{Refusal}
 use Rattle.kv_types.specs.declared.refusal.Refusal.TheVariants.{Exhausted, Fault, Memory, WrongSize}
 use Rattle.world.specs.Cause.{IsWrongSize, UnformedBy}
 use Rattle.group_commit.specs.declared.stage.Stage.{Stage}
 use Rattle.group_commit.specs.declared.stage.Stage.TheVariants.{Ready}
-use Rattle.world.specs.Committing.{FormattingOnly, EngineStands, Leads, StageRefines}
-use Rattle.world.specs.GroupSpan.{AreGroupsOf}
+use Rattle.world.specs.Committing.{Committing, CommittingRefines, FormattingOnly, EngineStands, Leads, StageRefines}
+use Rattle.world.specs.GroupSpan.{AreGroupsOf, AreWorkOf, positions_of_lists}
 use Rattle.world.specs.Link.{AreFramesSent, LinkRefines}
 use Rattle.world.specs.Session.{ConnectionsRefine, SessionsRefine, SequencerRefines, SeatsFollow, seats_of}
 use Rattle.world.specs.declared.connection.Connection.{Connection}
@@ -37,8 +47,8 @@ use Rattle.world.specs.Pair.{NodesRefine, Pair, life_if}
 
 -- ---- the sequencer
 
-pub sequencer-starts : (sessions : Sessions) (s : Sequencing) (table : Table) (room : Room) → table ≡ [] → s ≡ starts table room 0 FIRST_EPOCH sessions → SequencerRefines [] 0 s
-sequencer-starts sessions s table room empty same =
+pub sequencer-starts : (sessions : Sessions) (s : Sequencing) (table : Table) (room : Room) (ended : List EntryNo) → table ≡ [] → s ≡ starts table room ended 0 FIRST_EPOCH sessions → SequencerRefines [] 0 s
+sequencer-starts sessions s table room ended empty same =
     subst (SequencerRefines [] 0) (sym same)
     (record {
       table = ap records empty;
@@ -53,7 +63,38 @@ pub only-memory : (refusal : Refusal) → (refusal ≡ Exhausted) ⊎ (refusal �
 only-memory refusal (inl exhausted) limit = absurd (omega (arith, limit exhausted))
 only-memory refusal (inr memory) limit = memory
 
+-- where nothing waits, is aside or was told, the sequencer alone leads on from the contents
+pub leads-nothing : (contents : Contents) (waiting : List Work) (aside : List FreeList) (s : Sequencing) (notices : List Freed) → waiting ≡ [] → aside ≡ [] → notices ≡ []
+    → IsAheadOf s contents → Expects s contents [] [] → AreEnded contents s.ended → Leads contents waiting aside s notices
+leads-nothing contents waiting aside s notices none_waits none_aside none_told ahead expects listed =
+    subst (λ (items : List Work). Leads contents items aside s notices) (sym none_waits)
+    (subst (λ (lists : List FreeList). Leads contents [] lists s notices) (sym none_aside)
+    (subst (λ (told : List Freed). Leads contents [] [] s told) (sym none_told)
+    (record { work_is = tt; epochs = tt; stands = ahead; expects = expects; aside_ended = tt; listed = listed })))
+
+-- a committer with nothing in hand, which nothing waits for, is a new one
+pub committing-nothing : (calls : List Call) (position : ℕ) (code : Committing) → code.waiting.items ≡ [] → code.aside ≡ [] → code.stage ≡ Ready → code.local ≡ position
+    → CommittingRefines calls code (new_committer position)
+committing-nothing calls position code none_waits none_aside ready mark =
+    record {
+      work = subst (λ (items : List Work). AreWorkOf calls items []) (sym none_waits) tt;
+      aside = ap positions_of_lists none_aside;
+      stage_is = subst (λ (stage : Stage). StageRefines calls stage (new_committer position).stage) (sym ready) tt;
+      local_is = mark;
+    }
+
 -- ---- new contents
+
+-- a new heap has all
+pub all-fresh : (lines : ℕ) (room : Room) → room ≡ fresh_room (first_extent_line lines) lines (entries_of_lines lines)
+    → ((line : ℕ) → IsTrue (is_free_line room line) ↔ ((first_extent_line lines ≤ line) × (line < lines)))
+    → ((i : ℕ) → IsTrue (is_free_entry room i) ↔ (i < entries_of_lines lines)) → HasAll lines room
+all-fresh lines room fresh lines_free entries_free =
+    record { lines_free = lines_free; entries_free = entries_free; end_line = ap (λ (r : Room). r.end_line) fresh; end_entry = ap (λ (r : Room). r.end_entry) fresh }
+
+-- nothing is out of it
+pub out-fresh : (lines : ℕ) (role : Role) (contents : Contents) (room : Room) → IsNew lines role contents → room ≡ fresh_room (first_extent_line lines) lines (entries_of_lines lines) → HasOut contents room 0
+out-fresh lines role contents room new fresh = subst (λ (r : Room). HasOut contents r 0) (sym fresh) (fresh-has_out contents lines new.line_count new.versions)
 
 pub underlies-new : (lines : ℕ) (role : Role) (contents : Contents) (table : Table) (room : Room) → IsNew lines role contents → HasAll lines room → table ≡ [] → Underlies contents table room 0 FIRST_EPOCH
 underlies-new lines role contents table room new all empty =
@@ -87,11 +128,11 @@ engine-new lines role device contents is_faulted many few new durable sound =
     }
 
 pub standby-new : (lines epoch : ℕ) (role : Role) (node : Node) → MIN_LINES ≤ lines → lines ≤ MAX_LINES → IsNew lines role node.contents → IsDurable node.device node.contents → node.is_faulted ≡ false
-    → HasAll lines node.room → node.table ≡ [] → node.epoch ≡ epoch → epoch ≡ FIRST_EPOCH → StandbyStands (new_holder lines role) epoch [] 0 node
-standby-new lines epoch role node many few new durable sound all empty same first =
+    → HasAll lines node.room → node.table ≡ [] → node.ended ≡ [] → node.epoch ≡ epoch → epoch ≡ FIRST_EPOCH → StandbyStands (new_holder lines role) epoch [] 0 node
+standby-new lines epoch role node many few new durable sound all empty none same first =
     record {
       engine = engine-new lines role node.device node.contents node.is_faulted many few new durable sound;
-      follows = follows-new lines role node.contents node.table node.room new all empty;
+      follows = subst (Follows node.contents node.table node.room) (sym none) (follows-new lines role node.contents node.table node.room new all empty);
       table = ap records empty;
       epoch_is = same;
       epoch_held = first;
@@ -120,11 +161,12 @@ none-seated [] stand s = record { by_call = λ c seat has shut. cc; session = λ
 none-seated (code ∷ codes) stand s = absurd stand
 
 pub pair-starts : (first second : Holder) (pair : Pair) → SessionsRefine pair.sessions [] [] → SequencerRefines [] 0 pair.sequencer
-    → pair.committing.waiting.items ≡ [] → pair.committing.stage ≡ Ready → pair.committing.local ≡ 0 → EngineStands first [] 0 pair.device pair.contents pair.is_faulted
-    → IsAheadOf pair.sequencer pair.contents → pair.link ≡ new_stream FIRST_EPOCH → pair.handed.items ≡ [] → pair.remote ≡ 0 → pair.frames ≡ []
+    → (pair.sequencer.ended ≡ []) × (pair.sequencer.newest ≡ 0)
+    → pair.committing.waiting.items ≡ [] → pair.committing.aside ≡ [] → pair.committing.stage ≡ Ready → pair.committing.local ≡ 0 → pair.notices ≡ [] → EngineStands first [] 0 pair.device pair.contents pair.is_faulted
+    → pair.contents.current.gaps.items ≡ [] → IsAheadOf pair.sequencer pair.contents → Expects pair.sequencer pair.contents [] [] → pair.link ≡ new_stream FIRST_EPOCH → pair.handed.items ≡ [] → pair.remote ≡ 0 → pair.frames ≡ []
     → ((epoch : ℕ) → ArrivalsRefine epoch [] pair.arrivals [] []) → StandbyStands second pair.link.epoch [] 0 pair.standby
     → first.role ≡ Role.Primary → second.role ≡ Role.Standby → first.epoch ≡ FIRST_EPOCH → second.epoch ≡ FIRST_EPOCH → pair.primary_runs ≡ true → pair.standby_runs ≡ true → NodesRefine first second pair start
-pair-starts first second pair sessions sequencer none ready mark engine ahead link no_group remote no_frame arrivals standby first_role second_role first_epoch second_epoch serves follows =
+pair-starts first second pair sessions sequencer none_ended none none_aside ready mark none_told engine no_gap ahead expects link no_group remote no_frame arrivals standby first_role second_role first_epoch second_epoch serves follows =
     record {
       sound = sound-start true;
       lives = record {
@@ -142,13 +184,16 @@ pair-starts first second pair sessions sequencer none ready mark engine ahead li
           sessions = sessions;
           sequencer = sequencer;
           follow = none-seated pair.sessions.connections.items sessions.connections_stand pair.sequencer;
-          committing = record {
-            groups = subst (λ (groups : List Group). AreGroupsOf [] groups []) (sym none) tt;
-            stage_is = subst (λ (stage : Stage). StageRefines [] stage start.primary.committer.stage) (sym ready) tt;
-            local_is = mark;
-          };
+          committing = committing-nothing [] 0 pair.committing none none_aside ready mark;
           engine = engine;
-          leads = subst (λ (groups : List Group). Leads pair.contents groups pair.sequencer) (sym none) (record { groups_are = tt; epochs = tt; stands = ahead });
+          leads = leads-nothing pair.contents pair.committing.waiting.items pair.committing.aside pair.sequencer pair.notices none none_aside none_told ahead expects
+              (subst (AreEnded pair.contents) (sym none_ended.0) tt);
+          freeing = record {
+            ended = ap (λ (entries : List EntryNo). length entries) none_ended.0;
+            newest = none_ended.1;
+            notices_are = ap (λ (notices : List Freed). length notices) none_told;
+            gaps = ap (λ (gaps : List Gap). length gaps) no_gap;
+          };
           epoch = ap (λ (s : Stream). s.epoch) link;
           link = subst (λ (s : Stream). LinkRefines [] s pair.handed pair.remote start.primary.link) (sym link)
               (record {

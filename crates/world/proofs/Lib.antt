@@ -2,6 +2,7 @@ pub mod ParserLemmas
 pub mod InboundLemmas
 pub mod OutboundLemmas
 pub mod GroupSpanLemmas
+pub mod QueueLemmas
 pub mod EngineLemmas
 pub mod DownLemmas
 pub mod CutLemmas
@@ -11,7 +12,10 @@ pub mod PositionsLemmas
 pub mod SeatLemmas
 pub mod OverLemmas
 pub mod SequencerLemmas
+pub mod ClosingLemmas
 pub mod TurnLemmas
+pub mod AheadLemmas
+pub mod FreedQueue
 pub mod CommittingLemmas
 pub mod WireLemmas
 pub mod FrameLemmas
@@ -21,6 +25,8 @@ pub mod AckLemmas
 pub mod StandbyLemmas
 pub mod ArrivalLemmas
 pub mod PairLemmas
+pub mod PairFreeing
+pub mod PairClosing
 pub mod PairCommitting
 pub mod PairLink
 pub mod PairTurns

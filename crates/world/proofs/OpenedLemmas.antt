@@ -1,5 +1,5 @@
 -- The image of a node that is opened again, and what that leaves of it.
-use Rattle.std.proofs.Common.{◌≡◌, ◌≢◌, ◌⊎◌, inl, ℕ, ◌<◌, Bool, false, List, sym, ap, subst}
+use Rattle.std.proofs.Common.{◌≡◌, ◌≢◌, ◌⊎◌, inl, ℕ, ◌<◌, Bool, false, List, length, sym, ap, subst}
 use Rattle.kv_types.specs.declared.refusal.Refusal.{Refusal}
 use Rattle.kv_types.specs.declared.refusal.Refusal.TheVariants.{Fault, Memory}
 use Rattle.pmem.specs.Device.{State}
@@ -21,9 +21,10 @@ use Rattle.standby.specs.Restarting.{IsReopened}
 use Rattle.wbl_engine.specs.Contents.{IsDurable}
 use Rattle.wbl_engine.specs.Lawful.{IsUndamaged}
 use Rattle.wbl_engine.specs.Reopening.{ExhaustsReopening, RefusesReopening, StaysReadable}
+use Rattle.machine.specs.Event.{gaps_reopened}
 use Rattle.world.specs.Cause.{Breaks, RestsBeforeReopening}
 use Rattle.world.specs.Committing.{AreContentsAt, EngineStands, IsDown, Moves, Rests, StandsAtEither}
-use Rattle.world.proofs.DownLemmas.{down-reopened, restart-moments, settled-image}
+use Rattle.world.proofs.DownLemmas.{down-gaps, down-reopened, restart-moments, settled-image}
 
 -- ---- the image
 
@@ -51,6 +52,11 @@ pub opened-stands : (holder : Holder) (calls : List Call) (p : ℕ) (old new : S
 opened-stands holder calls p old new contents is_faulted down opened =
     subst (EngineStands holder calls p new contents) (sym opened.sound)
     (down-reopened holder calls p old new contents opened.reopens.counted opened.reopens.gapped down opened.reopens.reopens opened.durable)
+
+-- its record has one gap more, where it has room for it
+pub opened-gaps : (holder : Holder) (calls : List Call) (p : ℕ) (old new : State) (contents : Contents) (is_faulted : Bool) (down : IsDown holder calls p old) → IsOpened holder.role old new contents is_faulted
+    → length contents.current.gaps.items ≡ gaps_reopened (length down.contents.current.gaps.items)
+opened-gaps holder calls p old new contents is_faulted down opened = down-gaps holder calls p old contents opened.reopens.counted opened.reopens.gapped down opened.reopens.reopens
 
 pub opened-moves : (holder : Holder) (calls : List Call) (p : ℕ) (old new : State) → IsDown holder calls p old → StaysSo old new → new.failures ≡ old.failures → Moves holder calls p p old new
 opened-moves holder calls p old new down stays failures =

@@ -5,9 +5,8 @@ use Rattle.kv_types.specs.declared.refusal.Refusal.{Refusal}
 use Rattle.kv_types.specs.declared.refusal.Refusal.TheVariants.{Memory}
 use Rattle.model.specs.declared.call.Call.{Call}
 use Rattle.model.specs.Call.{position_of}
-use Rattle.model.specs.Group.{Contents}
 use Rattle.model.specs.Standing.{Holder}
-use Rattle.redis_core.specs.Sequencing.{Sequencing, IsAheadOf}
+use Rattle.redis_core.specs.Sequencing.{Sequencing}
 use Rattle.machine.specs.declared.event.Event.{Event}
 use Rattle.machine.specs.declared.event.Event.TheVariants as events
 use Rattle.machine.specs.Event.{Connection, World, Happens, Step, Turns, changed_at, left, new_connection, is_enabled, may_happen, called, with_connections}
@@ -17,13 +16,14 @@ use Rattle.machine.proofs.SoundEvents.{sound-step}
 use Rattle.world.specs.Going.{Goes}
 use Rattle.world.specs.Cause.{Stretch, EndsBy, asks_memory}
 use Rattle.world.specs.Committing.{Rests, Stands, next_primary, next_standby}
-use Rattle.world.specs.Session.{SessionsRefine, SequencerRefines, SeatsFollow, KeepsSeats, AddsOne, TakesTurn, TellsTheSame, bytes_of, seats_of}
+use Rattle.world.specs.Session.{SessionsRefine, SequencerRefines, SeatsFollow, KeepsSeats, AddsOne, StandsStill, TakesTurn, TellsTheSame, bytes_of, seats_of}
 use Rattle.world.specs.Pair.{Pair, EitherRefines, NodesRefine, PartsRefine, PairRefines, IsCut, MovesBoth, Steps, Does}
 use Rattle.world.specs.Standby.{Node, StandbyRefines}
 use Rattle.world.proofs.LivesLemmas.{Runs, enabled-is, is_own, lives-step, nodes-refine, own-runs}
 use Rattle.world.specs.declared.sessions.Sessions.{Sessions}
 use Rattle.world.proofs.SessionLemmas.{length-connections, released-told}
 use Rattle.world.proofs.SeatLemmas.{follow-kept}
+use Rattle.world.proofs.SequencerLemmas.{freeing-still, leads-still, still-same}
 use Rattle.world.proofs.EngineLemmas.{Stands-engine, moves-same, rests-same, EngineStands-grows}
 use Rattle.world.proofs.CommittingLemmas.{CommittingRefines-grows}
 use Rattle.world.proofs.FrameLemmas.{AreFramesSent-grows}
@@ -167,6 +167,7 @@ sessions-parts first second old sessions connections w parts keeps stand =
       committing = parts.committing;
       engine = parts.engine;
       leads = parts.leads;
+      freeing = freeing-still old.sequencer old.sequencer old.notices old.contents w.primary (with_connections connections w).primary (still-same old.sequencer old.sequencer refl) refl refl refl refl parts.freeing;
       epoch = parts.epoch;
       link = parts.link;
       frames = parts.frames;
@@ -248,9 +249,9 @@ with_turn sessions sequencer pair = record pair { sessions = sessions; sequencer
 
 called-parts : (first second : Holder) (old : Pair) (sessions : Sessions) (sequencer : Sequencing) (w : World) (c : ℕ) (call : Call) → PairRefines first second old w
     → SessionsRefine sessions (called c call w).primary.connections (w.primary.calls ++ call ∷ []) → SequencerRefines (w.primary.calls ++ call ∷ []) w.primary.committer.closed sequencer
-    → SeatsFollow (w.primary.calls ++ call ∷ []) (seats_of sessions.connections.items) sequencer → ((contents : Contents) → IsAheadOf old.sequencer contents → IsAheadOf sequencer contents)
+    → SeatsFollow (w.primary.calls ++ call ∷ []) (seats_of sessions.connections.items) sequencer → StandsStill old.sequencer sequencer
     → PartsRefine first second (with_turn sessions sequencer old) (called c call w)
-called-parts first second old sessions sequencer w c call stands sessions_stand sequencer_stands follow goes_on =
+called-parts first second old sessions sequencer w c call stands sessions_stand sequencer_stands follow still =
     let parts = stands.parts in
     record {
       sessions = sessions_stand;
@@ -258,7 +259,8 @@ called-parts first second old sessions sequencer w c call stands sessions_stand 
       follow = follow;
       committing = CommittingRefines-grows w.primary.calls (call ∷ []) old.committing w.primary.committer parts.committing;
       engine = EngineStands-grows first w.primary.calls (call ∷ []) w.primary.committer.position old.device old.contents old.is_faulted (primary-within w stands.sound) parts.engine;
-      leads = record { groups_are = parts.leads.groups_are; epochs = parts.leads.epochs; stands = goes_on _ parts.leads.stands };
+      leads = leads-still old.contents old.committing.waiting.items old.committing.aside old.sequencer sequencer old.notices still parts.leads;
+      freeing = freeing-still old.sequencer sequencer old.notices old.contents w.primary (called c call w).primary still refl refl refl refl parts.freeing;
       epoch = parts.epoch;
       link = LinkRefines-grows w.primary.calls (call ∷ []) old.link old.handed old.remote w.primary.link parts.link;
       frames = AreFramesSent-grows old.link.epoch w.primary.calls (call ∷ []) old.frames w.wire.frames parts.frames;
@@ -268,9 +270,9 @@ called-parts first second old sessions sequencer w c call stands sessions_stand 
 
 turn-steps : (first second : Holder) (old : Pair) (sessions : Sessions) (sequencer : Sequencing) (w : World) (c : ℕ) (did : Bool) → PairRefines first second old w
     → TakesTurn w c did sessions old.sequencer sequencer → KeepsSeats old.sessions.connections.items sessions.connections.items
-    → ((contents : Contents) → IsAheadOf old.sequencer contents → IsAheadOf sequencer contents)
+    → StandsStill old.sequencer sequencer
     → Steps first second w (events.Turn c) did old (with_turn sessions sequencer old)
-turn-steps first second old sessions sequencer w c true stands takes keeps goes_on =
+turn-steps first second old sessions sequencer w c true stands takes keeps still =
     let moved = takes.goes refl in
     let turns : Turns w c moved.0 = moved.1 in
     let w' = called c turns.call w in
@@ -278,10 +280,10 @@ turn-steps first second old sessions sequencer w c true stands takes keeps goes_
     called-parts first second old sessions sequencer w c turns.call stands
     (subst (λ (x : World). SessionsRefine sessions x.primary.connections x.primary.calls) turns.now moved.2)
     (subst (λ (x : World). SequencerRefines x.primary.calls x.primary.committer.closed sequencer) turns.now moved.3)
-    (subst (λ (x : World). SeatsFollow x.primary.calls (seats_of sessions.connections.items) sequencer) turns.now moved.4) goes_on in
+    (subst (λ (x : World). SeatsFollow x.primary.calls (seats_of sessions.connections.items) sequencer) turns.now moved.4) still in
     goes-steps first second w w' (events.Turn c) true old (with_turn sessions sequencer old) refl refl stands.sound (own-runs stands (events.Turn c) refl) stands.serves (subst (Turns w c) turns.now turns)
     (record { done = takes.done; goes = λ did. parts; stays = λ did. absurd (true≢false did) })
-turn-steps first second old sessions sequencer w c false stands takes keeps goes_on =
+turn-steps first second old sessions sequencer w c false stands takes keeps still =
     let stayed = takes.stays refl in
     let before = stands.parts in
     let parts : PartsRefine first second (with_turn sessions sequencer old) w =
@@ -292,7 +294,8 @@ turn-steps first second old sessions sequencer w c false stands takes keeps goes
           (follow-kept w.primary.calls old.sessions.connections.items sessions.connections.items old.sequencer keeps before.follow);
       committing = before.committing;
       engine = before.engine;
-      leads = record { groups_are = before.leads.groups_are; epochs = before.leads.epochs; stands = goes_on _ before.leads.stands };
+      leads = leads-still old.contents old.committing.waiting.items old.committing.aside old.sequencer sequencer old.notices still before.leads;
+      freeing = freeing-still old.sequencer sequencer old.notices old.contents w.primary w.primary still refl refl refl refl before.freeing;
       epoch = before.epoch;
       link = before.link;
       frames = before.frames;
@@ -311,11 +314,11 @@ pub turn-does : (old : Pair) (sessions : Sessions) (sequencer : Sequencing) (c :
     → ((w : World) → Sound w → SessionsRefine old.sessions w.primary.connections w.primary.calls → SequencerRefines w.primary.calls w.primary.committer.closed old.sequencer
     → SeatsFollow w.primary.calls (seats_of old.sessions.connections.items) old.sequencer → TakesTurn w c did sessions old.sequencer sequencer)
     → KeepsSeats old.sessions.connections.items sessions.connections.items
-    → ((contents : Contents) → IsAheadOf old.sequencer contents → IsAheadOf sequencer contents)
+    → StandsStill old.sequencer sequencer
     → AddsOne old.sessions.calls sessions.calls → Does old (events.Turn c) (Ok did) (with_turn sessions sequencer old)
-turn-does old sessions sequencer c did takes keeps goes_on calls =
+turn-does old sessions sequencer c did takes keeps still calls =
     record {
-      steps = λ first second w stands. turn-steps first second old sessions sequencer w c did stands (takes w stands.sound stands.parts.sessions stands.parts.sequencer stands.parts.follow) keeps goes_on;
+      steps = λ first second w stands. turn-steps first second old sessions sequencer w c did stands (takes w stands.sound stands.parts.sessions stands.parts.sequencer stands.parts.follow) keeps still;
       cut = tt;
       calls = calls;
     }
@@ -324,15 +327,16 @@ turn-does old sessions sequencer c did takes keeps goes_on calls =
 
 seats-parts : (first second : Holder) (old : Pair) (sessions : Sessions) (sequencer : Sequencing) (connections : List Connection) (w : World) → PartsRefine first second old w
     → SessionsRefine sessions connections w.primary.calls → SequencerRefines w.primary.calls w.primary.committer.closed sequencer → SeatsFollow w.primary.calls (seats_of sessions.connections.items) sequencer
-    → ((contents : Contents) → IsAheadOf old.sequencer contents → IsAheadOf sequencer contents) → PartsRefine first second (with_turn sessions sequencer old) (with_connections connections w)
-seats-parts first second old sessions sequencer connections w parts stand sequencer_stands follow goes_on =
+    → StandsStill old.sequencer sequencer → PartsRefine first second (with_turn sessions sequencer old) (with_connections connections w)
+seats-parts first second old sessions sequencer connections w parts stand sequencer_stands follow still =
     record {
       sessions = stand;
       sequencer = sequencer_stands;
       follow = follow;
       committing = parts.committing;
       engine = parts.engine;
-      leads = record { groups_are = parts.leads.groups_are; epochs = parts.leads.epochs; stands = goes_on _ parts.leads.stands };
+      leads = leads-still old.contents old.committing.waiting.items old.committing.aside old.sequencer sequencer old.notices still parts.leads;
+      freeing = freeing-still old.sequencer sequencer old.notices old.contents w.primary (with_connections connections w).primary still refl refl refl refl parts.freeing;
       epoch = parts.epoch;
       link = parts.link;
       frames = parts.frames;
@@ -349,32 +353,32 @@ SeatsGo old s new s' =
 seats-steps : (event : Event) (change : World → List Connection) → is_own event ≡ true → ((w : World) → Happens w event (with_connections (change w) w))
     → (old : Pair) (sessions : Sessions) (sequencer : Sequencing) (did : Bool) → SessionsGo event change did old.sessions sessions → SeatsGo old.sessions old.sequencer sessions sequencer
     → ((calls : List Call) (closed : ℕ) → SequencerRefines calls closed old.sequencer → SequencerRefines calls closed sequencer)
-    → ((contents : Contents) → IsAheadOf old.sequencer contents → IsAheadOf sequencer contents)
+    → StandsStill old.sequencer sequencer
     → (first second : Holder) (w : World) → PairRefines first second old w → Steps first second w event did old (with_turn sessions sequencer old)
-seats-steps event change own happens old sessions sequencer did go follows sequencer_stands goes_on first second w stands =
+seats-steps event change own happens old sessions sequencer did go follows sequencer_stands still first second w stands =
     let parts = stands.parts in
     let follow = follows w stands.sound parts.sessions parts.follow in
     let table = sequencer_stands w.primary.calls w.primary.committer.closed parts.sequencer in
     goes-steps first second w (with_connections (change w) w) event did old (with_turn sessions sequencer old) refl refl stands.sound (own-runs stands event own) stands.serves (happens w)
     (goes-map (go w parts.sessions)
-    (λ stand. seats-parts first second old sessions sequencer (change w) w parts stand table follow goes_on)
-    (λ stand. seats-parts first second old sessions sequencer w.primary.connections w parts stand table follow goes_on))
+    (λ stand. seats-parts first second old sessions sequencer (change w) w parts stand table follow still)
+    (λ stand. seats-parts first second old sessions sequencer w.primary.connections w parts stand table follow still))
 
 pub enter-does : (old : Pair) (sessions : Sessions) (sequencer : Sequencing) (result : Result Bool Refusal)
     → IfOk result (λ did. SessionsGo events.Enter (λ w. w.primary.connections ++ new_connection ∷ []) did old.sessions sessions)
     → IfOk result (λ did. SeatsGo old.sessions old.sequencer sessions sequencer)
     → ((calls : List Call) (closed : ℕ) → SequencerRefines calls closed old.sequencer → SequencerRefines calls closed sequencer)
-    → ((contents : Contents) → IsAheadOf old.sequencer contents → IsAheadOf sequencer contents)
+    → StandsStill old.sequencer sequencer
     → OnErr result (TellsTheSame old.sessions sessions) → IfErr result (λ refusal. refusal ≡ Memory)
     → OnErr result ((w : World) → SessionsRefine old.sessions w.primary.connections w.primary.calls → may_happen w events.Enter ≡ true)
     → sessions.calls ≡ old.sessions.calls → Does old events.Enter result (with_turn sessions sequencer old)
-enter-does old sessions sequencer (Ok did) go follows sequencer_stands goes_on same memory enabled calls =
+enter-does old sessions sequencer (Ok did) go follows sequencer_stands still same memory enabled calls =
     record {
-      steps = seats-steps events.Enter (λ w. w.primary.connections ++ new_connection ∷ []) refl (λ w. refl) old sessions sequencer did go follows sequencer_stands goes_on;
+      steps = seats-steps events.Enter (λ w. w.primary.connections ++ new_connection ∷ []) refl (λ w. refl) old sessions sequencer did go follows sequencer_stands still;
       cut = tt;
       calls = none-added _ _ calls;
     }
-enter-does old sessions sequencer (Err refusal) go follows sequencer_stands goes_on same memory enabled calls =
+enter-does old sessions sequencer (Err refusal) go follows sequencer_stands still same memory enabled calls =
     record {
       steps = tt;
       cut = λ first second w stands.
@@ -387,11 +391,11 @@ pub leave-does : (old : Pair) (sessions : Sessions) (sequencer : Sequencing) (c 
     → ((w : World) → SessionsRefine old.sessions w.primary.connections w.primary.calls → SeatsFollow w.primary.calls (seats_of old.sessions.connections.items) old.sequencer
     → SeatsFollow w.primary.calls (seats_of sessions.connections.items) sequencer)
     → ((calls : List Call) (closed : ℕ) → SequencerRefines calls closed old.sequencer → SequencerRefines calls closed sequencer)
-    → ((contents : Contents) → IsAheadOf old.sequencer contents → IsAheadOf sequencer contents)
+    → StandsStill old.sequencer sequencer
     → sessions.calls ≡ old.sessions.calls → Does old (events.Leave c) (Ok did) (with_turn sessions sequencer old)
-leave-does old sessions sequencer c did go follows sequencer_stands goes_on calls =
+leave-does old sessions sequencer c did go follows sequencer_stands still calls =
     record {
-      steps = seats-steps (events.Leave c) (λ w. changed_at c left w.primary.connections) refl (λ w. refl) old sessions sequencer did go (λ w sound stand follow. follows w stand follow) sequencer_stands goes_on;
+      steps = seats-steps (events.Leave c) (λ w. changed_at c left w.primary.connections) refl (λ w. refl) old sessions sequencer did go (λ w sound stand follow. follows w stand follow) sequencer_stands still;
       cut = tt;
       calls = none-added _ _ calls;
     }

@@ -6,98 +6,37 @@ use Rattle.kv_types.specs.declared.refusal.Refusal.{Refusal}
 use Rattle.kv_types.specs.declared.refusal.Refusal.TheVariants.{Memory}
 use Rattle.pipes.specs.Waiting.{Waiting}
 use Rattle.model.specs.declared.group.Group.{Group}
+use Rattle.model.specs.Group.{Contents}
 use Rattle.model.specs.Call.{IsLegal}
 use Rattle.model.specs.Standing.{Holder}
 use Rattle.standby.specs.declared.frame.Ack.{Ack}
 use Rattle.standby.specs.declared.frame.Frame.{Frame}
 use Rattle.standby.specs.Following.{IsCopy}
 use Rattle.standby_stream.specs.Stream.{Stream}
+use Rattle.redis_core.specs.Sequencing.{Sequencing}
+use Rattle.wbl_engine.specs.declared.freeing.Freed.{Freed}
 use Rattle.stream_codec.specs.Message.{Acknowledged, IsWithinLimits, sent_of_ack, sent_of_frame, sent_text}
 use Rattle.machine.specs.declared.event.Event.TheVariants as events
-use Rattle.machine.specs.Event.{World, Link as MachineLink, Frame as Sent, Span, Acknowledgement, may_happen, next_to_send, framed, sent, sent_next, ready_again, handed, handed_to, option_items, knowing, raised_remote, told, with_link, with_committer, with_sent}
+use Rattle.machine.specs.Event.{World, Primary, Link as MachineLink, Frame as Sent, Span, Acknowledgement, may_happen, next_to_send, framed, sent, sent_next, option_items, knowing, raised_remote, told, with_link, with_sent}
 use Rattle.std.proofs.lemmas.List.Elements.{All-head}
-use Rattle.machine.specs.Sound.{IsToldWithin, Sound}
+use Rattle.machine.specs.Sound.{IsToldWithin}
 use Rattle.machine.proofs.StandbyLemmas.{all-at}
 use Rattle.world.proofs.LivesLemmas.{enabled-is, nodes-refine, own-runs}
-use Rattle.world.specs.Going.{Goes}
-use Rattle.world.specs.GroupSpan.{AreGroupsOf}
-use Rattle.world.specs.Committing.{Committing, CommittingRefines}
 use Rattle.world.specs.Link.{IsFrameOf, IsFrameSent, IsAckSent, AreFramesSent, LinkRefines}
 use Rattle.world.specs.Standby.{StandbyRefines, ArrivalsRefine, told_by}
-use Rattle.world.specs.Pair.{Pair, PartsRefine, Does}
+use Rattle.world.specs.Pair.{FreeingRefines, Pair, PartsRefine, Does}
 use Rattle.world.proofs.FrameLemmas.{AreFramesSent-push, IsFrameOf-copy, may_be_sent, ack_of_read, ack_of_number, length-acks}
 use Rattle.world.proofs.LinkLemmas.{Answers as LinkAnswers, sends}
 use Rattle.world.proofs.AckLemmas.{known_at, knows}
 use Rattle.world.proofs.ArrivalLemmas.{ReadsAs, same_found}
-use Rattle.world.proofs.PairLemmas.{cut-same, goes-map, goes-steps, none-added, tells, untouched}
-use Rattle.world.proofs.PairCommitting.{shown-parts}
+use Rattle.world.proofs.PairLemmas.{cut-same, goes-steps, none-added, tells, untouched}
 
 -- ---- the link
 
--- what waits for the link, and the committer
-abbrev pub with_handed : Committing → Waiting Group → Pair → Pair
-with_handed committing handed pair = record pair { committing = committing; handed = handed }
-
-pub hand-does : (old : Pair) (committing : Committing) (waiting : Waiting Group) (did : Bool)
-    → ((w : World) → Sound w → CommittingRefines w.primary.calls old.committing w.primary.committer → AreGroupsOf w.primary.calls old.handed.items w.primary.link.waiting
-    → Goes (may_happen w events.Hand) did
-    (CommittingRefines w.primary.calls committing (ready_again w.primary.committer) × AreGroupsOf w.primary.calls waiting.items (w.primary.link.waiting ++ handed w.primary.committer.stage))
-    (CommittingRefines w.primary.calls committing w.primary.committer × AreGroupsOf w.primary.calls waiting.items w.primary.link.waiting))
-    → committing.waiting ≡ old.committing.waiting → Does old events.Hand (Ok did) (with_handed committing waiting old)
-hand-does old committing waiting did go same =
-    record {
-      steps = λ first second w stands.
-          let parts = stands.parts in
-          goes-steps first second w (with_link (handed_to (handed w.primary.committer.stage) w.primary.link) (with_committer (ready_again w.primary.committer) w)) events.Hand did
-          old (with_handed committing waiting old) refl refl stands.sound (own-runs stands events.Hand refl) stands.serves refl
-          (goes-map (go w stands.sound parts.committing parts.link.waiting)
-          (λ moved.
-          let shown = shown-parts first second old committing w (ready_again w.primary.committer) parts same moved.0 refl refl in
-          record {
-            sessions = shown.sessions;
-            sequencer = shown.sequencer;
-            follow = shown.follow;
-            committing = shown.committing;
-            engine = shown.engine;
-            leads = shown.leads;
-            epoch = parts.epoch;
-            link = waits (handed_to (handed w.primary.committer.stage) w.primary.link) w parts.link refl moved.1;
-            frames = parts.frames;
-            arrivals = parts.arrivals;
-            standby = parts.standby;
-          })
-          (λ stayed.
-          let shown = shown-parts first second old committing w w.primary.committer parts same stayed.0 refl refl in
-          record {
-            sessions = shown.sessions;
-            sequencer = shown.sequencer;
-            follow = shown.follow;
-            committing = shown.committing;
-            engine = shown.engine;
-            leads = shown.leads;
-            epoch = parts.epoch;
-            link = waits w.primary.link w parts.link refl stayed.1;
-            frames = parts.frames;
-            arrivals = parts.arrivals;
-            standby = parts.standby;
-          }));
-      cut = tt;
-      calls = none-added _ _ refl;
-    }
-  where
-    waits : (link : MachineLink) (w : World) → LinkRefines w.primary.calls old.link old.handed old.remote w.primary.link → record w.primary.link { waiting = link.waiting } ≡ link
-        → AreGroupsOf w.primary.calls waiting.items link.waiting → LinkRefines w.primary.calls old.link waiting old.remote link
-    waits link w stands same_rest groups =
-        subst (λ (l : MachineLink). LinkRefines w.primary.calls old.link waiting old.remote l) same_rest
-        (record {
-          waiting = groups;
-          none_pending = stands.none_pending;
-          kept = stands.kept;
-          next_within = stands.next_within;
-          again = stands.again;
-          known = stands.known;
-          remote_is = stands.remote_is;
-        })
+-- The link has nothing to do with what has ended.
+freeing-linked : {s : Sequencing} {notices : List Freed} {contents : Contents} {primary : Primary} {link : MachineLink} → FreeingRefines s notices contents primary
+    → FreeingRefines s notices contents (record primary { link = link })
+freeing-linked freeing = record { ended = freeing.ended; newest = freeing.newest; notices_are = freeing.notices_are; gaps = freeing.gaps }
 
 -- the link with what waits for it, the remote mark, and the frames that passed
 abbrev pub with_frames : Waiting Group → Stream → ℕ → List (Vec ℕ Global) → Pair → Pair
@@ -114,6 +53,7 @@ link-parts first second old waiting link remote frames w machine passed parts sa
       committing = parts.committing;
       engine = parts.engine;
       leads = parts.leads;
+      freeing = freeing-linked parts.freeing;
       epoch = same ∙ parts.epoch;
       link = link_stands;
       frames = subst (λ e. AreFramesSent e w.primary.calls frames passed) (sym same) frames_passed;

@@ -1,5 +1,5 @@
 -- What the reopening of a node that crashed does to the pair.
-use Rattle.std.proofs.Common.{◌≡◌, inl, inr, ℕ, Bool, true, false, ◌&&◌, List, [], Result, Ok, Err, refl, sym, ap, subst, ◌∙◌, arith, true≢false}
+use Rattle.std.proofs.Common.{◌≡◌, inl, inr, ℕ, Bool, true, false, ◌&&◌, List, [], length, Result, Ok, Err, refl, sym, ap, subst, ◌∙◌, arith, true≢false}
 use Rattle.kv_types.specs.declared.refusal.Refusal.{Refusal}
 use Rattle.kv_types.specs.declared.refusal.Refusal.TheVariants.{Fault, Memory}
 use Rattle.pmem.specs.Device.{State}
@@ -8,23 +8,23 @@ use Rattle.pipes.specs.Waiting.{Waiting}
 use Rattle.model.specs.declared.group.Group.{Group}
 use Rattle.model.specs.declared.record.Role.TheVariants as role
 use Rattle.model.specs.Call.{cut_at, keyspace_after}
-use Rattle.model.specs.Group.{Contents}
+use Rattle.model.specs.Group.{AreEnded, Contents}
 use Rattle.model.specs.Standing.{Holder}
 use Rattle.model.proofs.CallsLemmas.{keyspace_after-cut_at-position}
 use Rattle.mv_keyspace.specs.Table.{records}
-use Rattle.group_commit.specs.declared.stage.Stage.{Stage}
 use Rattle.group_commit.specs.declared.stage.Stage.TheVariants.{Ready}
 use Rattle.redis_core.specs.Sequencing.{Sequencing}
 use Rattle.standby.specs.Following.{Follows}
 use Rattle.standby_stream.specs.Stream.{Stream, new_stream}
+use Rattle.wbl_engine.specs.declared.freeing.Freed.{Freed}
 use Rattle.wbl_engine.specs.Reopening.{RefusesReopening}
 use Rattle.machine.specs.declared.event.Event.{Event}
 use Rattle.machine.specs.declared.event.Event.TheVariants as events
 use Rattle.machine.specs.declared.event.Node.TheVariants as node
-use Rattle.machine.specs.Event.{Committer as MachineCommitter, World, Step, is_crashed, is_enabled, new_committer, new_link, reopened}
+use Rattle.machine.specs.Event.{Committer as MachineCommitter, World, Step, is_crashed, is_enabled, gaps_reopened, new_link, reopened_primary, reopened_standby, with_primary, with_standby}
 use Rattle.machine.proofs.SoundEvents.{sound-step}
 use Rattle.world.specs.Cause.{EndsBy, Stretch}
-use Rattle.world.specs.Committing.{Committing, CommittingRefines, IsDown, Leads, StageRefines, next_primary, next_standby}
+use Rattle.world.specs.Committing.{Committing, CommittingRefines, IsDown, next_primary, next_standby}
 use Rattle.world.specs.GroupSpan.{AreGroupsOf}
 use Rattle.world.specs.Link.{AreFramesSent, LinkRefines}
 use Rattle.world.specs.Serving.{IsOver}
@@ -33,8 +33,9 @@ use Rattle.world.specs.Standby.{ArrivalsRefine, Node, StandbyRefines, StandbySta
 use Rattle.world.specs.Pair.{Acts, AreLives, DownRefine, EitherRefines, IsCut, NodesRefine, Pair, PartsRefine, Steps, life_if}
 use Rattle.world.proofs.DownLemmas.{restart-refused}
 use Rattle.world.proofs.EngineLemmas.{moves-same}
+use Rattle.world.proofs.FormLemmas.{committing-nothing, leads-nothing}
 use Rattle.world.proofs.PairLemmas.{Led, cut-for, none-added, primary-stands, rests-primary, rests-standby, standby-stands, tells}
-use Rattle.world.proofs.OpenedLemmas.{IsNotOpened, IsOpened, opened-breaks, opened-limit, opened-moves, opened-rests, opened-stands, table-there}
+use Rattle.world.proofs.OpenedLemmas.{IsNotOpened, IsOpened, opened-breaks, opened-gaps, opened-limit, opened-moves, opened-rests, opened-stands, table-there}
 use Rattle.world.proofs.PairLives.{stays-acts}
 
 -- ---- a node that runs
@@ -77,7 +78,7 @@ pair-epoch parts = elim parts [
 ]
 
 pub standby-reopens : (old : Pair) (node' : Node) → old.standby_runs ≡ false → IsOpened role.Standby old.standby.device node'.device node'.contents node'.is_faulted
-    → Follows node'.contents node'.table node'.room → node'.epoch ≡ node'.contents.current.epoch → Acts old (events.Reopen node.Standby) (Ok true) (with_standby_node node' true old)
+    → Follows node'.contents node'.table node'.room node'.ended → node'.epoch ≡ node'.contents.current.epoch → Acts old (events.Reopen node.Standby) (Ok true) (with_standby_node node' true old)
 standby-reopens old node' fallen opened follows own = record { steps = steps; cut = tt; calls = none-added _ _ refl }
   where
     new : Pair
@@ -103,7 +104,7 @@ standby-reopens old node' fallen opened follows own = record { steps = steps; cu
           epoch_is = own ∙ at.epoch_is ∙ ours;
           epoch_held = sym ours;
         } in
-        let w' = reopened node.Standby w in
+        let w' = with_standby (reopened_standby w.standby) w in
         let step : Step w event true w' =
         record { done = sym (standby-opens lives ∙ opens_if old.standby_runs fallen); happens = λ did. refl; stands = λ did. absurd (true≢false did) } in
         let refined : StandbyRefines second old.link.epoch calls p node' true = record { stands = λ up. stood; down = λ is. absurd (true≢false is) } in
@@ -131,6 +132,7 @@ standby-reopens old node' fallen opened follows own = record { steps = steps; cu
                   committing = up.1.committing;
                   engine = up.1.engine;
                   leads = up.1.leads;
+                  freeing = up.1.freeing;
                   epoch = up.1.epoch;
                   link = up.1.link;
                   frames = up.1.frames;
@@ -146,7 +148,10 @@ standby-reopens old node' fallen opened follows own = record { steps = steps; cu
                   committer = lost.1.committer;
                   link = lost.1.link;
                   ends = lost.1.ends;
+                  newest = lost.1.newest;
+                  none_told = lost.1.none_told;
                   image = lost.1.image;
+                  gaps = lost.1.gaps;
                   epoch = lost.1.epoch;
                   frames = lost.1.frames;
                   arrivals = lost.1.arrivals;
@@ -205,26 +210,28 @@ standby-reopening-cut old node' result refusal is fallen refused =
 
 -- ---- the primary
 
-abbrev pub with_primary_node : Sequencing → Committing → State → Contents → Bool → Waiting Group → Stream → ℕ → Bool → Pair → Pair
-with_primary_node sequencer committing device contents is_faulted handed link remote runs pair =
-    record pair { sequencer = sequencer; committing = committing; device = device; contents = contents; is_faulted = is_faulted; handed = handed; link = link; remote = remote; primary_runs = runs }
+abbrev pub with_primary_node : Sequencing → Committing → List Freed → State → Contents → Bool → Waiting Group → Stream → ℕ → Bool → Pair → Pair
+with_primary_node sequencer committing notices device contents is_faulted handed link remote runs pair =
+    record pair { sequencer = sequencer; committing = committing; notices = notices; device = device; contents = contents; is_faulted = is_faulted; handed = handed; link = link; remote = remote; primary_runs = runs }
 
 -- what a primary begins with once it is opened again
-pub record Begins (contents : Contents) (sequencer : Sequencing) (committing : Committing) (handed : Waiting Group) (link : Stream) : Type 0 where
+pub record Begins (contents : Contents) (sequencer : Sequencing) (committing : Committing) (notices : List Freed) (handed : Waiting Group) (link : Stream) : Type 0 where
   pub over : IsOver contents sequencer
   pub ready : committing.stage ≡ Ready
   pub local : committing.local ≡ contents.current.position
-  pub no_group : committing.waiting.items ≡ []
+  pub no_work : committing.waiting.items ≡ []
+  pub none_aside : committing.aside ≡ []
+  pub none_told : notices ≡ []
   pub none_handed : handed.items ≡ []
   pub link_is : link ≡ new_stream contents.current.epoch
 
-pub primary-reopens : (old : Pair) (sequencer : Sequencing) (committing : Committing) (device : State) (contents : Contents) (is_faulted : Bool) (handed : Waiting Group) (link : Stream) → old.primary_runs ≡ false
-    → IsOpened role.Primary old.device device contents is_faulted → Begins contents sequencer committing handed link
-    → Acts old (events.Reopen node.Primary) (Ok true) (with_primary_node sequencer committing device contents is_faulted handed link 0 true old)
-primary-reopens old sequencer committing device contents is_faulted handed link fallen opened begins = record { steps = steps; cut = tt; calls = none-added _ _ refl }
+pub primary-reopens : (old : Pair) (sequencer : Sequencing) (committing : Committing) (notices : List Freed) (device : State) (contents : Contents) (is_faulted : Bool) (handed : Waiting Group) (link : Stream) → old.primary_runs ≡ false
+    → IsOpened role.Primary old.device device contents is_faulted → Begins contents sequencer committing notices handed link
+    → Acts old (events.Reopen node.Primary) (Ok true) (with_primary_node sequencer committing notices device contents is_faulted handed link 0 true old)
+primary-reopens old sequencer committing notices device contents is_faulted handed link fallen opened begins = record { steps = steps; cut = tt; calls = none-added _ _ refl }
   where
     new : Pair
-    new = with_primary_node sequencer committing device contents is_faulted handed link 0 true old
+    new = with_primary_node sequencer committing notices device contents is_faulted handed link 0 true old
 
     fallen-parts : {first second : Holder} {w : World} → EitherRefines first second old w → DownRefine first second old w
     fallen-parts parts = elim parts [
@@ -254,11 +261,7 @@ primary-reopens old sequencer committing device contents is_faulted handed link 
         (record { table = table; position = at.at ∙ sym lost.ends; before = at.at; waiting = tt; count = omega (arith, lost.ends) })) in
         let committed : CommittingRefines calls committing w.primary.committer =
         subst (CommittingRefines calls committing) (sym lost.committer)
-        (record {
-          groups = subst (λ (groups : List Group). AreGroupsOf calls groups []) (sym begins.no_group) tt;
-          stage_is = subst (λ (stage : Stage). StageRefines calls stage (new_committer p).stage) (sym begins.ready) tt;
-          local_is = begins.local ∙ at.at;
-        }) in
+        (committing-nothing calls p committing begins.no_work begins.none_aside begins.ready (begins.local ∙ at.at)) in
         let linked : LinkRefines calls link handed 0 w.primary.link =
         subst (LinkRefines calls link handed 0) (sym lost.link)
         (subst (λ (s : Stream). LinkRefines calls s handed 0 new_link) (sym begins.link_is)
@@ -271,9 +274,10 @@ primary-reopens old sequencer committing device contents is_faulted handed link 
           known = refl;
           remote_is = refl;
         })) in
-        let w' = reopened node.Primary w in
+        let ended = length sequencer.ended in
+        let w' = with_primary (reopened_primary ended w.primary) w in
         let step : Step w event true w' =
-        record { done = sym (primary-opens lives ∙ opens_if old.primary_runs fallen); happens = λ did. refl; stands = λ did. absurd (true≢false did) } in
+        record { done = sym (primary-opens lives ∙ opens_if old.primary_runs fallen); happens = λ did. (ended, refl); stands = λ did. absurd (true≢false did) } in
         let parts : PartsRefine first second new w' =
         record {
           sessions = lost.sessions;
@@ -281,7 +285,14 @@ primary-reopens old sequencer committing device contents is_faulted handed link 
           follow = record { by_call = λ c seat has shut. absurd (lost.unseated c seat has); session = λ c seat has. absurd (lost.unseated c seat has) };
           committing = committed;
           engine = engine;
-          leads = subst (λ (groups : List Group). Leads contents groups sequencer) (sym begins.no_group) (record { groups_are = tt; epochs = tt; stands = over.ahead });
+          leads = leads-nothing contents committing.waiting.items committing.aside sequencer notices begins.no_work begins.none_aside begins.none_told over.ahead over.expects
+              (subst (AreEnded contents) (sym (ap (λ (s : Sequencing). s.ended) over.starts_so)) over.listed);
+          freeing = record {
+            ended = refl;
+            newest = ap (λ (s : Sequencing). s.newest) over.starts_so ∙ at.at ∙ sym lost.newest;
+            notices_are = ap (λ (told : List Freed). length told) begins.none_told ∙ sym lost.none_told;
+            gaps = opened-gaps first calls p old.device device contents is_faulted lost.image mine ∙ ap gaps_reopened lost.gaps;
+          };
           epoch = own;
           link = linked;
           frames = subst (λ e. AreFramesSent e calls old.frames w.wire.frames) same lost.frames;
@@ -313,12 +324,12 @@ primary-reopens old sequencer committing device contents is_faulted handed link 
 
 pub primary-reopening-cut : (old : Pair) (committing : Committing) (device : State) (contents : Contents) (is_faulted : Bool) (result : Result Bool Refusal) (refusal : Refusal) → result ≡ Err refusal
     → old.primary_runs ≡ false → IsNotOpened role.Primary old.device device refusal
-    → Acts old (events.Reopen node.Primary) result (with_primary_node old.sequencer committing device contents is_faulted old.handed old.link old.remote old.primary_runs old)
+    → Acts old (events.Reopen node.Primary) result (with_primary_node old.sequencer committing old.notices device contents is_faulted old.handed old.link old.remote old.primary_runs old)
 primary-reopening-cut old committing device' contents is_faulted result refusal is fallen refused =
     subst (λ (r : Result Bool Refusal). Acts old event r new) (sym is) (record { steps = tt; cut = cut; calls = none-added _ _ refl })
   where
     new : Pair
-    new = with_primary_node old.sequencer committing device' contents is_faulted old.handed old.link old.remote old.primary_runs old
+    new = with_primary_node old.sequencer committing old.notices device' contents is_faulted old.handed old.link old.remote old.primary_runs old
 
     event : Event
     event = events.Reopen node.Primary

@@ -44,6 +44,7 @@ arrivals-parts first second old arrivals w machine told parts position arrivals_
       committing = parts.committing;
       engine = parts.engine;
       leads = parts.leads;
+      freeing = parts.freeing;
       epoch = parts.epoch;
       link = parts.link;
       frames = parts.frames;
@@ -65,7 +66,10 @@ arrivals-either first second old arrivals w machine told parts position arrivals
       committer = down.1.committer;
       link = down.1.link;
       ends = down.1.ends;
+      newest = down.1.newest;
+      none_told = down.1.none_told;
       image = down.1.image;
+      gaps = down.1.gaps;
       epoch = down.1.epoch;
       frames = down.1.frames;
       arrivals = arrivals_stand;
@@ -222,6 +226,7 @@ node-either first second old arrivals node w w' follows parts primary frames arr
             committing = up.1.committing;
             engine = up.1.engine;
             leads = up.1.leads;
+            freeing = up.1.freeing;
             epoch = up.1.epoch;
             link = up.1.link;
             frames = subst (AreFramesSent old.link.epoch w.primary.calls old.frames) (sym frames) up.1.frames;
@@ -236,7 +241,10 @@ node-either first second old arrivals node w w' follows parts primary frames arr
             committer = down.1.committer;
             link = down.1.link;
             ends = down.1.ends;
+            newest = down.1.newest;
+            none_told = down.1.none_told;
             image = down.1.image;
+            gaps = down.1.gaps;
             epoch = down.1.epoch;
             frames = subst (AreFramesSent old.link.epoch w.primary.calls old.frames) (sym frames) down.1.frames;
             arrivals = arrivals_stand;

@@ -10,15 +10,16 @@ use Rattle.model.specs.Call.{cut_at, keyspace_after, position_of}
 use Rattle.model.specs.Image.{Image}
 use Rattle.model.specs.Standing.{Holder, new_holder, StandsAt}
 use Rattle.machine.specs.declared.event.Event.{Event}
-use Rattle.machine.specs.declared.event.Event.TheVariants.{Commit, Apply, Reopen}
+use Rattle.machine.specs.declared.event.Event.TheVariants.{Commit, Free, ClearGap, Apply, Reopen}
 use Rattle.machine.specs.declared.event.Node.TheVariants as node_of
-use Rattle.machine.specs.Event.{Run, World, Span, Frame as Sent, Committer, committed_first, last_world}
+use Rattle.machine.specs.Event.{Run, World, Work, Commits, Frees, Frame as Sent, Committer, committed_first, from_group, last_world, spans_of}
 use Rattle.machine.specs.Law.{Grows}
 use Rattle.machine.specs.Promise.{IsPromised, IsReleased, Tells, released_in}
 use Rattle.machine.specs.Sound.{IsChain, IsFrameWithin, Sound}
 use Rattle.std.proofs.lemmas.List.Elements.{All-head}
 use Rattle.machine.proofs.GrowLemmas.{grows-from, grows-step, image-stays}
 use Rattle.machine.proofs.GroupLemmas.{chain-le}
+use Rattle.machine.proofs.WorkLemmas.{spans_of-from_group}
 use Rattle.machine.proofs.CoverLemmas.{covered-run}
 use Rattle.machine.proofs.CountLemmas.{few-connections}
 use Rattle.machine.proofs.PromiseLemmas.{released-held}
@@ -106,9 +107,10 @@ record IsOfNode (position next : World → ℕ) : Type 0 where
   onward : (w : World) → Sound w → position w ≤ next w
   held : (w : World) → Sound w → position w ≤ w.primary.committer.position
 
-next_of_groups : (from to : ℕ) (groups : List Span) (committer : Committer) → IsChain from groups to → committer.position ≡ from → from ≤ (committed_first groups committer).position
+next_of_groups : (from to : ℕ) (works : List Work) (committer : Committer) → IsChain from (spans_of works) to → committer.position ≡ from → from ≤ (committed_first works committer).position
 next_of_groups from to [] committer chain same = omega (arith, same)
-next_of_groups from to (group ∷ groups) committer chain same = omega (arith, chain.1)
+next_of_groups from to (Commits group ∷ works) committer chain same = omega (arith, chain.1)
+next_of_groups from to (Frees position ∷ works) committer chain same = omega (arith, same)
 
 next_of_frames : (epoch sent position : ℕ) (frames : List Sent) → All (IsFrameWithin epoch sent) frames → position ≤ next_from position frames
 next_of_frames epoch sent position [] all = le_refl position
@@ -125,7 +127,10 @@ of_primary =
       rises = λ old new grows. grows.primary_position;
       within = primary-within;
       holds = λ w s prefix call released. (released-held w s prefix call released).0;
-      onward = λ w s. next_of_groups w.primary.committer.position w.primary.committer.closed w.primary.committer.waiting w.primary.committer s.committer.waiting refl;
+      onward = λ w s.
+          let committer = w.primary.committer in
+          next_of_groups committer.position committer.closed (from_group committer.waiting) committer
+          (subst (λ groups. IsChain committer.position groups committer.closed) (sym (spans_of-from_group committer.waiting)) s.committer.waiting) refl;
       held = λ w s. le_refl w.primary.committer.position;
     }
 
@@ -285,7 +290,10 @@ pub ends-as : (refusal : Refusal) (event : Event) (P Q : Stretch → Stretch →
 ends-as Memory event P Q so ends = (ends.0, so Resting Resting resting-from resting-from ends.1)
 ends-as Fault Commit P Q so ends = so Breaks Resting breaks-from resting-from ends
 ends-as Fault Apply P Q so ends = so Resting Breaks resting-from breaks-from ends
+ends-as Fault Free P Q so ends = so Breaks Resting breaks-from resting-from ends
+ends-as Fault ClearGap P Q so ends = so Breaks Resting breaks-from resting-from ends
 ends-as Exhausted Commit P Q so ends = so RestsAtLimit Resting limit-from resting-from ends
+ends-as Exhausted ClearGap P Q so ends = so RestsAtLimit Resting limit-from resting-from ends
 ends-as Exhausted Apply P Q so ends = so Resting RestsAtLimit resting-from limit-from ends
 ends-as Fault (Reopen node_of.Primary) P Q so ends = so Breaks Resting breaks-from resting-from ends
 ends-as Fault (Reopen node_of.Standby) P Q so ends = so Resting Breaks resting-from breaks-from ends

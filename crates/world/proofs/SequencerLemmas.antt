@@ -1,43 +1,39 @@
 -- The sequencer still refines the list of calls after each step.
-use Rattle.std.proofs.Common.{◌≡◌, ◌≢◌, ℕ, zero, suc, ◌+◌, ◌-◌, ◌<◌, ◌≤◌, ◌++◌, ◌||◌, true, false, not, cond, nat_lt, List, [], ◌∷◌, length, take, Option, is_some, Result, Err, IfErr, IsErrOf, ◌⊎◌, refl, sym, ap, ap₂, subst, ◌∙◌, arith, add-zero, length-append, inl, inr, eq-eqb, ne_eqb, le_refl}
-use Rattle.std.proofs.lemmas.Bool.{and_from, cases_eq, false_from_ne_true, lt-ltb, ltb-true, or_right}
+use Rattle.std.proofs.Common.{◌≡◌, ◌≢◌, ℕ, zero, suc, ◌+◌, ◌≤◌, ◌++◌, ◌||◌, true, false, not, cond, List, [], ◌∷◌, length, take, Option, is_some, refl, sym, ap, ap₂, subst, ◌∙◌, arith, add-zero, length-append, inl, inr, eq-eqb, ne_eqb}
+use Rattle.std.proofs.lemmas.Bool.{cases_eq, or_right}
 use Rattle.std.proofs.lemmas.List.Folds.{list_any-append}
-use Rattle.std.specs.List.{flat_map, list_any}
+use Rattle.std.specs.List.{list_any}
 use Rattle.kv_types.specs.declared.change.Change.{Change}
 use Rattle.kv_types.specs.declared.item.Item.{Item}
+use Rattle.kv_types.specs.declared.place.EntryNo.{EntryNo}
+use Rattle.kv_types.specs.declared.place.Extent.{Extent}
 use Rattle.kv_types.specs.declared.reply.Reply.{Reply}
 use Rattle.kv_types.specs.Keyspace.{play_all}
-use Rattle.kv_types.specs.declared.refusal.Refusal.{Refusal}
-use Rattle.kv_types.specs.declared.refusal.Refusal.TheVariants.{Memory, PipeFull}
 use Rattle.multi_watch.specs.Session.{Session}
 use Rattle.multi_watch.specs.Sessions.{session_at, session_of, slot}
 use Rattle.model.specs.declared.call.Call.{Call}
-use Rattle.model.specs.declared.group.Group.{Group}
 use Rattle.model.specs.declared.group.Part.{Part}
+use Rattle.model.specs.declared.work.FreeList.{FreeList}
+use Rattle.model.specs.declared.work.Work.{Work}
 use Rattle.model.specs.State.{State}
 use Rattle.model.specs.Call.{AreAlike, changes_of, is_changing, is_nonempty, items_of, position_of, session_after, state_after, up_to_closing}
 use Rattle.model.specs.Command.{closes}
-use Rattle.model.specs.Group.{Contents, IsGroup, after_group, changes_of_part, last_position}
-use Rattle.model.specs.Position.{changes_at, changes_since}
+use Rattle.model.specs.Group.{AreEnded, Contents, changes_of_part}
+use Rattle.model.specs.Position.{changes_at}
 use Rattle.model.proofs.CallsLemmas.{changes_of-alike, keyspace_after-push, position_of-push, state_after-push}
 use Rattle.model.proofs.PositionsLemmas.{changes_at-append, changes_at-push}
 use Rattle.model.proofs.ServesLemmas.{items_of-push_own, items_of-push_other}
 use Rattle.model.proofs.SessionLemmas.{session_after-alike, session_after-others}
 use Rattle.mv_keyspace.specs.Table.{records}
-use Rattle.redis_core.specs.Sequencing.{HandsOut, Sequencing, IsAheadOf, MovesSeat, is_closed, state_of}
+use Rattle.redis_core.specs.Sequencing.{Expects, Sequencing, IsAheadOf, MovesSeat, is_closed, state_of}
 use Rattle.redis_core.specs.Turn.{Answers, Moves, call_of}
-use Rattle.machine.specs.declared.event.Event.TheVariants.{CloseGroup}
-use Rattle.machine.specs.declared.event.TheConstants.{PIPE_ITEMS}
-use Rattle.machine.specs.Event.{Span, World, closed_group, has_room, may_happen, open_changes}
-use Rattle.machine.proofs.SoundConnection.{both}
-use Rattle.group_commit.specs.declared.stage.Stage.{Stage}
-use Rattle.group_commit.proofs.GroupsLemmas.{AreGroups-push, after_groups-push}
-use Rattle.group_commit.specs.Group.{after_groups}
-use Rattle.world.specs.Committing.{AreOfEpoch, Committing, CommittingRefines, Leads, StageRefines}
-use Rattle.world.specs.Going.{Goes}
-use Rattle.world.specs.GroupSpan.{AreGroupsOf, IsGroupOf}
-use Rattle.world.specs.Session.{AreOpen, SeatsFollow, HasSeat, SequencerRefines}
-use Rattle.world.proofs.GroupSpanLemmas.{length-groups}
+use Rattle.wbl_engine.specs.declared.freeing.Freed.{Freed}
+use Rattle.group_commit.specs.Group.{after_work, lists_of}
+use Rattle.group_commit.specs.Working.{entries_of_lists}
+use Rattle.machine.specs.Event.{Primary}
+use Rattle.world.specs.Committing.{Leads}
+use Rattle.world.specs.Pair.{FreeingRefines}
+use Rattle.world.specs.Session.{AreOpen, SeatsFollow, StandsStill, HasSeat, SequencerRefines}
 
 -- ---- the parts that wait
 
@@ -209,127 +205,44 @@ sequencer-moved calls closed seat now old new moves stands =
       count = ap (λ (parts : List Part). closed + length parts) moves.waiting ∙ stands.count;
     }
 
--- ---- a group is closed
+-- ---- to an engine it stands as it did
 
--- the changes of parts that wait are those of the list from where they begin
-changes-open : (calls : List Call) (from : ℕ) (parts : List Part) → AreOpen calls from parts → flat_map changes_of_part parts ≡ changes_since calls from (length parts)
-changes-open calls from [] are = refl
-changes-open calls from (part ∷ parts) are = ap₂ (λ (xs ys : List Change). xs ++ ys) are.1 (changes-open calls (from + 1) parts are.2)
+pub still-same : (old new : Sequencing) → new ≡ old → StandsStill old new
+still-same old new same = subst (StandsStill old) (sym same) (record { ended = refl; newest = refl; stands = λ contents stands. stands; expects = λ contents entries extents stands expects. expects })
 
--- and they end where the last of them ends
-last-open : (calls : List Call) (from : ℕ) (parts : List Part) → AreOpen calls from parts → last_position from parts ≡ from + length parts
-last-open calls from [] are = sym (add-zero from)
-last-open calls from (part ∷ parts) are =
-    let rest = last-open calls (from + 1) parts are.2 in
-    ap (λ n. last_position n parts) are.0 ∙ rest ∙ omega arith
+-- what a step keeps of what it stands for and of what it expects
+abbrev pub KeepsAhead : Sequencing → Sequencing → Type 0
+KeepsAhead old new = (contents : Contents) → IsAheadOf old contents → IsAheadOf new contents
 
--- all parts leave
-pub sequencer-handed : (calls : List Call) (closed : ℕ) (old new : Sequencing) (group : Group) → SequencerRefines calls closed old → HandsOut old group new → SequencerRefines calls (position_of calls) new
-sequencer-handed calls closed old new group stands hands =
-    subst (SequencerRefines calls (position_of calls)) (sym hands.after) (record {
-      table = stands.table;
-      position = stands.position;
-      before = stands.position;
-      waiting = tt;
-      count = add-zero (position_of calls);
-    })
+abbrev pub KeepsExpecting : Sequencing → Sequencing → Type 0
+KeepsExpecting old new =
+    (contents : Contents) (entries : List EntryNo) (extents : List Extent) → IsAheadOf old contents → Expects old contents entries extents → Expects new contents entries extents
 
-pub follow-handed : (calls : List Call) (seats : List (Option ℕ)) (old new : Sequencing) (group : Group) → HandsOut old group new → SeatsFollow calls seats old → SeatsFollow calls seats new
-follow-handed calls seats old new group hands follow =
-    follow-same calls seats seats old new (λ c seat has. (has, ap (λ (s : Sequencing). slot s.sessions seat) hands.after)) follow
+pub still-moved : (seat : ℕ) (now : Option Session) (old new : Sequencing) → MovesSeat old seat now new → KeepsAhead old new → KeepsExpecting old new → StandsStill old new
+still-moved seat now old new moves stands expects = record { ended = moves.ended; newest = moves.newest; stands = stands; expects = expects }
 
--- and they are the group of all positions after those that were closed
-pub IsGroupOf-handed : (calls : List Call) (closed : ℕ) (old new : Sequencing) (group : Group) → SequencerRefines calls closed old → HandsOut old group new
-    → IsGroupOf calls group (record { before = closed; after = position_of calls })
-IsGroupOf-handed calls closed old new group stands hands =
-    let count : position_of calls - closed ≡ length old.waiting = omega (arith, stands.count) in
+pub still-answered : (seat : ℕ) (item : Item) (reply : Reply) (old new : Sequencing) → Answers old seat item reply new → KeepsAhead old new → KeepsExpecting old new → StandsStill old new
+still-answered seat item reply old new answers stands expects = record { ended = answers.ended; newest = answers.newest; stands = stands; expects = expects }
+
+pub leads-still : (contents : Contents) (items : List Work) (aside : List FreeList) (old new : Sequencing) (notices : List Freed) → StandsStill old new
+    → Leads contents items aside old notices → Leads contents items aside new notices
+leads-still contents items aside old new notices still leads =
     record {
-      span_within = record { rising = omega (arith, stands.count, hands.some); within = le_refl (position_of calls); few = omega (arith, stands.count, hands.few) };
-      before = hands.before ∙ stands.before;
-      after = ap₂ last_position (hands.before ∙ stands.before) hands.all ∙ last-open calls closed old.waiting stands.waiting ∙ stands.count;
-      changes = ap (flat_map changes_of_part) hands.all ∙ changes-open calls closed old.waiting stands.waiting ∙ sym (ap (changes_since calls closed) count);
+      work_is = leads.work_is;
+      epochs = leads.epochs;
+      stands = still.stands _ leads.stands;
+      expects = still.expects _ _ _ leads.stands leads.expects;
+      aside_ended = leads.aside_ended;
+      listed = subst (λ (xs : List EntryNo). AreEnded (after_work contents items) (entries_of_lists (aside ++ lists_of items) ++ xs)) (sym still.ended) leads.listed;
     }
 
-pub AreGroupsOf-push : (calls : List Call) (groups : List Group) (spans : List Span) (group : Group) (span : Span) → AreGroupsOf calls groups spans → IsGroupOf calls group span → AreGroupsOf calls (groups ++ group ∷ []) (spans ++ span ∷ [])
-AreGroupsOf-push calls [] [] group span are is = (is, tt)
-AreGroupsOf-push calls [] (first ∷ spans) group span are is = absurd are
-AreGroupsOf-push calls (first ∷ groups) [] group span are is = absurd are
-AreGroupsOf-push calls (first ∷ groups) (s ∷ spans) group span are is = (are.0, AreGroupsOf-push calls groups spans group span are.1 is)
-
--- groups of the record's epoch leave it as it is
-epoch-after_groups : (epoch : ℕ) (contents : Contents) (groups : List Group) → contents.current.epoch ≡ epoch → AreOfEpoch epoch groups → (after_groups contents groups).current.epoch ≡ epoch
-epoch-after_groups epoch contents [] same are = same
-epoch-after_groups epoch contents (group ∷ groups) same are = epoch-after_groups epoch (after_group contents group) groups are.0 are.1
-
-AreOfEpoch-push : (epoch : ℕ) (groups : List Group) (group : Group) → AreOfEpoch epoch groups → group.epoch ≡ epoch → AreOfEpoch epoch (groups ++ group ∷ [])
-AreOfEpoch-push epoch [] group are is = (is, tt)
-AreOfEpoch-push epoch (first ∷ groups) group are is = (are.0, AreOfEpoch-push epoch groups group are.1 is)
-
--- what is to be committed still leads to the sequencer
-pub Leads-push : (contents : Contents) (groups groups' : List Group) (group : Group) (old new : Sequencing) → Leads contents groups old → groups' ≡ groups ++ group ∷ [] → group.epoch ≡ old.epoch
-    → ((before : Contents) → IsAheadOf old before → IsGroup before group × IsAheadOf new (after_group before group)) → Leads contents groups' new
-Leads-push contents groups groups' group old new leads pushed own closes_group =
-    let closed = closes_group (after_groups contents groups) leads.stands in
-    subst (λ (xs : List Group). Leads contents xs new) (sym pushed) (record {
-      groups_are = AreGroups-push contents groups group leads.groups_are closed.0;
-      epochs = AreOfEpoch-push contents.current.epoch groups group leads.epochs
-          (own ∙ leads.stands.epoch ∙ epoch-after_groups contents.current.epoch contents groups refl leads.epochs);
-      stands = subst (IsAheadOf new) (sym (after_groups-push contents groups group)) closed.1;
-    })
-
--- ---- where a group may be closed
-
-no-parts : (parts : List Part) → (parts ≢ [] → ⊥) → length parts ≡ 0
-no-parts [] none = refl
-no-parts (part ∷ parts) none = absurd (none (λ e. cc))
-
-some-parts : (parts : List Part) → parts ≢ [] → 0 < length parts
-some-parts [] some = absurd (some refl)
-some-parts (part ∷ parts) some = omega arith
-
--- no part waits, or there is no room
-pub closes-nothing : (w : World) (code : Committing) (s : Sequencing) (moved : Type 0) → CommittingRefines w.primary.calls code w.primary.committer → SequencerRefines w.primary.calls w.primary.committer.closed s
-    → (s.waiting ≢ [] → length code.waiting.items < PIPE_ITEMS → ⊥)
-    → Goes (may_happen w CloseGroup) false moved (CommittingRefines w.primary.calls code w.primary.committer × SequencerRefines w.primary.calls w.primary.committer.closed s)
-closes-nothing w code s moved stands sequencer never = record {
-  done = sym (false_from_ne_true (may_happen w CloseGroup) (λ e.
-      let parts = both (nat_lt 0 (open_changes w)) (has_room w.primary.committer.waiting) e in
-      let some : 0 < open_changes w = ltb-true 0 (open_changes w) parts.0 in
-      let room : length w.primary.committer.waiting < PIPE_ITEMS = ltb-true (length w.primary.committer.waiting) PIPE_ITEMS parts.1 in
-      never (λ none. absurd (omega (arith, some, sequencer.count, ap length none))) (omega (arith, room, length-groups w.primary.calls code.waiting.items w.primary.committer.waiting stands.groups))));
-  goes = λ did. cc;
-  stays = λ did. (stands, sequencer);
-}
-
--- changes that wait may be closed, where there is room for their group
-pub may-close : (w : World) (code : Committing) (s : Sequencing) → CommittingRefines w.primary.calls code w.primary.committer → SequencerRefines w.primary.calls w.primary.committer.closed s
-    → s.waiting ≢ [] → length code.waiting.items < PIPE_ITEMS → may_happen w CloseGroup ≡ true
-may-close w code s stands sequencer some room =
-    and_from (nat_lt 0 (open_changes w)) (has_room w.primary.committer.waiting) (lt-ltb 0 (open_changes w) (omega (arith, some-parts s.waiting some, sequencer.count)))
-    (lt-ltb (length w.primary.committer.waiting) PIPE_ITEMS (omega (arith, room, length-groups w.primary.calls code.waiting.items w.primary.committer.waiting stands.groups)))
-
--- a group that has room was refused only when out of memory
-pub only-memory : (waiting : ℕ) (result : Result (Unit {0}) Refusal) (refusal : Refusal) → result ≡ Err refusal → IfErr result (λ r. (r ≡ PipeFull) ⊎ (r ≡ Memory))
-    → (IsErrOf result PipeFull → PIPE_ITEMS - waiting ≡ 0) → waiting < PIPE_ITEMS → refusal ≡ Memory
-only-memory waiting result refusal is causes full few = by (subst (λ (r : Result (Unit {0}) Refusal). IfErr r (λ e. (e ≡ PipeFull) ⊎ (e ≡ Memory))) is causes)
-  where
-    by : (refusal ≡ PipeFull) ⊎ (refusal ≡ Memory) → refusal ≡ Memory
-    by (inl pipe) = absurd (omega (arith, full (is ∙ ap Err pipe), few))
-    by (inr memory) = memory
-
-pub closes-one : (w : World) (old new : Committing) (s s' : Sequencing) (group : Group) (stayed : Type 0) → CommittingRefines w.primary.calls old w.primary.committer → SequencerRefines w.primary.calls w.primary.committer.closed s
-    → s.waiting ≢ [] → length old.waiting.items < PIPE_ITEMS → HandsOut s group s' → new.waiting.items ≡ old.waiting.items ++ group ∷ [] → new.stage ≡ old.stage → new.local ≡ old.local
-    → Goes (may_happen w CloseGroup) true (CommittingRefines w.primary.calls new (closed_group (position_of w.primary.calls) w.primary.committer) × SequencerRefines w.primary.calls (position_of w.primary.calls) s') stayed
-closes-one w old new s s' group stayed stands sequencer some room hands pushed stage_same local_same = record {
-  done = sym (may-close w old s stands sequencer some room);
-  goes = λ did. (
+pub freeing-still : (old new : Sequencing) (notices : List Freed) (contents : Contents) (before after : Primary) → StandsStill old new
+    → before.ended ≡ after.ended → before.newest ≡ after.newest → before.notices ≡ after.notices → before.gaps ≡ after.gaps
+    → FreeingRefines old notices contents before → FreeingRefines new notices contents after
+freeing-still old new notices contents before after still ended newest told gaps freeing =
     record {
-      groups = subst (λ (groups : List Group). AreGroupsOf w.primary.calls groups (closed_group (position_of w.primary.calls) w.primary.committer).waiting) (sym pushed)
-          (AreGroupsOf-push w.primary.calls old.waiting.items w.primary.committer.waiting group _ stands.groups (IsGroupOf-handed w.primary.calls w.primary.committer.closed s s' group sequencer hands));
-      stage_is = subst (λ (stage : Stage). StageRefines w.primary.calls stage w.primary.committer.stage) (sym stage_same) stands.stage_is;
-      local_is = local_same ∙ stands.local_is;
-    },
-    sequencer-handed w.primary.calls w.primary.committer.closed s s' group sequencer hands,
-  );
-  stays = λ did. cc;
-}
+      ended = ap length still.ended ∙ freeing.ended ∙ ended;
+      newest = still.newest ∙ freeing.newest ∙ newest;
+      notices_are = freeing.notices_are ∙ told;
+      gaps = freeing.gaps ∙ gaps;
+    }

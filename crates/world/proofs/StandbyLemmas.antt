@@ -1,5 +1,5 @@
 -- What the standby does with a frame of the list is what the machine's does with its span.
-use Rattle.std.proofs.Common.{◌≡◌, ◌≢◌, ℕ, ◌+◌, ◌-◌, ◌<◌, ◌≤◌, ◌⊎◌, ⊎_elim, inl, inr, false, List, [], ◌∷◌, ◌++◌, Result, Ok, Err, IfOk, IfErr, OnOk, OnErr, IsErrOf, refl, sym, ap, ap₂, subst, ◌∙◌, arith, cond, eq-eqb}
+use Rattle.std.proofs.Common.{◌≡◌, ◌≢◌, ℕ, Bool, IsTrue, ◌+◌, ◌-◌, ◌<◌, ◌≤◌, ◌⊎◌, ⊎_elim, inl, inr, false, List, [], ◌∷◌, ◌++◌, Result, Ok, Err, IfOk, IfErr, OnOk, OnErr, IsErrOf, refl, sym, ap, ap₂, subst, ◌∙◌, arith, cond, eq-eqb}
 use Rattle.std.proofs.lemmas.Bool.{cases_lt, cases_eq}
 use Rattle.kv_types.specs.declared.refusal.Refusal.{Refusal}
 use Rattle.kv_types.specs.declared.refusal.Refusal.TheVariants.{WrongEpoch, PositionGap, Full, Memory, Fault, Exhausted}
@@ -10,20 +10,25 @@ use Rattle.pmem.specs.Runs.{LeavesOnly}
 use Rattle.pmem.proofs.Leaving.{LeavesOnly-weaken}
 use Rattle.model.specs.declared.call.Call.{Call}
 use Rattle.model.specs.declared.image.TheConstants.{COUNTER_LIMIT, STAMP_WINDOW}
+use Rattle.model.specs.declared.record.Record.{Record}
 use Rattle.model.specs.Call.{keyspace_after, cut_at, position_of}
 use Rattle.model.specs.Image.{Image, IsMapOf, entries_of_lines}
-use Rattle.model.specs.Group.{Contents}
+use Rattle.kv_types.specs.declared.place.EntryNo.{EntryNo}
+use Rattle.model.specs.Group.{Contents, is_ended_version}
 use Rattle.model.specs.Standing.{Holder, StandsAt}
 use Rattle.model.proofs.CallsLemmas.{keyspace_after-cut_at-append}
 use Rattle.mv_keyspace.specs.Table.{records}
 use Rattle.mv_keyspace.proofs.PartTables.{map-from_table}
 use Rattle.wbl_engine.specs.Contents.{IsDurable, Keeps}
+use Rattle.wbl_engine.specs.Freeing.{AreEnded, KeepsWithoutSome, without}
 use Rattle.wbl_engine.specs.Lawful.{AreLawful}
+use Rattle.wbl_engine.proofs.FreeingLemmas.{ended_within}
+use Rattle.wbl_engine.proofs.WithoutLemmas.{IsMapOf-contents_without, consistent_without}
 use Rattle.machine.specs.declared.event.Event.TheVariants.{Apply}
 use Rattle.machine.specs.Event.{Standby as Machine, Span, Frame as Sent, Acknowledgement, Takes, acknowledgement_of, moved_to}
 use Rattle.standby.specs.declared.frame.Ack.{Ack}
 use Rattle.standby.specs.declared.frame.Frame.{Frame}
-use Rattle.standby.specs.Following.{Follows, IsNext, HasTaken, IsWhole, IsBeforeOrWhole, WouldExhaust}
+use Rattle.standby.specs.Following.{Follows, HasFreed, IsNext, HasTaken, IsWhole, IsBeforeOrWhole, WouldExhaust}
 use Rattle.world.specs.Cause.{IsAtLimit, EndsBy}
 use Rattle.world.specs.Committing.{AreContentsAt, Moves, Rests, StandsAtEither, NearOnly, next_from}
 use Rattle.world.specs.Link.{IsFrameOf}
@@ -34,7 +39,43 @@ use Rattle.world.proofs.EngineLemmas.{Stands-engine, keeps-stands, moves-same, n
 pub StandbyStands-still : (holder : Holder) (epoch : ℕ) (calls : List Call) (p q : ℕ) (node : Node) → StandbyStands holder epoch calls p node → NearOnly holder calls p q node.device node.device
 StandbyStands-still holder epoch calls p q node stands = near-still holder calls p q node.device node.contents node.is_faulted stands.engine
 
+-- ---- without what had ended
+
+-- contents that stand at a position do so without some of what has ended
+AreContentsAt-without : (holder : Holder) (calls : List Call) (p : ℕ) (contents : Contents) (gone : ℕ → Bool) → ((i : ℕ) → IsTrue (gone i) → IsTrue (is_ended_version (contents.versions i)))
+    → AreContentsAt holder calls p contents → AreContentsAt holder calls p (without gone contents)
+AreContentsAt-without holder calls p contents gone ended are =
+    record {
+      at = are.at;
+      role_is = are.role_is;
+      epoch_is = are.epoch_is;
+      lines_are = are.lines_are;
+      consistent = consistent_without contents gone are.consistent;
+      map = IsMapOf-contents_without contents gone (keyspace_after (cut_at calls p)) ended are.map;
+    }
+
+pub without-stands : (holder : Holder) (calls : List Call) (p : ℕ) (contents : Contents) (entries : List EntryNo) (image : Image) → AreEnded contents entries → AreContentsAt holder calls p contents
+    → KeepsWithoutSome entries contents image → StandsAt holder calls p image
+without-stands holder calls p contents entries image ended are keeps =
+    let gone = keeps.0 in
+    keeps-stands holder calls p (without gone contents) image
+    (AreContentsAt-without holder calls p contents gone (λ i is. (ended_within contents entries i ended (keeps.1 i is)).1) are) keeps.2
+
 -- ---- what a standby answers to a frame
+
+-- The record and the table are as they were, and the image has as many lines.
+pub record IsKept (old new : Node) : Type 0 where
+  pub current : new.contents.current ≡ old.contents.current
+  pub line_count : new.contents.lines ≡ old.contents.lines
+  pub table : new.table ≡ old.table
+
+pub IsKept-same : (old new : Node) → new ≡ old → IsKept old new
+IsKept-same old new same =
+    record { current = ap (λ (node : Node). node.contents.current) same; line_count = ap (λ (node : Node). node.contents.lines) same; table = ap (λ (node : Node). node.table) same }
+
+-- what had ended is freed
+pub IsKept-freed : (old new : Node) → new.table ≡ old.table → HasFreed old.ended old.contents new.contents old.room new.room new.ended → IsKept old new
+IsKept-freed old new table freed = record { current = freed.contents_are.current; line_count = freed.contents_are.lines; table = table }
 
 pub record Answers (frame : Frame) (old : Node) (result : Result Ack Refusal) (new : Node) : Type 0 where
   pub again : frame.epoch ≡ old.epoch → frame.after ≤ old.contents.current.position
@@ -44,15 +85,17 @@ pub record Answers (frame : Frame) (old : Node) (result : Result Ack Refusal) (n
   pub taken : frame.epoch ≡ old.epoch → IsNext old.contents.current.position frame → OnOk result (HasTaken frame old.contents new.contents old.table new.table)
   pub causes : frame.epoch ≡ old.epoch → IsNext old.contents.current.position frame
       → IfErr result (λ refusal. (refusal ≡ Full) ⊎ (refusal ≡ Memory) ⊎ (refusal ≡ Fault) ⊎ (refusal ≡ Exhausted))
-  pub refused : ¬ IsErrOf result Fault → OnErr result ((new.contents ≡ old.contents) × (new.table ≡ old.table) × (new.device ≡ old.device))
+  pub refused : ¬ IsErrOf result Fault → OnErr result (IsKept old new)
   pub fault : result ≡ Err Fault → old.device.failures < new.device.failures
-  pub exhausted : result ≡ Err Exhausted → WouldExhaust old.contents.current frame.after
-  pub still : ¬ IsErrOf result Fault → Follows new.contents new.table new.room
+  pub exhausted : result ≡ Err Exhausted → WouldExhaust old.contents.current frame.after × (new.device ≡ old.device)
+  pub still : ¬ IsErrOf result Fault → Follows new.contents new.table new.room new.ended
   pub sound : ¬ IsErrOf result Fault → (new.is_faulted ≡ false) × (new.device.failures ≡ old.device.failures)
   pub durable : ¬ IsErrOf result Fault → IsDurable new.device new.contents
   pub lawful : AreLawful old.contents → ¬ IsErrOf result Fault → AreLawful new.contents
   pub epoch_stays : new.epoch ≡ old.epoch
-  pub moments : frame.epoch ≡ old.epoch → IsNext old.contents.current.position frame → LeavesOnly old.device new.device (IsBeforeOrWhole frame old.contents old.table)
+  pub moments : frame.epoch ≡ old.epoch → IsNext old.contents.current.position frame → LeavesOnly old.device new.device (IsBeforeOrWhole frame old.ended old.contents old.table)
+  pub rests : frame.epoch ≡ old.epoch → IsNext old.contents.current.position frame → ¬ IsErrOf result Fault
+      → OnErr result (LeavesOnly old.device new.device (KeepsWithoutSome old.ended old.contents))
 
 pub OnErr-weaken : {P Q : Type 0} (result : Result Ack Refusal) → (P → Q) → OnErr result P → OnErr result Q
 OnErr-weaken (Ok ack) into h = tt
@@ -60,9 +103,6 @@ OnErr-weaken (Err refusal) into h = into h
 
 not_memory : {refusal : Refusal} → refusal ≡ Memory → IsErrOf {T = Ack} (Err refusal) Fault → ⊥
 not_memory memory is = cc
-
-not_exhausted : {refusal : Refusal} → refusal ≡ Exhausted → IsErrOf {T = Ack} (Err refusal) Fault → ⊥
-not_exhausted exhausted is = cc
 
 -- The machine's standby after it took the frame, with what it acknowledged, the node that stands for it, and what its device went through.
 pub record Took (holder : Holder) (epoch : ℕ) (calls : List Call) (sent : Sent) (old : Machine) (acks : List Acknowledgement) (before new : Node) : Type 0 where
@@ -129,7 +169,7 @@ module _ (holder : Holder) (epoch : ℕ) (calls : List Call) (machine : Machine)
   keyspace_next e = ap (λ s. play_all s frame.changes.items) (stands.table ∙ ap (λ n. keyspace_after (cut_at calls n)) (sym e)) ∙ is.plays
 
   -- the whole frame was taken
-  taken_stands : span.before ≡ machine.position → HasTaken frame old.contents new.contents old.table new.table → Follows new.contents new.table new.room → new.is_faulted ≡ false
+  taken_stands : span.before ≡ machine.position → HasTaken frame old.contents new.contents old.table new.table → Follows new.contents new.table new.room new.ended → new.is_faulted ≡ false
       → IsDurable new.device new.contents → AreLawful new.contents → new.epoch ≡ old.epoch → StandbyStands holder epoch calls span.after new
   taken_stands e taken follows sound durable lawful epoch_stays =
       let now : records new.table ≡ keyspace_after (cut_at calls span.after) = taken.keyspace ∙ keyspace_next e in
@@ -154,21 +194,44 @@ module _ (holder : Holder) (epoch : ℕ) (calls : List Call) (machine : Machine)
         epoch_held = stands.epoch_held;
       }
 
-  -- nothing of the contents or of the table changed
-  refused_stands : (new.contents ≡ old.contents) × (new.table ≡ old.table) × (new.device ≡ old.device) → Follows new.contents new.table new.room → new.is_faulted ≡ false → IsDurable new.device new.contents → new.epoch ≡ old.epoch
+  -- nothing changed, but that what had ended may be freed
+  refused_stands : IsKept old new → Follows new.contents new.table new.room new.ended → new.is_faulted ≡ false → IsDurable new.device new.contents → AreLawful new.contents → new.epoch ≡ old.epoch
       → StandbyStands holder epoch calls machine.position new
-  refused_stands same follows sound durable epoch_stays = record {
-    engine = record {
-      contents_at = subst (AreContentsAt holder calls machine.position) (sym same.0) stands.engine.contents_at;
-      lawful = subst AreLawful (sym same.0) stands.engine.lawful;
-      sound = sound;
-      durable = durable;
-    };
-    follows = follows;
-    table = ap records same.1 ∙ stands.table;
-    epoch_is = epoch_stays ∙ stands.epoch_is;
-    epoch_held = stands.epoch_held;
-  }
+  refused_stands kept follows sound durable lawful epoch_stays =
+      let now : records new.table ≡ keyspace_after (cut_at calls machine.position) = ap records kept.table ∙ stands.table in
+      record {
+        engine = record {
+          contents_at = record {
+            at = ap (λ (r : Record). r.position) kept.current ∙ stands.engine.contents_at.at;
+            role_is = ap (λ (r : Record). r.role) kept.current ∙ stands.engine.contents_at.role_is;
+            epoch_is = ap (λ (r : Record). r.epoch) kept.current ∙ stands.engine.contents_at.epoch_is;
+            lines_are = kept.line_count ∙ stands.engine.contents_at.lines_are;
+            consistent = follows.consistent;
+            map = subst (IsMapOf new.contents.versions (entries_of_lines new.contents.lines)) now
+                (map-from_table new.contents.versions (entries_of_lines new.contents.lines) new.table follows.consistent.beyond follows.table_is);
+          };
+          lawful = lawful;
+          sound = sound;
+          durable = durable;
+        };
+        follows = follows;
+        table = now;
+        epoch_is = epoch_stays ∙ stands.epoch_is;
+        epoch_held = stands.epoch_held;
+      }
+
+  -- an image without some of what had ended stands where the standby stood
+  before_stands : (image : Image) → KeepsWithoutSome old.ended old.contents image → StandsAt holder calls machine.position image
+  before_stands image = without-stands holder calls machine.position old.contents old.ended image stands.follows.listed stands.engine.contents_at
+
+  -- a frame was refused, and no fence failed
+  refused_rests : LeavesOnly old.device new.device (KeepsWithoutSome old.ended old.contents) → new.device.failures ≡ old.device.failures → Rests holder calls machine.position old.device new.device
+  refused_rests only failures = record { leaves = LeavesOnly-weaken (StandsAt holder calls machine.position) before_stands only; failures = failures }
+
+  refused_moves : LeavesOnly old.device new.device (KeepsWithoutSome old.ended old.contents) → new.device.failures ≡ old.device.failures
+      → Moves holder calls machine.position machine.position old.device new.device
+  refused_moves only failures =
+      record { leaves = LeavesOnly-weaken (StandsAtEither holder calls machine.position machine.position) (λ image held. inl (before_stands image held)) only; failures = failures }
 
   same_stands : new ≡ old → StandbyStands holder epoch calls machine.position new
   same_stands same = subst (StandbyStands holder epoch calls machine.position) (sym same) stands
@@ -192,7 +255,7 @@ module _ (holder : Holder) (epoch : ℕ) (calls : List Call) (machine : Machine)
       keeps-stands holder calls span.after after image contents_at held.2
 
   -- the whole frame was taken: at any moment a crash leaves what was before it or all of it
-  taken_moves : span.before ≡ machine.position → LeavesOnly old.device new.device (IsBeforeOrWhole frame old.contents old.table) → new.device.failures ≡ old.device.failures
+  taken_moves : span.before ≡ machine.position → LeavesOnly old.device new.device (IsBeforeOrWhole frame old.ended old.contents old.table) → new.device.failures ≡ old.device.failures
       → Moves holder calls machine.position span.after old.device new.device
   taken_moves e only failures =
       record {
@@ -200,8 +263,8 @@ module _ (holder : Holder) (epoch : ℕ) (calls : List Call) (machine : Machine)
         failures = failures;
       }
     where
-      either : (image : Image) → IsBeforeOrWhole frame old.contents old.table image → StandsAt holder calls machine.position image ⊎ StandsAt holder calls span.after image
-      either image (inl before) = inl (keeps-stands holder calls machine.position old.contents image stands.engine.contents_at before)
+      either : (image : Image) → IsBeforeOrWhole frame old.ended old.contents old.table image → StandsAt holder calls machine.position image ⊎ StandsAt holder calls span.after image
+      either image (inl before) = inl (before_stands image before)
       either image (inr held) = inr (whole_stands image e held)
 
   -- what is told, where the node's epoch and this position are
@@ -256,15 +319,13 @@ module _ (holder : Holder) (epoch : ℕ) (calls : List Call) (machine : Machine)
       joins lt e =
           let full : refusal ≡ Full = is_full refusal goes_on (answers.causes epoch_same (is_next lt e)) in
           let no_fault : ¬ IsErrOf {T = Ack} (Err refusal) Fault = λ is. cc in
-          let refused = answers.refused no_fault in
-          let now : StandbyStands holder epoch calls machine.position new =
-          refused_stands refused (answers.still no_fault) (answers.sound no_fault).0 (answers.durable no_fault) answers.epoch_stays in
           record {
             standby = machine;
             takes = inr (inr (inr (inl (own, lt, e, refl, refl))));
             waiting = refl;
-            stands = now;
-            moves = rests machine.position refused.2 now;
+            stands =
+                refused_stands (answers.refused no_fault) (answers.still no_fault) (answers.sound no_fault).0 (answers.durable no_fault) (answers.lawful stands.engine.lawful no_fault) answers.epoch_stays;
+            moves = refused_moves (answers.rests epoch_same (is_next lt e) no_fault) (answers.sound no_fault).1;
           }
 
       apart : machine.position < span.after → span.before ≢ machine.position → Took holder epoch calls sent machine [] old new
@@ -298,8 +359,8 @@ module _ (holder : Holder) (epoch : ℕ) (calls : List Call) (machine : Machine)
       below : span.after ≤ machine.position → NearOnly holder calls machine.position next old.device new.device
       below le = still (answers.again epoch_same (is_below le)).1
 
-      either : span.before ≡ machine.position → (image : Image) → IsBeforeOrWhole frame old.contents old.table image → StandsAtEither holder calls machine.position next image
-      either e image (inl before) = inl (keeps-stands holder calls machine.position old.contents image stands.engine.contents_at before)
+      either : span.before ≡ machine.position → (image : Image) → IsBeforeOrWhole frame old.ended old.contents old.table image → StandsAtEither holder calls machine.position next image
+      either e image (inl before) = inl (before_stands image before)
       either e image (inr held) = inr (subst (λ p. StandsAt holder calls p image) (sym (next-joined e)) (whole_stands image e held))
 
       joins : machine.position < span.after → span.before ≡ machine.position → NearOnly holder calls machine.position next old.device new.device
@@ -335,15 +396,17 @@ module _ (holder : Holder) (epoch : ℕ) (calls : List Call) (machine : Machine)
 
       by : machine.position < span.after → span.before ≡ machine.position → (refusal ≡ Full) ⊎ (refusal ≡ Memory) ⊎ (refusal ≡ Fault) ⊎ (refusal ≡ Exhausted) → Ends refusal
       by lt e (inl full) = absurd (stops (inl full))
-      by lt e (inr (inl memory)) = subst Ends (sym memory) (refl, rests_now (answers.refused (λ is. not_memory memory is)).2)
+      by lt e (inr (inl memory)) =
+          let no_fault : ¬ IsErrOf {T = Ack} (Err refusal) Fault = λ is. not_memory memory is in
+          subst Ends (sym memory) (refl, refused_rests (answers.rests epoch_same (is_next lt e) no_fault) (answers.sound no_fault).1)
       by lt e (inr (inr (inl fault))) = subst Ends (sym fault) (record { leaves = frame-moments (Err refusal) answers; failures = answers.fault (ap Err fault) })
       by lt e (inr (inr (inr exhausted))) =
           let told = answers.exhausted (ap Err exhausted) in
-          let same = (answers.refused (λ is. not_exhausted exhausted is)).2 in
+          let same = told.1 in
           subst Ends (sym exhausted)
           (record {
             rests = rests_now same;
-            limit = subst (λ (d : State). (image : Image) → IsImage d.words image → IsAtLimit (next - machine.position) image) (sym same) (frame-limit lt e told);
+            limit = subst (λ (d : State). (image : Image) → IsImage d.words image → IsAtLimit (next - machine.position) image) (sym same) (frame-limit lt e told.0);
           })
 
       joins : machine.position < span.after → span.before ≡ machine.position → Ends refusal

@@ -10,7 +10,7 @@ use Rattle.model.specs.declared.record.Record.{Record}
 use Rattle.model.specs.Image.{Image, HasRecord}
 use Rattle.model.specs.Standing.{Holder}
 use Rattle.machine.specs.declared.event.Event.{Event}
-use Rattle.machine.specs.declared.event.Event.TheVariants.{Enter, Feed, Offer, CloseGroup, Commit, OpenLink, Send, Deliver, Apply, AckDelivered, Hold, Write, Reopen}
+use Rattle.machine.specs.declared.event.Event.TheVariants.{Enter, Feed, Offer, CloseGroup, Commit, Free, ClearGap, OpenLink, Send, Deliver, Apply, AckDelivered, Hold, Write, Reopen}
 use Rattle.machine.specs.declared.event.Node.TheVariants as node
 use Rattle.wbl_engine.specs.Reopening.{ExhaustsReopening}
 use Rattle.world.specs.Committing.{Rests, NearOnly}
@@ -71,6 +71,9 @@ asks_memory Enter = true
 asks_memory (Feed c piece) = true
 asks_memory (Offer c) = true
 asks_memory CloseGroup = true
+asks_memory Commit = true
+asks_memory Free = true
+asks_memory ClearGap = true
 asks_memory OpenLink = true
 asks_memory Send = true
 asks_memory (Deliver frame piece) = true
@@ -86,6 +89,9 @@ asks_memory event = false
 abbrev pub EndsBy : Refusal → Event → (Stretch → Stretch → Type 0) → Type 0
 EndsBy Memory event Leads = (asks_memory event ≡ true) × Leads Resting Resting
 EndsBy Fault Commit Leads = Leads Breaks Resting
+EndsBy Fault Free Leads = Leads Breaks Resting
+EndsBy Fault ClearGap Leads = Leads Breaks Resting
+EndsBy Exhausted ClearGap Leads = Leads RestsAtLimit Resting
 EndsBy Fault Apply Leads = Leads Resting Breaks
 EndsBy Exhausted Commit Leads = Leads RestsAtLimit Resting
 EndsBy Exhausted Apply Leads = Leads Resting RestsAtLimit

@@ -1,6 +1,8 @@
 -- How the committer and its engine refine the machine's.
-use Rattle.std.specs.Prelude.{◌≡◌, ◌⊎◌, ℕ, ◌≤◌, Bool, false, nat_eq, if◌then◌else◌, List, [], ◌∷◌}
-use Rattle.std.specs.List.{AllByRecursion}
+use Rattle.std.specs.Prelude.{◌≡◌, ◌⊎◌, ℕ, ◌≤◌, Bool, false, nat_eq, if◌then◌else◌, List, [], ◌∷◌, ◌++◌}
+use Rattle.std.specs.List.{AllByRecursion, flat_map}
+use Rattle.kv_types.specs.declared.place.EntryNo.{EntryNo}
+use Rattle.kv_types.specs.declared.place.Extent.{Extent}
 use Rattle.pmem.specs.Device.{State}
 use Rattle.pmem.specs.Crash.{IsImage, IsSettled, image_of}
 use Rattle.pmem.specs.Runs.{LeavesOnly}
@@ -8,32 +10,47 @@ use Rattle.model.specs.declared.call.Call.{Call}
 use Rattle.model.specs.declared.group.Group.{Group}
 use Rattle.model.specs.Call.{keyspace_after, cut_at}
 use Rattle.model.specs.Image.{Image, IsMapOf, entries_of_lines}
-use Rattle.model.specs.Group.{Contents, IsConsistent}
+use Rattle.model.specs.declared.work.FreeList.{FreeList}
+use Rattle.model.specs.declared.work.Work.{Work}
+use Rattle.model.specs.Group.{AreEnded, Contents, IsConsistent}
 use Rattle.model.specs.Standing.{Holder, StandsAt}
 use Rattle.model.specs.declared.record.Role.{Role}
+use Rattle.wbl_engine.specs.declared.freeing.Freed.{Freed}
 use Rattle.wbl_engine.specs.Contents.{IsDurable, Keeps}
 use Rattle.wbl_engine.specs.Formatting.{IsFormatting}
 use Rattle.wbl_engine.specs.Lawful.{AreLawful}
-use Rattle.redis_core.specs.Sequencing.{Sequencing, IsAheadOf}
+use Rattle.redis_core.specs.Sequencing.{Expects, IsAheadOf, Sequencing}
 use Rattle.pipes.specs.Waiting.{Waiting}
-use Rattle.group_commit.specs.Group.{AreGroups, after_groups}
+use Rattle.group_commit.specs.Group.{AreWork, after_work, groups_of, lists_of}
+use Rattle.group_commit.specs.Working.{entries_of_lists}
 use Rattle.group_commit.specs.declared.stage.Stage.{Stage}
 use Rattle.group_commit.specs.declared.stage.Stage.TheVariants.{Ready, Durable, Shown}
-use Rattle.machine.specs.Event.{Committer as Machine, Stage as MachineStage, Frame as Sent, World, committed_first}
+use Rattle.machine.specs.Event.{Committer as Machine, Stage as MachineStage, Frame as Sent, World, committed_first, from_group}
 use Rattle.machine.specs.World as machine_stage
-use Rattle.world.specs.GroupSpan.{AreGroupsOf, IsGroupOf}
+use Rattle.world.specs.GroupSpan.{AreWorkOf, IsGroupOf, positions_of_lists}
 
--- ---- groups that wait
+-- ---- the queue
 
 -- each of the groups is of this epoch
 abbrev pub AreOfEpoch : ℕ → List Group → Type 0
 AreOfEpoch epoch = AllByRecursion (λ group. group.epoch ≡ epoch)
 
--- committing these groups, which are of the record's epoch, an engine with these contents reaches contents that the sequencer is ahead of
-pub record Leads (contents : Contents) (groups : List Group) (s : Sequencing) : Type 0 where
-  pub groups_are : AreGroups contents groups
-  pub epochs : AreOfEpoch contents.current.epoch groups
-  pub stands : IsAheadOf s (after_groups contents groups)
+-- what was freed and told in notices that the sequencer has not taken
+abbrev pub entries_told : List Freed → List EntryNo
+entries_told = flat_map (λ notice. notice.entries.items)
+
+abbrev pub extents_told : List Freed → List Extent
+extents_told = flat_map (λ notice. notice.extents.items)
+
+-- Doing this work, whose groups are of the record's epoch, an engine with these contents reaches contents that the sequencer is ahead of. No entry is in
+-- two free lists, and what the notices tell comes back to the sequencer's heap.
+pub record Leads (contents : Contents) (waiting : List Work) (aside : List FreeList) (s : Sequencing) (notices : List Freed) : Type 0 where
+  pub work_is : AreWork contents waiting
+  pub epochs : AreOfEpoch contents.current.epoch (groups_of waiting)
+  pub stands : IsAheadOf s (after_work contents waiting)
+  pub expects : Expects s (after_work contents waiting) (entries_told notices) (extents_told notices)
+  pub aside_ended : AreEnded contents (entries_of_lists aside)
+  pub listed : AreEnded (after_work contents waiting) (entries_of_lists (aside ++ lists_of waiting) ++ s.ended)
 
 -- ---- the engine
 
@@ -96,7 +113,7 @@ FormattingOnly role old new = LeavesOnly old new (IsFormatting old.words old.lin
 
 -- where the primary stands after the group that it commits next
 abbrev pub next_primary : World → ℕ
-next_primary w = (committed_first w.primary.committer.waiting w.primary.committer).position
+next_primary w = (committed_first (from_group w.primary.committer.waiting) w.primary.committer).position
 
 abbrev pub next_from : ℕ → List Sent → ℕ
 next_from position [] = position
@@ -108,9 +125,11 @@ next_standby w = next_from w.standby.position w.standby.waiting
 
 -- ---- the committer
 
--- the groups that wait for the committer, and what it has beside its engine
+-- what waits for the committer, and what it has beside its engine
 pub record Committing : Type 0 where
-  pub waiting : Waiting Group
+  pub waiting : Waiting Work
+  -- free lists that were taken and wait for the standby, oldest first
+  pub aside : List FreeList
   pub stage : Stage
   -- the local mark
   pub local : ℕ
@@ -122,8 +141,9 @@ StageRefines calls (Durable group) (machine_stage.Durable span) = IsGroupOf call
 StageRefines calls (Shown group) (machine_stage.Shown span) = IsGroupOf calls group span
 StageRefines calls _ _ = ⊥
 
--- the committer's groups and mark
+-- the committer's queue and mark
 pub record CommittingRefines (calls : List Call) (code : Committing) (machine : Machine) : Type 0 where
-  pub groups : AreGroupsOf calls code.waiting.items machine.waiting
+  pub work : AreWorkOf calls code.waiting.items machine.waiting
+  pub aside : positions_of_lists code.aside ≡ machine.aside
   pub stage_is : StageRefines calls code.stage machine.stage
   pub local_is : code.local ≡ machine.local

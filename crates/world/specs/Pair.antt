@@ -4,6 +4,7 @@ use Rattle.std.specs.Global.{Global}
 use Rattle.pmem.specs.Device.{State}
 use Rattle.kv_types.specs.declared.refusal.Refusal.{Refusal}
 use Rattle.model.specs.declared.group.Group.{Group}
+use Rattle.wbl_engine.specs.declared.freeing.Freed.{Freed}
 use Rattle.model.specs.Group.{Contents}
 use Rattle.model.specs.declared.record.Role.TheVariants as Role
 use Rattle.model.specs.Call.{position_of}
@@ -13,7 +14,7 @@ use Rattle.redis_core.specs.Sequencing.{Sequencing}
 use Rattle.standby_stream.specs.Stream.{Stream}
 use Rattle.machine.specs.declared.event.Event.{Event}
 use Rattle.machine.specs.declared.event.Event.TheVariants.{Apply, Crash, Deliver, OpenLink, Reopen}
-use Rattle.machine.specs.Event.{Crashed, Life, Running, World, Step, is_enabled, new_committer, new_link}
+use Rattle.machine.specs.Event.{Crashed, Life, Primary, Running, World, Step, is_enabled, new_committer, new_link}
 use Rattle.machine.specs.Promise.{released_in}
 use Rattle.machine.specs.Sound.{Sound}
 use Rattle.world.specs.Cause.{EndsBy}
@@ -28,8 +29,10 @@ use Rattle.world.specs.declared.sessions.Sessions.{Sessions}
 pub record Pair : Type 0 where
   pub sessions : Sessions
   pub sequencer : Sequencing
-  -- the groups that wait, and the committer
+  -- the committer's queue, and the committer
   pub committing : Committing
+  -- what was freed and the sequencer has not been told
+  pub notices : List Freed
   -- the primary's engine
   pub device : State
   pub contents : Contents
@@ -47,6 +50,13 @@ pub record Pair : Type 0 where
   pub primary_runs : Bool
   pub standby_runs : Bool
 
+-- What has ended, what was freed and the record's gaps are as many as the machine's.
+pub record FreeingRefines (s : Sequencing) (notices : List Freed) (contents : Contents) (machine : Primary) : Type 0 where
+  pub ended : length s.ended ≡ machine.ended
+  pub newest : s.newest ≡ machine.newest
+  pub notices_are : length notices ≡ machine.notices
+  pub gaps : length contents.current.gaps.items ≡ machine.gaps
+
 -- The parts of one whose primary runs refine those of the machine. The primary's image is that of the first holder, the standby's that of the second.
 pub record PartsRefine (first second : Holder) (pair : Pair) (w : World) : Type 0 where
   pub sessions : SessionsRefine pair.sessions w.primary.connections w.primary.calls
@@ -54,7 +64,8 @@ pub record PartsRefine (first second : Holder) (pair : Pair) (w : World) : Type 
   pub follow : SeatsFollow w.primary.calls (seats_of pair.sessions.connections.items) pair.sequencer
   pub committing : CommittingRefines w.primary.calls pair.committing w.primary.committer
   pub engine : EngineStands first w.primary.calls w.primary.committer.position pair.device pair.contents pair.is_faulted
-  pub leads : Leads pair.contents pair.committing.waiting.items pair.sequencer
+  pub leads : Leads pair.contents pair.committing.waiting.items pair.committing.aside pair.sequencer pair.notices
+  pub freeing : FreeingRefines pair.sequencer pair.notices pair.contents w.primary
   pub epoch : pair.link.epoch ≡ w.primary.epoch
   pub link : LinkRefines w.primary.calls pair.link pair.handed pair.remote w.primary.link
   pub frames : AreFramesSent pair.link.epoch w.primary.calls pair.frames w.wire.frames
@@ -69,7 +80,10 @@ pub record DownRefine (first second : Holder) (pair : Pair) (w : World) : Type 0
   pub committer : w.primary.committer ≡ new_committer w.primary.committer.position
   pub link : w.primary.link ≡ new_link
   pub ends : position_of w.primary.calls ≡ w.primary.committer.position
+  pub newest : w.primary.newest ≡ w.primary.committer.position
+  pub none_told : w.primary.notices ≡ 0
   pub image : IsDown first w.primary.calls w.primary.committer.position pair.device
+  pub gaps : length image.contents.current.gaps.items ≡ w.primary.gaps
   pub epoch : pair.link.epoch ≡ w.primary.epoch
   pub frames : AreFramesSent pair.link.epoch w.primary.calls pair.frames w.wire.frames
   pub arrivals : ArrivalsRefine pair.link.epoch w.primary.calls pair.arrivals w.standby.waiting w.wire.acknowledgements

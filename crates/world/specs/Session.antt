@@ -2,6 +2,8 @@
 use Rattle.std.specs.Prelude.{◌≡◌, ℕ, suc, ◌+◌, ◌≤◌, Bool, true, false, List, [], ◌∷◌, length, map, slice_get, Option, Some, None, Vec, vec_capacity}
 use Rattle.std.specs.Global.{Global}
 use Rattle.std.specs.List.{list_any}
+use Rattle.kv_types.specs.declared.place.EntryNo.{EntryNo}
+use Rattle.kv_types.specs.declared.place.Extent.{Extent}
 use Rattle.pipes.specs.declared.limits.TheConstants.{MAX_SEATS}
 use Rattle.lobby.specs.Book.{Status, free, taken}
 use Rattle.multi_watch.specs.Sessions.{session_at}
@@ -10,10 +12,10 @@ use Rattle.model.specs.declared.group.Part.{Part}
 use Rattle.model.specs.State.{State, start_state}
 use Rattle.model.specs.Call.{after_call, items_of, keyspace_after, position_of, state_after}
 use Rattle.model.specs.Command.{closes}
-use Rattle.model.specs.Group.{changes_of_part}
+use Rattle.model.specs.Group.{Contents, changes_of_part}
 use Rattle.model.specs.Position.{changes_at}
 use Rattle.mv_keyspace.specs.Table.{records}
-use Rattle.redis_core.specs.Sequencing.{Sequencing, is_closed}
+use Rattle.redis_core.specs.Sequencing.{Expects, IsAheadOf, Sequencing, is_closed}
 use Rattle.machine.specs.declared.event.Event.TheVariants.{Turn}
 use Rattle.machine.specs.Event.{Connection as MachineConnection, World, Turns, may_happen}
 use Rattle.machine.specs.Sound.{position_with}
@@ -147,6 +149,13 @@ pub record SeatsFollow (calls : List Call) (seats : List (Option ℕ)) (s : Sequ
   pub by_call : (c seat : ℕ) → HasSeat seats c seat → is_closed s seat ≡ true → list_any closes (items_of c calls) ≡ true
   -- it has the session that the list leaves to the connection
   pub session : (c seat : ℕ) → HasSeat seats c seat → session_at s.sessions seat ≡ (state_after calls).sessions c
+
+-- To an engine the sequencer stands as it did, and it has listed what it had listed of versions that have ended.
+pub record StandsStill (old new : Sequencing) : Type 0 where
+  pub ended : new.ended ≡ old.ended
+  pub newest : new.newest ≡ old.newest
+  pub stands : (contents : Contents) → IsAheadOf old contents → IsAheadOf new contents
+  pub expects : (contents : Contents) (entries : List EntryNo) (extents : List Extent) → IsAheadOf old contents → Expects old contents entries extents → Expects new contents entries extents
 
 -- the outcome of a turn: the sequencer ran the first waiting item, or nothing changed
 pub record TakesTurn (w : World) (c : ℕ) (did : Bool) (sessions : Sessions) (old new : Sequencing) : Type 0 where

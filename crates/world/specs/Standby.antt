@@ -1,6 +1,7 @@
 -- How the standby, and what waits for it, refine the machine's.
 use Rattle.std.specs.Prelude.{◌≡◌, ℕ, Bool, true, false, List}
 use Rattle.pmem.specs.Device.{State}
+use Rattle.kv_types.specs.declared.place.EntryNo.{EntryNo}
 use Rattle.extent_heap.specs.Room.{Room}
 use Rattle.model.specs.declared.call.Call.{Call}
 use Rattle.model.specs.Call.{keyspace_after, cut_at}
@@ -22,17 +23,19 @@ pub record Node : Type 0 where
   pub is_faulted : Bool
   pub table : Table
   pub room : Room
+  -- the entries of versions that have ended, not freed yet
+  pub ended : List EntryNo
   pub epoch : ℕ
 
 -- a standby of these parts, whose epoch is that of its record
-abbrev pub node_at : State → Contents → Bool → Table → Room → Node
-node_at device contents is_faulted table room =
-    record { device = device; contents = contents; is_faulted = is_faulted; table = table; room = room; epoch = contents.current.epoch }
+abbrev pub node_at : State → Contents → Bool → Table → Room → List EntryNo → Node
+node_at device contents is_faulted table room ended =
+    record { device = device; contents = contents; is_faulted = is_faulted; table = table; room = room; ended = ended; epoch = contents.current.epoch }
 
 -- the standby of this epoch, which is that of its image, holds the list up to this position
 pub record StandbyStands (holder : Holder) (epoch : ℕ) (calls : List Call) (position : ℕ) (node : Node) : Type 0 where
   pub engine : EngineStands holder calls position node.device node.contents node.is_faulted
-  pub follows : Follows node.contents node.table node.room
+  pub follows : Follows node.contents node.table node.room node.ended
   pub table : records node.table ≡ keyspace_after (cut_at calls position)
   pub epoch_is : node.epoch ≡ epoch
   pub epoch_held : epoch ≡ holder.epoch

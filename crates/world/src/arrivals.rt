@@ -94,27 +94,27 @@ impl Arrivals {
         alloc: Global,
         standby: &mut Standby<E, K>,
     ) -> Result<bool, Refusal>
-        requires follows { Follows (E.contents standby.old.engine) (K.table standby.old.keyspace) standby.old.heap }
+        requires follows { Follows (E.contents standby.old.engine) (K.table standby.old.keyspace) standby.old.heap standby.old.ended.items }
         requires sound { E.is_faulted standby.old.engine ≡ false }
         requires durable { IsDurable (E.device standby.old.engine) (E.contents standby.old.engine) }
         ensures applies { IfOk result (λ did. (holder : Holder) (w : World) → Sound w
             → (E.contents standby.old.engine).current.epoch ≡ w.standby.epoch
             → ArrivalsRefine (E.contents standby.old.engine).current.epoch w.primary.calls self.old w.standby.waiting w.wire.acknowledgements
-            → StandbyStands holder (E.contents standby.old.engine).current.epoch w.primary.calls w.standby.position (node_at (E.device standby.old.engine) (E.contents standby.old.engine) (E.is_faulted standby.old.engine) (K.table standby.old.keyspace) standby.old.heap)
+            → StandbyStands holder (E.contents standby.old.engine).current.epoch w.primary.calls w.standby.position (node_at (E.device standby.old.engine) (E.contents standby.old.engine) (E.is_faulted standby.old.engine) (K.table standby.old.keyspace) standby.old.heap standby.old.ended.items)
             → AppliesFirst holder (E.contents standby.old.engine).current.epoch w did self.new
-            (node_at (E.device standby.old.engine) (E.contents standby.old.engine) (E.is_faulted standby.old.engine) (K.table standby.old.keyspace) standby.old.heap)
-            (node_at (E.device standby.new.engine) (E.contents standby.new.engine) (E.is_faulted standby.new.engine) (K.table standby.new.keyspace) standby.new.heap)) }
+            (node_at (E.device standby.old.engine) (E.contents standby.old.engine) (E.is_faulted standby.old.engine) (K.table standby.old.keyspace) standby.old.heap standby.old.ended.items)
+            (node_at (E.device standby.new.engine) (E.contents standby.new.engine) (E.is_faulted standby.new.engine) (K.table standby.new.keyspace) standby.new.heap standby.new.ended.items)) }
         ensures cut { IfErr result (λ refusal. (holder : Holder) (w : World) → Sound w
             → (E.contents standby.old.engine).current.epoch ≡ w.standby.epoch
             → ArrivalsRefine (E.contents standby.old.engine).current.epoch w.primary.calls self.old w.standby.waiting w.wire.acknowledgements
-            → StandbyStands holder (E.contents standby.old.engine).current.epoch w.primary.calls w.standby.position (node_at (E.device standby.old.engine) (E.contents standby.old.engine) (E.is_faulted standby.old.engine) (K.table standby.old.keyspace) standby.old.heap)
+            → StandbyStands holder (E.contents standby.old.engine).current.epoch w.primary.calls w.standby.position (node_at (E.device standby.old.engine) (E.contents standby.old.engine) (E.is_faulted standby.old.engine) (K.table standby.old.keyspace) standby.old.heap standby.old.ended.items)
             → (may_happen w Apply ≡ true)
             × EndsBy refusal Apply (λ _ last. last holder w.primary.calls w.standby.position (next_standby w) (E.device standby.old.engine) (E.device standby.new.engine))) }
         // at any moment of the call
         ensures moments { (holder : Holder) (w : World) → Sound w
             → (E.contents standby.old.engine).current.epoch ≡ w.standby.epoch
             → ArrivalsRefine (E.contents standby.old.engine).current.epoch w.primary.calls self.old w.standby.waiting w.wire.acknowledgements
-            → StandbyStands holder (E.contents standby.old.engine).current.epoch w.primary.calls w.standby.position (node_at (E.device standby.old.engine) (E.contents standby.old.engine) (E.is_faulted standby.old.engine) (K.table standby.old.keyspace) standby.old.heap)
+            → StandbyStands holder (E.contents standby.old.engine).current.epoch w.primary.calls w.standby.position (node_at (E.device standby.old.engine) (E.contents standby.old.engine) (E.is_faulted standby.old.engine) (K.table standby.old.keyspace) standby.old.heap standby.old.ended.items)
             → NearOnly holder w.primary.calls w.standby.position (next_standby w) (E.device standby.old.engine) (E.device standby.new.engine) }
     {
         let Some(frame) = self.delivered.front() else {
@@ -133,7 +133,7 @@ impl Arrivals {
     }
 }
 
-/// Whether a standby that refused a frame with this refusal is unchanged and goes on.
+/// Whether a standby that refused a frame with this refusal goes on. It is as it was, perhaps without what had ended.
 fn goes_on(refusal: Refusal) -> bool
     ensures { IsTrue result ↔ ((refusal ≡ Refusal.Full) ⊎ (refusal ≡ Refusal.PositionGap) ⊎ (refusal ≡ Refusal.WrongEpoch)) }
 {

@@ -3,7 +3,7 @@ ghost use Rattle.std.specs.Prelude.{◌≡◌, ℕ, ◌<◌, ◌≤◌, ◌↔�
 ghost use Rattle.model.specs.Group.{Contents};
 ghost use Rattle.model.specs.Standing.{new_holder};
 ghost use Rattle.wbl_engine.specs.Contents.{IsNew};
-ghost use Rattle.redis_core.specs.Sequencing.{IsAheadOf};
+ghost use Rattle.redis_core.specs.Sequencing.{Expects, IsAheadOf};
 ghost use Rattle.world.specs.Cause.{UnformedBy};
 ghost use Rattle.world.specs.Committing.{FormattingOnly};
 ghost use Rattle.model.specs.declared.record.TheConstants.{FIRST_EPOCH};
@@ -12,7 +12,7 @@ ghost use Rattle.world.specs.Standby.{ArrivalsRefine};
 ghost use Rattle.world.specs.Headline.{start};
 ghost use Rattle.world.specs.Pair.{NodesRefine};
 ghost use Rattle.world.specs.Session.{SessionsRefine, SequencerRefines};
-ghost use Rattle.extent_heap.specs.Room.{is_free_line, is_free_entry};
+ghost use Rattle.extent_heap.specs.Room.{fresh_room, is_free_line, is_free_entry};
 ghost use Rattle.model.specs.Image.{entries_of_lines, first_extent_line};
 ghost use Rattle.wbl_engine.specs.Contents.{IsDurable};
 
@@ -22,14 +22,16 @@ use crate::sessions::Sessions;
 use extent_heap::ExtentHeap;
 use group_commit::Committer;
 use kv_types::Refusal;
-use model::{FIRST_EPOCH, Group, LAYOUT};
+use model::{FIRST_EPOCH, Group, LAYOUT, Work};
 use mv_keyspace::Keyspace;
 use pipes::LocalPipe;
+use placing::Rebuilt;
 use pmem::Crashing;
 use redis_core::Sequencer;
 use standby::Standby;
 use standby_stream::Link;
 use std::alloc::Global;
+use std::collections::VecDeque;
 use std::hash::RandomState;
 use wbl_engine::{Durable, Role, WblEngine};
 
@@ -38,12 +40,12 @@ use wbl_engine::{Durable, Role, WblEngine};
 struct Between<K: Keyspace> {
     sessions: Sessions,
     sequencer: Sequencer<K>,
-    groups: LocalPipe<Group>,
+    work: LocalPipe<Work>,
     handed: LocalPipe<Group>,
     link: Link,
     arrivals: Arrivals,
     /// The standby's.
-    heap: ExtentHeap,
+    room: Rebuilt,
 }
 
 /// Makes all that takes memory, for a primary of `lines.0` lines with this empty keyspace and a standby of `lines.1`, with room for `calls` calls.
@@ -59,39 +61,49 @@ fn make_between<K: Keyspace + Drop>(
     ensures room { IfOk result (λ between. calls ≤ vec_capacity between.sessions.calls) }
     ensures sequencer { IfOk result (λ between. SequencerRefines [] 0 between.sequencer) }
     ensures underlies { IfOk result (λ between. (contents : Contents) → IsNew lines.0 contents.current.role contents → IsAheadOf between.sequencer contents) }
-    ensures no_group { IfOk result (λ between. between.groups.items ≡ []) }
+    ensures expects { IfOk result (λ between. (contents : Contents) → IsNew lines.0 contents.current.role contents → Expects between.sequencer contents [] []) }
+    ensures ended { IfOk result (λ between. (between.sequencer.ended ≡ []) × (between.sequencer.newest ≡ 0)) }
+    ensures no_work { IfOk result (λ between. between.work.items ≡ []) }
     ensures link { IfOk result (λ between. between.link ≡ new_stream FIRST_EPOCH) }
     ensures handed { IfOk result (λ between. between.handed.items ≡ []) }
     ensures arrivals { IfOk result (λ between. (epoch : ℕ) → ArrivalsRefine epoch [] between.arrivals [] []) }
-    ensures free_lines { IfOk result (λ between. (line : ℕ) → IsTrue (is_free_line between.heap line) ↔ ((first_extent_line lines.1 ≤ line) × (line < lines.1))) }
-    ensures free_entries { IfOk result (λ between. (i : ℕ) → IsTrue (is_free_entry between.heap i) ↔ (i < entries_of_lines lines.1)) }
+    ensures free_lines { IfOk result (λ between. (line : ℕ) → IsTrue (is_free_line between.room.heap line) ↔ ((first_extent_line lines.1 ≤ line) × (line < lines.1))) }
+    ensures free_entries { IfOk result (λ between. (i : ℕ) → IsTrue (is_free_entry between.room.heap i) ↔ (i < entries_of_lines lines.1)) }
+    ensures fresh { IfOk result (λ between. between.room.heap ≡ fresh_room (first_extent_line lines.1) lines.1 (entries_of_lines lines.1)) }
+    ensures none_ended { IfOk result (λ between. between.room.ended.items ≡ []) }
     ensures cause { IfErr result (λ refusal. refusal ≡ Refusal.Memory) }
 {
-    let own = heap_of(alloc, lines.0)?;
-    let heap = heap_of(alloc, lines.1)?;
+    let own = room_of(alloc, lines.0)?;
+    let room = room_of(alloc, lines.1)?;
     Ok(Between {
         sessions: Sessions::new(alloc, calls)?,
         sequencer: Sequencer::new(alloc, keyspace, own, 0, FIRST_EPOCH, hash_builder)?,
-        groups: LocalPipe::new(alloc)?,
+        work: LocalPipe::new(alloc)?,
         handed: LocalPipe::new(alloc)?,
         link: Link::new(alloc, FIRST_EPOCH)?,
         arrivals: Arrivals::new(alloc),
-        heap,
+        room,
     })
 }
 
-/// The heap of a new image of `lines` lines: all entries and extents are free.
-fn heap_of(alloc: Global, lines: u64) -> Result<ExtentHeap, Refusal>
-    ensures lines { IfOk result (λ heap. (line : ℕ) → IsTrue (is_free_line heap line) ↔ ((first_extent_line lines ≤ line) × (line < lines))) }
-    ensures entries { IfOk result (λ heap. (i : ℕ) → IsTrue (is_free_entry heap i) ↔ (i < entries_of_lines lines)) }
+/// The room of a new image of `lines` lines: all entries and extents are free, and no version has ended.
+fn room_of(alloc: Global, lines: u64) -> Result<Rebuilt, Refusal>
+    ensures room { IfOk result (λ room. room.heap ≡ fresh_room (first_extent_line lines) lines (entries_of_lines lines)) }
+    ensures lines { IfOk result (λ room. (line : ℕ) → IsTrue (is_free_line room.heap line) ↔ ((first_extent_line lines ≤ line) × (line < lines))) }
+    ensures entries { IfOk result (λ room. (i : ℕ) → IsTrue (is_free_entry room.heap i) ↔ (i < entries_of_lines lines)) }
+    ensures ended { IfOk result (λ room. room.ended.items ≡ []) }
     ensures cause { IfErr result (λ refusal. refusal ≡ Refusal.Memory) }
 {
-    ExtentHeap::new(
+    let heap = ExtentHeap::new(
         alloc,
         LAYOUT.first_extent_line(lines),
         lines,
         LAYOUT.entries_of_lines(lines),
-    )
+    )?;
+    Ok(Rebuilt {
+        heap,
+        ended: Vec::new(alloc),
+    })
 }
 
 /// Formats the first device as primary and the second as standby. The keyspaces are empty, and there is room for `calls` calls.
@@ -131,8 +143,9 @@ pub(crate) fn form<P: Crashing, K: Keyspace + Drop>(
             alloc,
             sessions: between.sessions,
             sequencer: between.sequencer,
-            groups: between.groups,
-            committer: Committer::new(engine),
+            work: between.work,
+            committer: Committer::new(alloc, engine),
+            notices: VecDeque::new(alloc),
             handed: between.handed,
             link: between.link,
             remote: 0,
@@ -141,7 +154,8 @@ pub(crate) fn form<P: Crashing, K: Keyspace + Drop>(
             standby: Standby {
                 engine: follower,
                 keyspace: following,
-                heap: between.heap,
+                heap: between.room.heap,
+                ended: between.room.ended,
             },
             hash_builder,
             primary_runs: true,

@@ -9,6 +9,7 @@ mod inbound;
 mod outbound;
 mod pair;
 mod playing;
+mod queue;
 mod restarting;
 mod sessions;
 mod trace;

@@ -7,7 +7,8 @@ ghost use Rattle.world.specs.Pair as specs;
 ghost use Rattle.world.specs.Standby.{node_at};
 
 use crate::arrivals::Arrivals;
-use crate::closing::close_group;
+use crate::closing::close_next;
+use crate::queue::{is_step, may_clear, may_commit, may_free};
 use crate::restarting::{Serving, restart_primary};
 use crate::sessions::Sessions;
 use crate::wire::{decode, encode};
@@ -15,7 +16,7 @@ use bytes::Bytes;
 use group_commit::{Committer, Done, Stage};
 use kv_types::Refusal;
 use machine::{Event, Mark, Node};
-use model::Group;
+use model::{Group, Work};
 use mv_keyspace::Keyspace;
 use pipes::LocalPipe;
 use redis_core::Sequencer;
@@ -23,9 +24,10 @@ use reply_gate::Seen;
 use standby::Standby;
 use standby_stream::Link;
 use std::alloc::Global;
+use std::collections::VecDeque;
 use std::hash::RandomState;
 use stream_codec::Message;
-use wbl_engine::{Durable, Restarting};
+use wbl_engine::{Durable, Freed, Restarting};
 
 /// What events happen to, one at a time.
 pub(crate) trait Stepper {
@@ -47,10 +49,12 @@ pub(crate) struct Pair<E: Durable, K: Keyspace> {
     pub(crate) alloc: Global,
     pub(crate) sessions: Sessions,
     pub(crate) sequencer: Sequencer<K>,
-    /// Groups that wait to be committed.
-    pub(crate) groups: LocalPipe<Group>,
+    /// What waits for the committer.
+    pub(crate) work: LocalPipe<Work>,
     /// The primary's committer, with its engine.
     pub(crate) committer: Committer<E>,
+    /// What was freed, and the sequencer has not been told.
+    pub(crate) notices: VecDeque<Freed>,
     /// Groups that were committed and handed on, and are not sent.
     pub(crate) handed: LocalPipe<Group>,
     pub(crate) link: Link,
@@ -73,7 +77,8 @@ impl<E: Restarting, K: Keyspace + Drop> Stepper for Pair<E, K> {
     ghost parts = { λ p. record {
       sessions = p.sessions;
       sequencer = p.sequencer;
-      committing = record { waiting = p.groups; stage = p.committer.stage; local = p.committer.local };
+      committing = record { waiting = p.work; aside = p.committer.aside.items; stage = p.committer.stage; local = p.committer.local };
+      notices = p.notices.items;
       device = E.device p.committer.engine;
       contents = E.contents p.committer.engine;
       is_faulted = E.is_faulted p.committer.engine;
@@ -82,7 +87,7 @@ impl<E: Restarting, K: Keyspace + Drop> Stepper for Pair<E, K> {
       remote = p.remote;
       frames = p.frames.items;
       arrivals = p.arrivals;
-      standby = node_at (E.device p.standby.engine) (E.contents p.standby.engine) (E.is_faulted p.standby.engine) (K.table p.standby.keyspace) p.standby.heap;
+      standby = node_at (E.device p.standby.engine) (E.contents p.standby.engine) (E.is_faulted p.standby.engine) (K.table p.standby.keyspace) p.standby.heap p.standby.ended.items;
       primary_runs = p.primary_runs;
       standby_runs = p.standby_runs;
     } };
@@ -100,6 +105,9 @@ impl<E: Restarting, K: Keyspace + Drop> Stepper for Pair<E, K> {
             Event::Commit => self.commit(),
             Event::RaiseLocal => self.raise_local(),
             Event::Hand => self.hand(),
+            Event::Free => self.free(),
+            Event::AcceptFreed => Ok(self.accept_freed()),
+            Event::ClearGap => self.clear_gap(),
             Event::OpenLink => self.open_link(),
             Event::Send => self.send(),
             Event::Deliver(frame, piece) => self.deliver(*frame, *piece),
@@ -134,6 +142,9 @@ impl<E: Restarting, K: Keyspace + Drop> Pair<E, K> {
             | Event::Commit
             | Event::RaiseLocal
             | Event::Hand
+            | Event::Free
+            | Event::AcceptFreed
+            | Event::ClearGap
             | Event::Send
             | Event::AckDelivered(_)
             | Event::RaiseRemote
@@ -173,7 +184,7 @@ impl<E: Restarting, K: Keyspace + Drop> Pair<E, K> {
     fn close_group(&mut self) -> Result<bool, Refusal>
         ensures { Does (⟦<Pair<E, K> as Stepper>⟧.parts self.old) events.CloseGroup result (⟦<Pair<E, K> as Stepper>⟧.parts self.new) }
     {
-        close_group(self.alloc, &mut self.sequencer, &mut self.groups)
+        close_next(self.alloc, &mut self.sequencer, &mut self.work)
     }
 
     fn commit(&mut self) -> Result<bool, Refusal>
@@ -181,11 +192,12 @@ impl<E: Restarting, K: Keyspace + Drop> Pair<E, K> {
         requires world { HasWorld (⟦<Pair<E, K> as Stepper>⟧.parts self.old) }
         ensures { Does (⟦<Pair<E, K> as Stepper>⟧.parts self.old) events.Commit result (⟦<Pair<E, K> as Stepper>⟧.parts self.new) }
     {
-        let Stage::Ready = self.committer.stage() else {
+        if !may_commit(&self.committer, &self.work, &self.handed) {
             return Ok(false);
-        };
-        let done = self.committer.turn(&mut self.groups, &mut self.handed)?;
-        Ok(done != Done::Idle)
+        }
+        self.committer
+            .turn(self.alloc, &mut self.work, &mut self.handed, self.remote)?;
+        Ok(true)
     }
 
     fn raise_local(&mut self) -> Result<bool, Refusal>
@@ -194,8 +206,10 @@ impl<E: Restarting, K: Keyspace + Drop> Pair<E, K> {
         let Stage::Durable(_) = self.committer.stage() else {
             return Ok(false);
         };
-        let done = self.committer.turn(&mut self.groups, &mut self.handed)?;
-        Ok(done != Done::Idle)
+        let done = self
+            .committer
+            .turn(self.alloc, &mut self.work, &mut self.handed, self.remote)?;
+        Ok(is_step(&done))
     }
 
     fn hand(&mut self) -> Result<bool, Refusal>
@@ -204,8 +218,58 @@ impl<E: Restarting, K: Keyspace + Drop> Pair<E, K> {
         let Stage::Shown(_) = self.committer.stage() else {
             return Ok(false);
         };
-        let done = self.committer.turn(&mut self.groups, &mut self.handed)?;
-        Ok(done != Done::Idle)
+        let done = self
+            .committer
+            .turn(self.alloc, &mut self.work, &mut self.handed, self.remote)?;
+        Ok(is_step(&done))
+    }
+
+    fn free(&mut self) -> Result<bool, Refusal>
+        requires serves { self.old.primary_runs ≡ true }
+        requires world { HasWorld (⟦<Pair<E, K> as Stepper>⟧.parts self.old) }
+        ensures { Does (⟦<Pair<E, K> as Stepper>⟧.parts self.old) events.Free result (⟦<Pair<E, K> as Stepper>⟧.parts self.new) }
+    {
+        if !may_free(&self.committer, &self.work, &self.handed, self.remote) {
+            return Ok(false);
+        }
+        self.notices.reserve(1)?;
+        let done = self
+            .committer
+            .turn(self.alloc, &mut self.work, &mut self.handed, self.remote)?;
+        if let Done::Freed(freed) = done {
+            self.notices.push_back_reserved(freed);
+        }
+        Ok(true)
+    }
+
+    fn accept_freed(&mut self) -> bool
+        requires serves { self.old.primary_runs ≡ true }
+        requires world { HasWorld (⟦<Pair<E, K> as Stepper>⟧.parts self.old) }
+        ensures { Does (⟦<Pair<E, K> as Stepper>⟧.parts self.old) events.AcceptFreed (Ok result) (⟦<Pair<E, K> as Stepper>⟧.parts self.new) }
+    {
+        let Some(freed) = self.notices.pop_front() else {
+            return false;
+        };
+        self.sequencer.accept_freed(&freed.entries, &freed.extents);
+        true
+    }
+
+    fn clear_gap(&mut self) -> Result<bool, Refusal>
+        requires serves { self.old.primary_runs ≡ true }
+        requires world { HasWorld (⟦<Pair<E, K> as Stepper>⟧.parts self.old) }
+        ensures { Does (⟦<Pair<E, K> as Stepper>⟧.parts self.old) events.ClearGap result (⟦<Pair<E, K> as Stepper>⟧.parts self.new) }
+    {
+        if !may_clear(&self.committer, &self.work, &self.handed) {
+            return Ok(false);
+        }
+        self.notices.reserve(1)?;
+        let done = self
+            .committer
+            .turn(self.alloc, &mut self.work, &mut self.handed, self.remote)?;
+        if let Done::Cleared(freed) = done {
+            self.notices.push_back_reserved(freed);
+        }
+        Ok(true)
     }
 
     fn open_link(&mut self) -> Result<bool, Refusal>
@@ -360,12 +424,13 @@ impl<E: Restarting, K: Keyspace + Drop> Pair<E, K> {
         }
         let Serving {
             sequencer,
-            groups,
+            work,
             handed,
             link,
         } = restart_primary(self.alloc, &mut self.committer, self.hash_builder)?;
         self.sequencer = sequencer;
-        self.groups = groups;
+        self.work = work;
+        self.notices.clear();
         self.handed = handed;
         self.link = link;
         self.remote = 0;

@@ -6,7 +6,8 @@ ghost use Rattle.pmem.specs.Runs.{LeavesOnly};
 ghost use Rattle.model.specs.declared.image.TheConstants.{COUNTER_LIMIT};
 ghost use Rattle.model.specs.declared.record.Record.{Record as CommitRecord};
 ghost use Rattle.model.specs.Group.{Contents};
-ghost use Rattle.placing.specs.Rebuilt.{IsRebuilt};
+ghost use Rattle.mv_keyspace.specs.Row.{numbers_of};
+ghost use Rattle.placing.specs.Rebuilt.{AreEndedOf, IsRebuilt};
 ghost use Rattle.group_commit.specs.declared.stage.Stage.TheVariants.{Ready};
 ghost use Rattle.wbl_engine.specs.Contents.{IsDurable};
 ghost use Rattle.wbl_engine.specs.Lawful.{IsUndamaged};
@@ -15,13 +16,12 @@ ghost use Rattle.standby.specs.Restarting.{IsReopened};
 ghost use Rattle.standby_stream.specs.Stream.{new_stream};
 ghost use Rattle.world.specs.Serving.{IsOver};
 
-use extent_heap::ExtentHeap;
 use group_commit::Committer;
 use kv_types::Refusal;
-use model::Group;
+use model::{Group, Work};
 use mv_keyspace::Keyspace;
 use pipes::LocalPipe;
-use placing::rebuild;
+use placing::{Rebuilt, rebuild};
 use redis_core::Sequencer;
 use standby_stream::Link;
 use std::alloc::Global;
@@ -32,13 +32,13 @@ use wbl_engine::{Restarting, Role};
 #[derive(Drop)]
 pub(crate) struct Serving<K: Keyspace> {
     pub(crate) sequencer: Sequencer<K>,
-    pub(crate) groups: LocalPipe<Group>,
+    pub(crate) work: LocalPipe<Work>,
     pub(crate) handed: LocalPipe<Group>,
     pub(crate) link: Link,
 }
 
 /// Opens the image of a crashed primary again, and makes what it holds beside it from the versions there: nothing waits, and no seat is open. The
-/// entries of versions that have ended stay taken.
+/// versions that have ended are to be freed.
 ///
 /// # Errors
 ///
@@ -53,9 +53,9 @@ pub(crate) fn restart_primary<E: Restarting, K: Keyspace + Drop>(
         (E.contents committer.new.engine)) }
     ensures durable { OnOk result (IsDurable (E.device committer.new.engine) (E.contents committer.new.engine)) }
     ensures sound { OnOk result (E.is_faulted committer.new.engine ≡ false) }
-    ensures ready { OnOk result ((committer.new.stage ≡ Ready) × (committer.new.local ≡ (E.contents committer.new.engine).current.position)) }
+    ensures ready { OnOk result ((committer.new.stage ≡ Ready) × (committer.new.aside.items ≡ []) × (committer.new.local ≡ (E.contents committer.new.engine).current.position)) }
     ensures sequencer { IfOk result (λ serving. IsOver (E.contents committer.new.engine) serving.sequencer) }
-    ensures groups { IfOk result (λ serving. serving.groups.items ≡ []) }
+    ensures work { IfOk result (λ serving. serving.work.items ≡ []) }
     ensures handed { IfOk result (λ serving. serving.handed.items ≡ []) }
     ensures link { IfOk result (λ serving. serving.link ≡ new_stream (E.contents committer.new.engine).current.epoch) }
     ensures failures { ¬ IsErrOf result Refusal.Fault → (E.device committer.new.engine).failures ≡ (E.device committer.old.engine).failures }
@@ -67,11 +67,11 @@ pub(crate) fn restart_primary<E: Restarting, K: Keyspace + Drop>(
         → LeavesOnly (E.device committer.old.engine) (E.device committer.new.engine)
         (StaysReadable (E.device committer.old.engine).lines r (image_of (E.device committer.old.engine).words)) }
 {
-    let (keyspace, heap) = restart_keyspace(alloc, committer)?;
+    let (keyspace, room) = restart_keyspace(alloc, committer)?;
     make_serving(
         alloc,
         keyspace,
-        heap,
+        room,
         (committer.position(), committer.epoch()),
         hash_builder,
     )
@@ -81,14 +81,15 @@ pub(crate) fn restart_primary<E: Restarting, K: Keyspace + Drop>(
 fn restart_keyspace<E: Restarting, K: Keyspace + Drop>(
     alloc: Global,
     committer: &mut Committer<E>,
-) -> Result<(K, ExtentHeap), Refusal>
+) -> Result<(K, Rebuilt), Refusal>
     requires settled { (word : ℕ) → Only ((E.device committer.old.engine).words word) (image_of (E.device committer.old.engine).words word) }
     ensures reopens { OnOk result (IsReopened (E.device committer.old.engine).lines (image_of (E.device committer.old.engine).words) Role.Primary
         (E.contents committer.new.engine)) }
     ensures durable { OnOk result (IsDurable (E.device committer.new.engine) (E.contents committer.new.engine)) }
     ensures sound { OnOk result (E.is_faulted committer.new.engine ≡ false) }
-    ensures ready { OnOk result ((committer.new.stage ≡ Ready) × (committer.new.local ≡ (E.contents committer.new.engine).current.position)) }
-    ensures rebuilt { IfOk result (λ made. IsRebuilt (E.contents committer.new.engine) (K.table made.0) made.1) }
+    ensures ready { OnOk result ((committer.new.stage ≡ Ready) × (committer.new.aside.items ≡ []) × (committer.new.local ≡ (E.contents committer.new.engine).current.position)) }
+    ensures rebuilt { IfOk result (λ made. IsRebuilt (E.contents committer.new.engine) (K.table made.0) made.1.heap
+        × AreEndedOf (E.contents committer.new.engine) (numbers_of made.1.ended.items)) }
     ensures counted { OnOk result ((E.contents committer.new.engine).current.position < COUNTER_LIMIT) }
     ensures failures { ¬ IsErrOf result Refusal.Fault → (E.device committer.new.engine).failures ≡ (E.device committer.old.engine).failures }
     ensures refused { IfErr result (λ refusal. (refusal ≡ Refusal.Fault) ⊎ ((refusal ≡ Refusal.Memory)
@@ -108,30 +109,31 @@ fn restart_keyspace<E: Restarting, K: Keyspace + Drop>(
         versions.counted,
         &versions.gapped,
     )?;
-    Ok((keyspace, rebuilt.heap))
+    Ok((keyspace, rebuilt))
 }
 
-/// What a primary holds beside its committer, over this keyspace and this heap, while nothing waits; `at` is the position and the epoch of its record.
+/// What a primary holds beside its committer, over this keyspace and this room, while nothing waits; `at` is the position and the epoch of its record.
 /// Only `Memory`.
 fn make_serving<K: Keyspace + Drop>(
     alloc: Global,
     keyspace: K,
-    heap: ExtentHeap,
+    room: Rebuilt,
     at: (u64, u64),
     hash_builder: RandomState,
 ) -> Result<Serving<K>, Refusal>
-    requires rebuilt { (contents : Contents) × (contents.current.position ≡ at.0) × IsRebuilt contents (K.table keyspace) heap }
+    requires rebuilt { (contents : Contents) × (contents.current.position ≡ at.0) × IsRebuilt contents (K.table keyspace) room.heap
+        × AreEndedOf contents (numbers_of room.ended.items) }
     requires counted { at.0 < COUNTER_LIMIT }
     ensures sequencer { IfOk result (λ serving. (contents : Contents) → contents.current.position ≡ at.0 → contents.current.epoch ≡ at.1
-        → IsRebuilt contents (K.table keyspace) heap → IsOver contents serving.sequencer) }
-    ensures groups { IfOk result (λ serving. serving.groups.items ≡ []) }
+        → IsRebuilt contents (K.table keyspace) room.heap → AreEndedOf contents (numbers_of room.ended.items) → IsOver contents serving.sequencer) }
+    ensures work { IfOk result (λ serving. serving.work.items ≡ []) }
     ensures handed { IfOk result (λ serving. serving.handed.items ≡ []) }
     ensures link { IfOk result (λ serving. serving.link ≡ new_stream at.1) }
     ensures cause { IfErr result (λ refusal. refusal ≡ Refusal.Memory) }
 {
     Ok(Serving {
-        sequencer: Sequencer::new(alloc, keyspace, heap, at.0, at.1, hash_builder)?,
-        groups: LocalPipe::new(alloc)?,
+        sequencer: Sequencer::new(alloc, keyspace, room, at.0, at.1, hash_builder)?,
+        work: LocalPipe::new(alloc)?,
         handed: LocalPipe::new(alloc)?,
         link: Link::new(alloc, at.1)?,
     })

@@ -3,16 +3,15 @@ ghost use Rattle.std.specs.Prelude.{◌≡◌, ◌≢◌, ℕ, ◌+◌, ◌<◌,
 ghost use Rattle.kv_types.specs.declared.item.Item.{Item};
 ghost use Rattle.model.specs.declared.call.Call.{Call};
 ghost use Rattle.model.specs.Call.{cut_at};
-ghost use Rattle.model.specs.Group.{Contents};
 ghost use Rattle.model.specs.declared.group.TheConstants.{MAX_PARTS};
 ghost use Rattle.machine.specs.declared.event.Event.TheVariants.{Enter, Feed, Offer, Hold, Read, Release, Write, Leave};
 ghost use Rattle.machine.specs.Event.{World, may_happen, new_connection, changed_at, with_inbound, with_outbound, fed_with, offered_next, held_first, having_read, having_released, written, left};
 ghost use Rattle.machine.specs.Sound.{Sound};
-ghost use Rattle.redis_core.specs.Sequencing.{IsAheadOf, MovesSeat, is_closed};
+ghost use Rattle.redis_core.specs.Sequencing.{MovesSeat, is_closed};
 ghost use Rattle.redis_core.specs.Turn.{call_of};
 ghost use Rattle.world.specs.Going.{Goes};
 ghost use Rattle.world.specs.Running.{Runs};
-ghost use Rattle.world.specs.Session.{SessionsRefine, SequencerRefines, SeatsRefine, SeatsFollow, HasSeat, KeepsSeats, AddsOne, TakesTurn, TellsTheSame, positions_of, released_of, seats_of};
+ghost use Rattle.world.specs.Session.{SessionsRefine, SequencerRefines, SeatsRefine, SeatsFollow, StandsStill, HasSeat, KeepsSeats, AddsOne, TakesTurn, TellsTheSame, positions_of, released_of, seats_of};
 
 use crate::connection::{Client, Connection};
 use crate::inbound::Inbound;
@@ -69,7 +68,7 @@ impl Sessions {
         ensures follow { IfOk result (λ did. (w : World) → Sound w → SessionsRefine self.old w.primary.connections w.primary.calls
             → SeatsFollow w.primary.calls (seats_of self.old.connections.items) sequencer.old → SeatsFollow w.primary.calls (seats_of self.new.connections.items) sequencer.new) }
         ensures sequencer { (calls : List Call) (closed : ℕ) → SequencerRefines calls closed sequencer.old → SequencerRefines calls closed sequencer.new }
-        ensures stands { (contents : Contents) → IsAheadOf sequencer.old contents → IsAheadOf sequencer.new contents }
+        ensures stands { StandsStill sequencer.old sequencer.new }
         ensures told { OnErr result (TellsTheSame self.old self.new) }
         ensures cause { IfErr result (λ refusal. refusal ≡ Refusal.Memory) }
         ensures enabled { OnErr result ((w : World) → SessionsRefine self.old w.primary.connections w.primary.calls → may_happen w Enter ≡ true) }
@@ -230,7 +229,7 @@ impl Sessions {
         ensures follow { (w : World) → SessionsRefine self.old w.primary.connections w.primary.calls
             → SeatsFollow w.primary.calls (seats_of self.old.connections.items) sequencer.old → SeatsFollow w.primary.calls (seats_of self.new.connections.items) sequencer.new }
         ensures sequencer { (calls : List Call) (closed : ℕ) → SequencerRefines calls closed sequencer.old → SequencerRefines calls closed sequencer.new }
-        ensures stands { (contents : Contents) → IsAheadOf sequencer.old contents → IsAheadOf sequencer.new contents }
+        ensures stands { StandsStill sequencer.old sequencer.new }
         ensures seats { KeepsSeats self.old.connections.items self.new.connections.items }
         ensures calls { self.new.calls ≡ self.old.calls }
     {
@@ -258,7 +257,7 @@ impl Sessions {
             → SequencerRefines w.primary.calls w.primary.committer.closed sequencer.old
             → SeatsFollow w.primary.calls (seats_of self.old.connections.items) sequencer.old
             → TakesTurn w c result self.new sequencer.old sequencer.new }
-        ensures stands { (contents : Contents) → IsAheadOf sequencer.old contents → IsAheadOf sequencer.new contents }
+        ensures stands { StandsStill sequencer.old sequencer.new }
         ensures seats { KeepsSeats self.old.connections.items self.new.connections.items }
         ensures calls { AddsOne self.old.calls self.new.calls }
     {
@@ -332,7 +331,7 @@ fn first_reply<K: Keyspace>(
     ensures stays { replies.old.items ≡ [] → IfNone result ((waiting.new.items ≡ waiting.old.items) × (sequencer.new ≡ sequencer.old)) }
     ensures otherwise { replies.old.items ≡ [] → is_closed sequencer.old seat.now ≡ false → length (sequencer.old).waiting < MAX_PARTS → waiting.old.items ≢ [] → IsSome result }
     ensures replies { replies.old.items ≡ [] → replies.new.items ≡ [] }
-    ensures stands { (contents : Contents) → IsAheadOf sequencer.old contents → IsAheadOf sequencer.new contents }
+    ensures stands { StandsStill sequencer.old sequencer.new }
 {
     match sequencer.turn(alloc, seat, waiting, replies) {
         Turn::Served => replies.take(),

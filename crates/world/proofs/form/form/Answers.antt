@@ -4,7 +4,7 @@ use Rattle.model.specs.declared.record.Role.TheVariants.{Primary, Standby}
 use Rattle.standby.proofs.NewLemmas.{HasAll}
 use Rattle.standby_stream.specs.Stream.{Stream}
 use Rattle.world.specs.Cause.{UnformedBy}
-use Rattle.world.proofs.FormLemmas.{engine-new, formatted-size, formatting-none, new-own, pair-starts, standby-new, unformed-first, unformed-second}
+use Rattle.world.proofs.FormLemmas.{all-fresh, engine-new, formatted-size, formatting-none, new-own, pair-starts, standby-new, unformed-first, unformed-second}
 use Rattle.world.proofs.form.form.Goals as goal
 
 pub returns-in-Err-clause-moments : goal.returns-in-Err-clause-moments
@@ -18,16 +18,20 @@ returns-in-Ok-format-2-clause-stands g c =
     let made = c.in-Ok.ensures in
     let serving = c.in-Ok-format.ensures in
     let following = c.in-Ok-format-2.ensures in
-    let all : HasAll (g.P.Pmem.state c.args.standby).lines c.in-Ok.between.heap =
-    subst (λ n. HasAll n c.in-Ok.between.heap) c.lines-2.ensures.count (record { lines_free = made.free_lines; entries_free = made.free_entries }) in
+    let heap = c.in-Ok.between.room.heap in
+    let all : HasAll (g.P.Pmem.state c.args.standby).lines heap =
+    subst (λ n. HasAll n heap) c.lines-2.ensures.count (all-fresh _ heap made.fresh made.free_lines made.free_entries) in
     let epoch = ap (λ (s : Stream). s.epoch) made.link in
+    let own = new-own _ _ _ _ (sym c.lines.ensures.count) serving.new in
     let primary_size = formatted-size (g.P.Pmem.state c.args.primary).lines serving.wrong in
     let standby_size = formatted-size (g.P.Pmem.state c.args.standby).lines following.wrong in
-    rw c.new.ensures (pair-starts _ _ _ made.sessions made.sequencer made.no_group refl serving.new.position
+    let committer = c.new.ensures in
+    rw committer.engine (pair-starts _ _ _ made.sessions made.sequencer made.ended made.no_work committer.aside committer.stage (committer.local ∙ serving.new.position) c.new-in-Ok-format-2.ensures.items
     (engine-new _ _ _ _ _ primary_size.0 primary_size.1 serving.new serving.durable serving.sound.0)
-    (made.underlies _ (new-own _ _ _ _ (sym c.lines.ensures.count) serving.new))
-    made.link made.handed refl c.new-in-Ok-format-2.ensures.items made.arrivals
-    (standby-new _ _ _ _ standby_size.0 standby_size.1 following.new following.durable following.sound.0 all c.requires.following (following.new.epoch ∙ sym epoch) epoch)
+    serving.new.gaps
+    (made.underlies _ own) (made.expects _ own)
+    made.link made.handed refl c.new-in-Ok-format-2-2.ensures.items made.arrivals
+    (standby-new _ _ _ _ standby_size.0 standby_size.1 following.new following.durable following.sound.0 all c.requires.following made.none_ended (following.new.epoch ∙ sym epoch) epoch)
     refl refl refl refl refl refl)
 
 pub returns-in-Err-clause-cause : goal.returns-in-Err-clause-cause

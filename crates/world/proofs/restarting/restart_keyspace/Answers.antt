@@ -24,4 +24,4 @@ rebuild-requires-clause-read g c =
 pub returns-clause-rebuilt : goal.returns-clause-rebuilt
 returns-clause-rebuilt g c =
     let contents = g.E.Durable.contents c.restart.new.self.engine in
-    (c.in_ok-rebuilt.ensures.ok contents (sym c.lines.ensures) (are_of g (goal.at.returns-clause-rebuilt g c).After-deref)).0
+    c.in_ok-rebuilt.ensures.ok contents (sym c.lines.ensures) (are_of g (goal.at.returns-clause-rebuilt g c).After-deref)

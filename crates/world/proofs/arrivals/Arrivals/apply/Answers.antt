@@ -1,4 +1,4 @@
-use Rattle.std.proofs.Common.{◌≡◌, ℕ, Vec, Global, ◌++◌, [], ◌∷◌, drop, List, Result, Ok, Err, refl, sym, ap, subst, ◌∙◌, append-nil, true≢false}
+use Rattle.std.proofs.Common.{◌≡◌, ◌⊎◌, inl, inr, ℕ, Vec, Global, ◌++◌, [], ◌∷◌, drop, List, Result, Ok, Err, refl, sym, ap, subst, ◌∙◌, append-nil, true≢false}
 use Rattle.model.specs.Standing.{Holder}
 use Rattle.std.proofs.lemmas.Result.{err_from_is_err_and}
 use Rattle.kv_types.specs.declared.refusal.Refusal.{Refusal}
@@ -9,11 +9,12 @@ use Rattle.machine.specs.Event.{World, Frame as Sent, Acknowledgement, without_f
 use Rattle.machine.specs.Sound.{Sound}
 use Rattle.standby.specs.declared.frame.Ack.{Ack}
 use Rattle.standby.specs.declared.standby.Standby.{Standby}
+use Rattle.standby.specs.Following.{HasFreed}
 use Rattle.world.specs.declared.arrivals.Arrivals.{Arrivals}
 use Rattle.world.specs.Cause.{EndsBy}
 use Rattle.world.specs.Committing.{NearOnly, next_from, next_standby}
 use Rattle.world.specs.Standby.{Node, ArrivalsRefine, StandbyStands, told_by}
-use Rattle.world.proofs.StandbyLemmas.{Answers, OnErr-weaken, takes_ok, takes_refused, frame-ends, frame-moments, StandbyStands-still}
+use Rattle.world.proofs.StandbyLemmas.{Answers, IsKept, IsKept-freed, IsKept-same, OnErr-weaken, takes_ok, takes_refused, frame-ends, frame-moments, StandbyStands-still}
 use Rattle.world.proofs.EngineLemmas.{Stands-engine, rests-same}
 use Rattle.world.specs.Link.{AreAcksSent}
 use Rattle.world.proofs.FrameLemmas.{AreAcksSent-push}
@@ -29,8 +30,17 @@ node g standby = record {
   is_faulted = g.E.Durable.is_faulted standby.engine;
   table = g.K.Keyspace.table standby.keyspace;
   room = standby.heap;
+  ended = standby.ended.items;
   epoch = (g.E.Durable.contents standby.engine).current.epoch;
 }
+
+-- nothing changed, or what had ended is freed
+kept : (g : Over) (old new : Standby g.row.E.Denot g.row.K.Denot g.row.E-Device.Denot)
+    → (g.K.Keyspace.table new.keyspace ≡ g.K.Keyspace.table old.keyspace)
+    × ((new ≡ old) ⊎ HasFreed old.ended.items (g.E.Durable.contents old.engine) (g.E.Durable.contents new.engine) old.heap new.heap new.ended.items)
+    → IsKept (node g old) (node g new)
+kept g old new (table, inl same) = IsKept-same (node g old) (node g new) (ap (node g) same)
+kept g old new (table, inr freed) = IsKept-freed (node g old) (node g new) table freed
 
 answers : (g : Over) (c : After-on_frame g) → Answers c.in-Some.frame.now (node g c.args.standby.now) c.on_frame.result (node g c.on_frame.new.self)
 answers g c = record {
@@ -39,18 +49,16 @@ answers g c = record {
   ack = c.on_frame.ensures.ack;
   taken = c.on_frame.ensures.taken;
   causes = c.on_frame.ensures.causes;
-  refused = λ no_fault. OnErr-weaken c.on_frame.result
-      (λ (same : (c.on_frame.new.self.engine ≡ c.args.standby.now.engine) × (g.K.Keyspace.table c.on_frame.new.self.keyspace ≡ g.K.Keyspace.table c.args.standby.now.keyspace)
-      × (c.on_frame.new.self.heap ≡ c.args.standby.now.heap)). (ap g.E.Durable.contents same.0, same.1, ap g.E.Durable.device same.0))
-      (c.on_frame.ensures.refused no_fault);
+  refused = λ no_fault. OnErr-weaken c.on_frame.result (kept g c.args.standby.now c.on_frame.new.self) (c.on_frame.ensures.refused no_fault);
   fault = λ cause. (c.on_frame.ensures.fault cause).1;
-  exhausted = c.on_frame.ensures.exhausted;
+  exhausted = λ cause. let told = c.on_frame.ensures.exhausted cause in (told.0, ap (λ (s : Standby g.row.E.Denot g.row.K.Denot g.row.E-Device.Denot). g.E.Durable.device s.engine) told.1);
   still = c.on_frame.ensures.still;
   sound = c.on_frame.ensures.sound;
   durable = c.on_frame.ensures.durable;
   lawful = c.on_frame.ensures.lawful;
   epoch_stays = c.on_frame.ensures.epoch_stays;
   moments = c.on_frame.ensures.moments;
+  rests = c.on_frame.ensures.rests;
 }
 
 told : (g : Over) (c : After-on_frame g) (result : Result Ack Refusal) → c.on_frame.result ≡ result → Answers c.in-Some.frame.now (node g c.args.standby.now) result (node g c.on_frame.new.self)

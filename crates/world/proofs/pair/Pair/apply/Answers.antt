@@ -12,6 +12,7 @@ returns g c = apply-acts _ c.apply.new.self
       is_faulted = g.E.Durable.is_faulted c.apply.new.standby.engine;
       table = g.K.Keyspace.table c.apply.new.standby.keyspace;
       room = c.apply.new.standby.heap;
+      ended = c.apply.new.standby.ended.items;
       epoch = (g.E.Durable.contents c.apply.new.standby.engine).current.epoch;
     })
     c.apply.result c.requires.follows c.apply.ensures.applies c.apply.ensures.moments c.apply.ensures.cut

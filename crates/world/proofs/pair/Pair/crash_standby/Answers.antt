@@ -16,6 +16,7 @@ returns g c =
       is_faulted = E.is_faulted standby.engine;
       table = g.K.Keyspace.table standby.keyspace;
       room = standby.heap;
+      ended = standby.ended.items;
       epoch = (E.contents standby.engine).current.epoch;
     })
     c.args.picks.now c.if-not-self.false

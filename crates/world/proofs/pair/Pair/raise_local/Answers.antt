@@ -1,13 +1,13 @@
 use Rattle.std.proofs.Common.{Ok, Err, ap, sym, ◌∙◌}
 use Rattle.std.proofs.lemmas.Result.{err_from_is_err_and}
-use Rattle.world.proofs.PairTurns.{raise-none-does, raise-turned, did-done, did_of, told-so}
+use Rattle.world.proofs.PairTurns.{raise-none-does, raise-turned, did_of, told-so}
 use Rattle.world.proofs.pair.Pair.raise_local.Goals as goal
 
 pub returns-in_default : goal.returns-in_default
 returns-in_default g c =
     let E = g.E.Durable in
     let pair = c.args.self.now in
-    raise-none-does E.device E.contents E.is_faulted _ _ pair.link _ _ _ _ _ _ pair.committer pair.groups pair.handed (λ group durable. c.in_default.not-Durable group (c.stage.ensures ∙ durable))
+    raise-none-does E.device E.contents E.is_faulted _ _ _ pair.link _ _ _ _ _ _ pair.committer pair.work pair.handed (λ group durable. c.in_default.not-Durable group (c.stage.ensures ∙ durable))
 
 pub returns-in_err-done : goal.returns-in_err-done
 returns-in_err-done g c =
@@ -16,7 +16,7 @@ returns-in_err-done g c =
     let exit = err_from_is_err_and c.from_residual.result c.from_residual.ensures.1 in
     let durable = sym c.stage.ensures ∙ c.in-Durable.is in
     told-so _ _ _ _ _ (ap did_of c.in_err-done.was ∙ sym (exit.1 ∙ ap Err exit.2))
-    (raise-turned E.device E.contents E.is_faulted _ _ pair.link _ _ _ _ _ _ pair.committer c.turn.new.self pair.groups c.turn.new.groups pair.handed c.turn.new.link c.in-Durable.field-0 c.turn.result
+    (raise-turned E.device E.contents E.is_faulted _ _ _ pair.link _ _ _ _ _ _ pair.committer c.turn.new.self pair.work c.turn.new.work pair.handed c.turn.new.link c.in-Durable.field-0 c.turn.result
     durable (c.turn.ensures.durable c.in-Durable.field-0 durable))
 
 pub returns : goal.returns
@@ -24,6 +24,6 @@ returns g c =
     let E = g.E.Durable in
     let pair = c.args.self.now in
     let durable = sym c.stage.ensures ∙ c.in-Durable.is in
-    told-so _ _ _ _ _ (ap did_of c.in_ok-done.was ∙ ap Ok (did-done c.in_ok-done.done c.ne.result c.ne.ensures))
-    (raise-turned E.device E.contents E.is_faulted _ _ pair.link _ _ _ _ _ _ pair.committer c.turn.new.self pair.groups c.turn.new.groups pair.handed c.turn.new.link c.in-Durable.field-0 c.turn.result
+    told-so _ _ _ _ _ (ap did_of c.in_ok-done.was ∙ ap Ok (sym c.is_step.ensures))
+    (raise-turned E.device E.contents E.is_faulted _ _ _ pair.link _ _ _ _ _ _ pair.committer c.turn.new.self pair.work c.turn.new.work pair.handed c.turn.new.link c.in-Durable.field-0 c.turn.result
     durable (c.turn.ensures.durable c.in-Durable.field-0 durable))

@@ -16,7 +16,7 @@ returns-in_err-sequencer g c =
     let exit = err_from_is_err_and c.from_residual.result c.from_residual.ensures.1 in
     let refused : IsNotOpened Primary (E.device c.args.self.now.committer.engine) (E.device committer.engine) c.in_err-sequencer.field-0.0 =
     record { refused = told.refused; fault = λ is. told.fault (ap Err is); failures = λ other. told.failures (λ same. other cc); moments = told.moments } in
-    primary-reopening-cut _ (record { waiting = c.args.self.now.groups; stage = committer.stage; local = committer.local }) (E.device committer.engine) (E.contents committer.engine) (E.is_faulted committer.engine)
+    primary-reopening-cut _ (record { waiting = c.args.self.now.work; aside = committer.aside.items; stage = committer.stage; local = committer.local }) (E.device committer.engine) (E.contents committer.engine) (E.is_faulted committer.engine)
     c.from_residual.result exit.0 exit.1 c.if-self.false (subst (IsNotOpened Primary (E.device c.args.self.now.committer.engine) (E.device committer.engine)) (sym exit.2) refused)
 
 pub returns : goal.returns
@@ -24,6 +24,6 @@ returns g c =
     let E = g.E.Durable in
     let committer = c.restart_primary.new.committer in
     let told = c.in_ok-sequencer.ensures in
-    primary-reopens _ _ _ (E.device committer.engine) (E.contents committer.engine) (E.is_faulted committer.engine) _ _ c.if-self.false
+    primary-reopens _ _ _ _ (E.device committer.engine) (E.contents committer.engine) (E.is_faulted committer.engine) _ _ c.if-self.false
     (record { reopens = told.reopens; durable = told.durable; sound = told.sound; failures = told.failures (λ fault. cc); moments = told.moments })
-    (record { over = told.sequencer; ready = told.ready.0; local = told.ready.1; no_group = told.groups; none_handed = told.handed; link_is = told.link })
+    (record { over = told.sequencer; ready = told.ready.0; local = told.ready.2; no_work = told.work; none_aside = told.ready.1; none_told = c.clear.ensures.items; none_handed = told.handed; link_is = told.link })

@@ -21,6 +21,7 @@ returns-in_err-restart g c =
       is_faulted = E.is_faulted standby.engine;
       table = g.K.Keyspace.table standby.keyspace;
       room = standby.heap;
+      ended = standby.ended.items;
       epoch = (E.contents standby.engine).current.epoch;
     } in
     let refused : IsNotOpened Standby (E.device c.args.self.now.standby.engine) node'.device c.in_err-restart.field-0.0 = record {
@@ -47,6 +48,7 @@ returns g c =
       is_faulted = E.is_faulted standby.engine;
       table = g.K.Keyspace.table standby.keyspace;
       room = standby.heap;
+      ended = standby.ended.items;
       epoch = (E.contents standby.engine).current.epoch;
     })
     c.if-self.false (record { reopens = told.reopens; durable = told.durable; sound = told.sound; failures = told.failures (λ fault. cc); moments = told.moments }) told.follows refl

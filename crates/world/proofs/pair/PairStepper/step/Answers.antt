@@ -29,6 +29,15 @@ returns-in-RaiseLocal g c = own-acts c.in-RaiseLocal.is c.takes_part.ensures c.i
 pub returns-in-Hand : goal.returns-in-Hand
 returns-in-Hand g c = own-acts c.in-Hand.is c.takes_part.ensures c.if-not-takes_part.false (λ runs. runs) c.hand.ensures
 
+pub returns-in-Free : goal.returns-in-Free
+returns-in-Free g c = own-acts c.in-Free.is c.takes_part.ensures c.if-not-takes_part.false (λ runs. runs) c.free.ensures
+
+pub returns-in-AcceptFreed : goal.returns-in-AcceptFreed
+returns-in-AcceptFreed g c = own-acts c.in-AcceptFreed.is c.takes_part.ensures c.if-not-takes_part.false (λ runs. runs) c.accept_freed.ensures
+
+pub returns-in-ClearGap : goal.returns-in-ClearGap
+returns-in-ClearGap g c = own-acts c.in-ClearGap.is c.takes_part.ensures c.if-not-takes_part.false (λ runs. runs) c.clear_gap.ensures
+
 pub returns-in-Send : goal.returns-in-Send
 returns-in-Send g c = own-acts c.in-Send.is c.takes_part.ensures c.if-not-takes_part.false (λ runs. runs) c.send.ensures
 

@@ -5,7 +5,7 @@ use Rattle.world.specs.declared.connection.Connection.{Connection}
 use Rattle.world.specs.declared.connection.Connection.TheVariants.{Open}
 use Rattle.world.specs.declared.sessions.Sessions.{Sessions}
 use Rattle.world.proofs.SessionLemmas.{on_err_from}
-use Rattle.world.proofs.SequencerLemmas.{sequencer-moved}
+use Rattle.world.proofs.SequencerLemmas.{sequencer-moved, still-moved, still-same}
 use Rattle.world.proofs.SeatLemmas.{seated-goes, seated-follow, full-goes, may-enter}
 use Rattle.world.proofs.sessions.Sessions.enter.Goals as goal
 
@@ -56,3 +56,29 @@ returns-in_err-new-clause-sequencer g c = λ calls closed stands. sequencer-move
 
 pub returns-in_err-new-2-clause-sequencer : goal.returns-in_err-new-2-clause-sequencer
 returns-in_err-new-2-clause-sequencer g c = λ calls closed stands. sequencer-moved calls closed c.in-Ok.seat (Some idle_session) c.args.sequencer.now c.open_seat.new.self c.in_ok-open_seat.ensures.ok stands
+
+pub returns-clause-stands : goal.returns-clause-stands
+returns-clause-stands g c =
+    still-moved c.in-Ok.seat (Some idle_session) c.args.sequencer.now c.open_seat.new.self c.in_ok-open_seat.ensures.ok c.in_ok-open_seat.ensures.stands
+    c.in_ok-open_seat.ensures.expects
+
+pub returns-in_default-clause-stands : goal.returns-in_default-clause-stands
+returns-in_default-clause-stands g c = still-same c.args.sequencer.now c.args.sequencer.now refl
+
+pub returns-in_err-open_seat-clause-stands : goal.returns-in_err-open_seat-clause-stands
+returns-in_err-open_seat-clause-stands g c = still-same c.args.sequencer.now c.open_seat.new.self c.in_err-open_seat.ensures.err
+
+pub returns-in_err-reserve-clause-stands : goal.returns-in_err-reserve-clause-stands
+returns-in_err-reserve-clause-stands g c =
+    still-moved c.in-Ok.seat (Some idle_session) c.args.sequencer.now c.open_seat.new.self c.in_ok-open_seat.ensures.ok c.in_ok-open_seat.ensures.stands
+    c.in_ok-open_seat.ensures.expects
+
+pub returns-in_err-new-clause-stands : goal.returns-in_err-new-clause-stands
+returns-in_err-new-clause-stands g c =
+    still-moved c.in-Ok.seat (Some idle_session) c.args.sequencer.now c.open_seat.new.self c.in_ok-open_seat.ensures.ok c.in_ok-open_seat.ensures.stands
+    c.in_ok-open_seat.ensures.expects
+
+pub returns-in_err-new-2-clause-stands : goal.returns-in_err-new-2-clause-stands
+returns-in_err-new-2-clause-stands g c =
+    still-moved c.in-Ok.seat (Some idle_session) c.args.sequencer.now c.open_seat.new.self c.in_ok-open_seat.ensures.ok c.in_ok-open_seat.ensures.stands
+    c.in_ok-open_seat.ensures.expects

@@ -1,7 +1,7 @@
 use Rattle.std.proofs.Common.{None, refl, sym, ◌∙◌}
 use Rattle.world.specs.declared.sessions.Sessions.{Sessions}
 use Rattle.world.proofs.SessionLemmas.{none-goes, over-goes, with_connection}
-use Rattle.world.proofs.SequencerLemmas.{sequencer-moved}
+use Rattle.world.proofs.SequencerLemmas.{sequencer-moved, still-moved, still-same}
 use Rattle.world.proofs.SeatLemmas.{closes-own, follow-kept, left-follow, left-goes, left-keeps, none-seated, none-seated_past, own-taken}
 use Rattle.world.proofs.sessions.Sessions.leave.Goals as goal
 
@@ -54,3 +54,13 @@ returns-in_default-leave-clause-closed g c = λ seat seated.
 pub returns-in_default-leave-clause-follow : goal.returns-in_default-leave-clause-follow
 returns-in_default-leave-clause-follow g c = λ w stand follow.
     follow-kept w.primary.calls c.args.self.now.connections.items _ c.args.sequencer.now (left-keeps c.args.self.now.connections.items c.args.c c.leave.new.self c.leave.ensures.over) follow
+
+pub returns-clause-stands : goal.returns-clause-stands
+returns-clause-stands g c =
+    still-moved c.in-Some-leave.seat None c.args.sequencer.now c.close_seat.new.self c.close_seat.ensures.closed c.close_seat.ensures.stands c.close_seat.ensures.expects
+
+pub returns-in_default-clause-stands : goal.returns-in_default-clause-stands
+returns-in_default-clause-stands g c = still-same c.args.sequencer.now c.args.sequencer.now refl
+
+pub returns-in_default-leave-clause-stands : goal.returns-in_default-leave-clause-stands
+returns-in_default-leave-clause-stands g c = still-same c.args.sequencer.now c.args.sequencer.now refl

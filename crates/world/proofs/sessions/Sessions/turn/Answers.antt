@@ -7,6 +7,7 @@ use Rattle.world.specs.Session.{ClientRefines, TakesTurn}
 use Rattle.world.proofs.SessionLemmas.{client-at, client-keeps, not-open}
 use Rattle.world.proofs.TurnLemmas.{first-asked, none-wait, client-stands, no-turn-over, no-turn-past, no-turn-unserved, turn-taken}
 use Rattle.world.proofs.PositionsLemmas.{pushed-in-room}
+use Rattle.world.proofs.SequencerLemmas.{still-same}
 use Rattle.world.proofs.sessions.Sessions.turn.Goals as goal
 use Rattle.world.proofs.sessions.Sessions.turn.Goals.{then-len-eq-PIPE_ITEMS-via-then-len-eq-PIPE_ITEMS, then-len-eq-PIPE_ITEMS-via-else-len-eq-PIPE_ITEMS+then-is_empty}
 
@@ -67,3 +68,18 @@ returns-in_default-first_reply-clause-seats g c = client-keeps c.args.self.now c
 
 pub returns-clause-seats : goal.returns-clause-seats
 returns-clause-seats g c = client-keeps c.args.self.now c.args.c c.in-Open.client _ (client-at c.args.self.now.connections.items c.args.c c.in-Some.connection.now c.in-Open.client c.in-Some.ensures.value c.in-Open.is) refl
+
+pub returns-clause-stands : goal.returns-clause-stands
+returns-clause-stands g c = c.first_reply.ensures.stands
+
+pub returns-in_default-first_reply-clause-stands : goal.returns-in_default-first_reply-clause-stands
+returns-in_default-first_reply-clause-stands g c = c.first_reply.ensures.stands
+
+pub returns-in_default-clause-stands : goal.returns-in_default-clause-stands
+returns-in_default-clause-stands g c = still-same c.args.sequencer.now c.args.sequencer.now refl
+
+pub returns-in_default-connection-clause-stands : goal.returns-in_default-connection-clause-stands
+returns-in_default-connection-clause-stands g c = still-same c.args.sequencer.now c.args.sequencer.now refl
+
+pub returns-then-len-eq-PIPE_ITEMS-clause-stands : goal.returns-then-len-eq-PIPE_ITEMS-clause-stands
+returns-then-len-eq-PIPE_ITEMS-clause-stands g c = still-same c.args.sequencer.now c.args.sequencer.now refl

@@ -1,0 +1,275 @@
+-- Closing a group or a free list: what it takes from the sequencer, and what it adds to the queue.
+use Rattle.std.proofs.Common.{◌≡◌, ◌≢◌, ◌⊎◌, ℕ, ◌+◌, ◌-◌, ◌<◌, ◌≤◌, ◌++◌, ◌||◌, Bool, true, false, cond, nat_lt, List, [], ◌∷◌, length, Option, suc, refl, sym, ap, ap₂, subst, ◌∙◌, arith, add-zero, append-nil, append_assoc, inl, inr, le_refl}
+use Rattle.std.proofs.lemmas.Bool.{and_from, false_from_ne_true, le-ltb, lt-ltb, ltb-true, or_cases, or_left, or_right}
+use Rattle.std.proofs.lemmas.Grind.{flat_map-append}
+use Rattle.std.specs.List.{flat_map}
+use Rattle.kv_types.specs.declared.change.Change.{Change}
+use Rattle.kv_types.specs.declared.place.EntryNo.{EntryNo}
+use Rattle.model.specs.declared.call.Call.{Call}
+use Rattle.model.specs.declared.group.Group.{Group}
+use Rattle.model.specs.declared.group.Part.{Part}
+use Rattle.model.specs.declared.work.FreeList.{FreeList}
+use Rattle.model.specs.declared.work.Work.{Work}
+use Rattle.model.specs.declared.work.Work.TheVariants as work
+use Rattle.model.specs.Call.{is_nonempty, position_of}
+use Rattle.model.specs.Group.{AreEnded, Contents, IsConsistent, after_group, changes_of_part, last_position}
+use Rattle.model.specs.Position.{changes_since}
+use Rattle.multi_watch.specs.Sessions.{slot}
+use Rattle.wbl_engine.specs.declared.freeing.Freed.{Freed}
+use Rattle.redis_core.specs.Sequencing.{Expects, HandsList, HandsOut, IsAheadOf, Sequencing, ended_by_parts, newest_end}
+use Rattle.group_commit.specs.Group.{after_work, groups_of, lists_of}
+use Rattle.group_commit.specs.Working.{entries_of_lists}
+use Rattle.group_commit.proofs.FreedLemmas.{AreEnded-rest, IsConsistent-after_groups}
+use Rattle.group_commit.proofs.WorkLemmas.{AreGroups-of-work, AreWork-push-group, AreWork-push-list, after_work-push-group, after_work-push-list, groups_of-append, lists_of-append}
+use Rattle.machine.specs.declared.event.Event.TheVariants.{CloseGroup}
+use Rattle.machine.specs.declared.event.TheConstants.{PIPE_ITEMS}
+use Rattle.machine.specs.Event.{Closes, Work as MachineWork, World, closed_group, has_room, listed, may_happen, open_changes, with_committer, with_ended}
+use Rattle.machine.proofs.SoundConnection.{both}
+use Rattle.pipes.specs.Waiting.{Waiting}
+use Rattle.world.specs.Closing.{ClosesGroup, ClosesList, MayClose}
+use Rattle.world.specs.Committing.{AreOfEpoch, Leads, entries_told, extents_told}
+use Rattle.world.specs.GroupSpan.{AreWorkOf, IsGroupOf, IsWorkOf}
+use Rattle.world.specs.Session.{AreOpen, SeatsFollow, SequencerRefines}
+use Rattle.world.proofs.SequencerLemmas.{follow-same}
+
+-- ---- the parts that wait
+
+-- their changes are those of the list from where they begin
+changes-open : (calls : List Call) (from : ℕ) (parts : List Part) → AreOpen calls from parts → flat_map changes_of_part parts ≡ changes_since calls from (length parts)
+changes-open calls from [] are = refl
+changes-open calls from (part ∷ parts) are = ap₂ (λ (xs ys : List Change). xs ++ ys) are.1 (changes-open calls (from + 1) parts are.2)
+
+-- and they end where the last of them ends
+last-open : (calls : List Call) (from : ℕ) (parts : List Part) → AreOpen calls from parts → last_position from parts ≡ from + length parts
+last-open calls from [] are = sym (add-zero from)
+last-open calls from (part ∷ parts) are =
+    let rest = last-open calls (from + 1) parts are.2 in
+    ap (λ n. last_position n parts) are.0 ∙ rest ∙ omega arith
+
+-- ---- the newest end
+
+newest-same_first : (newest position : ℕ) (entries : List EntryNo) (parts : List Part) → (length (ended_by_parts parts) ≡ 0 → newest_end newest parts ≡ newest)
+    → length (entries ++ ended_by_parts parts) ≡ 0 → newest_end (cond (is_nonempty entries) position newest) parts ≡ newest
+newest-same_first newest position [] parts later none = later none
+newest-same_first newest position (entry ∷ entries) parts later none = absurd (omega (arith, none))
+
+-- it stays where the parts ended nothing
+newest-same : (newest : ℕ) (parts : List Part) → length (ended_by_parts parts) ≡ 0 → newest_end newest parts ≡ newest
+newest-same newest [] none = refl
+newest-same newest (part ∷ parts) none = newest-same_first newest part.position part.ended.items parts (newest-same newest parts) none
+
+-- once it is above a position it stays above it, and it is no further than the parts
+newest-rises : (calls : List Call) (low from newest : ℕ) (parts : List Part) → AreOpen calls from parts → low < newest → newest ≤ from
+    → (low < newest_end newest parts) × (newest_end newest parts ≤ from + length parts)
+newest-rises calls low from newest [] are above below = (above, omega (arith, below))
+newest-rises calls low from newest (part ∷ parts) are above below =
+    let next = step (is_nonempty part.ended.items) in
+    let rest = newest-rises calls low (from + 1) (cond (is_nonempty part.ended.items) part.position newest) parts are.2 next.0 next.1 in
+    (rest.0, omega (arith, rest.1))
+  where
+    step : (ends : Bool) → (low < cond ends part.position newest) × (cond ends part.position newest ≤ from + 1)
+    step true = (omega (arith, are.0, above, below), omega (arith, are.0))
+    step false = (above, omega (arith, below))
+
+newest-within_first : (calls : List Call) (from newest position : ℕ) (entries : List EntryNo) (parts : List Part) → AreOpen calls (from + 1) parts → position ≡ from + 1
+    → (0 < length (ended_by_parts parts) → (from + 1 < newest_end newest parts) × (newest_end newest parts ≤ from + 1 + length parts)) → 0 < length (entries ++ ended_by_parts parts)
+    → (from < newest_end (cond (is_nonempty entries) position newest) parts) × (newest_end (cond (is_nonempty entries) position newest) parts ≤ from + suc (length parts))
+newest-within_first calls from newest position [] parts are at later some =
+    let rest = later some in
+    (omega (arith, rest.0), omega (arith, rest.1))
+newest-within_first calls from newest position (entry ∷ entries) parts are at later some =
+    let rest = newest-rises calls from (from + 1) position parts are (omega (arith, at)) (omega (arith, at)) in
+    (rest.0, omega (arith, rest.1))
+
+-- where they ended something, it is the position of one of them
+newest-within : (calls : List Call) (from newest : ℕ) (parts : List Part) → AreOpen calls from parts → 0 < length (ended_by_parts parts)
+    → (from < newest_end newest parts) × (newest_end newest parts ≤ from + length parts)
+newest-within calls from newest [] are some = absurd (omega (arith, some))
+newest-within calls from newest (part ∷ parts) are some =
+    newest-within_first calls from newest part.position part.ended.items parts are.2 are.0 (newest-within calls (from + 1) newest parts are.2) some
+
+-- ---- what the sequencer keeps
+
+-- all parts leave
+pub sequencer-handed : (calls : List Call) (closed : ℕ) (old new : Sequencing) (group : Group) → SequencerRefines calls closed old → HandsOut old group new → SequencerRefines calls (position_of calls) new
+sequencer-handed calls closed old new group stands hands =
+    subst (SequencerRefines calls (position_of calls)) (sym hands.after) (record {
+      table = stands.table;
+      position = stands.position;
+      before = stands.position;
+      waiting = tt;
+      count = add-zero (position_of calls);
+    })
+
+pub follow-handed : (calls : List Call) (seats : List (Option ℕ)) (old new : Sequencing) (group : Group) → HandsOut old group new → SeatsFollow calls seats old → SeatsFollow calls seats new
+follow-handed calls seats old new group hands follow =
+    follow-same calls seats seats old new (λ c seat has. (has, ap (λ (s : Sequencing). slot s.sessions seat) hands.after)) follow
+
+-- all that is listed leaves
+pub sequencer-listed : (calls : List Call) (closed : ℕ) (old new : Sequencing) (list : FreeList) → SequencerRefines calls closed old → HandsList old list new → SequencerRefines calls closed new
+sequencer-listed calls closed old new list stands hands =
+    subst (SequencerRefines calls closed) (sym hands.after) (record {
+      table = stands.table;
+      position = stands.position;
+      before = stands.before;
+      waiting = stands.waiting;
+      count = stands.count;
+    })
+
+pub follow-listed : (calls : List Call) (seats : List (Option ℕ)) (old new : Sequencing) (list : FreeList) → HandsList old list new → SeatsFollow calls seats old → SeatsFollow calls seats new
+follow-listed calls seats old new list hands follow =
+    follow-same calls seats seats old new (λ c seat has. (has, ap (λ (s : Sequencing). slot s.sessions seat) hands.after)) follow
+
+-- ---- the queue
+
+-- the parts that left are the group of all positions after those that were closed
+pub IsGroupOf-handed : (calls : List Call) (closed : ℕ) (old new : Sequencing) (group : Group) → SequencerRefines calls closed old → HandsOut old group new
+    → IsGroupOf calls group (record { before = closed; after = position_of calls })
+IsGroupOf-handed calls closed old new group stands hands =
+    let count : position_of calls - closed ≡ length old.waiting = omega (arith, stands.count) in
+    record {
+      span_within = record { rising = omega (arith, stands.count, hands.some); within = le_refl (position_of calls); few = omega (arith, stands.count, hands.few) };
+      before = hands.before ∙ stands.before;
+      after = ap₂ last_position (hands.before ∙ stands.before) hands.all ∙ last-open calls closed old.waiting stands.waiting ∙ stands.count;
+      changes = ap (flat_map changes_of_part) hands.all ∙ changes-open calls closed old.waiting stands.waiting ∙ sym (ap (changes_since calls closed) count);
+    }
+
+pub AreWorkOf-push : (calls : List Call) (items : List Work) (works : List MachineWork) (item : Work) (last : MachineWork) → AreWorkOf calls items works → IsWorkOf calls item last
+    → AreWorkOf calls (items ++ item ∷ []) (works ++ last ∷ [])
+AreWorkOf-push calls [] [] item last are is = (is, tt)
+AreWorkOf-push calls [] (first ∷ works) item last are is = absurd are
+AreWorkOf-push calls (first ∷ items) [] item last are is = absurd are
+AreWorkOf-push calls (first ∷ items) (w ∷ works) item last are is = (are.0, AreWorkOf-push calls items works item last are.1 is)
+
+length-queue : (calls : List Call) (items : List Work) (works : List MachineWork) → AreWorkOf calls items works → length items ≡ length works
+length-queue calls [] [] are = refl
+length-queue calls [] (w ∷ works) are = absurd are
+length-queue calls (item ∷ items) [] are = absurd are
+length-queue calls (item ∷ items) (w ∷ works) are = ap suc (length-queue calls items works are.1)
+
+-- ---- what is to be committed still leads to the sequencer
+
+-- groups of the record's epoch leave it as it is
+epoch-after_work : (contents : Contents) (items : List Work) → AreOfEpoch contents.current.epoch (groups_of items) → (after_work contents items).current.epoch ≡ contents.current.epoch
+epoch-after_work contents [] are = refl
+epoch-after_work contents (work.Commit group ∷ items) are =
+    epoch-after_work (after_group contents group) items (subst (λ epoch. AreOfEpoch epoch (groups_of items)) (sym are.0) are.1) ∙ are.0
+epoch-after_work contents (work.Free list ∷ items) are = epoch-after_work contents items are
+
+AreOfEpoch-push : (epoch : ℕ) (groups : List Group) (group : Group) → AreOfEpoch epoch groups → group.epoch ≡ epoch → AreOfEpoch epoch (groups ++ group ∷ [])
+AreOfEpoch-push epoch [] group are is = (is, tt)
+AreOfEpoch-push epoch (first ∷ groups) group are is = (are.0, AreOfEpoch-push epoch groups group are.1 is)
+
+-- behind one group more
+pub Leads-group : (contents : Contents) (before after : Waiting Work) (aside : List FreeList) (old new : Sequencing) (notices : List Freed) → IsConsistent contents
+    → Leads contents before.items aside old notices → ClosesGroup old before new after → Leads contents after.items aside new notices
+Leads-group contents before after aside old new notices consistent leads closes =
+    let items = before.items in
+    let group = closes.group in
+    let all = after_work contents items in
+    let sound = IsConsistent-after_groups contents (groups_of items) consistent (AreGroups-of-work contents items leads.work_is) in
+    let stands = closes.leads.stands all leads.stands in
+    let moved = after_work-push-group contents items group in
+    let lists : lists_of (items ++ work.Commit group ∷ []) ≡ lists_of items = lists_of-append items (work.Commit group ∷ []) ∙ append-nil (lists_of items) in
+    let groups = groups_of-append items (work.Commit group ∷ []) in
+    subst (λ (xs : List Work). Leads contents xs aside new notices) (sym closes.last) (record {
+      work_is = AreWork-push-group contents items group leads.work_is stands.0;
+      epochs = subst (AreOfEpoch contents.current.epoch) (sym groups)
+          (AreOfEpoch-push contents.current.epoch (groups_of items) group leads.epochs (closes.hands.epoch ∙ leads.stands.epoch ∙ epoch-after_work contents items leads.epochs));
+      stands = subst (IsAheadOf new) (sym moved) stands.1;
+      expects = subst (λ (c : Contents). Expects new c (entries_told notices) (extents_told notices)) (sym moved)
+          (closes.leads.expects all (entries_told notices) (extents_told notices) leads.stands leads.expects);
+      aside_ended = leads.aside_ended;
+      listed = subst (λ (c : Contents). AreEnded c (entries_of_lists (aside ++ lists_of (items ++ work.Commit group ∷ [])) ++ new.ended)) (sym moved)
+          (subst (λ (xs : List FreeList). AreEnded (after_group all group) (entries_of_lists (aside ++ xs) ++ new.ended)) (sym lists)
+          (closes.leads.lists all (entries_of_lists (aside ++ lists_of items)) leads.stands sound leads.listed));
+    })
+
+-- behind one free list more
+pub Leads-list : (contents : Contents) (before after : Waiting Work) (aside : List FreeList) (old new : Sequencing) (notices : List Freed)
+    → Leads contents before.items aside old notices → ClosesList old before new after → Leads contents after.items aside new notices
+Leads-list contents before after aside old new notices leads closes =
+    let items = before.items in
+    let list = closes.list in
+    let all = after_work contents items in
+    let moved = after_work-push-list contents items list in
+    let groups : groups_of (items ++ work.Free list ∷ []) ≡ groups_of items = groups_of-append items (work.Free list ∷ []) ∙ append-nil (groups_of items) in
+    let entries : List FreeList → List EntryNo = entries_of_lists in
+    let lists : aside ++ lists_of (items ++ work.Free list ∷ []) ≡ (aside ++ lists_of items) ++ list ∷ [] =
+    ap (λ (xs : List FreeList). aside ++ xs) (lists_of-append items (work.Free list ∷ [])) ∙ sym (append_assoc aside (lists_of items) (list ∷ [])) in
+    let ended : new.ended ≡ [] = ap (λ (s : Sequencing). s.ended) closes.hands.after in
+    let same : entries_of_lists (aside ++ lists_of (items ++ work.Free list ∷ [])) ++ new.ended ≡ entries_of_lists (aside ++ lists_of items) ++ old.ended =
+    ap₂ (λ (xs ys : List EntryNo). xs ++ ys) (ap entries lists ∙ flat_map-append (λ (one : FreeList). one.entries.items) (aside ++ lists_of items) (list ∷ [])) ended
+    ∙ append-nil (entries_of_lists (aside ++ lists_of items) ++ (list.entries.items ++ []))
+    ∙ ap (λ (xs : List EntryNo). entries_of_lists (aside ++ lists_of items) ++ xs) (append-nil list.entries.items ∙ closes.hands.entries) in
+    subst (λ (xs : List Work). Leads contents xs aside new notices) (sym closes.last) (record {
+      work_is = AreWork-push-list contents items list leads.work_is
+          (subst (AreEnded all) (sym closes.hands.entries) (AreEnded-rest all (entries_of_lists (aside ++ lists_of items)) old.ended leads.listed));
+      epochs = subst (AreOfEpoch contents.current.epoch) (sym groups) leads.epochs;
+      stands = subst (IsAheadOf new) (sym moved) (closes.stands all leads.stands);
+      expects = subst (λ (c : Contents). Expects new c (entries_told notices) (extents_told notices)) (sym moved)
+          (closes.expects all (entries_told notices) (extents_told notices) leads.expects);
+      aside_ended = leads.aside_ended;
+      listed = subst (λ (c : Contents). AreEnded c (entries_of_lists (aside ++ lists_of (items ++ work.Free list ∷ [])) ++ new.ended)) (sym moved)
+          (subst (AreEnded all) (sym same) leads.listed);
+    })
+
+-- ---- where one of the two may be closed
+
+none-of : {X : Type 0} (xs : List X) → (xs ≢ [] → ⊥) → length xs ≡ 0
+none-of [] none = refl
+none-of (x ∷ xs) none = absurd (none (λ e. cc))
+
+some-of : {X : Type 0} (xs : List X) → xs ≢ [] → 0 < length xs
+some-of [] some = absurd (some refl)
+some-of (x ∷ xs) some = omega arith
+
+-- where changes wait, or versions have ended, and there is room
+pub may-close : (w : World) (waiting : Waiting Work) (s : Sequencing) → AreWorkOf w.primary.calls waiting.items w.primary.committer.waiting
+    → SequencerRefines w.primary.calls w.primary.committer.closed s → length s.ended ≡ w.primary.ended → MayClose s waiting → may_happen w CloseGroup ≡ true
+may-close w waiting s are stands ended may =
+    and_from (nat_lt 0 (open_changes w) || nat_lt 0 w.primary.ended) (has_room w.primary.committer.waiting) (some may.0)
+    (lt-ltb (length w.primary.committer.waiting) PIPE_ITEMS (omega (arith, may.1, length-queue w.primary.calls waiting.items w.primary.committer.waiting are)))
+  where
+    some : (s.waiting ≢ []) ⊎ (s.ended ≢ []) → (nat_lt 0 (open_changes w) || nat_lt 0 w.primary.ended) ≡ true
+    some (inl parts) = or_left (nat_lt 0 (open_changes w)) (nat_lt 0 w.primary.ended) (lt-ltb 0 (open_changes w) (omega (arith, some-of s.waiting parts, stands.count)))
+    some (inr listed_ones) = or_right (nat_lt 0 (open_changes w)) (nat_lt 0 w.primary.ended) (lt-ltb 0 w.primary.ended (omega (arith, some-of s.ended listed_ones, ended)))
+
+-- and nowhere else
+pub may-not-close : (w : World) (waiting : Waiting Work) (s : Sequencing) → AreWorkOf w.primary.calls waiting.items w.primary.committer.waiting
+    → SequencerRefines w.primary.calls w.primary.committer.closed s → length s.ended ≡ w.primary.ended → ¬ MayClose s waiting → may_happen w CloseGroup ≡ false
+may-not-close w waiting s are stands ended never =
+    false_from_ne_true (may_happen w CloseGroup) (λ may.
+    let parts = both (nat_lt 0 (open_changes w) || nat_lt 0 w.primary.ended) (has_room w.primary.committer.waiting) may in
+    let room : length w.primary.committer.waiting < PIPE_ITEMS = ltb-true (length w.primary.committer.waiting) PIPE_ITEMS parts.1 in
+    never (some (or_cases (nat_lt 0 (open_changes w)) (nat_lt 0 w.primary.ended) parts.0), omega (arith, room, length-queue w.primary.calls waiting.items w.primary.committer.waiting are)))
+  where
+    some : (nat_lt 0 (open_changes w) ≡ true) ⊎ (nat_lt 0 w.primary.ended ≡ true) → (s.waiting ≢ []) ⊎ (s.ended ≢ [])
+    some (inl opens) = inl (λ none. absurd (omega (arith, ltb-true 0 (open_changes w) opens, stands.count, ap length none)))
+    some (inr ends) = inr (λ none. absurd (omega (arith, ltb-true 0 w.primary.ended ends, ended, ap length none)))
+
+-- ---- what the machine does
+
+-- the machine's world after all changes that wait at this sequencer became a group
+abbrev pub grouped : Sequencing → World → World
+grouped s w =
+    with_ended (w.primary.ended + length (ended_by_parts s.waiting)) (newest_end s.newest s.waiting)
+    (with_committer (closed_group (position_of w.primary.calls) w.primary.committer) w)
+
+pub closes-group : (w : World) (s : Sequencing) → SequencerRefines w.primary.calls w.primary.committer.closed s → s.newest ≡ w.primary.newest → s.waiting ≢ [] → Closes w (grouped s w)
+closes-group w s stands newest some =
+    inl (
+      lt-ltb 0 (open_changes w) (omega (arith, some-of s.waiting some, stands.count)),
+      record {
+        ends = length (ended_by_parts s.waiting);
+        newest = newest_end s.newest s.waiting;
+        none = λ none. newest-same s.newest s.waiting none ∙ newest;
+        some = λ ends.
+            let within = newest-within w.primary.calls w.primary.committer.closed s.newest s.waiting stands.waiting ends in
+            (within.0, omega (arith, within.1, stands.count));
+        now = refl;
+      },
+    )
+
+pub closes-list : (w : World) (s : Sequencing) → SequencerRefines w.primary.calls w.primary.committer.closed s → s.waiting ≡ [] → Closes w (listed w)
+closes-list w s stands none = inr (le-ltb 0 (open_changes w) (omega (arith, ap length none, stands.count)), refl)

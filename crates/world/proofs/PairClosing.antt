@@ -1,0 +1,165 @@
+-- What closing a group or a free list does to the pair, of what it does to its sequencer and its queue.
+use Rattle.std.proofs.Common.{◌≡◌, inl, inr, ◌+◌, Bool, true, false, List, length, Result, Ok, Err, IfOk, IfErr, OnErr, refl, sym, ap, ap₂, subst, ◌∙◌, length-append, true≢false}
+use Rattle.kv_types.specs.declared.refusal.Refusal.{Refusal}
+use Rattle.kv_types.specs.declared.refusal.Refusal.TheVariants.{Memory}
+use Rattle.pipes.specs.Waiting.{Waiting}
+use Rattle.model.specs.declared.work.Work.{Work}
+use Rattle.model.specs.declared.work.Work.TheVariants as work
+use Rattle.model.specs.Call.{position_of}
+use Rattle.model.specs.Standing.{Holder}
+use Rattle.redis_core.specs.Sequencing.{Sequencing, ended_by_parts}
+use Rattle.machine.specs.declared.event.Event.TheVariants as events
+use Rattle.machine.specs.Event.{Commits, Frees, Work as MachineWork, World, Closes, closed_group, closed_list, listed, may_happen}
+use Rattle.world.specs.Closing.{ClosesGroup, ClosesList, ClosesOne, MayClose}
+use Rattle.world.specs.Committing.{CommittingRefines}
+use Rattle.world.specs.GroupSpan.{AreWorkOf}
+use Rattle.world.specs.Session.{seats_of}
+use Rattle.world.specs.Pair.{Pair, PartsRefine, PairRefines, Steps, Does}
+use Rattle.world.proofs.LivesLemmas.{enabled-is, nodes-refine, own-runs}
+use Rattle.world.proofs.ClosingLemmas.{AreWorkOf-push, IsGroupOf-handed, Leads-group, Leads-list, closes-group, closes-list, follow-handed, follow-listed, grouped, may-close, may-not-close, sequencer-handed, sequencer-listed}
+use Rattle.world.proofs.PairLemmas.{cut-same, goes-steps, none-added, tells, untouched}
+
+-- what waits for the committer, and the sequencer
+abbrev pub with_work : Waiting Work → Sequencing → Pair → Pair
+with_work waiting sequencer pair = record pair { committing = record pair.committing { waiting = waiting }; sequencer = sequencer }
+
+-- ---- a group
+
+group-committing : (first second : Holder) (old : Pair) (waiting : Waiting Work) (sequencer : Sequencing) (w : World) → PartsRefine first second old w
+    → ClosesGroup old.sequencer old.committing.waiting sequencer waiting
+    → CommittingRefines w.primary.calls (record old.committing { waiting = waiting }) (closed_group (position_of w.primary.calls) w.primary.committer)
+group-committing first second old waiting sequencer w parts closes =
+    let machine = w.primary.committer in
+    let last : MachineWork = Commits (record { before = machine.closed; after = position_of w.primary.calls }) in
+    record {
+      work = subst (λ (items : List Work). AreWorkOf w.primary.calls items (closed_group (position_of w.primary.calls) machine).waiting) (sym closes.last)
+          (AreWorkOf-push w.primary.calls old.committing.waiting.items machine.waiting (work.Commit closes.group) last parts.committing.work
+          (IsGroupOf-handed w.primary.calls machine.closed old.sequencer sequencer closes.group parts.sequencer closes.hands));
+      aside = parts.committing.aside;
+      stage_is = parts.committing.stage_is;
+      local_is = parts.committing.local_is;
+    }
+
+group-parts : (first second : Holder) (old : Pair) (waiting : Waiting Work) (sequencer : Sequencing) (w : World) → PartsRefine first second old w
+    → ClosesGroup old.sequencer old.committing.waiting sequencer waiting → PartsRefine first second (with_work waiting sequencer old) (grouped old.sequencer w)
+group-parts first second old waiting sequencer w parts closes =
+    let s = old.sequencer in
+    let after = closes.hands.after in
+    record {
+      sessions = parts.sessions;
+      sequencer = sequencer-handed w.primary.calls w.primary.committer.closed s sequencer closes.group parts.sequencer closes.hands;
+      follow = follow-handed w.primary.calls (seats_of old.sessions.connections.items) s sequencer closes.group closes.hands parts.follow;
+      committing = group-committing first second old waiting sequencer w parts closes;
+      engine = parts.engine;
+      leads = Leads-group old.contents old.committing.waiting waiting old.committing.aside s sequencer old.notices parts.engine.contents_at.consistent parts.leads closes;
+      freeing = record {
+        ended = ap (λ (now : Sequencing). length now.ended) after ∙ length-append s.ended (ended_by_parts s.waiting) ∙ ap (λ n. n + length (ended_by_parts s.waiting)) parts.freeing.ended;
+        newest = ap (λ (now : Sequencing). now.newest) after;
+        notices_are = parts.freeing.notices_are;
+        gaps = parts.freeing.gaps;
+      };
+      epoch = parts.epoch;
+      link = parts.link;
+      frames = parts.frames;
+      arrivals = parts.arrivals;
+      standby = parts.standby;
+    }
+
+-- ---- a free list
+
+list-committing : (first second : Holder) (old : Pair) (waiting : Waiting Work) (sequencer : Sequencing) (w : World) → PartsRefine first second old w
+    → ClosesList old.sequencer old.committing.waiting sequencer waiting
+    → CommittingRefines w.primary.calls (record old.committing { waiting = waiting }) (closed_list w.primary.newest w.primary.committer)
+list-committing first second old waiting sequencer w parts closes =
+    let machine = w.primary.committer in
+    record {
+      work = subst (λ (items : List Work). AreWorkOf w.primary.calls items (closed_list w.primary.newest machine).waiting) (sym closes.last)
+          (AreWorkOf-push w.primary.calls old.committing.waiting.items machine.waiting (work.Free closes.list) (Frees w.primary.newest) parts.committing.work
+          (closes.hands.position ∙ parts.freeing.newest));
+      aside = parts.committing.aside;
+      stage_is = parts.committing.stage_is;
+      local_is = parts.committing.local_is;
+    }
+
+list-parts : (first second : Holder) (old : Pair) (waiting : Waiting Work) (sequencer : Sequencing) (w : World) → PartsRefine first second old w
+    → ClosesList old.sequencer old.committing.waiting sequencer waiting → PartsRefine first second (with_work waiting sequencer old) (listed w)
+list-parts first second old waiting sequencer w parts closes =
+    let s = old.sequencer in
+    let after = closes.hands.after in
+    record {
+      sessions = parts.sessions;
+      sequencer = sequencer-listed w.primary.calls w.primary.committer.closed s sequencer closes.list parts.sequencer closes.hands;
+      follow = follow-listed w.primary.calls (seats_of old.sessions.connections.items) s sequencer closes.list closes.hands parts.follow;
+      committing = list-committing first second old waiting sequencer w parts closes;
+      engine = parts.engine;
+      leads = Leads-list old.contents old.committing.waiting waiting old.committing.aside s sequencer old.notices parts.leads closes;
+      freeing = record {
+        ended = ap (λ (now : Sequencing). length now.ended) after;
+        newest = ap (λ (now : Sequencing). now.newest) after ∙ parts.freeing.newest;
+        notices_are = parts.freeing.notices_are;
+        gaps = parts.freeing.gaps;
+      };
+      epoch = parts.epoch;
+      link = parts.link;
+      frames = parts.frames;
+      arrivals = parts.arrivals;
+      standby = parts.standby;
+    }
+
+-- ---- one of the two, or none
+
+close-happens : (first second : Holder) (old : Pair) (w : World) → PairRefines first second old w → MayClose old.sequencer old.committing.waiting → may_happen w events.CloseGroup ≡ true
+close-happens first second old w stands may =
+    may-close w old.committing.waiting old.sequencer stands.parts.committing.work stands.parts.sequencer stands.parts.freeing.ended may
+
+close-to : (first second : Holder) (old : Pair) (waiting : Waiting Work) (sequencer : Sequencing) (w new : World) → PairRefines first second old w → MayClose old.sequencer old.committing.waiting
+    → Closes w new → PartsRefine first second (with_work waiting sequencer old) new → Steps first second w events.CloseGroup true old (with_work waiting sequencer old)
+close-to first second old waiting sequencer w new stands may closes parts =
+    goes-steps first second w new events.CloseGroup true old (with_work waiting sequencer old) refl refl stands.sound (own-runs stands events.CloseGroup refl) stands.serves closes
+    (record { done = sym (close-happens first second old w stands may); goes = λ did. parts; stays = λ did. absurd (true≢false did) })
+
+close-steps : (first second : Holder) (old : Pair) (waiting : Waiting Work) (sequencer : Sequencing) (w : World) → PairRefines first second old w
+    → MayClose old.sequencer old.committing.waiting → ClosesOne old.sequencer old.committing.waiting sequencer waiting
+    → Steps first second w events.CloseGroup true old (with_work waiting sequencer old)
+close-steps first second old waiting sequencer w stands may (inl group) =
+    close-to first second old waiting sequencer w (grouped old.sequencer w) stands may (closes-group w old.sequencer stands.parts.sequencer stands.parts.freeing.newest group.some)
+    (group-parts first second old waiting sequencer w stands.parts group)
+close-steps first second old waiting sequencer w stands may (inr list) =
+    close-to first second old waiting sequencer w (listed w) stands may (closes-list w old.sequencer stands.parts.sequencer list.none)
+    (list-parts first second old waiting sequencer w stands.parts list)
+
+close-stays : (first second : Holder) (old : Pair) (w : World) → PairRefines first second old w → ¬ MayClose old.sequencer old.committing.waiting → Steps first second w events.CloseGroup false old old
+close-stays first second old w stands never =
+    let parts = stands.parts in
+    record {
+      world = w;
+      step = record {
+        done = sym (may-not-close w old.committing.waiting old.sequencer parts.committing.work parts.sequencer parts.freeing.ended never) ∙ sym (enabled-is (own-runs stands events.CloseGroup refl));
+        happens = λ did. absurd (true≢false (sym did));
+        stands = λ did. refl;
+      };
+      stands = nodes-refine stands;
+      moves = untouched first second old old w w refl refl (inl (stands.serves, parts));
+    }
+
+pub close-does : (old : Pair) (waiting : Waiting Work) (sequencer : Sequencing) (result : Result Bool Refusal)
+    → IfOk result (λ did. did ≡ true → MayClose old.sequencer old.committing.waiting × ClosesOne old.sequencer old.committing.waiting sequencer waiting)
+    → IfOk result (λ did. did ≡ false → (¬ MayClose old.sequencer old.committing.waiting) × (sequencer ≡ old.sequencer) × (waiting ≡ old.committing.waiting))
+    → IfErr result (λ refusal. refusal ≡ Memory) → OnErr result (MayClose old.sequencer old.committing.waiting × (sequencer ≡ old.sequencer) × (waiting.items ≡ old.committing.waiting.items))
+    → Does old events.CloseGroup result (with_work waiting sequencer old)
+close-does old waiting sequencer (Err refusal) closed none memory refused =
+    record {
+      steps = tt;
+      cut = λ first second w stands.
+          cut-same first second events.CloseGroup refusal old (with_work waiting sequencer old) w refl memory refl refl (tells old.sessions) (own-runs stands events.CloseGroup refl)
+          (close-happens first second old w stands refused.0) (nodes-refine stands);
+      calls = none-added _ _ refl;
+    }
+close-does old waiting sequencer (Ok true) closed none memory refused =
+    let did = closed refl in
+    record { steps = λ first second w stands. close-steps first second old waiting sequencer w stands did.0 did.1; cut = tt; calls = none-added _ _ refl }
+close-does old waiting sequencer (Ok false) closed none memory refused =
+    let stayed = none refl in
+    let same : with_work waiting sequencer old ≡ old = ap₂ (λ items s. with_work items s old) stayed.2 stayed.1 in
+    subst (Does old events.CloseGroup (Ok false)) (sym same)
+    (record { steps = λ first second w stands. close-stays first second old w stands stayed.0; cut = tt; calls = none-added _ _ refl })

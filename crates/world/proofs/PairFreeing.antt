@@ -1,0 +1,843 @@
+-- What freeing, clearing a gap and telling the sequencer of it do to the pair, of what they do to its parts.
+use mathlib.Core.Path.{fun_ext}
+use Rattle.std.proofs.Common.{◌≡◌, ◌⊎◌, ◌+◌, ◌-◌, ◌<◌, ◌≤◌, ℕ, inl, inr, Bool, true, false, not, ◌&&◌, cond, nat_lt, List, [], ◌∷◌, ◌++◌, length, map, drop, Result, Ok, Err, Vec, Global, refl, sym, ap, ap₂, subst, ◌∙◌, arith, append-nil, length-append, true≢false}
+use Rattle.std.specs.Coded.{le_prop}
+use Rattle.std.proofs.lemmas.Bool.{cases_lt, le-ltb, lt-ltb, leb-true, ltb-true}
+use Rattle.kv_types.specs.declared.place.EntryNo.{EntryNo}
+use Rattle.kv_types.specs.declared.place.Extent.{Extent}
+use Rattle.kv_types.specs.declared.refusal.Refusal.{Refusal}
+use Rattle.kv_types.specs.declared.refusal.Refusal.TheVariants.{Memory, Fault, Exhausted}
+use Rattle.pmem.specs.Device.{State}
+use Rattle.pmem.specs.Crash.{IsImage}
+use Rattle.pmem.specs.Runs.{LeavesOnly}
+use Rattle.pmem.proofs.Leaving.{LeavesOnly-weaken}
+use Rattle.model.specs.declared.call.Call.{Call}
+use Rattle.model.specs.declared.group.Group.{Group}
+use Rattle.model.specs.declared.image.TheConstants.{COUNTER_LIMIT}
+use Rattle.model.specs.declared.record.Record.{Record}
+use Rattle.model.specs.declared.work.FreeList.{FreeList}
+use Rattle.model.specs.declared.work.Work.{Work}
+use Rattle.model.specs.declared.work.Work.TheVariants as work
+use Rattle.model.specs.Call.{cut_at, is_nonempty, keyspace_after}
+use Rattle.model.specs.Group.{AreEnded, Contents, Versions, after_free, extents_of, without}
+use Rattle.model.specs.Image.{Image, IsMapOf, entries_of_lines}
+use Rattle.model.specs.Standing.{Holder, StandsAt}
+use Rattle.wbl_engine.specs.declared.freeing.Freed.{Freed}
+use Rattle.wbl_engine.specs.Contents.{IsDurable, Keeps, Same}
+use Rattle.wbl_engine.specs.Freeing.{Clears, KeepsWithoutSome, cleared_contents}
+use Rattle.wbl_engine.specs.Lawful.{AreLawful}
+use Rattle.wbl_engine.proofs.WithoutLemmas.{AllEnded, IsMapOf-contents_without, consistent_cleared, consistent_without, lawful_cleared, lawful_without}
+use Rattle.pipes.specs.Waiting.{Waiting, LocalTakes}
+use Rattle.redis_core.specs.Sequencing.{Expects, IsAheadOf, Sequencing, TakesBack}
+use Rattle.standby_stream.specs.Stream.{Stream}
+use Rattle.group_commit.specs.Group.{after_work, groups_of, lists_of}
+use Rattle.group_commit.specs.Working.{ClearsGap, FreesFirst, IsDrained, TakesLists, TurnsReady, entries_of_lists}
+use Rattle.group_commit.specs.declared.committer.Committer.{Committer}
+use Rattle.group_commit.specs.declared.stage.Done.{Done}
+use Rattle.group_commit.specs.declared.stage.Done.TheVariants as done
+use Rattle.group_commit.specs.declared.stage.Stage.{Stage}
+use Rattle.group_commit.specs.declared.stage.Stage.TheVariants.{Ready, Durable, Shown}
+use Rattle.group_commit.proofs.FreedLemmas.{AllEnded-listed, AreEnded-first}
+use Rattle.group_commit.proofs.GroupsLemmas.{Same-is}
+use Rattle.group_commit.proofs.WorkLemmas.{EndsLists-none, TakesLists-items, groups_of-lists, lists_of-lists}
+use Rattle.pipes.specs.declared.limits.TheConstants as limits
+use Rattle.machine.specs.declared.event.TheConstants.{PIPE_ITEMS}
+use Rattle.machine.specs.declared.event.Event.{Event}
+use Rattle.machine.specs.declared.event.Event.TheVariants as events
+use Rattle.machine.specs.Event.{Work as MachineWork, World, Happens, Step, has_room, may_happen, reached_lists}
+use Rattle.machine.specs.Event as machine
+use Rattle.machine.proofs.SoundEvents.{sound-step}
+use Rattle.world.specs.Cause.{EndsBy, asks_memory, IsAtLimit, RestsAtLimit}
+use Rattle.world.specs.Committing.{AreContentsAt, EngineStands, Leads, NearOnly, StageRefines, StandsAtEither, entries_told, extents_told, next_primary}
+use Rattle.world.specs.GroupSpan.{AreWorkOf, positions_of_lists}
+use Rattle.world.specs.Pair.{Does, IsCut, Pair, PairRefines, PartsRefine, Steps}
+use Rattle.world.specs.Queue.{has_group, is_first_within, is_ready_now, link_has_room, may_clear_now, may_commit_now, may_free_now, reached_now}
+use Rattle.world.specs.Session.{SeatsFollow, SequencerRefines, seats_of}
+use Rattle.world.specs.Standby.{Node}
+use Rattle.world.specs.declared.arrivals.Arrivals.{Arrivals}
+use Rattle.world.specs.declared.sessions.Sessions.{Sessions}
+use Rattle.world.proofs.AheadLemmas.{AreLaid, laid-engine}
+use Rattle.world.proofs.EngineLemmas.{keeps-stands, moves-same}
+use Rattle.world.proofs.FreedQueue.{Leads-accepted, Leads-aside, Leads-cleared, Leads-freed}
+use Rattle.world.proofs.LivesLemmas.{Runs, enabled-is, is_own, lives-step, nodes-refine, own-runs}
+use Rattle.world.proofs.PairLemmas.{Led, Stands-standby, cut-for, cut-same, goes-steps, none-added, rests-primary, rests-standby, tells, untouched}
+use Rattle.world.proofs.QueueLemmas.{clear-enabled, free-enabled, reached-positions, room-link}
+
+-- ---- the engine
+
+-- the contents are as they were at their position, without some versions that have ended
+contents-without : (holder : Holder) (calls : List Call) (p : ℕ) (contents : Contents) (gone : ℕ → Bool) → AllEnded gone contents.versions → AreContentsAt holder calls p contents
+    → AreContentsAt holder calls p (without gone contents)
+contents-without holder calls p contents gone ended are = record {
+  at = are.at;
+  role_is = are.role_is;
+  epoch_is = are.epoch_is;
+  lines_are = are.lines_are;
+  consistent = consistent_without contents gone are.consistent;
+  map = IsMapOf-contents_without contents gone _ ended are.map;
+}
+
+engine-freed : (holder : Holder) (calls : List Call) (p : ℕ) (device device' : State) (contents contents' : Contents) (is_faulted is_faulted' : Bool) (entries : List EntryNo) → AreEnded contents entries
+    → Same (after_free entries contents) contents' → IsDurable device' contents' → is_faulted' ≡ false → EngineStands holder calls p device contents is_faulted
+    → EngineStands holder calls p device' contents' is_faulted'
+engine-freed holder calls p device device' contents contents' is_faulted is_faulted' entries ended moved durable sound engine =
+    let is = Same-is (after_free entries contents) contents' moved in
+    let gone = AllEnded-listed contents entries ended in
+    record {
+      contents_at = subst (AreContentsAt holder calls p) (sym is) (contents-without holder calls p contents _ gone engine.contents_at);
+      lawful = subst AreLawful (sym is) (lawful_without contents _ gone engine.lawful);
+      sound = sound;
+      durable = durable;
+    }
+
+-- at any moment of it the image stands where it stood
+freed-moments : (holder : Holder) (calls : List Call) (p : ℕ) (device device' : State) (contents : Contents) (entries : List EntryNo) → AreEnded contents entries → AreContentsAt holder calls p contents
+    → LeavesOnly device device' (KeepsWithoutSome entries contents) → LeavesOnly device device' (StandsAt holder calls p)
+freed-moments holder calls p device device' contents entries ended are moments =
+    LeavesOnly-weaken (StandsAt holder calls p)
+    (λ image keeps. keeps-stands holder calls p (without keeps.0 contents) image
+    (contents-without holder calls p contents keeps.0 (λ i gone. AllEnded-listed contents entries ended i (keeps.1 i gone)) are) keeps.2) moments
+
+-- and under a record with one gap less
+contents-under : (holder : Holder) (calls : List Call) (p : ℕ) (contents : Contents) → AreContentsAt holder calls p contents → AreContentsAt holder calls p (cleared_contents contents)
+contents-under holder calls p contents are = record {
+  at = are.at;
+  role_is = are.role_is;
+  epoch_is = are.epoch_is;
+  lines_are = are.lines_are;
+  consistent = record { free = are.consistent.free; beyond = are.consistent.beyond };
+  map = are.map;
+}
+
+engine-cleared : (holder : Holder) (calls : List Call) (p : ℕ) (device device' : State) (contents contents' : Contents) (is_faulted is_faulted' : Bool) (entries : List EntryNo)
+    → Clears contents entries contents' → contents.current.number + 1 < COUNTER_LIMIT → IsDurable device' contents' → is_faulted' ≡ false → EngineStands holder calls p device contents is_faulted
+    → EngineStands holder calls p device' contents' is_faulted'
+engine-cleared holder calls p device device' contents contents' is_faulted is_faulted' entries clears room durable sound engine =
+    let are = engine.contents_at in
+    record {
+      contents_at = record {
+        at = ap (λ (r : Record). r.position) clears.current ∙ are.at;
+        role_is = ap (λ (r : Record). r.role) clears.current ∙ are.role_is;
+        epoch_is = ap (λ (r : Record). r.epoch) clears.current ∙ are.epoch_is;
+        lines_are = clears.lines_are ∙ are.lines_are;
+        consistent = consistent_cleared contents contents' entries clears are.consistent;
+        map = subst (λ n. IsMapOf contents'.versions (entries_of_lines n) (keyspace_after (cut_at calls p))) (sym clears.lines_are)
+            (subst (λ (versions : Versions). IsMapOf versions (entries_of_lines contents.lines) (keyspace_after (cut_at calls p))) (fun_ext (λ i. sym (clears.versions i))) are.map);
+      };
+      lawful = lawful_cleared contents contents' entries clears room engine.lawful;
+      sound = sound;
+      durable = durable;
+    }
+
+cleared-moments : (holder : Holder) (calls : List Call) (p : ℕ) (device device' : State) (contents : Contents) → AreContentsAt holder calls p contents
+    → LeavesOnly device device' (λ image. Keeps contents image ⊎ Keeps (cleared_contents contents) image) → LeavesOnly device device' (StandsAt holder calls p)
+cleared-moments holder calls p device device' contents are moments =
+    LeavesOnly-weaken (StandsAt holder calls p)
+    (λ image either. elim either [
+      | inl keeps ↦ keeps-stands holder calls p contents image are keeps
+      | inr keeps ↦ keeps-stands holder calls p (cleared_contents contents) image (contents-under holder calls p contents are) keeps
+    ]) moments
+
+near : (holder : Holder) (calls : List Call) (p next : ℕ) (device device' : State) → LeavesOnly device device' (StandsAt holder calls p) → NearOnly holder calls p next device device'
+near holder calls p next device device' moments = LeavesOnly-weaken (StandsAtEither holder calls p next) (λ image stands. inl stands) moments
+
+failed : (is_faulted : Bool) (before after : ℕ) → is_faulted ≡ false → (is_faulted ≡ true) ⊎ (before < after) → before < after
+failed is_faulted before after sound (inl was) = absurd (true≢false (sym was ∙ sound))
+failed is_faulted before after sound (inr now) = now
+
+-- ---- an event of the primary's engine
+
+-- its image stands where it stood
+primary-steps : (event : Event) (first second : Holder) (w w' : World) (old new : Pair) → is_own event ≡ true → PairRefines first second old w → new.primary_runs ≡ old.primary_runs
+    → new.standby_runs ≡ old.standby_runs → new.standby.device ≡ old.standby.device → new.device.failures ≡ old.device.failures → Happens w event w' → true ≡ may_happen w event
+    → LeavesOnly old.device new.device (StandsAt first w'.primary.calls w'.primary.committer.position) → PartsRefine first second new w' → Steps first second w event true old new
+primary-steps event first second w w' old new own stands runs follows device' failures happens may moments parts =
+    let lives : Runs first second new.primary_runs new.standby_runs w event =
+    subst (λ serves. Runs first second serves new.standby_runs w event) (sym runs) (subst (λ follows. Runs first second old.primary_runs follows w event) (sym follows) (own-runs stands event own)) in
+    let step : Step w event true w' = record { done = may ∙ sym (enabled-is lives); happens = λ did. happens; stands = λ did. absurd (true≢false did) } in
+    record {
+      world = w';
+      step = step;
+      stands = record { sound = sound-step w event true w' step stands.sound; lives = lives-step lives happens; parts = inl (runs ∙ stands.serves, parts) };
+      moves = record {
+        primary = record {
+          leaves = LeavesOnly-weaken (StandsAtEither first w'.primary.calls w.primary.committer.position w'.primary.committer.position) (λ image at. inr at) moments;
+          failures = failures;
+        };
+        standby = moves-same second w'.primary.calls w.standby.position w'.standby.position old.standby.device new.standby.device device'
+            (Stands-standby second new.link.epoch w'.primary.calls w'.standby.position new.standby new.standby_runs parts.standby);
+      };
+    }
+
+-- an event that is not enabled
+idle-steps : (first second : Holder) (old : Pair) (event : Event) (w : World) → is_own event ≡ true → PairRefines first second old w → false ≡ may_happen w event → Steps first second w event false old old
+idle-steps first second old event w own stands never = record {
+  world = w;
+  step = record { done = never ∙ sym (enabled-is (own-runs stands event own)); happens = λ did. absurd (true≢false (sym did)); stands = λ did. refl };
+  stands = nodes-refine stands;
+  moves = untouched first second old old w w refl refl (inl (stands.serves, stands.parts));
+}
+
+pub idle-does : (old : Pair) (event : Event) → is_own event ≡ true → ((first second : Holder) (w : World) → PairRefines first second old w → false ≡ may_happen w event) → Does old event (Ok false) old
+idle-does old event own never = record { steps = λ first second w stands. idle-steps first second old event w own stands (never first second w stands); cut = tt; calls = none-added _ _ refl }
+
+-- ---- the sequencer is told
+
+abbrev pub with_accepted : Sequencing → List Freed → Pair → Pair
+with_accepted sequencer notices pair = record pair { sequencer = sequencer; notices = notices }
+
+-- nothing but its heap has changed
+in_room : (P : Sequencing → Type 0) (old new : Sequencing) (entries : List EntryNo) (extents : List Extent) → TakesBack old entries extents new → P (record old { room = new.room }) → P new
+in_room P old new entries extents takes holds = subst P (sym takes.after) holds
+
+accept-parts : (first second : Holder) (old : Pair) (sequencer : Sequencing) (notice : Freed) (rest : List Freed) (w : World) → old.notices ≡ notice ∷ rest
+    → TakesBack old.sequencer notice.entries.items notice.extents.items sequencer
+    → ((c : Contents) (e : List EntryNo) (x : List Extent) → IsAheadOf old.sequencer c → Expects old.sequencer c (notice.entries.items ++ e) (notice.extents.items ++ x) → IsAheadOf sequencer c × Expects sequencer c e x)
+    → PartsRefine first second old w → PartsRefine first second (with_accepted sequencer rest old) (machine.accepted w)
+accept-parts first second old sequencer notice rest w told takes expected parts =
+    let entries = notice.entries.items in
+    let extents = notice.extents.items in
+    let calls = w.primary.calls in
+    let seats = seats_of old.sessions.connections.items in
+    let many = ap length (sym told) ∙ parts.freeing.notices_are in
+    record {
+      sessions = parts.sessions;
+      sequencer = in_room (SequencerRefines calls w.primary.committer.closed) old.sequencer sequencer entries extents takes (record {
+        table = parts.sequencer.table;
+        position = parts.sequencer.position;
+        before = parts.sequencer.before;
+        waiting = parts.sequencer.waiting;
+        count = parts.sequencer.count;
+      });
+      follow = in_room (SeatsFollow calls seats) old.sequencer sequencer entries extents takes (record { by_call = parts.follow.by_call; session = parts.follow.session });
+      committing = parts.committing;
+      engine = parts.engine;
+      leads = Leads-accepted old.contents old.committing.waiting.items old.committing.aside old.sequencer sequencer notice rest
+          (subst (Leads old.contents old.committing.waiting.items old.committing.aside old.sequencer) told parts.leads) takes expected;
+      freeing = record {
+        ended = ap (λ (s : Sequencing). length s.ended) takes.after ∙ parts.freeing.ended;
+        newest = ap (λ (s : Sequencing). s.newest) takes.after ∙ parts.freeing.newest;
+        notices_are = omega (arith, many);
+        gaps = parts.freeing.gaps;
+      };
+      epoch = parts.epoch;
+      link = parts.link;
+      frames = parts.frames;
+      arrivals = parts.arrivals;
+      standby = parts.standby;
+    }
+
+pub accept-does : (old : Pair) (sequencer : Sequencing) (notice : Freed) (rest : List Freed) → old.notices ≡ notice ∷ rest
+    → TakesBack old.sequencer notice.entries.items notice.extents.items sequencer
+    → ((c : Contents) (e : List EntryNo) (x : List Extent) → IsAheadOf old.sequencer c → Expects old.sequencer c (notice.entries.items ++ e) (notice.extents.items ++ x) → IsAheadOf sequencer c × Expects sequencer c e x)
+    → Does old events.AcceptFreed (Ok true) (with_accepted sequencer rest old)
+accept-does old sequencer notice rest told takes expected =
+    record {
+      steps = λ first second w stands.
+          let some = ap length (sym told) ∙ stands.parts.freeing.notices_are in
+          goes-steps first second w (machine.accepted w) events.AcceptFreed true old (with_accepted sequencer rest old) refl refl stands.sound (own-runs stands events.AcceptFreed refl) stands.serves refl
+          (record {
+            done = sym (lt-ltb 0 w.primary.notices (omega (arith, some)));
+            goes = λ did. accept-parts first second old sequencer notice rest w told takes expected stands.parts;
+            stays = λ did. absurd (true≢false did);
+          });
+      cut = tt;
+      calls = none-added _ _ refl;
+    }
+
+pub no_notices : (notices : List Freed) → length notices ≡ 0 → notices ≡ []
+no_notices [] none = refl
+no_notices (notice ∷ notices) none = absurd (omega (arith, none))
+
+-- there was no notice
+pub accept-none : (old : Pair) (notices : List Freed) → old.notices ≡ [] → notices ≡ [] → Does old events.AcceptFreed (Ok false) (record old { notices = notices })
+accept-none old notices none none' =
+    subst (λ (told : List Freed). Does old events.AcceptFreed (Ok false) (record old { notices = told })) (none ∙ sym none')
+    (idle-does old events.AcceptFreed refl (λ first second w stands.
+    let few = ap length (sym none) ∙ stands.parts.freeing.notices_are in sym (le-ltb 0 w.primary.notices (omega (arith, few)))))
+
+-- what the sequencer requires of the first notice
+pub accept-expected : (first second : Holder) (old : Pair) (w : World) (notice : Freed) (rest : List Freed) → old.notices ≡ notice ∷ rest → PartsRefine first second old w
+    → (c : Contents) × (e : List EntryNo) × (x : List Extent) × IsAheadOf old.sequencer c × Expects old.sequencer c (notice.entries.items ++ e) (notice.extents.items ++ x)
+accept-expected first second old w notice rest told parts =
+    let leads = subst (Leads old.contents old.committing.waiting.items old.committing.aside old.sequencer) told parts.leads in
+    (after_work old.contents old.committing.waiting.items, entries_told rest, extents_told rest, leads.stands, leads.expects)
+
+-- ---- what a turn found in the queue
+
+Waiting-same : {T : Type 0} (a b : Waiting T) → a.items ≡ b.items → a ≡ b
+Waiting-same {T} a b same =
+    subst (λ (items : List T). (within : length items ≤ limits.PIPE_ITEMS) → a ≡ record { items = items; within = within }) same (λ within. ap (λ w. record a { within = w }) (le_prop a.within within)) b.within
+
+-- the free lists that were reached stand aside, and what is left waits
+record Drained (aside lists : List FreeList) (before after : Waiting Work) (handed : List Group) : Type 0 where
+  pub reached : reached_now aside before.items handed ≡ aside ++ lists
+  pub left : after.items ≡ cond (link_has_room handed) [] before.items
+  pub leads : (contents : Contents) (s : Sequencing) (notices : List Freed) → Leads contents before.items aside s notices → Leads contents after.items (aside ++ lists) s notices
+
+has-drained : (before between after : Waiting Work) (aside lists : List FreeList) (handed : Waiting Group) → TakesLists LocalTakes before lists between
+    → IsDrained LocalTakes (PIPE_ITEMS - length handed.items) before lists between after → Drained aside lists before after handed.items
+has-drained before between after aside lists handed takes (inl (some, ends)) =
+    let none = EndsLists-none before between after lists takes ends in
+    let items : before.items ≡ map work.Free lists ++ [] = TakesLists-items before between lists takes ∙ ap (λ (rest : List Work). map work.Free lists ++ rest) none.0 in
+    let lists_are : lists_of before.items ≡ lists = ap lists_of items ∙ lists_of-lists lists [] ∙ append-nil lists in
+    let groups : groups_of before.items ≡ [] = ap groups_of items ∙ groups_of-lists lists [] in
+    let has : link_has_room handed.items ≡ true = lt-ltb (length handed.items) PIPE_ITEMS (omega (arith, some)) in
+    record {
+      reached = ap (λ (room : Bool). cond room (aside ++ lists_of before.items) aside) has ∙ ap (λ (xs : List FreeList). aside ++ xs) lists_are;
+      left = none.1 ∙ sym (ap (λ (room : Bool). cond room [] before.items) has);
+      leads = λ contents s notices leads.
+          subst (λ (items : List Work). Leads contents items (aside ++ lists) s notices) (sym none.1)
+          (subst (λ (xs : List FreeList). Leads contents [] (aside ++ xs) s notices) lists_are (Leads-aside contents before.items aside s notices groups leads));
+    }
+has-drained before between after aside lists handed takes (inr (full, nothing, same)) =
+    let has : link_has_room handed.items ≡ false = le-ltb (length handed.items) PIPE_ITEMS (let within = handed.within in omega (arith, full, within)) in
+    let all : aside ≡ aside ++ lists = sym (ap (λ (xs : List FreeList). aside ++ xs) nothing ∙ append-nil aside) in
+    let items : after.items ≡ before.items = ap (λ (pipe : Waiting Work). pipe.items) same in
+    record {
+      reached = ap (λ (room : Bool). cond room (aside ++ lists_of before.items) aside) has ∙ all;
+      left = items ∙ sym (ap (λ (room : Bool). cond room [] before.items) has);
+      leads = λ contents s notices leads.
+          subst (λ (items : List Work). Leads contents items (aside ++ lists) s notices) (sym items)
+          (subst (λ (xs : List FreeList). Leads contents before.items xs s notices) all leads);
+    }
+
+group_behind : (lists : List FreeList) (group : Group) (others : List Work) → has_group (map work.Free lists ++ work.Commit group ∷ others) ≡ true
+group_behind [] group others = refl
+group_behind (list ∷ lists) group others = group_behind lists group others
+
+-- what waits for the machine's committer
+work_left : (calls : List Call) (room room' : Bool) (items : List Work) (works : List MachineWork) → room ≡ room' → AreWorkOf calls items works → AreWorkOf calls (cond room [] items) (cond room' [] works)
+work_left calls room room' items works same are = subst (λ (b : Bool). AreWorkOf calls (cond room [] items) (cond b [] works)) same (by room)
+  where
+    by : (b : Bool) → AreWorkOf calls (cond b [] items) (cond b [] works)
+    by true = tt
+    by false = are
+
+all_three : (a b c : Bool) → (a && b && c) ≡ true → (a ≡ true) × (b ≡ true) × (c ≡ true)
+all_three true true true e = (refl, refl, refl)
+all_three true true false e = cc
+all_three true false c e = cc
+all_three false b c e = cc
+
+not_true : (a : Bool) → not a ≡ true → a ≡ false
+not_true true e = sym e
+not_true false e = refl
+
+within_first : (high : ℕ) (lists : List FreeList) → is_first_within high lists ≡ true → (list : FreeList) × (rest : List FreeList) × (lists ≡ list ∷ rest) × (list.position ≤ high)
+within_first high [] within = absurd (true≢false (sym within))
+within_first high (list ∷ rest) within = (list, rest, refl, leb-true list.position high within)
+
+nothing_left : {X : Type 0} (xs : List X) → not (is_nonempty xs) ≡ true → xs ≡ []
+nothing_left [] e = refl
+nothing_left (x ∷ xs) e = cc
+
+some_gap : (gaps : ℕ) → nat_lt 0 gaps ≡ true → 0 < gaps
+some_gap gaps e = ltb-true 0 gaps e
+
+all_five : (a b c d e : Bool) → (a && b && c && d && e) ≡ true → (b ≡ true) × (c ≡ true) × (d ≡ true) × (e ≡ true)
+all_five true true true true true is = (refl, refl, refl, refl)
+all_five true true true true false is = cc
+all_five true true true false e is = cc
+all_five true true false d e is = cc
+all_five true false c d e is = cc
+all_five false b c d e is = cc
+
+clears_alone : (stage : Stage) (aside : List FreeList) (items : List Work) (handed : List Group) (gaps : ℕ) → may_clear_now stage aside items handed gaps ≡ true
+    → (link_has_room handed ≡ true) × (items ≡ []) × (aside ≡ []) × (0 < gaps)
+clears_alone stage aside items handed gaps may =
+    let told = all_five (is_ready_now stage) (link_has_room handed) (not (is_nonempty items)) (not (is_nonempty aside)) (nat_lt 0 gaps) may in
+    (told.0, nothing_left items told.1, nothing_left aside told.2, some_gap gaps told.3)
+
+no_lists : (lists : List FreeList) (items : List Work) → [] ≡ map work.Free lists ++ items → lists ≡ []
+no_lists [] items is = refl
+no_lists (list ∷ lists) items is = cc
+
+no_rest : (lists : List FreeList) (items : List Work) → [] ≡ map work.Free lists ++ items → items ≡ []
+no_rest [] items is = sym is
+no_rest (list ∷ lists) items is = cc
+
+room_left : (handed : List Group) → link_has_room handed ≡ true → PIPE_ITEMS - length handed ≡ 0 → ⊥
+room_left handed room full = let some = ltb-true (length handed) PIPE_ITEMS room in omega (arith, some, full)
+
+one_less : {X : Type 0} (xs : List X) (n : ℕ) → length xs ≡ n → length (drop 1 xs) ≡ n - 1
+one_less [] n is = omega (arith, is)
+one_less (x ∷ xs) n is = omega (arith, is)
+
+ready_so : (stage : Stage) → is_ready_now stage ≡ true → stage ≡ Ready
+ready_so Ready is = refl
+ready_so (Durable group) is = absurd (true≢false (sym is))
+ready_so (Shown group) is = absurd (true≢false (sym is))
+
+pub free-ready : (stage : Stage) (aside : List FreeList) (items : List Work) (handed : List Group) (remote : ℕ) → may_free_now stage aside items handed remote ≡ true → stage ≡ Ready
+free-ready stage aside items handed remote may =
+    ready_so stage (all_three (is_ready_now stage) (not (may_commit_now stage items handed)) (is_first_within remote (reached_now aside items handed)) may).0
+
+first_of : (a b c d e : Bool) → (a && b && c && d && e) ≡ true → a ≡ true
+first_of true b c d e is = refl
+first_of false b c d e is = cc
+
+pub clear-ready : (stage : Stage) (aside : List FreeList) (items : List Work) (handed : List Group) (gaps : ℕ) → may_clear_now stage aside items handed gaps ≡ true → stage ≡ Ready
+clear-ready stage aside items handed gaps may =
+    ready_so stage (first_of (is_ready_now stage) (link_has_room handed) (not (is_nonempty items)) (not (is_nonempty aside)) (nat_lt 0 gaps) may)
+
+-- ---- a turn of a committer that is ready
+
+module _ {E : Type 0} (device : E → State) (contents : E → Contents) (is_faulted : E → Bool) (sessions : Sessions) (sequencer : Sequencing) (link : Stream) (remote : ℕ) (frames : List (Vec ℕ Global)) (arrivals : Arrivals) (standby : Node) (primary_runs standby_runs : Bool) where
+  -- a pair with this committer, with this work waiting for it, with these notices and with these groups at the link
+  abbrev pub pair_with : Committer E → Waiting Work → List Freed → Waiting Group → Pair
+  pair_with committer waiting notices handed = record {
+    sessions = sessions;
+    sequencer = sequencer;
+    committing = record { waiting = waiting; aside = committer.aside.items; stage = committer.stage; local = committer.local };
+    notices = notices;
+    device = device committer.engine;
+    contents = contents committer.engine;
+    is_faulted = is_faulted committer.engine;
+    handed = handed;
+    link = link;
+    remote = remote;
+    frames = frames;
+    arrivals = arrivals;
+    standby = standby;
+    primary_runs = primary_runs;
+    standby_runs = standby_runs;
+  }
+
+  -- memory was refused, and the engine was not touched
+  refused-does : (event : Event) → is_own event ≡ true → asks_memory event ≡ true → (before after : Committer E) (waiting waiting' : Waiting Work) (notices notices' : List Freed) (handed handed' : Waiting Group) (refusal : Refusal)
+      → refusal ≡ Memory → after.engine ≡ before.engine
+      → ((first second : Holder) (w : World) → PairRefines first second (pair_with before waiting notices handed) w → may_happen w event ≡ true)
+      → Does (pair_with before waiting notices handed) event (Err refusal) (pair_with after waiting' notices' handed')
+  refused-does event own asks before after waiting waiting' notices notices' handed handed' refusal memory same enabled =
+      record {
+        steps = tt;
+        cut = λ first second w stands.
+            cut-same first second event refusal (pair_with before waiting notices handed) (pair_with after waiting' notices' handed') w asks memory (ap device same) refl (tells sessions)
+            (own-runs stands event own) (enabled first second w stands) (nodes-refine stands);
+        calls = none-added _ _ refl;
+      }
+
+  -- ---- a list is freed
+
+  module _ (before : Committer E) (waiting : Waiting Work) (notices : List Freed) (handed : Waiting Group)
+      (may : may_free_now before.stage before.aside.items waiting.items handed.items remote ≡ true) where
+    abbrev old : Pair
+    old = pair_with before waiting notices handed
+
+    free_may : (first second : Holder) (w : World) → PairRefines first second old w → may_happen w events.Free ≡ true
+    free_may first second w stands =
+        sym (free-enabled w old.committing handed.items remote stands.parts.committing stands.parts.link.waiting stands.parts.link.remote_is) ∙ may
+
+    -- the first list that was reached was freed, or that came to this
+    record Frees (after : Committer E) (waiting' : Waiting Work) (result : Result Done Refusal) : Type 0 where
+      pub lists : List FreeList
+      pub list : FreeList
+      pub rest : List FreeList
+      pub drains : Drained before.aside.items lists waiting waiting' handed.items
+      pub is : before.aside.items ++ lists ≡ list ∷ rest
+      pub frees : FreesFirst device contents is_faulted before list rest result after
+
+    abbrev reached : List FreeList
+    reached = reached_now before.aside.items waiting.items handed.items
+
+    told : (is_ready_now before.stage ≡ true) × (not (may_commit_now before.stage waiting.items handed.items) ≡ true) × (is_first_within remote reached ≡ true)
+    told = all_three (is_ready_now before.stage) (not (may_commit_now before.stage waiting.items handed.items)) (is_first_within remote reached) may
+
+    no_group : (lists : List FreeList) (between after : Waiting Work) (group : Group) → 0 < PIPE_ITEMS - length handed.items → TakesLists LocalTakes waiting lists between
+        → between.items ≡ work.Commit group ∷ after.items → ⊥
+    no_group lists between after group some takes gives =
+        let room : link_has_room handed.items ≡ true = lt-ltb (length handed.items) PIPE_ITEMS (omega (arith, some)) in
+        let has : has_group waiting.items ≡ true =
+        ap has_group (TakesLists-items waiting between lists takes ∙ ap (λ (rest : List Work). map work.Free lists ++ rest) gives) ∙ group_behind lists group after.items in
+        let commits : may_commit_now before.stage waiting.items handed.items ≡ true =
+        ap (λ (b : Bool). b && has_group waiting.items && link_has_room handed.items) told.0 ∙ ap (λ (b : Bool). b && link_has_room handed.items) has ∙ room in
+        true≢false (sym commits ∙ not_true _ told.1)
+
+    came-free : (after : Committer E) (waiting' : Waiting Work) (result : Result Done Refusal)
+        → TurnsReady device contents is_faulted LocalTakes before waiting (PIPE_ITEMS - length handed.items) remote result after waiting'
+        → Frees after waiting' result ⊎ ((result ≡ Err Memory) × (after.engine ≡ before.engine))
+    came-free after waiting' result turns = by
+      where
+        reaches : (xs : List FreeList) → reached ≡ xs → (list : FreeList) × (rest : List FreeList) × (xs ≡ list ∷ rest) × (list.position ≤ remote)
+        reaches xs is = within_first remote xs (ap (is_first_within remote) (sym is) ∙ told.2)
+
+        by : Frees after waiting' result ⊎ ((result ≡ Err Memory) × (after.engine ≡ before.engine))
+        by = elim turns.came [
+          | inl (group, some, gives, commits, set_aside) ↦ absurd (no_group turns.lists turns.between waiting' group some turns.takes gives)
+          | inr (inl (drains, list, rest, is, due, frees)) ↦ inl record {
+            lists = turns.lists;
+            list = list;
+            rest = rest;
+            drains = has-drained waiting turns.between waiting' before.aside.items turns.lists handed turns.takes drains;
+            is = is;
+            frees = frees;
+          }
+          | inr (inr (inl (some, gives, none, clears))) ↦
+              let drains = has-drained waiting turns.between waiting' before.aside.items turns.lists handed turns.takes (inl (some, inl gives)) in
+              let first = reaches [] (drains.reached ∙ none) in
+              absurd (let is = first.2 in cc)
+          | inr (inr (inr (inl (drains, idle)))) ↦
+              let so = has-drained waiting turns.between waiting' before.aside.items turns.lists handed turns.takes drains in
+              let first = reaches (before.aside.items ++ turns.lists) so.reached in
+              absurd (let waits = idle.waits first.0 first.1 first.2 in let due = first.3 in omega (arith, waits, due))
+          | inr (inr (inr (inr (some, same, refuses)))) ↦ inr (refuses.answer, refuses.engine)
+        ]
+
+    module _ (after : Committer E) (waiting' : Waiting Work) (ready : before.stage ≡ Ready) where
+      -- what stood aside then is lawful
+      leads-then : (result : Result Done Refusal) (frees : Frees after waiting' result) (first second : Holder) (w : World) → PartsRefine first second old w
+          → Leads old.contents waiting'.items (frees.list ∷ frees.rest) sequencer notices
+      leads-then result frees first second w parts =
+          subst (λ (xs : List FreeList). Leads old.contents waiting'.items xs sequencer notices) frees.is (frees.drains.leads old.contents sequencer notices parts.leads)
+
+      ended-then : (result : Result Done Refusal) (frees : Frees after waiting' result) (first second : Holder) (w : World) → PartsRefine first second old w → AreEnded old.contents frees.list.entries.items
+      ended-then result frees first second w parts =
+          AreEnded-first old.contents frees.list.entries.items (entries_of_lists frees.rest) (leads-then result frees first second w parts).aside_ended
+
+      moments-then : (result : Result Done Refusal) (frees : Frees after waiting' result) (first second : Holder) (w : World) → PartsRefine first second old w
+          → LeavesOnly (device before.engine) (device after.engine) (StandsAt first w.primary.calls w.primary.committer.position)
+      moments-then result frees first second w parts =
+          freed-moments first w.primary.calls w.primary.committer.position (device before.engine) (device after.engine) old.contents frees.list.entries.items
+          (ended-then result frees first second w parts) parts.engine.contents_at (frees.frees.moments parts.engine.sound)
+
+      free-parts : (places : Freed) (frees : Frees after waiting' (Ok (done.Freed places))) (first second : Holder) (w : World) → PairRefines first second old w
+          → PartsRefine first second (pair_with after waiting' (notices ++ places ∷ []) handed) (machine.freed w)
+      free-parts places frees first second w stands =
+          let parts = stands.parts in
+          let calls = w.primary.calls in
+          let it = frees.frees in
+          let entries = frees.list.entries.items in
+          let answer = it.answer in
+          let same : answer.0 ≡ places = let is = answer.1 in cc in
+          let entries_are : places.entries.items ≡ entries = ap (λ (p : Freed). p.entries.items) (sym same) ∙ answer.2 in
+          let extents_are : places.extents.items ≡ extents_of old.contents.versions entries = ap (λ (p : Freed). p.extents.items) (sym same) ∙ answer.3 in
+          let consistent = parts.engine.contents_at.consistent in
+          let laid : AreLaid old.contents = laid-engine old.device old.contents consistent parts.engine.lawful parts.engine.durable in
+          let ended = ended-then (Ok (done.Freed places)) frees first second w parts in
+          let reached_is : positions_of_lists (frees.list ∷ frees.rest) ≡ reached_lists w =
+          ap positions_of_lists (sym (frees.drains.reached ∙ frees.is)) ∙ reached-positions w old.committing handed.items parts.committing parts.link.waiting in
+          let many = parts.freeing.notices_are in
+          record {
+            sessions = parts.sessions;
+            sequencer = parts.sequencer;
+            follow = parts.follow;
+            committing = record {
+              work = subst (λ (items : List Work). AreWorkOf calls items (cond (has_room w.primary.link.waiting) [] w.primary.committer.waiting)) (sym frees.drains.left)
+                  (work_left calls (link_has_room handed.items) (has_room w.primary.link.waiting) waiting.items w.primary.committer.waiting (room-link calls handed.items w.primary.link.waiting parts.link.waiting)
+                  parts.committing.work);
+              aside = ap positions_of_lists it.aside ∙ ap (drop 1) reached_is;
+              stage_is = subst (λ (stage : Stage). StageRefines calls stage w.primary.committer.stage) (ready ∙ sym it.stage) parts.committing.stage_is;
+              local_is = it.local ∙ parts.committing.local_is;
+            };
+            engine = engine-freed first calls w.primary.committer.position (device before.engine) (device after.engine) old.contents (contents after.engine) (is_faulted before.engine) (is_faulted after.engine) entries
+                ended it.moved it.durable it.sound.0 parts.engine;
+            leads = subst (λ (c : Contents). Leads c waiting'.items after.aside.items sequencer (notices ++ places ∷ [])) (sym (Same-is (after_free entries old.contents) (contents after.engine) it.moved))
+                (subst (λ (xs : List FreeList). Leads (after_free entries old.contents) waiting'.items xs sequencer (notices ++ places ∷ [])) (sym it.aside)
+                (Leads-freed old.contents waiting'.items frees.list frees.rest sequencer notices places consistent laid
+                (leads-then (Ok (done.Freed places)) frees first second w parts) entries_are extents_are));
+            freeing = record {
+              ended = parts.freeing.ended;
+              newest = parts.freeing.newest;
+              notices_are = let one = length-append notices (places ∷ []) in omega (arith, one, many);
+              gaps = ap (λ (r : Record). length r.gaps.items) it.moved.current ∙ parts.freeing.gaps;
+            };
+            epoch = parts.epoch;
+            link = parts.link;
+            frames = parts.frames;
+            arrivals = parts.arrivals;
+            standby = parts.standby;
+          }
+
+      freed-does : (places : Freed) → Frees after waiting' (Ok (done.Freed places)) → Does old events.Free (Ok true) (pair_with after waiting' (notices ++ places ∷ []) handed)
+      freed-does places frees = record {
+        steps = λ first second w stands.
+            primary-steps events.Free first second w (machine.freed w) old (pair_with after waiting' (notices ++ places ∷ []) handed) refl stands refl refl refl frees.frees.sound.1 refl
+            (sym (free_may first second w stands)) (moments-then (Ok (done.Freed places)) frees first second w stands.parts) (free-parts places frees first second w stands);
+        cut = tt;
+        calls = none-added _ _ refl;
+      }
+
+      broke-does : (refusal : Refusal) → Frees after waiting' (Err refusal) → Does old events.Free (Err refusal) (pair_with after waiting' notices handed)
+      broke-does refusal frees = elim frees.frees.causes [
+        | inl fault ↦ record { steps = tt; cut = λ first second w stands. broke first second w stands fault; calls = none-added _ _ refl }
+        | inr memory ↦ refused-does events.Free refl refl before after waiting waiting' notices notices handed handed refusal memory (frees.frees.memory (ap Err memory)) free_may
+      ]
+        where
+          broke : (first second : Holder) (w : World) → PairRefines first second old w → refusal ≡ Fault → IsCut first second events.Free refusal old (pair_with after waiting' notices handed) w
+          broke first second w stands fault =
+              let new = pair_with after waiting' notices handed in
+              let calls = w.primary.calls in
+              let p = w.primary.committer.position in
+              cut-for first second events.Free refusal old new w (nodes-refine stands) (tells sessions) (enabled-is (own-runs stands events.Free refl) ∙ free_may first second w stands)
+              (subst (λ (r : Refusal). EndsBy r events.Free (Led first second old new w)) (sym fault) (
+                record {
+                  leaves = near first calls p (next_primary w) old.device new.device (moments-then (Err refusal) frees first second w stands.parts);
+                  failures = failed old.is_faulted old.device.failures new.device.failures stands.parts.engine.sound (frees.frees.fault (ap Err fault));
+                },
+                rests-standby first second old w (nodes-refine stands),
+              ))
+
+  -- what the turn did to the pair
+  pub free-does : (before after : Committer E) (waiting waiting' : Waiting Work) (notices : List Freed) (handed handed' : Waiting Group) (places : Freed) (answer : Done) (notices' : List Freed) → answer ≡ done.Freed places → notices' ≡ notices ++ places ∷ []
+      → before.stage ≡ Ready → may_free_now before.stage before.aside.items waiting.items handed.items remote ≡ true → handed'.items ≡ handed.items
+      → TurnsReady device contents is_faulted LocalTakes before waiting (PIPE_ITEMS - length handed'.items) remote (Ok answer) after waiting'
+      → Does (pair_with before waiting notices handed) events.Free (Ok true) (pair_with after waiting' notices' handed')
+  free-does before after waiting waiting' notices handed handed' places answer notices' is pushed ready may offered turns =
+      let same = Waiting-same handed handed' (sym offered) in
+      subst (λ (told : List Freed). Does (pair_with before waiting notices handed) events.Free (Ok true) (pair_with after waiting' told handed')) (sym pushed)
+      (subst (λ (h : Waiting Group). Does (pair_with before waiting notices handed) events.Free (Ok true) (pair_with after waiting' (notices ++ places ∷ []) h)) same
+      (elim (came-free before waiting notices handed may after waiting' (Ok (done.Freed places)) turned) [
+        | inl frees ↦ freed-does before waiting notices handed may after waiting' ready places frees
+        | inr refused ↦ absurd (let no = refused.0 in cc)
+      ]))
+    where
+      turned : TurnsReady device contents is_faulted LocalTakes before waiting (PIPE_ITEMS - length handed.items) remote (Ok (done.Freed places)) after waiting'
+      turned =
+          subst (λ (items : List Group). TurnsReady device contents is_faulted LocalTakes before waiting (PIPE_ITEMS - length items) remote (Ok (done.Freed places)) after waiting') offered
+          (subst (λ (d : Done). TurnsReady device contents is_faulted LocalTakes before waiting (PIPE_ITEMS - length handed'.items) remote (Ok d) after waiting') is turns)
+
+  -- it freed something
+  pub free-told : (before after : Committer E) (waiting waiting' : Waiting Work) (handed handed' : Waiting Group) (answer : Done)
+      → may_free_now before.stage before.aside.items waiting.items handed.items remote ≡ true → handed'.items ≡ handed.items
+      → TurnsReady device contents is_faulted LocalTakes before waiting (PIPE_ITEMS - length handed'.items) remote (Ok answer) after waiting'
+      → (places : Freed) × (answer ≡ done.Freed places)
+  free-told before after waiting waiting' handed handed' answer may offered turns =
+      elim (came-free before waiting [] handed may after waiting' (Ok answer)
+      (subst (λ (items : List Group). TurnsReady device contents is_faulted LocalTakes before waiting (PIPE_ITEMS - length items) remote (Ok answer) after waiting') offered turns)) [
+        | inl frees ↦ (frees.frees.answer.0, frees.frees.answer.1)
+        | inr refused ↦ absurd (let no = refused.0 in cc)
+      ]
+
+  -- it was refused
+  pub free-ends : (before after : Committer E) (waiting waiting' : Waiting Work) (notices : List Freed) (handed handed' : Waiting Group) (refusal : Refusal)
+      → before.stage ≡ Ready → may_free_now before.stage before.aside.items waiting.items handed.items remote ≡ true → handed'.items ≡ handed.items
+      → TurnsReady device contents is_faulted LocalTakes before waiting (PIPE_ITEMS - length handed'.items) remote (Err refusal) after waiting'
+      → Does (pair_with before waiting notices handed) events.Free (Err refusal) (pair_with after waiting' notices handed')
+  free-ends before after waiting waiting' notices handed handed' refusal ready may offered turns =
+      let same = Waiting-same handed handed' (sym offered) in
+      subst (λ (h : Waiting Group). Does (pair_with before waiting notices handed) events.Free (Err refusal) (pair_with after waiting' notices h)) same
+      (elim (came-free before waiting notices handed may after waiting' (Err refusal)
+      (subst (λ (items : List Group). TurnsReady device contents is_faulted LocalTakes before waiting (PIPE_ITEMS - length items) remote (Err refusal) after waiting') offered turns)) [
+        | inl frees ↦ broke-does before waiting notices handed may after waiting' ready refusal frees
+        | inr refused ↦
+            refused-does events.Free refl refl before after waiting waiting' notices notices handed handed refusal (let is = refused.0 in cc) refused.1 (free_may before waiting notices handed may)
+      ])
+
+  -- room for the notice was refused
+  pub free-roomless : (before : Committer E) (waiting : Waiting Work) (notices notices' : List Freed) (handed : Waiting Group) (refusal : Refusal) → refusal ≡ Memory
+      → may_free_now before.stage before.aside.items waiting.items handed.items remote ≡ true
+      → Does (pair_with before waiting notices handed) events.Free (Err refusal) (pair_with before waiting notices' handed)
+  free-roomless before waiting notices notices' handed refusal memory may =
+      refused-does events.Free refl refl before before waiting waiting notices notices' handed handed refusal memory refl (free_may before waiting notices handed may)
+
+  -- it may not free now
+  pub free-idle : (before : Committer E) (waiting : Waiting Work) (notices : List Freed) (handed : Waiting Group) → may_free_now before.stage before.aside.items waiting.items handed.items remote ≡ false
+      → Does (pair_with before waiting notices handed) events.Free (Ok false) (pair_with before waiting notices handed)
+  free-idle before waiting notices handed may =
+      idle-does (pair_with before waiting notices handed) events.Free refl (λ first second w stands.
+      sym may ∙ free-enabled w (pair_with before waiting notices handed).committing handed.items remote stands.parts.committing stands.parts.link.waiting stands.parts.link.remote_is)
+
+  -- ---- a gap is cleared
+
+  module _ (before : Committer E) (waiting : Waiting Work) (notices : List Freed) (handed : Waiting Group)
+      (may : may_clear_now before.stage before.aside.items waiting.items handed.items (length (contents before.engine).current.gaps.items) ≡ true) where
+    abbrev from : Pair
+    from = pair_with before waiting notices handed
+
+    clear_may : (first second : Holder) (w : World) → PairRefines first second from w → may_happen w events.ClearGap ≡ true
+    clear_may first second w stands =
+        sym (clear-enabled w from.committing handed.items (length from.contents.current.gaps.items) stands.parts.committing stands.parts.link.waiting stands.parts.freeing.gaps) ∙ may
+
+    alone : (link_has_room handed.items ≡ true) × (waiting.items ≡ []) × (before.aside.items ≡ []) × (0 < length (contents before.engine).current.gaps.items)
+    alone = clears_alone before.stage before.aside.items waiting.items handed.items (length (contents before.engine).current.gaps.items) may
+
+    -- the oldest gap was cleared, or that came to this
+    record ClearsOne (after : Committer E) (waiting' : Waiting Work) (result : Result Done Refusal) : Type 0 where
+      pub left : waiting'.items ≡ []
+      pub clears : ClearsGap device contents is_faulted before result after
+
+    came-clear : (after : Committer E) (waiting' : Waiting Work) (result : Result Done Refusal)
+        → TurnsReady device contents is_faulted LocalTakes before waiting (PIPE_ITEMS - length handed.items) remote result after waiting'
+        → ClearsOne after waiting' result ⊎ ((result ≡ Err Memory) × (after.engine ≡ before.engine))
+    came-clear after waiting' result turns = by
+      where
+        items : [] ≡ map work.Free turns.lists ++ turns.between.items
+        items = sym alone.1 ∙ TakesLists-items waiting turns.between turns.lists turns.takes
+
+        none : before.aside.items ++ turns.lists ≡ []
+        none = ap₂ (λ (a b : List FreeList). a ++ b) alone.2 (no_lists turns.lists turns.between.items items)
+
+        rest : turns.between.items ≡ []
+        rest = no_rest turns.lists turns.between.items items
+
+        by : ClearsOne after waiting' result ⊎ ((result ≡ Err Memory) × (after.engine ≡ before.engine))
+        by = elim turns.came [
+          | inl (group, some, gives, commits, set_aside) ↦ absurd (let is = sym rest ∙ gives in cc)
+          | inr (inl (drains, list, others, is, due, frees)) ↦ absurd (let no = sym none ∙ is in cc)
+          | inr (inr (inl (some, gives, nothing, clears))) ↦ inl record { left = gives.1; clears = clears }
+          | inr (inr (inr (inl (drains, idle)))) ↦ absurd (elim (idle.none none) [
+            | inl full ↦ room_left handed.items alone.0 full
+            | inr gapless ↦ let some = alone.3 in let few = ap length gapless in omega (arith, some, few)
+          ])
+          | inr (inr (inr (inr (some, same, refuses)))) ↦ inr (refuses.answer, refuses.engine)
+        ]
+
+    module _ (after : Committer E) (waiting' : Waiting Work) (ready : before.stage ≡ Ready) where
+      below_limit : (places : Freed) → ClearsOne after waiting' (Ok (done.Cleared places)) → is_faulted before.engine ≡ false → (contents before.engine).current.number + 1 < COUNTER_LIMIT
+      below_limit places one sound = elim (cases_lt ((contents before.engine).current.number + 1) COUNTER_LIMIT) [
+        | inl below ↦ below
+        | inr over ↦ absurd (let no = one.clears.exhausts sound over in cc)
+      ]
+
+      cleared-then : (result : Result Done Refusal) → ClearsOne after waiting' result → (first second : Holder) (w : World) → PartsRefine first second from w
+          → LeavesOnly (device before.engine) (device after.engine) (StandsAt first w.primary.calls w.primary.committer.position)
+      cleared-then result one first second w parts =
+          cleared-moments first w.primary.calls w.primary.committer.position (device before.engine) (device after.engine) from.contents parts.engine.contents_at (one.clears.moments parts.engine.sound)
+
+      clear-parts : (places : Freed) → ClearsOne after waiting' (Ok (done.Cleared places)) → (first second : Holder) (w : World) → PairRefines first second from w
+          → PartsRefine first second (pair_with after waiting' (notices ++ places ∷ []) handed) (machine.cleared w)
+      clear-parts places one first second w stands =
+          let parts = stands.parts in
+          let calls = w.primary.calls in
+          let it = one.clears in
+          let answer = it.answer in
+          let same : answer.0 ≡ places = let is = answer.1 in cc in
+          let none : places.extents.items ≡ [] = ap (λ (p : Freed). p.extents.items) (sym same) ∙ answer.2 in
+          let clears : Clears from.contents places.entries.items (contents after.engine) = subst (λ (p : Freed). Clears from.contents p.entries.items (contents after.engine)) same answer.3 in
+          let many = parts.freeing.notices_are in
+          let gaps = parts.freeing.gaps in
+          record {
+            sessions = parts.sessions;
+            sequencer = parts.sequencer;
+            follow = parts.follow;
+            committing = record {
+              work = subst (λ (items : List Work). AreWorkOf calls items w.primary.committer.waiting) (alone.1 ∙ sym one.left) parts.committing.work;
+              aside = ap positions_of_lists (it.aside ∙ sym alone.2) ∙ parts.committing.aside;
+              stage_is = subst (λ (stage : Stage). StageRefines calls stage w.primary.committer.stage) (ready ∙ sym it.stage) parts.committing.stage_is;
+              local_is = it.local ∙ parts.committing.local_is;
+            };
+            engine = engine-cleared first calls w.primary.committer.position (device before.engine) (device after.engine) from.contents (contents after.engine) (is_faulted before.engine) (is_faulted after.engine)
+                places.entries.items clears (below_limit places one parts.engine.sound) it.durable it.sound.0 parts.engine;
+            leads = subst (λ (items : List Work). Leads (contents after.engine) items after.aside.items sequencer (notices ++ places ∷ [])) (sym one.left)
+                (subst (λ (xs : List FreeList). Leads (contents after.engine) [] xs sequencer (notices ++ places ∷ [])) (sym it.aside)
+                (Leads-cleared from.contents (contents after.engine) sequencer notices places
+                (subst (λ (items : List Work). Leads from.contents items [] sequencer notices) alone.1
+                (subst (λ (xs : List FreeList). Leads from.contents waiting.items xs sequencer notices) alone.2 parts.leads)) clears none));
+            freeing = record {
+              ended = parts.freeing.ended;
+              newest = parts.freeing.newest;
+              notices_are = let one = length-append notices (places ∷ []) in omega (arith, one, many);
+              gaps = ap (λ (r : Record). length r.gaps.items) clears.current ∙ one_less from.contents.current.gaps.items w.primary.gaps gaps;
+            };
+            epoch = parts.epoch;
+            link = parts.link;
+            frames = parts.frames;
+            arrivals = parts.arrivals;
+            standby = parts.standby;
+          }
+
+      cleared-does : (places : Freed) → ClearsOne after waiting' (Ok (done.Cleared places)) → Does from events.ClearGap (Ok true) (pair_with after waiting' (notices ++ places ∷ []) handed)
+      cleared-does places one = record {
+        steps = λ first second w stands.
+            primary-steps events.ClearGap first second w (machine.cleared w) from (pair_with after waiting' (notices ++ places ∷ []) handed) refl stands refl refl refl one.clears.sound.1 refl
+            (sym (clear_may first second w stands)) (cleared-then (Ok (done.Cleared places)) one first second w stands.parts) (clear-parts places one first second w stands);
+        cut = tt;
+        calls = none-added _ _ refl;
+      }
+
+      cut-clear : (refusal : Refusal) → ClearsOne after waiting' (Err refusal) → Does from events.ClearGap (Err refusal) (pair_with after waiting' notices handed)
+      cut-clear refusal one = elim one.clears.causes [
+        | inl fault ↦ record { steps = tt; cut = λ first second w stands. broke first second w stands fault; calls = none-added _ _ refl }
+        | inr (inl limit) ↦ record { steps = tt; cut = λ first second w stands. ends first second w stands limit; calls = none-added _ _ refl }
+        | inr (inr memory) ↦ refused-does events.ClearGap refl refl before after waiting waiting' notices notices handed handed refusal memory (one.clears.memory (ap Err memory)) clear_may
+      ]
+        where
+          new : Pair
+          new = pair_with after waiting' notices handed
+
+          broke : (first second : Holder) (w : World) → PairRefines first second from w → refusal ≡ Fault → IsCut first second events.ClearGap refusal from new w
+          broke first second w stands fault =
+              cut-for first second events.ClearGap refusal from new w (nodes-refine stands) (tells sessions) (enabled-is (own-runs stands events.ClearGap refl) ∙ clear_may first second w stands)
+              (subst (λ (r : Refusal). EndsBy r events.ClearGap (Led first second from new w)) (sym fault) (
+                record {
+                  leaves = near first w.primary.calls w.primary.committer.position (next_primary w) from.device new.device (cleared-then (Err refusal) one first second w stands.parts);
+                  failures = failed from.is_faulted from.device.failures new.device.failures stands.parts.engine.sound (one.clears.fault (ap Err fault));
+                },
+                rests-standby first second from w (nodes-refine stands),
+              ))
+
+          ends : (first second : Holder) (w : World) → PairRefines first second from w → refusal ≡ Exhausted → IsCut first second events.ClearGap refusal from new w
+          ends first second w stands limit =
+              let told = one.clears.exhausted (ap Err limit) in
+              let same : new.device ≡ from.device = ap device told.1 in
+              let at : (image : Image) → IsImage from.device.words image → IsAtLimit (next_primary w - w.primary.committer.position) image =
+              λ image is. record { current = from.contents.current; has_record = (stands.parts.engine.durable image is).has_record; reached = inr (inr told.0) } in
+              cut-for first second events.ClearGap refusal from new w (nodes-refine stands) (tells sessions) (enabled-is (own-runs stands events.ClearGap refl) ∙ clear_may first second w stands)
+              (subst (λ (r : Refusal). EndsBy r events.ClearGap (Led first second from new w)) (sym limit) (
+                subst (λ (d : State). RestsAtLimit first w.primary.calls w.primary.committer.position (next_primary w) from.device d) (sym same)
+                    (record { rests = rests-primary first second from w (nodes-refine stands); limit = at }),
+                rests-standby first second from w (nodes-refine stands),
+              ))
+
+  -- what the turn did to the pair
+  pub clear-does : (before after : Committer E) (waiting waiting' : Waiting Work) (notices : List Freed) (handed handed' : Waiting Group) (places : Freed) (answer : Done) (notices' : List Freed) → answer ≡ done.Cleared places → notices' ≡ notices ++ places ∷ []
+      → before.stage ≡ Ready → may_clear_now before.stage before.aside.items waiting.items handed.items (length (contents before.engine).current.gaps.items) ≡ true → handed'.items ≡ handed.items
+      → TurnsReady device contents is_faulted LocalTakes before waiting (PIPE_ITEMS - length handed'.items) remote (Ok answer) after waiting'
+      → Does (pair_with before waiting notices handed) events.ClearGap (Ok true) (pair_with after waiting' notices' handed')
+  clear-does before after waiting waiting' notices handed handed' places answer notices' is pushed ready may offered turns =
+      let same = Waiting-same handed handed' (sym offered) in
+      subst (λ (told : List Freed). Does (pair_with before waiting notices handed) events.ClearGap (Ok true) (pair_with after waiting' told handed')) (sym pushed)
+      (subst (λ (h : Waiting Group). Does (pair_with before waiting notices handed) events.ClearGap (Ok true) (pair_with after waiting' (notices ++ places ∷ []) h)) same
+      (elim (came-clear before waiting notices handed may after waiting' (Ok (done.Cleared places)) turned) [
+        | inl one ↦ cleared-does before waiting notices handed may after waiting' ready places one
+        | inr refused ↦ absurd (let no = refused.0 in cc)
+      ]))
+    where
+      turned : TurnsReady device contents is_faulted LocalTakes before waiting (PIPE_ITEMS - length handed.items) remote (Ok (done.Cleared places)) after waiting'
+      turned =
+          subst (λ (items : List Group). TurnsReady device contents is_faulted LocalTakes before waiting (PIPE_ITEMS - length items) remote (Ok (done.Cleared places)) after waiting') offered
+          (subst (λ (d : Done). TurnsReady device contents is_faulted LocalTakes before waiting (PIPE_ITEMS - length handed'.items) remote (Ok d) after waiting') is turns)
+
+  -- it cleared one
+  pub clear-told : (before after : Committer E) (waiting waiting' : Waiting Work) (handed handed' : Waiting Group) (answer : Done)
+      → may_clear_now before.stage before.aside.items waiting.items handed.items (length (contents before.engine).current.gaps.items) ≡ true → handed'.items ≡ handed.items
+      → TurnsReady device contents is_faulted LocalTakes before waiting (PIPE_ITEMS - length handed'.items) remote (Ok answer) after waiting'
+      → (places : Freed) × (answer ≡ done.Cleared places)
+  clear-told before after waiting waiting' handed handed' answer may offered turns =
+      elim (came-clear before waiting [] handed may after waiting' (Ok answer)
+      (subst (λ (items : List Group). TurnsReady device contents is_faulted LocalTakes before waiting (PIPE_ITEMS - length items) remote (Ok answer) after waiting') offered turns)) [
+        | inl one ↦ (one.clears.answer.0, one.clears.answer.1)
+        | inr refused ↦ absurd (let no = refused.0 in cc)
+      ]
+
+  -- it was refused
+  pub clear-ends : (before after : Committer E) (waiting waiting' : Waiting Work) (notices : List Freed) (handed handed' : Waiting Group) (refusal : Refusal)
+      → before.stage ≡ Ready → may_clear_now before.stage before.aside.items waiting.items handed.items (length (contents before.engine).current.gaps.items) ≡ true → handed'.items ≡ handed.items
+      → TurnsReady device contents is_faulted LocalTakes before waiting (PIPE_ITEMS - length handed'.items) remote (Err refusal) after waiting'
+      → Does (pair_with before waiting notices handed) events.ClearGap (Err refusal) (pair_with after waiting' notices handed')
+  clear-ends before after waiting waiting' notices handed handed' refusal ready may offered turns =
+      let same = Waiting-same handed handed' (sym offered) in
+      subst (λ (h : Waiting Group). Does (pair_with before waiting notices handed) events.ClearGap (Err refusal) (pair_with after waiting' notices h)) same
+      (elim (came-clear before waiting notices handed may after waiting' (Err refusal)
+      (subst (λ (items : List Group). TurnsReady device contents is_faulted LocalTakes before waiting (PIPE_ITEMS - length items) remote (Err refusal) after waiting') offered turns)) [
+        | inl one ↦ cut-clear before waiting notices handed may after waiting' ready refusal one
+        | inr refused ↦
+            refused-does events.ClearGap refl refl before after waiting waiting' notices notices handed handed refusal (let is = refused.0 in cc) refused.1 (clear_may before waiting notices handed may)
+      ])
+
+  -- room for the notice was refused
+  pub clear-roomless : (before : Committer E) (waiting : Waiting Work) (notices notices' : List Freed) (handed : Waiting Group) (refusal : Refusal) → refusal ≡ Memory
+      → may_clear_now before.stage before.aside.items waiting.items handed.items (length (contents before.engine).current.gaps.items) ≡ true
+      → Does (pair_with before waiting notices handed) events.ClearGap (Err refusal) (pair_with before waiting notices' handed)
+  clear-roomless before waiting notices notices' handed refusal memory may =
+      refused-does events.ClearGap refl refl before before waiting waiting notices notices' handed handed refusal memory refl (clear_may before waiting notices handed may)
+
+  -- none may be cleared now
+  pub clear-idle : (before : Committer E) (waiting : Waiting Work) (notices : List Freed) (handed : Waiting Group)
+      → may_clear_now before.stage before.aside.items waiting.items handed.items (length (contents before.engine).current.gaps.items) ≡ false
+      → Does (pair_with before waiting notices handed) events.ClearGap (Ok false) (pair_with before waiting notices handed)
+  clear-idle before waiting notices handed may =
+      idle-does (pair_with before waiting notices handed) events.ClearGap refl (λ first second w stands.
+      sym may
+      ∙ clear-enabled w (pair_with before waiting notices handed).committing handed.items (length (contents before.engine).current.gaps.items) stands.parts.committing stands.parts.link.waiting stands.parts.freeing.gaps)

@@ -1,0 +1,266 @@
+-- What waits for the committer stands for what waits for the machine's: the same may happen next, and a turn may take it.
+use Rattle.std.proofs.Common.{◌≡◌, ℕ, suc, Bool, true, false, not, ◌&&◌, cond, nat_eq, nat_lt, List, [], ◌∷◌, ◌++◌, length, map, refl, sym, ap, ap₂, subst, ◌∙◌, append_assoc, inl, inr, true≢false}
+use Rattle.std.proofs.lemmas.Bool.{or_cases}
+use Rattle.std.proofs.lemmas.Grind.{flat_map-append}
+use Rattle.std.proofs.lemmas.List.{map-append}
+use Rattle.std.proofs.lemmas.List.Folds.{list_any-append}
+use Rattle.kv_types.specs.declared.place.EntryNo.{EntryNo}
+use Rattle.model.specs.declared.call.Call.{Call}
+use Rattle.model.specs.declared.group.Group.{Group}
+use Rattle.model.specs.declared.work.FreeList.{FreeList}
+use Rattle.model.specs.declared.work.Work.{Work}
+use Rattle.model.specs.declared.work.Work.TheVariants as work
+use Rattle.model.specs.Call.{is_nonempty}
+use Rattle.model.specs.Group.{AreEnded, Contents, after_group, is_listed}
+use Rattle.wbl_engine.specs.declared.freeing.Freed.{Freed}
+use Rattle.wbl_engine.proofs.WithoutLemmas.{AllEnded}
+use Rattle.redis_core.specs.Sequencing.{Sequencing}
+use Rattle.pipes.specs.Waiting.{Waiting, LocalTakes}
+use Rattle.group_commit.specs.Group.{AreWork, after_groups, after_work, groups_of, lists_before, lists_of}
+use Rattle.group_commit.specs.Working.{GivesWork, entries_of_lists}
+use Rattle.group_commit.specs.declared.stage.Stage.{Stage}
+use Rattle.group_commit.specs.declared.stage.Stage.TheVariants.{Ready, Durable, Shown}
+use Rattle.group_commit.proofs.FreedLemmas.{AllEnded-listed, AreEnded-first, AreEnded-moved}
+use Rattle.group_commit.proofs.WorkLemmas.{GivesWork-first}
+use Rattle.machine.specs.declared.event.Event.TheVariants.{ClearGap, Free}
+use Rattle.machine.specs.declared.event.TheConstants.{PIPE_ITEMS}
+use Rattle.machine.specs.Event.{Commits, Frees, Span, Stage as MachineStage, Work as MachineWork, World, first_is_within, from_group, has_room, is_ready, may_commit, may_happen, reached_lists, spans_of}
+use Rattle.machine.specs.Event as machine
+use Rattle.machine.specs.World as machine_stage
+use Rattle.world.specs.Committing.{Committing, CommittingRefines, Leads, StageRefines}
+use Rattle.world.specs.GroupSpan.{AreGroupsOf, AreWorkOf, IsWorkOf, positions_of_lists}
+use Rattle.world.specs.Queue.{has_group, is_first_within, is_ready_now, link_has_room, may_clear_now, may_commit_now, may_free_now, reached_now}
+use Rattle.world.proofs.GroupSpanLemmas.{IsGroupOf-grows, length-groups}
+
+-- ---- while the list grows
+
+IsWorkOf-grows : (calls more : List Call) (item : Work) (work : MachineWork) → IsWorkOf calls item work → IsWorkOf (calls ++ more) item work
+IsWorkOf-grows calls more (work.Commit group) (Commits span) is = IsGroupOf-grows calls more group span is
+IsWorkOf-grows calls more (work.Commit group) (Frees position) is = absurd is
+IsWorkOf-grows calls more (work.Free list) (Commits span) is = absurd is
+IsWorkOf-grows calls more (work.Free list) (Frees position) is = is
+
+pub AreWorkOf-grows : (calls more : List Call) (items : List Work) (works : List MachineWork) → AreWorkOf calls items works → AreWorkOf (calls ++ more) items works
+AreWorkOf-grows calls more [] [] are = tt
+AreWorkOf-grows calls more [] (work ∷ works) are = absurd are
+AreWorkOf-grows calls more (item ∷ items) [] are = absurd are
+AreWorkOf-grows calls more (item ∷ items) (work ∷ works) are = (IsWorkOf-grows calls more item work are.0, AreWorkOf-grows calls more items works are.1)
+
+-- ---- items come
+
+pub AreWorkOf-append : (calls : List Call) (items : List Work) (works : List MachineWork) (others : List Work) (more : List MachineWork) → AreWorkOf calls items works → AreWorkOf calls others more
+    → AreWorkOf calls (items ++ others) (works ++ more)
+AreWorkOf-append calls [] [] others more are are' = are'
+AreWorkOf-append calls [] (work ∷ works) others more are are' = absurd are
+AreWorkOf-append calls (item ∷ items) [] others more are are' = absurd are
+AreWorkOf-append calls (item ∷ items) (work ∷ works) others more are are' = (are.0, AreWorkOf-append calls items works others more are.1 are')
+
+pub AreWorkOf-push : (calls : List Call) (items : List Work) (works : List MachineWork) (item : Work) (work : MachineWork) → AreWorkOf calls items works → IsWorkOf calls item work
+    → AreWorkOf calls (items ++ item ∷ []) (works ++ work ∷ [])
+AreWorkOf-push calls items works item work are is = AreWorkOf-append calls items works (item ∷ []) (work ∷ []) are (is, tt)
+
+-- ---- what is in it
+
+pub length-work : (calls : List Call) (items : List Work) (works : List MachineWork) → AreWorkOf calls items works → length items ≡ length works
+length-work calls [] [] are = refl
+length-work calls [] (work ∷ works) are = absurd are
+length-work calls (item ∷ items) [] are = absurd are
+length-work calls (item ∷ items) (work ∷ works) are = ap suc (length-work calls items works are.1)
+
+pub nonempty-work : (calls : List Call) (items : List Work) (works : List MachineWork) → AreWorkOf calls items works → is_nonempty items ≡ is_nonempty works
+nonempty-work calls [] [] are = refl
+nonempty-work calls [] (work ∷ works) are = absurd are
+nonempty-work calls (item ∷ items) [] are = absurd are
+nonempty-work calls (item ∷ items) (work ∷ works) are = refl
+
+pub groups-work : (calls : List Call) (items : List Work) (works : List MachineWork) → AreWorkOf calls items works → AreGroupsOf calls (groups_of items) (spans_of works)
+groups-work calls [] [] are = tt
+groups-work calls [] (work ∷ works) are = absurd are
+groups-work calls (item ∷ items) [] are = absurd are
+groups-work calls (work.Commit group ∷ items) (Commits span ∷ works) are = (are.0, groups-work calls items works are.1)
+groups-work calls (work.Commit group ∷ items) (Frees position ∷ works) are = absurd are.0
+groups-work calls (work.Free list ∷ items) (Commits span ∷ works) are = absurd are.0
+groups-work calls (work.Free list ∷ items) (Frees position ∷ works) are = groups-work calls items works are.1
+
+pub lists-work : (calls : List Call) (items : List Work) (works : List MachineWork) → AreWorkOf calls items works → positions_of_lists (lists_of items) ≡ machine.lists_of works
+lists-work calls [] [] are = refl
+lists-work calls [] (work ∷ works) are = absurd are
+lists-work calls (item ∷ items) [] are = absurd are
+lists-work calls (work.Commit group ∷ items) (Commits span ∷ works) are = lists-work calls items works are.1
+lists-work calls (work.Commit group ∷ items) (Frees position ∷ works) are = absurd are.0
+lists-work calls (work.Free list ∷ items) (Commits span ∷ works) are = absurd are.0
+lists-work calls (work.Free list ∷ items) (Frees position ∷ works) are = ap₂ (λ (p : ℕ) (ps : List ℕ). p ∷ ps) are.0 (lists-work calls items works are.1)
+
+pub lists_before-work : (calls : List Call) (items : List Work) (works : List MachineWork) → AreWorkOf calls items works → positions_of_lists (lists_before items) ≡ machine.lists_before works
+lists_before-work calls [] [] are = refl
+lists_before-work calls [] (work ∷ works) are = absurd are
+lists_before-work calls (item ∷ items) [] are = absurd are
+lists_before-work calls (work.Commit group ∷ items) (Commits span ∷ works) are = refl
+lists_before-work calls (work.Commit group ∷ items) (Frees position ∷ works) are = absurd are.0
+lists_before-work calls (work.Free list ∷ items) (Commits span ∷ works) are = absurd are.0
+lists_before-work calls (work.Free list ∷ items) (Frees position ∷ works) are = ap₂ (λ (p : ℕ) (ps : List ℕ). p ∷ ps) are.0 (lists_before-work calls items works are.1)
+
+pub has_group-work : (calls : List Call) (items : List Work) (works : List MachineWork) → AreWorkOf calls items works → has_group items ≡ is_nonempty (from_group works)
+has_group-work calls [] [] are = refl
+has_group-work calls [] (work ∷ works) are = absurd are
+has_group-work calls (item ∷ items) [] are = absurd are
+has_group-work calls (work.Commit group ∷ items) (Commits span ∷ works) are = refl
+has_group-work calls (work.Commit group ∷ items) (Frees position ∷ works) are = absurd are.0
+has_group-work calls (work.Free list ∷ items) (Commits span ∷ works) are = absurd are.0
+has_group-work calls (work.Free list ∷ items) (Frees position ∷ works) are = has_group-work calls items works are.1
+
+-- free lists alone are no group
+pub no_group-lists : (lists : List FreeList) → has_group (map work.Free lists) ≡ false
+no_group-lists [] = refl
+no_group-lists (list ∷ lists) = no_group-lists lists
+
+-- where no group waits, free lists alone do
+pub lists-alone : (items : List Work) → has_group items ≡ false → items ≡ map work.Free (lists_of items)
+lists-alone [] none = refl
+lists-alone (work.Commit group ∷ items) none = cc
+lists-alone (work.Free list ∷ items) none = ap (λ xs. work.Free list ∷ xs) (lists-alone items none)
+
+pub groups-alone : (items : List Work) → has_group items ≡ false → groups_of items ≡ []
+groups-alone [] none = refl
+groups-alone (work.Commit group ∷ items) none = cc
+groups-alone (work.Free list ∷ items) none = groups-alone items none
+
+-- where nothing is aside, and the link has room, the first item that waits is the first free list that was reached
+pub reached-first : (aside : List FreeList) (items : List Work) (handed : List Group) (list : FreeList) (rest : List Work) → aside ≡ [] → link_has_room handed ≡ true → items ≡ work.Free list ∷ rest
+    → reached_now aside items handed ≡ list ∷ lists_of rest
+reached-first aside items handed list rest none room first =
+    ap₂ (λ (room : Bool) (xs : List FreeList). cond room (xs ++ lists_of items) xs) room none ∙ ap lists_of first
+
+-- ---- what may happen
+
+pub ready-stage : (calls : List Call) (stage : Stage) (stage' : MachineStage) → StageRefines calls stage stage' → is_ready_now stage ≡ is_ready stage'
+ready-stage calls Ready machine_stage.Ready is = refl
+ready-stage calls Ready (machine_stage.Durable span) is = absurd is
+ready-stage calls Ready (machine_stage.Shown span) is = absurd is
+ready-stage calls (Durable group) machine_stage.Ready is = absurd is
+ready-stage calls (Durable group) (machine_stage.Durable span) is = refl
+ready-stage calls (Durable group) (machine_stage.Shown span) is = absurd is
+ready-stage calls (Shown group) machine_stage.Ready is = absurd is
+ready-stage calls (Shown group) (machine_stage.Durable span) is = absurd is
+ready-stage calls (Shown group) (machine_stage.Shown span) is = refl
+
+pub room-link : (calls : List Call) (handed : List Group) (spans : List Span) → AreGroupsOf calls handed spans → link_has_room handed ≡ has_room spans
+room-link calls handed spans are = ap (λ n. nat_lt n PIPE_ITEMS) (length-groups calls handed spans are)
+
+and-three : {a b c a' b' c' : Bool} → a ≡ a' → b ≡ b' → c ≡ c' → (a && b && c) ≡ (a' && b' && c')
+and-three {a} {b} {c} {a'} {b'} {c'} x y z = rw (x, y, z) refl
+
+and-five : {a b c d e a' b' c' d' e' : Bool} → a ≡ a' → b ≡ b' → c ≡ c' → d ≡ d' → e ≡ e' → (a && b && c && d && e) ≡ (a' && b' && c' && d' && e')
+and-five {a} {b} {c} {d} {e} {a'} {b'} {c'} {d'} {e'} x y z s t = rw (x, y, z, s, t) refl
+
+-- a commit
+pub commit-enabled : (w : World) (code : Committing) (handed : List Group) → CommittingRefines w.primary.calls code w.primary.committer → AreGroupsOf w.primary.calls handed w.primary.link.waiting
+    → may_commit_now code.stage code.waiting.items handed ≡ may_commit w
+commit-enabled w code handed refines are =
+    let calls = w.primary.calls in
+    and-three (ready-stage calls code.stage w.primary.committer.stage refines.stage_is) (has_group-work calls code.waiting.items w.primary.committer.waiting refines.work)
+    (room-link calls handed w.primary.link.waiting are)
+
+first-within : (high : ℕ) (lists : List FreeList) → is_first_within high lists ≡ first_is_within high (positions_of_lists lists)
+first-within high [] = refl
+first-within high (list ∷ lists) = refl
+
+reached-by : (room : Bool) (aside waits : List FreeList) → positions_of_lists (cond room (aside ++ waits) aside) ≡ cond room (positions_of_lists aside ++ positions_of_lists waits) (positions_of_lists aside)
+reached-by true aside waits = map-append (λ (list : FreeList). list.position) aside waits
+reached-by false aside waits = refl
+
+-- the free lists that it has reached
+pub reached-positions : (w : World) (code : Committing) (handed : List Group) → CommittingRefines w.primary.calls code w.primary.committer → AreGroupsOf w.primary.calls handed w.primary.link.waiting
+    → positions_of_lists (reached_now code.aside code.waiting.items handed) ≡ reached_lists w
+reached-positions w code handed refines are =
+    let calls = w.primary.calls in
+    let committer = w.primary.committer in
+    reached-by (link_has_room handed) code.aside (lists_of code.waiting.items)
+    ∙ ap₂ (λ (room : Bool) (aside : List ℕ). cond room (aside ++ positions_of_lists (lists_of code.waiting.items)) aside) (room-link calls handed w.primary.link.waiting are) refines.aside
+    ∙ ap (λ (waits : List ℕ). cond (has_room w.primary.link.waiting) (committer.aside ++ waits) committer.aside) (lists-work calls code.waiting.items committer.waiting refines.work)
+
+-- a free list freed
+pub free-enabled : (w : World) (code : Committing) (handed : List Group) (remote : ℕ) → CommittingRefines w.primary.calls code w.primary.committer → AreGroupsOf w.primary.calls handed w.primary.link.waiting
+    → remote ≡ w.primary.link.remote → may_free_now code.stage code.aside code.waiting.items handed remote ≡ may_happen w Free
+free-enabled w code handed remote refines are same =
+    and-three (ready-stage w.primary.calls code.stage w.primary.committer.stage refines.stage_is) (ap not (commit-enabled w code handed refines are))
+    (first-within remote (reached_now code.aside code.waiting.items handed) ∙ ap₂ first_is_within same (reached-positions w code handed refines are))
+
+nonempty-positions : (lists : List FreeList) → is_nonempty lists ≡ is_nonempty (positions_of_lists lists)
+nonempty-positions [] = refl
+nonempty-positions (list ∷ lists) = refl
+
+-- a gap cleared
+pub clear-enabled : (w : World) (code : Committing) (handed : List Group) (gaps : ℕ) → CommittingRefines w.primary.calls code w.primary.committer → AreGroupsOf w.primary.calls handed w.primary.link.waiting
+    → gaps ≡ w.primary.gaps → may_clear_now code.stage code.aside code.waiting.items handed gaps ≡ may_happen w ClearGap
+clear-enabled w code handed gaps refines are same =
+    and-five (ready-stage w.primary.calls code.stage w.primary.committer.stage refines.stage_is) (room-link w.primary.calls handed w.primary.link.waiting are)
+    (ap not (nonempty-work w.primary.calls code.waiting.items w.primary.committer.waiting refines.work))
+    (ap not (nonempty-positions code.aside ∙ ap (λ (ps : List ℕ). is_nonempty ps) refines.aside)) (ap (nat_lt 0) same)
+
+-- ---- what a turn may take
+
+-- each entry of the lists before the first group has ended by now
+ended-before : (contents : Contents) (items : List Work) → AreWork contents items → AllEnded (λ i. is_listed i (entries_of_lists (lists_before items))) contents.versions
+ended-before contents [] are = λ i listed. absurd (true≢false (sym listed))
+ended-before contents (work.Commit group ∷ items) are = λ i listed. absurd (true≢false (sym listed))
+ended-before contents (work.Free list ∷ items) are = λ i listed.
+    elim (or_cases (is_listed i list.entries.items) (is_listed i (entries_of_lists (lists_before items)))
+    (sym (list_any-append (λ (entry : EntryNo). nat_eq i entry.0) list.entries.items (entries_of_lists (lists_before items))) ∙ listed)) [
+      | inl here ↦ AllEnded-listed contents list.entries.items are.0 i here
+      | inr later ↦ ended-before contents items are.1 i later
+    ]
+
+lines-groups : (contents : Contents) (groups : List Group) → (after_groups contents groups).lines ≡ contents.lines
+lines-groups contents [] = refl
+lines-groups contents (group ∷ groups) = lines-groups (after_group contents group) groups
+
+-- the lists before the first group are the first ones
+record ListsAfter (items : List Work) : Type 0 where
+  others : List FreeList
+  all : lists_of items ≡ lists_before items ++ others
+
+lists-after : (items : List Work) → ListsAfter items
+lists-after [] = record { others = []; all = refl }
+lists-after (work.Commit group ∷ items) = record { others = lists_of items; all = refl }
+lists-after (work.Free list ∷ items) = let after = lists-after items in record { others = after.others; all = ap (λ xs. list ∷ xs) after.all }
+
+-- each entry of the lists aside, and of those before the first group, has ended, and none is in two of them
+pub ended-reached : (contents : Contents) (items : List Work) (aside : List FreeList) (s : Sequencing) (notices : List Freed) → Leads contents items aside s notices
+    → AreEnded contents (entries_of_lists (aside ++ lists_before items))
+ended-reached contents items aside s notices leads =
+    AreEnded-moved after contents entries (sym (lines-groups contents (groups_of items))) all_ended (AreEnded-first after entries (entries_of_lists later.others ++ s.ended) once)
+  where
+    after : Contents
+    after = after_work contents items
+
+    entries : List EntryNo
+    entries = entries_of_lists (aside ++ lists_before items)
+
+    later : ListsAfter items
+    later = lists-after items
+
+    all : aside ++ lists_of items ≡ (aside ++ lists_before items) ++ later.others
+    all = ap (λ xs. aside ++ xs) later.all ∙ sym (append_assoc aside (lists_before items) later.others)
+
+    once : AreEnded after (entries ++ (entries_of_lists later.others ++ s.ended))
+    once =
+        subst (AreEnded after)
+        (ap (λ (xs : List FreeList). entries_of_lists xs ++ s.ended) all
+        ∙ ap (λ (xs : List EntryNo). xs ++ s.ended) (flat_map-append (λ (list : FreeList). list.entries.items) (aside ++ lists_before items) later.others)
+        ∙ append_assoc entries (entries_of_lists later.others) s.ended) leads.listed
+
+    all_ended : AllEnded (λ i. is_listed i entries) contents.versions
+    all_ended = λ i listed.
+        elim (or_cases (is_listed i (entries_of_lists aside)) (is_listed i (entries_of_lists (lists_before items)))
+        (sym (ap (is_listed i) (flat_map-append (λ (list : FreeList). list.entries.items) aside (lists_before items))
+        ∙ list_any-append (λ (entry : EntryNo). nat_eq i entry.0) (entries_of_lists aside) (entries_of_lists (lists_before items))) ∙ listed)) [
+          | inl here ↦ AllEnded-listed contents (entries_of_lists aside) leads.aside_ended i here
+          | inr later ↦ ended-before contents items leads.work_is i later
+        ]
+
+-- what a turn of the committer requires
+pub gives-work : (contents : Contents) (waiting : Waiting Work) (aside : List FreeList) (s : Sequencing) (notices : List Freed) → Leads contents waiting.items aside s notices
+    → GivesWork LocalTakes waiting aside contents
+gives-work contents waiting aside s notices leads =
+    GivesWork-first contents waiting aside waiting.items refl leads.work_is (ended-reached contents waiting.items aside s notices leads)
