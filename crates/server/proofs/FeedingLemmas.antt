@@ -38,7 +38,7 @@ runs-happens : (old : World) (event : Event) (new : World) (d : ℕ) → Happens
 runs-happens old (Crash node.Primary picks) new d happens up is_one =
     absurd (both_ways (is_open new d) is_one (ap (λ (w : World). is_open w d) happens ∙ none-left old.primary.connections d))
 runs-happens old (Crash node.Standby picks) new d happens up is_one = ap runs_in happens ∙ up
-runs-happens old (Reopen node.Primary) new d happens up is_one = ap runs_in happens
+runs-happens old (Reopen node.Primary) new d happens up is_one = ap runs_in happens.1
 runs-happens old (Reopen node.Standby) new d happens up is_one = ap runs_in happens ∙ up
 runs-happens old event new d happens up is_one = ap is_running (plain-happens old event new refl happens).primary ∙ up
 

@@ -3,7 +3,7 @@ use Rattle.std.proofs.lemmas.List.Elements.{same_from_all_zip}
 use Rattle.machine.specs.declared.event.Event.{Event}
 use Rattle.simulator.specs.Copy.{IsCopy}
 use Rattle.simulator.proofs.copies.copy_of.Goals as goal
-use Rattle.simulator.proofs.copies.copy_of.Goals.{in-Enter, in-Feed+in_ok-clone-in-Feed, in-Offer, in-Turn, in-CloseGroup, in-Commit, in-RaiseLocal, in-Hand, in-OpenLink, in-Send, in-Deliver, in-Apply, in-AckDelivered, in-RaiseRemote, in-Hold, in-Read, in-Release, in-Write, in-Leave, in-Crash+in_ok-clone-in-Crash, in-Reopen}
+use Rattle.simulator.proofs.copies.copy_of.Goals.{in-Enter, in-Feed+in_ok-clone-in-Feed, in-Offer, in-Turn, in-CloseGroup, in-Commit, in-RaiseLocal, in-Hand, in-Free, in-AcceptFreed, in-ClearGap, in-OpenLink, in-Send, in-Deliver, in-Apply, in-AckDelivered, in-RaiseRemote, in-Hold, in-Read, in-Release, in-Write, in-Leave, in-Crash+in_ok-clone-in-Crash, in-Reopen}
 
 pub returns : goal.returns
 returns c =
@@ -16,6 +16,9 @@ returns c =
       | in-Commit w ↦ subst (λ (e : Event). IsCopy e c.match-event.result) (sym w.in-Commit.is) w.result-is
       | in-RaiseLocal w ↦ subst (λ (e : Event). IsCopy e c.match-event.result) (sym w.in-RaiseLocal.is) w.result-is
       | in-Hand w ↦ subst (λ (e : Event). IsCopy e c.match-event.result) (sym w.in-Hand.is) w.result-is
+      | in-Free w ↦ subst (λ (e : Event). IsCopy e c.match-event.result) (sym w.in-Free.is) w.result-is
+      | in-AcceptFreed w ↦ subst (λ (e : Event). IsCopy e c.match-event.result) (sym w.in-AcceptFreed.is) w.result-is
+      | in-ClearGap w ↦ subst (λ (e : Event). IsCopy e c.match-event.result) (sym w.in-ClearGap.is) w.result-is
       | in-OpenLink w ↦ subst (λ (e : Event). IsCopy e c.match-event.result) (sym w.in-OpenLink.is) w.result-is
       | in-Send w ↦ subst (λ (e : Event). IsCopy e c.match-event.result) (sym w.in-Send.is) w.result-is
       | in-Deliver w ↦ subst (λ (e : Event). IsCopy e c.match-event.result) (sym w.in-Deliver.is) w.result-is
