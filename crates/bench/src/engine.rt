@@ -1,6 +1,6 @@
 //! The calls that a commit makes on its device.
-ghost use Rattle.std.specs.Prelude.{◌≡◌, ◌<◌, ◌≤◌, ◌↔◌, ℕ, false, IsTrue, IfOk};
-ghost use Rattle.extent_heap.specs.Room.{is_free_line, is_free_entry};
+ghost use Rattle.std.specs.Prelude.{◌≡◌, ◌<◌, ◌≤◌, ◌↔◌, ℕ, false, [], IsTrue, IfOk};
+ghost use Rattle.extent_heap.specs.Room.{fresh_room, is_free_line, is_free_entry};
 ghost use Rattle.model.specs.Image.{entries_of_lines, first_extent_line};
 ghost use Rattle.standby.specs.Following.{Follows};
 ghost use Rattle.wbl_engine.specs.Contents.{IsDurable, IsNew};
@@ -11,6 +11,7 @@ use extent_heap::ExtentHeap;
 use kv_types::Refusal;
 use model::{LAYOUT, MIN_LINES};
 use mv_keyspace::{Keyspace, ListKeyspace};
+use placing::Rebuilt;
 use pmem::SimPmem;
 use standby::Standby;
 use std::alloc::Global;
@@ -23,34 +24,41 @@ const GROUPS: [u64; 2] = [1, 64];
 /// A node over a device whose calls are counted.
 type Node = Standby<WblEngine<CountingPmem<SimPmem>>, ListKeyspace>;
 
-/// A heap in which all entries and all lines of extents are free.
-fn free_heap(alloc: Global) -> Result<ExtentHeap, Refusal>
-    ensures lines { IfOk result (λ heap. (line : ℕ) → IsTrue (is_free_line heap line) ↔ ((first_extent_line MIN_LINES ≤ line) × (line < MIN_LINES))) }
-    ensures entries { IfOk result (λ heap. (i : ℕ) → IsTrue (is_free_entry heap i) ↔ (i < entries_of_lines MIN_LINES)) }
+/// A room in which all entries and all lines of extents are free, and no version has ended.
+fn free_room(alloc: Global) -> Result<Rebuilt, Refusal>
+    ensures fresh { IfOk result (λ room. room.heap ≡ fresh_room (first_extent_line MIN_LINES) MIN_LINES (entries_of_lines MIN_LINES)) }
+    ensures lines { IfOk result (λ room. (line : ℕ) → IsTrue (is_free_line room.heap line) ↔ ((first_extent_line MIN_LINES ≤ line) × (line < MIN_LINES))) }
+    ensures entries { IfOk result (λ room. (i : ℕ) → IsTrue (is_free_entry room.heap i) ↔ (i < entries_of_lines MIN_LINES)) }
+    ensures none { IfOk result (λ room. room.ended.items ≡ []) }
 {
-    ExtentHeap::new(
+    let heap = ExtentHeap::new(
         alloc,
         LAYOUT.first_extent_line(MIN_LINES),
         MIN_LINES,
         LAYOUT.entries_of_lines(MIN_LINES),
-    )
+    )?;
+    Ok(Rebuilt {
+        heap,
+        ended: Vec::new(alloc),
+    })
 }
 
 /// A node over a new image.
 fn new_node(alloc: Global) -> Result<Node, Refusal>
     ensures follows { IfOk result (λ node. Follows (⟦<WblEngine<CountingPmem<SimPmem>> as Durable>⟧.contents node.engine)
-        (⟦<ListKeyspace as Keyspace>⟧.table node.keyspace) node.heap) }
+        (⟦<ListKeyspace as Keyspace>⟧.table node.keyspace) node.heap node.ended.items) }
     ensures durable { IfOk result (λ node. IsDurable (⟦<WblEngine<CountingPmem<SimPmem>> as Durable>⟧.device node.engine)
         (⟦<WblEngine<CountingPmem<SimPmem>> as Durable>⟧.contents node.engine)) }
     ensures sound { IfOk result (λ node. ⟦<WblEngine<CountingPmem<SimPmem>> as Durable>⟧.is_faulted node.engine ≡ false) }
 {
-    let heap = free_heap(alloc)?;
+    let room = free_room(alloc)?;
     let device = CountingPmem::new(SimPmem::new(alloc, MIN_LINES)?);
     match WblEngine::format(device, Role::Standby) {
         Ok(engine) => Ok(Standby {
             engine,
             keyspace: ListKeyspace::new(alloc),
-            heap,
+            heap: room.heap,
+            ended: room.ended,
         }),
         Err((refusal, _)) => Err(refusal),
     }
@@ -63,7 +71,7 @@ fn commit_rounds<E: Durable, K: Keyspace>(
     sets: u64,
     rounds: u64,
 ) -> Result<(), Refusal>
-    requires follows { Follows (E.contents node.old.engine) (K.table node.old.keyspace) node.old.heap }
+    requires follows { Follows (E.contents node.old.engine) (K.table node.old.keyspace) node.old.heap node.old.ended.items }
     requires sound { E.is_faulted node.old.engine ≡ false }
     requires durable { IsDurable (E.device node.old.engine) (E.contents node.old.engine) }
 {

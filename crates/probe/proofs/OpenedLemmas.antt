@@ -16,6 +16,7 @@ use Rattle.extent_heap.specs.Room.{Room}
 use Rattle.mv_keyspace.specs.Row.{numbers_of}
 use Rattle.mv_keyspace.specs.Table.{Table}
 use Rattle.mv_keyspace.proofs.DistinctLemmas.{distinct-append}
+use Rattle.placing.specs.Back.{HasOut}
 use Rattle.placing.specs.Read.{AreOf, Shows}
 use Rattle.placing.specs.Rebuilt.{AreEndedOf, IsRebuilt}
 use Rattle.placing.proofs.MemberLemmas.{distinct_none, first_or_later, here, later, no_member}
@@ -180,21 +181,6 @@ module _ {lines' : ℕ} {image : Image} {role : Role} {contents : Contents} {cou
     gapped_are = λ i. (λ m. left_member i m, λ told. left_listed i told);
   }
 
-  -- what is made of them follows the contents
-  pub opened_follows : (table : Table) (room : Room) → IsRebuilt was table room → Follows contents table room
-  opened_follows table room rebuilt = record {
-    consistent = record {
-      free = rebuilt.consistent.free;
-      beyond = λ i past. beyond i (subst (λ n. entries_of_lines n ≤ i) opened.lines_are past);
-    };
-    left = record {
-      entries = λ i free. subst (λ n. (i < entries_of_lines n) × IsTrue (contents.is_free i) × (contents.versions i ≡ None)) (sym opened.lines_are) (rebuilt.left.entries i free);
-      lines = λ line free. subst (λ n. (first_extent_line n ≤ line) × (line < n)) (sym opened.lines_are) (rebuilt.left.lines line free);
-      apart = rebuilt.left.apart;
-    };
-    table_is = rebuilt.table_is;
-  }
-
   -- the entries of versions that have ended may be freed
   pub opened_ended : (ended : List EntryNo) → AreEndedOf was (numbers_of ended) → AreEnded contents ended
   opened_ended ended are = go ended are.once (λ i m. (are.these i).0 m)
@@ -219,6 +205,26 @@ module _ {lines' : ℕ} {image : Image} {role : Role} {contents : Contents} {cou
             none_listed entry.0 entries (IsDistinct-head nat_eq entry.0 (numbers_of entries) once),
             go entries (IsDistinct-tail nat_eq entry.0 (numbers_of entries) once) (λ i m. all i (later entry.0 i (numbers_of entries) m)),
           )
+
+  -- what is made of them follows the contents
+  pub opened_follows : (table : Table) (room : Room) (ended : List EntryNo) → IsRebuilt was table room → AreEndedOf was (numbers_of ended) → Follows contents table room ended
+  opened_follows table room ended rebuilt are =
+      let out = subst (λ n. HasOut (record was { lines = n }) room 0) (sym opened.lines_are) rebuilt.out in record {
+        consistent = record {
+          free = rebuilt.consistent.free;
+          beyond = λ i past. beyond i (subst (λ n. entries_of_lines n ≤ i) opened.lines_are past);
+        };
+        left = record {
+          entries = λ i free. subst (λ n. (i < entries_of_lines n) × IsTrue (contents.is_free i) × (contents.versions i ≡ None)) (sym opened.lines_are) (rebuilt.left.entries i free);
+          lines = λ line free. subst (λ n. (first_extent_line n ≤ line) × (line < n)) (sym opened.lines_are) (rebuilt.left.lines line free);
+          apart = rebuilt.left.apart;
+        };
+        table_is = rebuilt.table_is;
+        apart = of_shown.lawful.apart;
+        out = record { end_line = out.end_line; end_entry = out.end_entry; held = out.held };
+        listed = opened_ended ended are;
+        all = λ i is. listed_member i ended ((are.these i).1 is);
+      }
 
 unlisted_take : (i n : ℕ) (entries : List EntryNo) → is_listed i entries ≡ false → is_listed i (take n entries) ≡ false
 unlisted_take i zero entries none = refl

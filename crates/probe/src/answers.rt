@@ -1,6 +1,6 @@
 //! How answers are written.
 use crate::cause::Cause;
-use kv_types::{RecordId, Refusal, Reply, Value};
+use kv_types::{Change, RecordId, Refusal, Reply, Value};
 use resp_codec::write_reply;
 use std::alloc::{AllocError, Global};
 
@@ -53,6 +53,25 @@ pub fn record_and_value_text(
     let id = record_text(alloc, id)?;
     let value = hexed(alloc, value.as_slice())?;
     format!(in alloc; "{id}={value}")
+}
+
+/// `put:RECORD=VALUE`, `drop:RECORD`, `drop-key:KEY` or `clear`.
+pub fn change_text(alloc: Global, change: &Change) -> Result<String, AllocError> {
+    match change {
+        Change::Put(id, value) => {
+            let put = record_and_value_text(alloc, id, value)?;
+            format!(in alloc; "put:{put}")
+        }
+        Change::Drop(id) => {
+            let id = record_text(alloc, id)?;
+            format!(in alloc; "drop:{id}")
+        }
+        Change::DropKey(key) => {
+            let key = hexed(alloc, key.as_slice())?;
+            format!(in alloc; "drop-key:{key}")
+        }
+        Change::Clear => String::from_str(alloc, "clear"),
+    }
 }
 
 /// The bytes of a reply as the protocol writes them, in hexadecimal.

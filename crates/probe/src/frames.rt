@@ -1,6 +1,6 @@
 //! A new standby that takes one frame.
 ghost use Rattle.std.specs.Prelude.{◌≡◌, ◌<◌, ◌≤◌, ◌↔◌, ℕ, false, [], IsTrue, IfOk};
-ghost use Rattle.extent_heap.specs.Room.{is_free_line, is_free_entry};
+ghost use Rattle.extent_heap.specs.Room.{fresh_room, is_free_line, is_free_entry};
 ghost use Rattle.model.specs.Image.{entries_of_lines, first_extent_line};
 ghost use Rattle.wbl_engine.specs.Contents.{IsDurable, IsNew};
 
@@ -10,8 +10,9 @@ use crate::image::contents_text;
 use crate::words::{changes, number};
 use extent_heap::ExtentHeap;
 use kv_types::Refusal;
-use model::{MIN_LINES, Role, read_image};
+use model::{LAYOUT, MIN_LINES, Role, read_image};
 use mv_keyspace::{Keyspace, ListKeyspace};
+use placing::Rebuilt;
 use pmem::{Pmem, SimPmem};
 use standby::{Ack, Frame, Standby};
 use std::alloc::Global;
@@ -34,13 +35,13 @@ pub fn answer(alloc: Global, words: &[&str]) -> Result<String, Cause> {
 
 /// What a new standby answers to a frame, and what its image holds then.
 fn answer_to(alloc: Global, frame: &Frame) -> Result<String, Cause> {
-    let heap = match heap_of(alloc, MIN_LINES) {
-        Ok(heap) => heap,
+    let room = match room_of(alloc, MIN_LINES) {
+        Ok(room) => room,
         Err(refusal) => return refused(alloc, refusal),
     };
     match new_engine(alloc) {
         Ok(engine) => {
-            let (answer, device) = take(alloc, engine, ListKeyspace::new(alloc), heap, frame);
+            let (answer, device) = take(alloc, engine, ListKeyspace::new(alloc), room, frame);
             let answer = ack_text(alloc, answer)?;
             let contents = device_text(alloc, &device)?;
             Ok(format!(in alloc; "{answer}, {contents}")?)
@@ -77,13 +78,23 @@ fn new_engine(alloc: Global) -> Result<WblEngine<SimPmem>, Refusal>
     }
 }
 
-/// The heap of a new image with `lines` lines: all its entries and extents are free.
-fn heap_of(alloc: Global, lines: u64) -> Result<ExtentHeap, Refusal>
-    ensures lines { IfOk result (λ heap. (line : ℕ) → IsTrue (is_free_line heap line) ↔ ((first_extent_line lines ≤ line) × (line < lines))) }
-    ensures entries { IfOk result (λ heap. (i : ℕ) → IsTrue (is_free_entry heap i) ↔ (i < entries_of_lines lines)) }
+/// The room of a new image with `lines` lines: all its entries and extents are free, and no version has ended.
+fn room_of(alloc: Global, lines: u64) -> Result<Rebuilt, Refusal>
+    ensures fresh { IfOk result (λ room. room.heap ≡ fresh_room (first_extent_line lines) lines (entries_of_lines lines)) }
+    ensures lines { IfOk result (λ room. (line : ℕ) → IsTrue (is_free_line room.heap line) ↔ ((first_extent_line lines ≤ line) × (line < lines))) }
+    ensures entries { IfOk result (λ room. (i : ℕ) → IsTrue (is_free_entry room.heap i) ↔ (i < entries_of_lines lines)) }
+    ensures none { IfOk result (λ room. room.ended.items ≡ []) }
 {
-    let entries = lines / 8;
-    ExtentHeap::new(alloc, 8 + entries, lines, entries)
+    let heap = ExtentHeap::new(
+        alloc,
+        LAYOUT.first_extent_line(lines),
+        lines,
+        LAYOUT.entries_of_lines(lines),
+    )?;
+    Ok(Rebuilt {
+        heap,
+        ended: Vec::new(alloc),
+    })
 }
 
 /// What a standby over a new image answers to a frame, and its device afterwards.
@@ -91,11 +102,13 @@ fn take<E: Durable, K: Keyspace + Drop>(
     alloc: Global,
     engine: E,
     keyspace: K,
-    heap: ExtentHeap,
+    room: Rebuilt,
     frame: &Frame,
 ) -> (Result<Ack, Refusal>, E::Device)
-    requires lines { (line : ℕ) → IsTrue (is_free_line heap line) ↔ ((first_extent_line MIN_LINES ≤ line) × (line < MIN_LINES)) }
-    requires entries { (i : ℕ) → IsTrue (is_free_entry heap i) ↔ (i < entries_of_lines MIN_LINES) }
+    requires fresh { room.heap ≡ fresh_room (first_extent_line MIN_LINES) MIN_LINES (entries_of_lines MIN_LINES) }
+    requires lines { (line : ℕ) → IsTrue (is_free_line room.heap line) ↔ ((first_extent_line MIN_LINES ≤ line) × (line < MIN_LINES)) }
+    requires entries { (i : ℕ) → IsTrue (is_free_entry room.heap i) ↔ (i < entries_of_lines MIN_LINES) }
+    requires none { room.ended.items ≡ [] }
     requires new { IsNew MIN_LINES Role.Standby (E.contents engine) }
     requires durable { IsDurable (E.device engine) (E.contents engine) }
     requires sound { E.is_faulted engine ≡ false }
@@ -104,7 +117,8 @@ fn take<E: Durable, K: Keyspace + Drop>(
     let mut standby = Standby {
         engine,
         keyspace,
-        heap,
+        heap: room.heap,
+        ended: room.ended,
     };
     let answer = standby.on_frame(alloc, frame);
     (answer, standby.into_device())

@@ -103,17 +103,12 @@ fn freed_text(alloc: Global, freed: Result<Freed, Refusal>) -> Result<String, Ca
     }
 }
 
-/// Crashes and opens the image again, with what a node keeps in memory; and the entries of the versions that have ended.
-fn wake(
-    alloc: Global,
-    device: SimPmem,
-    role: Role,
-) -> Result<(Node, Vec<EntryNo>), (Refusal, SimPmem)>
-    ensures follows { IfOk result (λ o. Follows (⟦<WblEngine<SimPmem> as Durable>⟧.contents o.0.engine)
-        (⟦<ListKeyspace as Keyspace>⟧.table o.0.keyspace) o.0.heap) }
-    ensures durable { IfOk result (λ o. IsDurable (⟦<WblEngine<SimPmem> as Durable>⟧.device o.0.engine) (⟦<WblEngine<SimPmem> as Durable>⟧.contents o.0.engine)) }
-    ensures sound { IfOk result (λ o. ⟦<WblEngine<SimPmem> as Durable>⟧.is_faulted o.0.engine ≡ false) }
-    ensures ended { IfOk result (λ o. AreEnded (⟦<WblEngine<SimPmem> as Durable>⟧.contents o.0.engine) o.1.items) }
+/// Crashes and opens the image again, with what a node keeps in memory.
+fn wake(alloc: Global, device: SimPmem, role: Role) -> Result<Node, (Refusal, SimPmem)>
+    ensures follows { IfOk result (λ node. Follows (⟦<WblEngine<SimPmem> as Durable>⟧.contents node.engine)
+        (⟦<ListKeyspace as Keyspace>⟧.table node.keyspace) node.heap node.ended.items) }
+    ensures durable { IfOk result (λ node. IsDurable (⟦<WblEngine<SimPmem> as Durable>⟧.device node.engine) (⟦<WblEngine<SimPmem> as Durable>⟧.contents node.engine)) }
+    ensures sound { IfOk result (λ node. ⟦<WblEngine<SimPmem> as Durable>⟧.is_faulted node.engine ≡ false) }
 {
     let lines = device.lines();
     let (engine, versions) = crash_and_reopen(alloc, device, role)?;
@@ -125,14 +120,12 @@ fn wake(
         versions.counted,
         &versions.gapped,
     ) {
-        Ok(rebuilt) => {
-            let node = Standby {
-                engine,
-                keyspace,
-                heap: rebuilt.heap,
-            };
-            Ok((node, rebuilt.ended))
-        }
+        Ok(rebuilt) => Ok(Standby {
+            engine,
+            keyspace,
+            heap: rebuilt.heap,
+            ended: rebuilt.ended,
+        }),
         Err(refusal) => Err((refusal, engine.into_device())),
     }
 }
@@ -142,11 +135,12 @@ fn wake(
 pub fn rebuild(alloc: Global, device: SimPmem, role: Role, ids: &[&str]) -> Answered {
     let entries = device.lines() / 8;
     match wake(alloc, device, role) {
-        Ok((node, ended)) => {
+        Ok(node) => {
             let Standby {
                 engine,
                 keyspace,
                 heap,
+                ended,
             } = node;
             let device = engine.into_device();
             let records = keyspace_text(alloc, &keyspace, ids)?;
@@ -191,9 +185,9 @@ fn room_text(alloc: Global, heap: ExtentHeap, entries: u64) -> Result<String, Ca
 /// Frees the first `count` entries of versions that have ended: what the call has made free, and the record then; or the refusal.
 pub fn free(alloc: Global, device: SimPmem, role: Role, count: u64) -> Answered {
     match wake(alloc, device, role) {
-        Ok((node, ended)) => {
+        Ok(node) => {
             let mut engine = node.engine;
-            let freed = free_first(alloc, &mut engine, ended, count);
+            let freed = free_first(alloc, &mut engine, node.ended, count);
             let answer = freed_and_record_text(alloc, freed, &engine);
             let device = engine.into_device();
             Ok((answer?, device))
@@ -229,7 +223,7 @@ fn freed_and_record_text(
 /// Takes groups, each one position on: the record then, or the first refusal.
 pub fn take(alloc: Global, device: SimPmem, role: Role, groups: &[&str]) -> Answered {
     match wake(alloc, device, role) {
-        Ok((node, _)) => {
+        Ok(node) => {
             let mut node = node;
             let answer = take_groups(alloc, &mut node, groups);
             let device = node.into_device();
@@ -244,7 +238,7 @@ fn take_groups<E: Durable, K: Keyspace>(
     node: &mut Standby<E, K>,
     groups: &[&str],
 ) -> Result<String, Cause>
-    requires follows { Follows (E.contents node.old.engine) (K.table node.old.keyspace) node.old.heap }
+    requires follows { Follows (E.contents node.old.engine) (K.table node.old.keyspace) node.old.heap node.old.ended.items }
     requires durable { IsDurable (E.device node.old.engine) (E.contents node.old.engine) }
     requires sound { E.is_faulted node.old.engine ≡ false }
 {

@@ -3,6 +3,7 @@
 
 mod answers;
 mod cause;
+mod decoder;
 mod device;
 mod engine;
 mod entries;

@@ -6,7 +6,7 @@ use crate::heap::HeapProbe;
 use crate::image::ImageProbe;
 use crate::pipe::PipeProbe;
 use crate::seats::LobbyProbe;
-use crate::{engine, frames, integers, records, replies, texts};
+use crate::{decoder, engine, frames, integers, records, replies, texts};
 use std::alloc::Global;
 
 /// At most one value of each kind.
@@ -48,6 +48,7 @@ fn answer_alone(alloc: Global, subject: &str, words: &[&str]) -> Result<String, 
         "record" => records::answer_record(alloc, words),
         "change" => records::answer_change(alloc, words),
         "reply" => replies::answer(alloc, words),
+        "frames" => decoder::answer(alloc, words),
         "standby" => frames::answer(alloc, words),
         _ => texts::answer(alloc, subject, words),
     }
