@@ -92,10 +92,10 @@ TELLING = b"*$\r\n0123456789-"
 
 
 class Script:
-    """What a connection will send: requests, transactions and empty arrays, now and then one to quit, at the end a fault and a request that is
+    """What a connection will send: these first requests, and then requests, transactions and empty arrays, now and then one to quit, at the end a fault and a request that is
     never read. `items` are those that are taken."""
 
-    def __init__(self, draws, count):
+    def __init__(self, draws, count, first=()):
         requests = []
         while len(requests) < count:
             requests += transaction(draws) if draws.randrange(8) == 0 else [request(draws, NAMES_THAT_GO_ON)]
@@ -103,6 +103,7 @@ class Script:
             requests.insert(draws.randrange(count), request(draws, [name]))
         if draws.randrange(3) == 0:
             requests.insert(draws.randrange(count), (b"QUIT",))
+        requests = [*first, *requests]
         empty = [b"*0\r\n" * (draws.randrange(8) == 0) for _ in requests]
         self.text = b"".join(before + spelling.spell(*words) for before, words in zip(empty, requests))
         self.text += draws.choice(FAULTS) + spelling.spell("SET", "a", "never")

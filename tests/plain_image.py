@@ -2,6 +2,8 @@
 of formatting, of commits of groups and of reopenings."""
 
 import dataclasses
+import heapq
+import itertools
 import typing
 
 from plain_keyspace import Clear, Drop, DropKey, Put
@@ -224,65 +226,182 @@ def extents_begin(lines):
     return DIRECTORY_LINE + lines // 8
 
 
-class Room:
-    """What is left of an image of so many lines. Each put takes an entry and the lines of its extent, which are never used
-    again."""
+class Place(typing.NamedTuple):
+    """Where a version is: its entry, and the first line and the number of lines of its extent."""
 
-    def __init__(self, lines):
-        self.entries = lines // 8
-        self.lines = lines - extents_begin(lines)
+    entry: int
+    line: int
+    lines: int
+
+
+class Part(typing.NamedTuple):
+    """The changes of a call or of a frame: with the places of their puts, in order, and the entries of the versions that they end."""
+
+    changes: tuple
+    places: tuple
+    ended: tuple
+
+
+class Room:
+    """What is free of an image of so many lines, beside these places: entries, the lowest first, and runs of lines, each as its first line
+    and the line after its last. `given` has the places that were taken since it was emptied last."""
+
+    def __init__(self, lines, places=()):
+        taken = {place.entry for place in places}
+        self.entries = [entry for entry in range(lines // 8) if entry not in taken]
+        self.runs = [(extents_begin(lines), lines)]
+        for place in sorted(places, key=lambda place: place.line):
+            first, end = self.runs.pop()
+            self.runs += [run for run in [(first, place.line), (place.line + place.lines, end)] if run[0] < run[1]]
+        self.given = []
 
     def take(self, changes):
-        """Whether there is room for all puts among these changes, which then is theirs."""
+        """Whether there is room for all puts among these changes: each takes the lowest free entry, and the lowest free run that is
+        long enough. Otherwise nothing is taken."""
         puts = [change for change in changes if isinstance(change, Put)]
-        lines = sum(lines_of(len(b"".join(put.name)) + len(put.value)) for put in puts)
-        if len(puts) > self.entries or lines > self.lines:
+        runs, lines = list(self.runs), []
+        for put in puts:
+            count = lines_of(len(b"".join(put.name)) + len(put.value))
+            at = next((at for at, (first, end) in enumerate(runs) if end - first >= count), None)
+            if at is None:
+                return False
+            first, end = runs[at]
+            runs[at:at + 1] = [(first + count, end)] if first + count < end else []
+            lines.append((first, count))
+        if len(puts) > len(self.entries):
             return False
-        self.entries -= len(puts)
-        self.lines -= lines
+        self.runs = runs
+        self.given += [Place(heapq.heappop(self.entries), *each) for each in lines]
         return True
 
+    def give(self, places):
+        """These places are free again."""
+        for place in places:
+            heapq.heappush(self.entries, place.entry)
+        joined = []
+        for first, end in sorted([*self.runs, *((place.line, place.line + place.lines) for place in places)]):
+            if joined and joined[-1][1] == first:
+                first = joined.pop()[0]
+            joined.append((first, end))
+        self.runs = joined
 
-def is_ended_by(change, name):
-    """Whether a change replaces or removes the record of this name."""
-    match change:
-        case Put(put_name, _):
-            return name == put_name or name[0] == put_name[0] and len(name) != len(put_name)
-        case Drop(dropped):
-            return name == dropped
-        case DropKey(key):
-            return name[0] == key
-        case Clear():
-            return True
+
+class Table:
+    """In which entry the version of each record is, by keys."""
+
+    def __init__(self):
+        self._keys = {}
+
+    def put(self, name, entry):
+        self._keys.setdefault(name[0], {})[name] = entry
+
+    def play(self, changes, places):
+        """Plays changes, the puts among them with these places, and gives the entries whose versions they end."""
+        ended, rest = [], iter(places)
+        for change in changes:
+            ended += self._end(change)
+            if isinstance(change, Put):
+                self.put(change.name, next(rest).entry)
+        return tuple(ended)
+
+    def _end(self, change):
+        """Takes out what a change replaces or removes."""
+        match change:
+            case Clear():
+                keys, self._keys = self._keys, {}
+                return [entry for held in keys.values() for entry in held.values()]
+            case DropKey(key):
+                return list(self._keys.pop(key, {}).values())
+            case Drop(name):
+                return self._take(name)
+            case Put(name, _):
+                held = self._keys.get(name[0], {})
+                is_other_kind = any(len(own) != len(name) for own in itertools.islice(held, 1))
+                return self._end(DropKey(name[0])) if is_other_kind else self._take(name)
+
+    def _take(self, name):
+        held = self._keys.get(name[0], {})
+        return [held.pop(name)] if name in held else []
 
 
 class Writer:
-    """A new image, to which groups are committed one after another, and which is opened again between them."""
+    """A new image, to which groups are committed one after another, from which what has ended is freed, and which is opened again. Beside
+    it is what its node holds in memory: the free room, and the entry of each record. A primary's is ahead of the image by what waits for a
+    commit."""
 
     def __init__(self, lines, role):
         self.lines = lines
         self.role = role
         self.words = {}
         self.record = Record(1, 0, 0, STAMPS_BETWEEN_RECORDS, 1, (), role)
-        # by the name of a record the entry of its version
-        self._live = {}
-        self._next_entry = 0
-        self._next_line = extents_begin(lines)
+        # by its entry each version that is not freed: its name and its place
+        self._versions = {}
+        # the entries of those that have ended
+        self._ended = set()
+        self.crash()
         self._put(0, [MAGIC, VERSION, lines, lines // 8])
         self._put_record()
 
-    def commit(self, parts):
-        """One group, of each changing command its changes; then the next record and the root. On a primary each command has
-        its own stamp and position; on a standby all have one stamp and the position after the group."""
+    def crash(self):
+        """What is in memory is gone, and made anew from the image."""
+        self.room = Room(self.lines, [place for _, place in self._versions.values()])
+        self.table = Table()
+        for entry, (name, _) in self._versions.items():
+            if entry not in self._ended:
+                self.table.put(name, entry)
+
+    @property
+    def live(self):
+        """The entries of versions that have not ended."""
+        return sorted(self._versions.keys() - self._ended)
+
+    @property
+    def ended(self):
+        """The entries of versions that have ended and are not freed."""
+        return sorted(self._ended)
+
+    def part(self, changes):
+        """These changes as a part, with the places that the room gave since it was asked last."""
+        places, self.room.given = tuple(self.room.given), []
+        return Part(tuple(changes), places, self.table.play(changes, places))
+
+    def commit(self, calls):
+        """One group of these changes, of which there is room for all."""
+        parts = []
+        for changes in calls:
+            if not self.room.take(changes):
+                raise ValueError("no room")
+            parts.append(self.part(changes))
+        self.commit_parts(parts, len(parts))
+
+    def commit_parts(self, parts, positions):
+        """One group of parts that together move the image by so many positions; then the next record and the root. On a primary each part has its own
+        stamp and position; on a standby all have one stamp and the position after the group."""
         position, cp = self.record.position, self.record.cp
         stamps = len(parts) if self.role == PRIMARY else 1
-        for number, changes in enumerate(parts, 1):
+        for number, part in enumerate(parts, 1):
             if self.role == PRIMARY:
-                self._make(changes, cp + number, position + number)
+                self._make(part, cp + number, position + number)
             else:
-                self._make(changes, cp + 1, position + len(parts))
-        number, position, cp = self.record.number + 1, position + len(parts), cp + stamps
+                self._make(part, cp + 1, position + positions)
+        number, position, cp = self.record.number + 1, position + positions, cp + stamps
         self.record = self.record._replace(number=number, position=position, cp=cp, cd=cp + STAMPS_BETWEEN_RECORDS)
+        self._put_record()
+
+    def free(self, entries):
+        """Frees entries whose versions have ended, and gives their places, which the room does not have yet."""
+        for entry in entries:
+            self._put((DIRECTORY_LINE + entry) * WORDS_OF_LINE, [0])
+            self._ended.remove(entry)
+        return [self._versions.pop(entry)[1] for entry in entries]
+
+    def free_ended(self):
+        """Frees all that has ended, and gives its places to the room, as a standby does."""
+        self.room.give(self.free(self.ended))
+
+    def clear_gap(self):
+        """Clears the oldest gap of an image in which no stamp lies in a gap."""
+        self.record = without_oldest_gap(self.record)
         self._put_record()
 
     def reopen(self):
@@ -290,27 +409,24 @@ class Writer:
         for self.record in reopened(self.record):
             self._put_record()
 
-    def _make(self, changes, stamp, position):
-        """The ends of what each change replaces or removes, and the versions that it writes."""
-        for change in changes:
-            for name in [name for name in self._live if is_ended_by(change, name)]:
-                self._put((DIRECTORY_LINE + self._live.pop(name)) * WORDS_OF_LINE + 1, [stamp])
-            if isinstance(change, Put):
-                self._write(change.name, change.value, stamp, position)
+    def _make(self, part, stamp, position):
+        """The versions that a part writes, and the ends of those that it replaces or removes."""
+        puts = [change for change in part.changes if isinstance(change, Put)]
+        for put, place in zip(puts, part.places):
+            self._write(put, place, stamp, position)
+        for entry in part.ended:
+            self._put((DIRECTORY_LINE + entry) * WORDS_OF_LINE + 1, [stamp])
+            self._ended.add(entry)
 
-    def _write(self, name, value, stamp, position):
-        """A version in the next entry and extent."""
-        data = b"".join(name) + value
-        lines = lines_of(len(data))
+    def _write(self, put, place, stamp, position):
+        """A version in its entry and extent."""
+        name, data = put.name, b"".join(put.name) + put.value
         kind, lengths = (STRING, len(name[0])) if len(name) == 1 else (FIELD, len(name[0]) + LENGTH_SHIFT * len(name[1]))
-        entry = Entry(stamp, 0, position, self._next_line, lines, kind, lengths, len(value))
-        self._put((DIRECTORY_LINE + self._next_entry) * WORDS_OF_LINE, entry)
-        padded = data.ljust(lines * 64, b"\0")
-        extent = [int.from_bytes(padded[at:at + 8], "little") for at in range(0, len(padded), 8)]
-        self._put(self._next_line * WORDS_OF_LINE, extent)
-        self._live[name] = self._next_entry
-        self._next_entry += 1
-        self._next_line += lines
+        entry = Entry(stamp, 0, position, place.line, place.lines, kind, lengths, len(put.value))
+        self._put((DIRECTORY_LINE + place.entry) * WORDS_OF_LINE, entry)
+        padded = data.ljust(place.lines * 64, b"\0")
+        self._put(place.line * WORDS_OF_LINE, [int.from_bytes(padded[at:at + 8], "little") for at in range(0, len(padded), 8)])
+        self._versions[place.entry] = name, place
 
     def _put_record(self):
         """The record in its slot, and its number as the root."""

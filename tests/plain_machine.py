@@ -2,6 +2,8 @@
 docs/replication.md: which events do their step, the list of calls, what is released, where both nodes stand, and at
 which event a fence that fails ends the run."""
 
+import typing
+
 import plain_image
 import plain_redis
 import spelling
@@ -11,12 +13,12 @@ PIPE_ITEMS = 256
 KEPT_GROUPS = 256
 OPEN_CHANGES = 64
 
-# Fences that formatting makes, and fences that a commit makes.
+# Fences that each of these makes. A reopening that first clears a gap makes those of both.
 FORMAT_FENCES = 3
 COMMIT_FENCES = 3
-
-# What a node does to its image when it is opened again, beside the groups that it commits.
-REOPENING = "reopening"
+FREE_FENCES = 1
+CLEAR_FENCES = 3
+REOPEN_FENCES = 2
 
 # The nodes that have to run for an event: for most the primary. Those that crash and open again need not run.
 NODES_OF = {"open_link": ("primary", "standby"), "deliver": ("standby",), "apply": ("standby",), "crash": (), "reopen": ()}
@@ -49,40 +51,85 @@ class Connection:
         return next((place for place, (_, position) in enumerate(self.held) if position > least), len(self.held))
 
 
-class Node:
-    """An image that takes one commit for each group, a pair of the positions before and after it. `history` has the groups and the
-    reopenings, in order. `fail` is the number of the fence that fails, 0 for none."""
+class Group(typing.NamedTuple):
+    """Waits for the committer: all changes between two positions."""
 
-    def __init__(self, lines, fail):
-        self.lines = lines
-        self.room = plain_image.Room(lines)
-        self.position = 0
-        self.history = []
+    before: int
+    after: int
+
+
+class FreeList(typing.NamedTuple):
+    """Waits for the committer: entries of versions that have ended, and the position at which the newest of them did."""
+
+    position: int
+    entries: tuple
+
+
+class Node:
+    """A node over a new image. `fail` is the number of the fence that fails, 0 for none."""
+
+    def __init__(self, lines, role, fail):
+        self.image = plain_image.Writer(lines, role)
         self.runs = True
         self.fences = 0
         self.fail = fail
         self.fence(FORMAT_FENCES)
+
+    @property
+    def position(self):
+        return self.image.record.position
+
+    @property
+    def gaps(self):
+        return len(self.image.record.gaps)
 
     def fence(self, count):
         self.fences += count
         if self.fences - count < self.fail <= self.fences:
             raise Fault
 
-    def commit(self, group):
+    def commit(self, parts, positions):
         self.fence(COMMIT_FENCES)
-        self.history.append(group)
-        self.position = group[1]
+        self.image.commit_parts(parts, positions)
+
+    def free(self, entries):
+        """The places that are free on the image then."""
+        self.fence(FREE_FENCES)
+        return self.image.free(entries)
+
+    def clear_gap(self):
+        self.fence(CLEAR_FENCES)
+        self.image.clear_gap()
+
+    def take(self, changes, positions):
+        """A standby takes a frame: what has ended is freed before it and after it. Whether there was room for it."""
+        self.free_ended()
+        if not self.image.room.take(changes):
+            return False
+        self.commit([self.image.part(changes)], positions)
+        self.free_ended()
+        return True
+
+    def free_ended(self):
+        if self.image.ended:
+            self.fence(FREE_FENCES)
+            self.image.free_ended()
 
     def crash(self):
-        """Whether it ran. What it had committed stays."""
+        """Whether it ran. Its image stays."""
         was_running, self.runs = self.runs, False
+        if was_running:
+            self.image.crash()
         return was_running
 
     def reopen(self):
         """Whether it had crashed."""
         if self.runs:
             return False
-        self.history.append(REOPENING)
+        if self.gaps == plain_image.MOST_GAPS:
+            self.fence(CLEAR_FENCES)
+        self.fence(REOPEN_FENCES)
+        self.image.reopen()
         self.runs = True
         return True
 
@@ -94,22 +141,30 @@ class Machine:
     def __init__(self, lines=DEFAULT_LINES, fail=(0, 0)):
         self.connections = []
         self.calls = []
+        # of each changing call its part
+        self.parts = []
         self.done = []
         self.ended = None
-        self.redis = plain_redis.Redis(plain_image.Room(lines[0]))
         self._begin(0)
         self.frames = []
         self.arrived = []
         self.acknowledgements = []
         try:
-            self.primary, self.standby = Node(lines[0], fail[0]), Node(lines[1], fail[1])
+            self.primary = Node(lines[0], plain_image.PRIMARY, fail[0])
+            self.standby = Node(lines[1], plain_image.STANDBY, fail[1])
+            self.redis = plain_redis.Redis(self.primary.image.room)
         except Fault:
+            self.redis = plain_redis.Redis()
             self.ended = "formatting"
 
-    def _begin(self, position):
-        """What a primary holds that begins at this position: nothing waits for the committer or the link."""
-        self.closed = self.local = position
-        self.closed_groups = []
+    def _begin(self, position, unlisted=()):
+        """What a primary holds that begins at this position, with these entries of versions that have ended: nothing waits for the committer or
+        the link."""
+        self.closed = self.local = self.newest = position
+        self.unlisted = list(unlisted)
+        self.work = []
+        self.aside = []
+        self.notices = []
         self.stage = ("ready", None)
         self.sending = []
         self.kept = []
@@ -174,23 +229,79 @@ class Machine:
             return False
         item = connection.waiting.pop(0)
         reply = self.redis.call(int(c), item)
+        if self.redis.position > len(self.parts):
+            self.parts.append(self.primary.image.part(self.redis.parts[-1]))
         connection.made.append((reply, self.redis.position))
         self.calls.append((int(c), item, reply, self.redis.position))
         return True
 
-    # ---- the committer: a group is all changes between two positions
+    # ---- the committer: its work is groups, and free lists between them
 
     def close_group(self):
-        if self.closed < self.redis.position and len(self.closed_groups) < PIPE_ITEMS:
-            self.closed_groups.append((self.closed, self.redis.position))
-            self.closed = self.redis.position
-            return True
+        if len(self.work) == PIPE_ITEMS:
+            return False
+        if self.closed < self.redis.position:
+            self._close_changes()
+        elif self.unlisted:
+            self.work.append(FreeList(self.newest, tuple(self.unlisted)))
+            self.unlisted = []
+        else:
+            return False
+        return True
+
+    def _close_changes(self):
+        """All changes that wait become a group. What they ended is to be listed."""
+        group = Group(self.closed, self.redis.position)
+        for position in range(group.before, group.after):
+            ended = self.parts[position].ended
+            self.unlisted += ended
+            self.newest = position + 1 if ended else self.newest
+        self.work.append(group)
+        self.closed = group.after
+
+    def _has_room(self):
+        return len(self.sending) < PIPE_ITEMS
+
+    def _next_group(self):
+        """The place in the queue of the group that may be committed, or None."""
+        groups = (at for at, item in enumerate(self.work) if isinstance(item, Group))
+        return next(groups, None) if self.stage[0] == "ready" and self._has_room() else None
 
     def commit(self):
-        if self.stage[0] == "ready" and self.closed_groups and len(self.sending) < PIPE_ITEMS:
-            self.primary.commit(self.closed_groups[0])
-            self.stage = ("durable", self.closed_groups.pop(0))
+        at = self._next_group()
+        if at is None:
+            return False
+        *lists, group = self.work[:at + 1]
+        self.primary.commit(self.parts[group.before:group.after], group.after - group.before)
+        self.aside += lists
+        self.stage = ("durable", group)
+        del self.work[:at + 1]
+        return True
+
+    def free(self):
+        """The first list that was reached is freed; all others are aside then."""
+        if self.stage[0] != "ready" or self._next_group() is not None:
+            return False
+        reached = self.aside + (self.work if self._has_room() else [])
+        if not reached or self.remote < reached[0].position:
+            return False
+        self.notices.append(self.primary.free(reached[0].entries))
+        self.aside = reached[1:]
+        if self._has_room():
+            self.work = []
+        return True
+
+    def accept_freed(self):
+        if self.notices:
+            self.primary.image.room.give(self.notices.pop(0))
             return True
+
+    def clear_gap(self):
+        if self.stage[0] != "ready" or not self._has_room() or self.work or self.aside or not self.primary.gaps:
+            return False
+        self.primary.clear_gap()
+        self.notices.append([])
+        return True
 
     def raise_local(self):
         if self.stage[0] == "durable":
@@ -234,8 +345,8 @@ class Machine:
         if not self.arrived:
             return False
         before, after = self.arrived.pop(0)
-        if before == self.standby.position and self.standby.room.take(self.changes_of(before, after)):
-            self.standby.commit((before, after))
+        if before == self.standby.position:
+            self.standby.take(self.changes_of(before, after), after - before)
         if after <= self.standby.position:
             self.acknowledgements.append(self.standby.position)
         return True
@@ -305,8 +416,9 @@ class Machine:
         for connection in self.connections:
             connection.is_open = False
         self.calls = [call for call in self.calls if call[3] <= position]
-        self.redis.crash(position, plain_image.Room(self.primary.lines))
-        self._begin(position)
+        self.parts = self.parts[:position]
+        self.redis.crash(position, self.primary.image.room)
+        self._begin(position, self.primary.image.ended)
 
     def reopen(self, node):
         return getattr(self, node).reopen()

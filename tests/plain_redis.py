@@ -101,14 +101,12 @@ class Redis:
         self._sessions.pop(connection, None)
 
     def crash(self, position, room):
-        """It goes on from its first changing calls, up to this position, with a room to which nothing was written yet, and without
+        """It goes on from its first changing calls, up to this position, with the room that is left beside them, and without
         connections."""
         self.parts = self.parts[:position]
         self.keyspace = keyspace_after(self.parts)
         self._sessions = {}
         self._room = room
-        for part in self.parts:
-            self._room.take(part)
 
     def call(self, connection, item):
         """The bytes of the reply to an item of a connection: the words of a request, or a fault. All that it changes is one

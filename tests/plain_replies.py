@@ -46,5 +46,27 @@ def array(replies):
     return b"*%d\r\n%s" % (len(replies), b"".join(replies))
 
 
+def elements(reply):
+    """The replies in an array."""
+    at = reply.index(b"\r\n") + 2
+    found = []
+    while at < len(reply):
+        end = _end(reply, at)
+        found.append(reply[at:end])
+        at = end
+    return found
+
+
+def _end(data, at):
+    """Where the reply that begins here ends."""
+    end = data.index(b"\r\n", at) + 2
+    kind, count = data[at:at + 1], data[at + 1:end - 2]
+    if kind == b"$" and int(count) >= 0:
+        return end + int(count) + 2
+    for _ in range(int(count) if kind == b"*" else 0):
+        end = _end(data, end)
+    return end
+
+
 OK, QUEUED = simple(b"OK"), simple(b"QUEUED")
 NULL_BULK, NULL_ARRAY = b"$-1\r\n", b"*-1\r\n"

@@ -95,3 +95,73 @@ def read(data):
     if reader.data:
         raise ValueError("bytes are left over")
     return message
+
+
+class Cut(Exception):
+    """The bytes end, and more of them may make a frame."""
+
+
+class Fault(Exception):
+    """No frame begins with these bytes."""
+
+
+class Front:
+    """Reads the front of a frame, of which each number has bounds: where it is cut, some number within them begins with what is there."""
+
+    def __init__(self, data):
+        self.data = data
+
+    def take(self, count):
+        if len(self.data) < count:
+            raise Cut
+        taken, self.data = self.data[:count], self.data[count:]
+        return taken
+
+    def number(self, size, least, most):
+        begun = self.data[:size]
+        lowest, highest = (int.from_bytes(begun.ljust(size, rest), "big") for rest in (b"\0", b"\xff"))
+        if highest < least or most < lowest:
+            raise Fault
+        return int.from_bytes(self.take(size), "big")
+
+    def change(self, left):
+        """Passes a change of at most `left` bytes: what it leaves of them can be clears, each of one byte."""
+        kind = self.number(1, 1, 6)
+        names, values = (PUTS | DROPS | {DROP_KEY: 1, CLEAR: 0})[kind], int(kind in PUTS)
+        spare = left - (1 + 2 * names + 4 * values)
+        if spare < 0:
+            raise Fault
+        for size, limit in names * [(2, 512)] + values * [(4, 65_536)]:
+            length = self.number(size, 0, min(limit, spare))
+            self.take(length)
+            spare -= length
+
+    def frame(self):
+        """Passes a frame."""
+        if self.number(1, 1, 2) == ACKNOWLEDGEMENT:
+            self.take(16)
+            return
+        self.take(8)
+        before = self.number(8, 0, 2**64 - 2)
+        self.number(8, before + 1, 2**64 - 1)
+        left = self.number(8, 0, 2**40)
+        while left:
+            there = len(self.data)
+            self.change(left)
+            left -= there - len(self.data)
+
+
+def read_stream(data):
+    """The frames of these bytes, each with how many bytes there are up to its end; and how many there are up to the first one after which
+    none continues them, or None."""
+    frames, start = [], 0
+    for end in range(1, len(data) + 1):
+        try:
+            Front(data[start:end]).frame()
+        except Cut:
+            continue
+        except Fault:
+            return frames, end
+        frames.append((end, read(data[start:end])))
+        start = end
+    return frames, None

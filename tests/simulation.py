@@ -58,6 +58,10 @@ class Schedule:
             self.serve(c)
         self.commit()
 
+    def free(self):
+        """What has ended is listed and, where the standby has passed it, freed; its places may be used again."""
+        self.add("close-group", "free", "accept-freed")
+
     def take(self, *frames):
         """The frames of these numbers come to the standby, each of which is taken or refused."""
         for frame in frames:
@@ -75,6 +79,13 @@ class Schedule:
 
     def read_marks(self, c):
         self.add(f"read {c} local", f"read {c} remote")
+
+    def serve_to_end(self, c, number, request):
+        """A connection's request is served to its end, as the group and the frame of this number."""
+        self.group(c, request)
+        self.replicate(number)
+        self.read_marks(c)
+        self.write_out(c)
 
     def write_out(self, c, most=2**20):
         """What the marks cover is released and written, if it is less than twice `most` bytes: in powers of two, each where
@@ -273,14 +284,8 @@ class Runs(common.Cases):
         self.assertEqual(trace.ended, whole.get(machine.ended, at))
 
     def assert_image(self, trace, machine, node, lines):
-        """The image is, word for word, that of the groups that the node committed and of its reopenings, and it reads so."""
-        parts = machine.redis.parts
-        writer = plain_image.Writer(lines, ROLES[node])
-        for done in getattr(machine, node).history:
-            if done == plain_machine.REOPENING:
-                writer.reopen()
-            else:
-                writer.commit(parts[slice(*done)])
+        """The image is, word for word, that of what the node did to it, and it reads so: just these entries are in use."""
+        writer, parts = getattr(machine, node).image, machine.redis.parts
         image = plain_image.read_image(plain_image.Words(lines, trace.words[node]))
         wrong = sorted(set(trace.words[node].items()) ^ set(writer.words.items()))
         self.assertEqual(wrong[:5], [], f"words of the {node} that are not as they should be, or should be and are not")
@@ -288,5 +293,9 @@ class Runs(common.Cases):
         self.assertEqual(image.map, dict(plain_keyspace.keyspace_after(parts[:image.record.position]).records()))
         self.assertEqual(trace.records[node], sorted(image.map.items()))
         record = image.record
+        versions = plain_image.read_versions(plain_image.Words(lines, trace.words[node]), record)
+        self.assertEqual([entry for entry, end in versions.counted if not end], writer.live)
+        self.assertEqual([entry for entry, end in versions.counted if end], writer.ended)
+        self.assertEqual(versions.gapped, [])
         told = NodeLine(record.position, record.number, record.cp, record.cd, record.epoch, node, len(record.gaps))
         self.assertEqual(trace.nodes[node], told)

@@ -8,8 +8,8 @@ PROGRAMS = ["bench"]
 
 def commit(sets, kind, ended):
     """The calls of a commit of so many SETs of one line each, `ended` of them for each SET ending a version, by docs/image.md: of each SET the
-    words of a line and of an entry, then the 24 words of a record in three lines, then the root."""
-    return f"commit {sets} {kind}: {sets * (8 + 8 + ended) + 24 + 1} stores, {sets * (2 + ended) + 3 + 1} flushes, 3 fences"
+    words of a line and of an entry, then the 24 words of a record in three lines, then the root. What it ended is freed then: a word each."""
+    return f"commit {sets} {kind}: {sets * (8 + 8 + 2 * ended) + 24 + 1} stores, {sets * (2 + 2 * ended) + 3 + 1} flushes, {3 + ended} fences"
 
 
 class Measured(common.Cases):

@@ -42,7 +42,7 @@ WORKED_IMAGE = {
 }
 
 # The same after the one group `SET a 1`, `SET b 2`, `SET a 3`. On the primary each SET has its own stamp and position,
-# on the standby all have the first stamp and the last position.
+# on the standby all have the first stamp and the last position, and the version that ended is freed.
 WORKED_GROUP = {
     0: 3544411304008368727,
     1: 1,
@@ -80,7 +80,7 @@ WORKED_GROUP = {
 WORKED_GROUP_OF = {
     # cp and cd; of each entry begin, end where it has ended, and position
     "primary": {10: 3, 11: 4100, 64: 1, 65: 3, 66: 1, 72: 2, 74: 2, 80: 3, 82: 3},
-    "standby": {10: 1, 11: 4098, 64: 1, 65: 1, 66: 3, 72: 1, 74: 3, 80: 1, 82: 3},
+    "standby": {10: 1, 11: 4098, 65: 1, 66: 3, 72: 1, 74: 3, 80: 1, 82: 3},
 }
 
 # The same after the one group `HSET h f 1`: entry 0 is of a field, and line 520 has the bytes 68 66 31.
@@ -113,6 +113,13 @@ def sets(count):
         schedule.read_marks(0)
         schedule.add("release 0", "write 0 5")
     return schedule
+
+
+def fences_of_sets(node, count):
+    """What each fence after those of formatting is of, in order: how many SETs were committed before, and which fence of the next one
+    it is. From the second SET on a standby makes a fourth, which frees what the frame ended."""
+    extra = {"primary": 0, "standby": 1}[node]
+    return [(before, number) for before in range(count) for number in range(1, 4 + extra * (before > 0))]
 
 
 class Images(Runs):
@@ -213,12 +220,13 @@ class Crashes(Runs):
         self.assertEqual(tuple(trace.nodes[node])[:3], (position, position + 1, position))
 
     def check_fence(self, node, number):
-        """In the commits of one SET and of the second one: by the picks of the root the position before or after, and
+        """In the commits of one SET and of the second and the third one: by the picks of the root the position before or after, and
         only at the last fence."""
         for before in range(3):
             for name, picks in PICKS.items():
                 with self.case(name, before=before):
-                    trace = self.crashed(node, FORMAT_FENCES * (1 + before) + number, picks, 4)
+                    fence = FORMAT_FENCES + 1 + fences_of_sets(node, 4).index((before, number))
+                    trace = self.crashed(node, fence, picks, 4)
                     # the events of a SET: Commit is the sixth of them, Apply the eleventh
                     event = {"primary": 6, "standby": 11}[node] + 17 * before
                     self.assertEqual(trace.ended, f"at event {event}, line {event + 2}: refusal 1: device fault")
@@ -247,16 +255,34 @@ class Crashes(Runs):
     def test_third_fence_of_a_commit_of_the_standby(self):
         self.check_fence("standby", 3)
 
+    def test_fence_by_which_a_standby_frees(self):
+        """The frame is there then, and nothing of it is acknowledged. By the picks of its begin the version that ended is freed, or is
+        not."""
+        for before in (1, 2):
+            for name, picks in PICKS.items():
+                with self.case(name, before=before):
+                    fence = FORMAT_FENCES + 1 + fences_of_sets("standby", 4).index((before, 4))
+                    trace = self.crashed("standby", fence, picks, 4)
+                    event = 11 + 17 * before
+                    self.assertEqual(trace.ended, f"at event {event}, line {event + 2}: refusal 1: device fault")
+                    self.assertEqual(trace.released, [before * OK])
+                    self.assert_holds(trace, "standby", before + 1)
+                    # two entries are in use by turns
+                    words = plain_image.Words(4_096, trace.words["standby"])
+                    live, ended = before % 2, 1 - before % 2
+                    counted = [(live, 0), (ended, before + 1)] if picks.startswith("0") else [(live, 0)]
+                    versions = plain_image.read_versions(words, plain_image.read_image(words).record)
+                    self.assertEqual((versions.counted, versions.gapped), (sorted(counted), []))
+
     def test_picks_drawn_by_a_seed(self):
         numbers = draws.numbers("picks")
         for node in NODES:
-            for fence in range(4, 13):
+            for fence, (before, number) in enumerate(fences_of_sets(node, 4)[:10], FORMAT_FENCES + 1):
                 picks = " ".join(str(numbers.randrange(4)) for _ in range(numbers.randint(1, 40)))
                 with self.case(node, fence=fence, picks=picks):
                     trace = self.crashed(node, fence, picks, 4)
-                    before = (fence - 4) // 3
                     position = trace.nodes[node].position
-                    self.assertIn(position, (before, before + 1) if fence % 3 == 0 else (before,))
+                    self.assertIn(position, {3: (before, before + 1), 4: (before + 1,)}.get(number, (before,)))
                     self.assert_holds(trace, node, position)
 
     def crashed_in_a_group(self, node, fence, picks):
@@ -369,7 +395,7 @@ class Crashes(Runs):
                     self.assert_holds(trace, node, 3)
 
     def test_a_fence_that_is_never_reached(self):
-        for fail in [(13, 0), (0, 13), (2**64 - 1, 2**64 - 1)]:
+        for fail in [(13, 0), (0, 15), (2**64 - 1, 2**64 - 1)]:
             with self.case("fail", fail=fail):
                 trace = self.play(sets(3), fail=fail)
                 self.assertEqual(trace.released, [3 * OK])

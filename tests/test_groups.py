@@ -149,12 +149,12 @@ class Groups(Runs):
                 self.assertEqual(trace.records["standby"], [((b"b",), b"2")])
 
     def test_a_standby_has_room_for_a_whole_frame_or_for_none(self):
-        # an image of 4,096 lines takes 512 versions: `left` of them are free when three come, and one after them
-        for left, stands in [(4, 512), (3, 512), (2, 510), (1, 511), (0, 512)]:
+        # an image of 4,096 lines has room for 512 versions: for `left` more when three come, the first of which is freed then, and one after them
+        for left, stands in [(4, 512), (3, 513), (2, 510), (1, 511), (0, 512)]:
             with self.case("left", left=left):
                 schedule = Schedule(1)
                 for number, size in enumerate(7 * [64] + [64 - left]):
-                    schedule.group(0, *(size * [SET_B]))
+                    schedule.group(0, *(spell("SET", f"k{64 * number + place}", "1") for place in range(size)))
                     schedule.replicate(number)
                 schedule.group(0, *self.SETS)
                 schedule.group(0, SET_B)

@@ -1,6 +1,8 @@
 """Events in any order, drawn by a seed, with crashes and reopenings, against one plain Redis: the promise of docs/promises.md, looked at from
 outside."""
 
+import collections
+
 import draws
 import plain_commands
 import plain_image
@@ -22,8 +24,9 @@ EVENTS = 10_000
 CRASHES = 6
 REQUESTS_OF_EACH = (240, 200, 150, 100, 60)
 
-# Images that take all that is drawn, and images that the longest values fill.
+# Images that take all that is drawn, and images that the first requests fill by more than half.
 AMPLE_LINES, SCARCE_LINES = 65_536, 4_096
+FILLING = [(b"SET", b"filling %d" % number, 65_536 * b"f") for number in range(2)]
 
 NO_ROOM = plain_replies.error(plain_replies.NO_ROOM)
 
@@ -37,11 +40,26 @@ PICKS = [0, 2**64 - 1, 1, 2]
 PIECES = [24, 24, 24, 24, 200, 2_000, 20_000]
 
 
+class ToldRoom:
+    """Room for changes, but where the reply that was heard last tells that there is none."""
+
+    def __init__(self):
+        self._replies = iter(())
+
+    def hear(self, call):
+        """The replies to the requests that the call runs: those in the array of an EXEC, its own otherwise."""
+        is_exec = call.words and call.words[0].lower() == b"exec" and call.reply[:1] == b"*"
+        self._replies = iter(plain_replies.elements(call.reply) if is_exec else [call.reply])
+
+    def take(self, _changes):
+        return next(self._replies) != NO_ROOM
+
+
 class Order:
     """Events drawn by a seed, and what the connections still have to send. One connection more than have entered
-    is drawn too, and so are those that left. `crashing` are the nodes that crash, and are opened again."""
+    is drawn too, and so are those that left. `crashing` are the nodes that crash, and are opened again; `first` are the first requests."""
 
-    def __init__(self, seed, crashing):
+    def __init__(self, seed, crashing, first=()):
         self.draws = draws.numbers(f"order {seed}")
         self.crashing = crashing
         self.schedule = Schedule()
@@ -50,8 +68,11 @@ class Order:
         # those that entered since the primary was opened last
         self.present = []
         self.guests = []
-        for count in REQUESTS_OF_EACH:
-            self.enter(count)
+        for c, count in enumerate(REQUESTS_OF_EACH):
+            self.enter(count, () if c else first)
+        self.feed(0, sum(len(spelling.spell(*words)) for words in first))
+        for _ in first:
+            self.schedule.serve(0)
         # after how many events a node crashed or was opened again
         self.fronts = []
         # how many times a frame was to be sent, and an acknowledgement to be made
@@ -73,10 +94,10 @@ class Order:
     def draw_one(self):
         self.draws.choice([*3 * [self.draw_of_connection], *2 * [self.draw_of_nodes]])()
 
-    def enter(self, count):
-        """A connection enters that will send so many requests."""
+    def enter(self, count, first=()):
+        """A connection enters that will send so many requests, after these first ones."""
         self.present.append(len(self.scripts))
-        self.scripts.append(draws.Script(self.draws, count))
+        self.scripts.append(draws.Script(self.draws, count, first))
         self.schedule.add("enter")
 
     def come_or_go(self):
@@ -120,9 +141,9 @@ class Order:
             self.schedule.add(" ".join([name, str(c), *mark]))
 
     def draw_of_nodes(self):
-        names = ["close-group", "commit", "raise-local", "hand", "send"]
+        names = ["close-group", "commit", "raise-local", "hand", "free", "accept-freed", "clear-gap", "send"]
         names += ["deliver", "apply", "ack-delivered", "raise-remote", "open-link"]
-        (name,) = self.draws.choices(names, [10, 15, 15, 15, 9, 4, 4, 4, 3, 1])
+        (name,) = self.draws.choices(names, [12, 15, 15, 15, 6, 4, 4, 9, 4, 4, 4, 3, 1])
         self.frames += name == "send"
         self.acknowledgements += name == "apply"
         # frames and acknowledgements may be old, or not there yet
@@ -152,13 +173,19 @@ class Order:
             self.schedule.write_out(c)
 
 
+def told_redis():
+    """A Redis, and its room, which has to hear each call before it is answered."""
+    room = ToldRoom()
+    return plain_redis.Redis(room), room
+
+
 class Orders(Runs):
     """One test a seed. What is looked at is the promise; that each event did its step where it should is the plain
     machine's part."""
 
     def check(self, seed, lines, is_finished):
         # what a primary lost on its way to the standby never comes there, and then no run can be served to its end
-        order = Order(seed, ["standby"] if is_finished else ["primary", "primary", "standby"])
+        order = Order(seed, ["standby"] if is_finished else ["primary", "primary", "standby"], FILLING if lines == SCARCE_LINES else ())
         order.draw(EVENTS)
         if is_finished:
             order.finish()
@@ -169,6 +196,9 @@ class Orders(Runs):
         stands = [self.check_image(trace, node, lines) for node in NODES]
         with self.case("positions", stands=stands):
             self.assertTrue(stands[1] == stands[0] if is_finished else stands[1] <= stands[0])
+            # what has ended is freed, again and again, where the standby follows
+            done = collections.Counter(event for event, did in zip(order.schedule.events, trace.done) if did)
+            self.assertGreater(min(done["free"], done["accept-freed"]), 4 if 2 * stands[1] > stands[0] else -1)
             self.check_draws(trace, stands[0])
         for c, script in enumerate(order.scripts):
             is_whole = is_finished and c < CONNECTIONS
@@ -204,10 +234,11 @@ class Orders(Runs):
         self.assertGreater(replies.count(plain_replies.error(plain_replies.ABORTED)), 2)
 
     def check_calls(self, trace, lines):
-        """Each call is answered as one Redis answers it at that point of the list, whose store has the room of the image.
-        Returns the position after each."""
-        redis, positions = plain_redis.Redis(plain_image.Room(lines)), []
+        """Each call is answered as one Redis answers it at that point of the list, but that its store may be full. Returns the position
+        after each."""
+        redis, room, positions = *told_redis(), []
         for call in trace.calls:
+            room.hear(call)
             with self.case("call", place=len(positions)):
                 if call.words:
                     self.assert_bytes(call.reply, redis.call(call.connection, call.words))
@@ -221,8 +252,9 @@ class Orders(Runs):
         position."""
         with self.case("image", node=node):
             image = plain_image.read_image(plain_image.Words(lines, trace.words[node]))
-            redis = plain_redis.Redis(plain_image.Room(lines))
+            redis, room = told_redis()
             for call in trace.calls:
+                room.hear(call)
                 if call.words and redis.position < image.record.position:
                     redis.call(call.connection, call.words)
             self.assertEqual(redis.position, image.record.position)

@@ -32,9 +32,35 @@ def drawn_groups(draws, most):
     return [[drawn_change(draws) for _ in range(draws.choice([1, 1, 2, 3]))] for _ in range(draws.randint(1, most))]
 
 
+def commit_and_free(writer, groups):
+    """Commits groups one by one, as a node does that frees what each ended."""
+    for group in groups:
+        writer.commit([group])
+        writer.free_ended()
+
+
+def fences_of(groups):
+    """How many fences each group makes: three for its commit, and one where it ends something."""
+    writer, found = plain_image.Writer(LINES, STANDBY), []
+    for group in groups:
+        writer.commit([group])
+        found.append(3 + bool(writer.ended))
+        writer.free_ended()
+    return found
+
+
+def written(role, groups):
+    """Lines that make an image with these groups, one by one, of which nothing was freed."""
+    writer = plain_image.Writer(LINES, role)
+    for group in groups:
+        writer.commit([group])
+    return made(writer.words)
+
+
 class Lives(Engine):
     def test_the_words_of_each_life(self):
-        """Formatting, groups and reopenings leave just the words that docs/image.md gives, whichever candidates a crash keeps."""
+        """Formatting, groups and reopenings leave just the words that docs/image.md gives, whichever candidates a crash keeps. What a group
+        ends is freed with it, and its place is used again."""
         groups = [[[Put((b"a",), b"1")]], [[Put((b"a",), b"2"), Put((b"h", b"f"), 100 * b"x")], [DropKey(b"a")]], [[Clear()]]]
         for role, pick in itertools.product(ROLES, (OLDEST, NEWEST)):
             writer = plain_image.Writer(LINES, role)
@@ -42,8 +68,7 @@ class Lives(Engine):
             wanted = [dict(writer.words)]
             for life in groups:
                 writer.reopen()
-                for group in life:
-                    writer.commit([group])
+                commit_and_free(writer, life)
                 lines += [take(role, *life), crash(pick), LOAD]
                 wanted.append(dict(writer.words))
             with self.case(f"{ROLES[role]}, pick {pick}"):
@@ -58,8 +83,7 @@ class Lives(Engine):
         writer = plain_image.Writer(LINES, role)
         for life in groups:
             writer.reopen()
-            for group in life:
-                writer.commit([group])
+            commit_and_free(writer, life)
             yield writer.record
 
     def test_two_lives_over_one_image(self):
@@ -76,8 +100,8 @@ class Lives(Engine):
             ]
             with self.case(f"{ROLES[role]}, fence {fence}, pick {pick}"):
                 found = answers(lines)
-                # a reopening fences twice, and a group three times
-                self.assertEqual(found[4] == FAULT, fence <= 2 + 3 * len(second))
+                # a reopening fences twice
+                self.assertEqual(found[4] == FAULT, fence <= 2 + sum(fences_of([*first, *second])[len(first):]))
                 for words, inspected, current, versions, opened, after in (found[7:13], found[15:21]):
                     self.assert_read(words_of(words), inspected, current, versions)
                     self.assert_opened(words_of(words), opened, words_of(after))
@@ -167,6 +191,23 @@ class Gaps(Engine):
                 self.assert_cleared(found[7], image, before, after)
                 self.assert_opened(after, found[9], words_of(found[10]))
 
+    def test_entries_of_a_gap_are_used_once_it_is_cleared(self):
+        """A commit that failed has begun entries 1 and 2. The next version goes to entry 3, and after the gap is cleared the lowest is
+        taken again."""
+        for role in ROLES:
+            first, second = [[Put((b"a",), b"1")]], [[Put((b"b",), b"2"), Put((b"c",), b"3")]]
+            lines = [
+                NEW, f"engine format {ROLES[role]}", take(role, *first), "device fail-at 5", take(role, *second), crash(OLDEST),
+                take(role, [Put((b"d",), b"4")]), LOAD, f"engine clear {ROLES[role]} 8", LOAD, take(role, [Put((b"e",), b"5")]), LOAD,
+            ]
+            with self.case(ROLES[role]):
+                found = answers(lines)
+                self.assertEqual(found[4], FAULT)
+                for answer, live, gapped in [(found[7], [0, 3], [1, 2]), (found[9], [0, 3], []), (found[11], [0, 1, 3], [])]:
+                    words = words_of(answer)
+                    versions = plain_image.read_versions(words, plain_image.read_image(words).record)
+                    self.assertEqual((versions.counted, versions.gapped), ([(entry, 0) for entry in live], gapped))
+
     def assert_cleared(self, answer, image, before, after):
         """All gaps were cleared, the oldest first; a call without a gap frees nothing and writes no record."""
         current = plain_image.reopened(image.record)[-1]
@@ -206,8 +247,7 @@ class Rooms(Engine):
         for role, count in itertools.product(ROLES, (0, 1, 2, 100)):
             groups = [*drawn_groups(draws, 4), [Put((b"a",), b"1")], [Put((b"a",), b"2")]]
             lines = [
-                NEW, f"engine format {ROLES[role]}", take(role, *groups), crash(OLDEST), LOAD,
-                f"engine free {ROLES[role]} {count}", crash(OLDEST), LOAD, f"engine rebuild {ROLES[role]}",
+                *written(role, groups), LOAD, f"engine free {ROLES[role]} {count}", crash(OLDEST), LOAD, f"engine rebuild {ROLES[role]}",
             ]
             with self.case(f"{ROLES[role]}, {count} entries"):
                 found = answers(lines)
@@ -226,26 +266,58 @@ class Rooms(Engine):
     def test_rebuilding(self):
         """The keyspace, the free room and the ended entries of images, with entries that a commit left."""
         draws = random.Random(3)
-        for role, fence in itertools.product(ROLES, (0, 3, 4, 5)):
+        for role, fence in itertools.product(ROLES, (0, 2, 3, 4, 5, 6)):
             lines = [
-                NEW, f"engine format {ROLES[role]}", take(role, *drawn_groups(draws, 6)), f"device fail-at {fence}",
-                take(role, *drawn_groups(draws, 2)), crash(NEWEST), LOAD, " ".join([f"engine rebuild {ROLES[role]}", *[record(*name) for name in NAMES]]),
+                *written(role, drawn_groups(draws, 6)), f"device fail-at {fence}", take(role, *drawn_groups(draws, 2)), crash(NEWEST),
+                LOAD, " ".join([f"engine rebuild {ROLES[role]}", *[record(*name) for name in NAMES]]),
             ]
             with self.case(f"{ROLES[role]}, fence {fence}"):
                 found = answers(lines)
-                self.assertEqual(found[7], self.rebuilt_text(words_of(found[6]), NAMES))
+                self.assertEqual(found[8], self.rebuilt_text(words_of(found[7]), NAMES))
 
     def test_a_full_heap(self):
-        """What was freed is found again: an image without room takes groups once its ended versions are freed."""
+        """An image without a free entry takes groups once its ended versions are freed, which a node does before the first of them."""
         lots = [[Put((b"a",), b"1")]] * 512
+        gaps = ((513, 4608), (4610, 8705), (8707, 12802))
         self.show_session([
-            (NEW, "done"), ("engine format primary", "done"),
-            (take(PRIMARY, *lots), record_text(plain_image.Record(514, 512, 4609, 8706, 1, ((1, 4096),), PRIMARY))),
-            (take(PRIMARY, *lots[:1]), "refusal 5: full"),
-            ("engine free primary 2", "0 1 520=1 521=1 / " + record_text(plain_image.Record(516, 512, 12803, 16900, 1, ((1, 4096), (4610, 8705), (8707, 12802)), PRIMARY))),
-            (take(PRIMARY, *lots[:3]), "refusal 5: full"),
-            ("engine rebuild primary 61", f"1 1 31 / 1032={LINES - 1} /  / " + " ".join(map(str, [0, *range(2, 512)]))),
+            *[(line, "done") for line in written(PRIMARY, lots)],
+            ("engine free primary 2", "0 1 520=1 521=1 / " + record_text(plain_image.Record(514, 512, 4609, 8706, 1, gaps[:1], PRIMARY))),
+            ("engine rebuild primary 61", f"1 1 31 / 520=521 1032={LINES - 1} / 0=1 / " + " ".join(map(str, range(2, 511)))),
+            (take(PRIMARY, lots[0]), record_text(plain_image.Record(517, 513, 12804, 16901, 1, gaps, PRIMARY))),
+            ("engine rebuild primary 61", f"1 1 31 / 521={LINES - 1} / 1=511 / "),
         ])
+
+    def test_a_full_image(self):
+        """Where nothing has ended there is no room, and nothing is freed."""
+        lots = [[Put((b"%d" % number,), b"1")] for number in range(512)]
+        load, put = "device load " + " ".join(map(str, range(LINES * WORDS_OF_LINE))), [Put((b"a",), b"1")]
+        lines = [*written(STANDBY, lots), load, take(STANDBY, put), load, take(STANDBY, [DropKey(b"7")], put), load]
+        found = answers(lines)
+        self.assertEqual(found[5], "refusal 5: full")
+        before, after, last = (plain_image.read_image(words_of(found[at])) for at in (4, 6, 8))
+        self.assertEqual((after.map, after.record.position), (before.map, 512))
+        self.assertEqual((last.map, last.record.position), ({name: value for name, value in before.map.items() if name != (b"7",)} | {(b"a",): b"1"}, 514))
+        self.assertEqual(words_of(found[8]).line(DIRECTORY_LINE + 7)[2:4], [514, 527])
+
+    def test_what_a_fence_left_is_freed_before_the_next_group(self):
+        """The fence that frees what the second group ended fails: its version has ended still, or is free, and the next group takes its
+        place."""
+        first, second, third = [[Put((b"a",), b"1")]], [[Put((b"a",), b"2")]], [[Put((b"b",), b"3")]]
+        for role, pick in itertools.product(ROLES, (OLDEST, NEWEST)):
+            lines = [
+                NEW, f"engine format {ROLES[role]}", take(role, *first), "device fail-at 6", take(role, *second), crash(pick), LOAD,
+                take(role, *third), LOAD,
+            ]
+            with self.case(f"{ROLES[role]}, pick {pick}"):
+                found = answers(lines)
+                self.assertEqual(found[4], FAULT)
+                left, last = words_of(found[6]), words_of(found[8])
+                counted = plain_image.read_versions(left, plain_image.read_image(left).record).counted
+                self.assertEqual([(entry, end > 0) for entry, end in counted], [(0, True), (1, False)] if pick == OLDEST else [(1, False)])
+                image = plain_image.read_image(last)
+                self.assertEqual(image.map, {(b"a",): b"2", (b"b",): b"3"})
+                self.assertEqual(plain_image.read_versions(last, image.record).counted, [(0, 0), (1, 0)])
+                self.assertEqual(last.line(DIRECTORY_LINE)[2:4], [3, 520])
 
     def rebuilt_text(self, words, names):
         image = plain_image.read_image(words)

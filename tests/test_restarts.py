@@ -13,13 +13,6 @@ SET_B = spell("SET", "b", "2")
 class Restarts(Runs):
     """Runs with crashes and reopenings."""
 
-    def served(self, schedule, c, number, request):
-        """A connection's request is served to its end, as the group and the frame of this number."""
-        schedule.group(c, request)
-        schedule.replicate(number)
-        schedule.read_marks(c)
-        schedule.write_out(c)
-
     def asked_after(self, before, request):
         """The trace of a run in which a connection has set a, with these events after its turn, and the primary crashed; then another
         sends a request, and both marks are read."""
@@ -58,7 +51,7 @@ class Restarts(Runs):
 
     def test_frames_that_a_standby_lost_come_again(self):
         schedule = Schedule(1)
-        self.served(schedule, 0, 0, SET_A)
+        schedule.serve_to_end(0, 0, SET_A)
         schedule.group(0, SET_B)
         schedule.add("send", "deliver 1", "crash standby 0", "apply", "deliver 1", "open-link", "reopen standby", "apply")
         schedule.add("open-link", "send", "deliver 2", "apply", "ack-delivered 2", "raise-remote")
@@ -71,9 +64,9 @@ class Restarts(Runs):
 
     def test_a_primary_that_is_opened_twice(self):
         schedule = Schedule(1)
-        self.served(schedule, 0, 0, SET_A)
+        schedule.serve_to_end(0, 0, SET_A)
         schedule.add("crash primary 0", "reopen primary", "crash primary 1", "reopen primary", "offer 0", "enter")
-        self.served(schedule, 1, 1, SET_B)
+        schedule.serve_to_end(1, 1, SET_B)
         trace = self.play(schedule)
         self.assertEqual(trace.released, [OK, OK])
         # the stamps 2 to 4097 and 4099 to 8194 are in gaps, and the second SET has the one after 8195
@@ -83,12 +76,12 @@ class Restarts(Runs):
     def test_nine_reopenings_of_each_node(self):
         # a record has eight gaps at most: the oldest goes
         schedule = Schedule(1)
-        self.served(schedule, 0, 0, SET_A)
+        schedule.serve_to_end(0, 0, SET_A)
         for number in range(1, 10):
             for node in NODES:
                 schedule.add(f"crash {node} 0 1", f"reopen {node}")
             schedule.add("enter")
-            self.served(schedule, number, number, spell("SET", "a", str(number)))
+            schedule.serve_to_end(number, number, spell("SET", "a", str(number)))
         trace = self.play(schedule)
         self.assertEqual(trace.released, 10 * [OK])
         self.assertEqual([line.gaps for line in trace.nodes.values()], [8, 8])

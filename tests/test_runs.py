@@ -59,9 +59,10 @@ class FirstPath(Runs):
         self.assertEqual([node.position for node in trace.nodes.values()], [512, 512])
 
     def test_a_standby_that_fills_first(self):
+        # it frees what a frame ended, so each SET is of another key
         schedule = Schedule(1)
-        for _ in range(513):
-            schedule.feed(0, SET_A)
+        for number in range(513):
+            schedule.feed(0, spell("SET", f"k{number}", "1"))
         schedule.drain(1, 513, 514)
         trace = self.play(schedule, lines=(8_192, 4_096))
         self.assertEqual(len(trace.calls), 513)

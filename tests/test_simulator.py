@@ -40,7 +40,8 @@ PRINTED_WORDS = [
 
 BAD_LINES = [
     "nonsense", "Enter", "ENTER", "enter 0", "enter,", "close-group 1", "close_group", "commit 0", "raise-local 0",
-    "hand 0", "open-link 0", "send 0", "apply 0", "raise-remote 0", "feed", "feed 0", "feed x a", "feed -1 a",
+    "hand 0", "free 0", "Free", "accept-freed 0", "accept_freed", "clear-gap 0", "clear-gaps", "open-link 0", "send 0",
+    "apply 0", "raise-remote 0", "feed", "feed 0", "feed x a", "feed -1 a",
     "feed-bytes", "feed-bytes 0 0", "feed-bytes 0 0g", "feed-bytes 0 00 00", "feed-bytes 0 0x00", "feed-bytes x 00",
     "offer", "offer 0 0", "offer x", "offer +0", "offer -1", "offer 00", "offer 01", "offer 0x1", "offer 1.0",
     "offer 1_0", f"offer {ABOVE_U64}", "turn", "turn 0 0", "deliver", "deliver 0 x", "deliver 0 0 0", "ack-delivered",
