@@ -1,13 +1,15 @@
 -- The laws of every run, from what holds between any two events.
-use Rattle.std.proofs.Common.{◌≡◌, ℕ, ◌+◌, ◌≤◌, Bool, true, false, ◌&&◌, cond, nat_eq, List, [], ◌∷◌, ◌++◌, length, refl, sym, ap, ◌∙◌, arith, append_assoc, le-ltb, inl, inr, Option, Some, None, slice_get}
+use Rattle.std.proofs.Common.{◌≡◌, ℕ, ◌+◌, ◌<◌, ◌≤◌, Bool, true, false, ◌&&◌, ◌||◌, cond, nat_eq, nat_lt, List, [], ◌∷◌, ◌++◌, length, take, refl, sym, ap, subst, ◌∙◌, arith, append_assoc, le-ltb, inl, inr, Option, Some, None, slice_get}
+use Rattle.std.proofs.lemmas.Bool.{lt-ltb}
 use Rattle.std.proofs.lemmas.List.Elements.{All-weaker}
 use Rattle.model.specs.State.{start_state}
-use Rattle.model.specs.Call.{state_after, position_of}
+use Rattle.model.specs.Call.{is_nonempty, state_after, position_of}
 use Rattle.machine.specs.declared.event.Event.{Event}
 use Rattle.machine.specs.declared.event.Event.TheVariants.{Enter, Feed, Offer, Turn, CloseGroup, Commit, RaiseLocal, Hand, Free, AcceptFreed, ClearGap, OpenLink, Send, Deliver, Apply, AckDelivered, RaiseRemote, Hold, Read, Release, Write, Leave, Crash, Reopen}
-use Rattle.machine.specs.Event.{World, Frame, Acknowledgement, Link, told, knowing, nodes_run, may_happen, is_enabled, Happens, Step, Run, start_with, last_world}
+use Rattle.machine.specs.declared.event.TheConstants.{KEPT_GROUPS}
+use Rattle.machine.specs.Event.{World, Span, Frame, Acknowledgement, Link, next_to_send, told, knowing, nodes_run, may_happen, is_enabled, Happens, Step, Run, start_with, last_world}
 use Rattle.machine.specs.Sound.{IsFrameWithin, IsToldWithin, Sound, answers_from, answers_to}
-use Rattle.machine.specs.Law.{IsInOrder, FramesAreCommitted, AnswersBearPositions, RaisesNoRemote, NothingIsReleasedUnacknowledged, OnlyWhatWasMadeIsDelivered}
+use Rattle.machine.specs.Law.{IsInOrder, FramesAreCommitted, AnswersBearPositions, RaisesNoRemote, NothingIsReleasedUnacknowledged, OnlyWhatWasMadeIsDelivered, WhoIsBehindGetsADelta}
 use Rattle.machine.proofs.AnswerLemmas.{answers_from-append, answers_to-push_own}
 use Rattle.machine.proofs.GroupLemmas.{chain-le, frames_within-weaker}
 use Rattle.machine.proofs.SoundEvents.{sent-remote}
@@ -75,7 +77,7 @@ remote-happens w Free new none h = le_of (ap (λ x. x.primary.link.remote) h)
 remote-happens w AcceptFreed new none h = le_of (ap (λ x. x.primary.link.remote) h)
 remote-happens w ClearGap new none h = le_of (ap (λ x. x.primary.link.remote) h)
 remote-happens w OpenLink new none h = le_of (ap (λ x. x.primary.link.remote) h)
-remote-happens w Send new none h = le_of (ap (λ x. x.primary.link.remote) h ∙ sent-remote w.primary.link.again w.primary.link)
+remote-happens w Send new none h = le_of (ap (λ x. x.primary.link.remote) h ∙ sent-remote w.primary.link.delta w.primary.link)
 remote-happens w (Deliver frame piece) new none h = le_of (ap (λ x. x.primary.link.remote) h)
 remote-happens w Apply new none h = le_of (ap (λ x. x.primary.link.remote) h.now)
 remote-happens w (AckDelivered a) new none h = le_of (ap (λ x. x.primary.link.remote) h ∙ told-remote w.primary.epoch (slice_get w.wire.acknowledgements a) w.primary.link)
@@ -122,3 +124,24 @@ not-enabled w event e = elim (nodes_run w event) as (λ b. (b && may_happen w ev
 
 pub only_what_was_made_is_delivered : OnlyWhatWasMadeIsDelivered
 only_what_was_made_is_delivered w n piece = (λ le. not-enabled w (Deliver n piece) (le-ltb n (length w.wire.frames) le), λ le. not-enabled w (AckDelivered n) (le-ltb n (length w.wire.acknowledgements) le))
+
+-- ---- who is behind
+
+-- what is sent next, and that something is, where the delta is due by this test
+abbrev SendsFirst : ℕ → ℕ → Link → Bool → Bool → Type 0
+SendsFirst position opened link later due =
+    let delta : Span = record { before = position; after = opened } in
+    let deltas : List Span = cond due (delta ∷ []) [] in
+    (take 1 (deltas ++ (link.kept ++ link.waiting)) ≡ delta ∷ []) × ((is_nonempty deltas || later) ≡ true)
+
+delta-first : (position opened : ℕ) (link : Link) (later : Bool) → position < opened → SendsFirst position opened link later (nat_lt position opened)
+delta-first position opened link later behind = subst (SendsFirst position opened link later) (sym (lt-ltb position opened behind)) (refl, refl)
+
+pub who_is_behind_gets_a_delta : WhoIsBehindGetsADelta
+who_is_behind_gets_a_delta old new step behind =
+    let position = old.standby.position in
+    let opened = old.primary.opened in
+    let link = old.primary.link in
+    let delta : Span = record { before = position; after = opened } in
+    subst (λ (w : World). (next_to_send w.primary.link ≡ delta ∷ []) × (may_happen w Send ≡ true)) (sym (step.happens refl))
+    (delta-first position opened link (is_nonempty link.kept || (is_nonempty link.waiting && nat_lt (length link.kept) KEPT_GROUPS)) behind)

@@ -1,18 +1,30 @@
 -- The link after each event: the groups that it keeps and those that wait are the committed ones that are not acknowledged.
-use Rattle.std.proofs.Common.{◌≡◌, ℕ, ◌<◌, ◌≤◌, true, not, nat_lt, List, [], ◌∷◌, ◌++◌, length, take, All, refl, sym, ap, subst, ◌∙◌, arith, append_assoc, append-nil, length-append, le_refl, ◌&&◌, ◌||◌}
+use Rattle.std.proofs.Common.{◌≡◌, ℕ, ◌<◌, ◌≤◌, Bool, true, false, not, nat_lt, List, [], ◌∷◌, ◌++◌, length, take, cond, All, refl, sym, ap, subst, ◌∙◌, arith, append_assoc, append-nil, length-append, le_refl, ◌&&◌, ◌||◌}
 use Rattle.std.proofs.lemmas.Bool.{ltb-true}
 use Rattle.std.proofs.lemmas.List.Elements.{All-nil, All-cons, All-head, All-tail, filter-append}
 use Rattle.std.proofs.lemmas.List.Filters.{length-filter_both}
 use Rattle.model.specs.Call.{is_nonempty}
 use Rattle.machine.specs.declared.event.TheConstants.{PIPE_ITEMS, KEPT_GROUPS}
-use Rattle.machine.specs.Event.{Span, Stage, Ready, Durable, Shown, Committer, Link, is_ready, is_shown, shown, handed, handed_to, opened_link, sent_waiting, sent_next, next_to_send, above, knowing, raised_remote, new_link}
+use Rattle.machine.specs.Event.{Span, Stage, Ready, Durable, Shown, Committer, Link, is_ready, is_shown, shown, handed, handed_to, due_delta, opened_link, sent_waiting, sent_group, sent_next, next_to_send, above, knowing, raised_remote, new_link}
 use Rattle.machine.specs.Sound.{IsChain, IsGroupWithin, in_hand, HasRoomFor, SoundLink}
-use Rattle.machine.proofs.GroupLemmas.{chain-push, chain-above, chain-within}
+use Rattle.machine.proofs.GroupLemmas.{IsGroupWithin-weaker, chain-push, chain-above, chain-within}
 
 -- a link that has sent nothing, over a primary that is opened at this position
 pub link-new : (position : ℕ) → SoundLink position Ready position position new_link
 link-new position =
-    record { kept_from = position; known = omega arith; kept = refl; waiting = refl; sent_again = []; again = refl; remote = omega arith; few = omega arith; few_kept = omega arith }
+    record {
+      kept_from = position;
+      known = omega arith;
+      kept = refl;
+      waiting = refl;
+      sent_again = [];
+      again = refl;
+      remote = omega arith;
+      sent_from = le_refl position;
+      delta = All-nil (IsGroupWithin position);
+      few = omega arith;
+      few_kept = omega arith;
+    }
 
 -- ---- the committer's turns
 
@@ -35,6 +47,8 @@ link-committed committer group sent link ready room before rising s =
       sent_again = s.sent_again;
       again = s.again;
       remote = s.remote;
+      sent_from = s.sent_from;
+      delta = s.delta;
       few = room;
       few_kept = s.few_kept;
     }
@@ -59,6 +73,8 @@ link-raised stage position sent link s =
       sent_again = s.sent_again;
       again = s.again;
       remote = s.remote;
+      sent_from = s.sent_from;
+      delta = s.delta;
       few = room-shown stage link.waiting s.few;
       few_kept = s.few_kept;
     }
@@ -83,14 +99,26 @@ link-handed stage position sent link hand s =
       sent_again = s.sent_again;
       again = s.again;
       remote = s.remote;
+      sent_from = s.sent_from;
+      delta = s.delta;
       few = room-handed stage link.waiting s.few;
       few_kept = s.few_kept;
     }
 
 -- ---- sending
 
-pub link-opened : {opened : ℕ} (stage : Stage) (position sent : ℕ) (link : Link) → SoundLink opened stage position sent link → SoundLink opened stage position sent (opened_link link)
-link-opened stage position sent link s = record {
+-- what is sent only under a condition
+all-when : (P : Span → Type 0) (b : Bool) (group : Span) → (b ≡ true → P group) → All P (cond b (group ∷ []) [])
+all-when P true group holds = All-cons P group [] (holds refl) (All-nil P)
+all-when P false group holds = All-nil P
+
+-- a delta rises, and ends where the primary was opened
+pub due_delta-within : (position opened : ℕ) → All (IsGroupWithin opened) (due_delta position opened)
+due_delta-within position opened = all-when (IsGroupWithin opened) _ _ (λ due. record { rising = ltb-true position opened due; within = omega arith })
+
+pub link-opened : {opened : ℕ} (stage : Stage) (position sent : ℕ) (delta : List Span) (link : Link) → All (IsGroupWithin opened) delta → SoundLink opened stage position sent link
+    → SoundLink opened stage position sent (opened_link delta link)
+link-opened stage position sent delta link within s = record {
   kept_from = s.kept_from;
   known = s.known;
   kept = s.kept;
@@ -98,6 +126,8 @@ link-opened stage position sent link s = record {
   sent_again = [];
   again = refl;
   remote = s.remote;
+  sent_from = s.sent_from;
+  delta = within;
   few = s.few;
   few_kept = s.few_kept;
 }
@@ -136,6 +166,8 @@ module _ (opened : ℕ) (stage : Stage) (position sent : ℕ) (link : Link) (s :
           sent_again = link.kept ++ group ∷ [];
           again = append-nil (link.kept ++ group ∷ []);
           remote = s.remote;
+          sent_from = omega (arith, s.sent_from, chain.1);
+          delta = s.delta;
           few = room-less stage group groups room;
           few_kept = omega (arith, length-append link.kept (group ∷ []), ltb-true (length link.kept) KEPT_GROUPS some);
         };
@@ -144,7 +176,7 @@ module _ (opened : ℕ) (stage : Stage) (position sent : ℕ) (link : Link) (s :
 
   -- the next group that is to be sent, or else one that was never sent
   sent-again : (groups : List Span) → (is_nonempty groups || (is_nonempty link.waiting && nat_lt (length link.kept) KEPT_GROUPS)) ≡ true → s.sent_again ++ groups ≡ link.kept
-      → Sends opened stage position sent (sent_next groups link) (take 1 (groups ++ link.waiting))
+      → Sends opened stage position sent (sent_group groups link) (take 1 (groups ++ link.waiting))
   sent-again [] some joined = sent-first link.waiting some s.waiting s.few
   sent-again (group ∷ groups) some joined =
       let kept = subst (All (IsGroupWithin sent)) (sym joined) (chain-within s.kept_from link.kept sent s.kept) in
@@ -159,14 +191,40 @@ module _ (opened : ℕ) (stage : Stage) (position sent : ℕ) (link : Link) (s :
           sent_again = s.sent_again ++ group ∷ [];
           again = append_assoc s.sent_again (group ∷ []) groups ∙ joined;
           remote = s.remote;
+          sent_from = s.sent_from;
+          delta = s.delta;
           few = s.few;
           few_kept = s.few_kept;
         };
         within = All-cons (IsGroupWithin sent) group [] (all-middle (IsGroupWithin sent) s.sent_again group groups kept) (All-nil (IsGroupWithin sent));
       }
 
-  pub link-sent : (is_nonempty link.again || (is_nonempty link.waiting && nat_lt (length link.kept) KEPT_GROUPS)) ≡ true → Sends opened stage position sent (sent_next link.again link) (next_to_send link)
-  link-sent some = sent-again link.again some s.again
+  -- the delta, or else a group
+  sent-delta : (deltas : List Span) → (is_nonempty deltas || (is_nonempty link.again || (is_nonempty link.waiting && nat_lt (length link.kept) KEPT_GROUPS))) ≡ true → All (IsGroupWithin opened) deltas
+      → Sends opened stage position sent (sent_next deltas link) (take 1 (deltas ++ (link.again ++ link.waiting)))
+  sent-delta [] some all = sent-again link.again some s.again
+  sent-delta (delta ∷ deltas) some all =
+      record {
+        after = sent;
+        later = le_refl sent;
+        sound = record {
+          kept_from = s.kept_from;
+          known = s.known;
+          kept = s.kept;
+          waiting = s.waiting;
+          sent_again = s.sent_again;
+          again = s.again;
+          remote = s.remote;
+          sent_from = s.sent_from;
+          delta = All-tail (IsGroupWithin opened) delta deltas all;
+          few = s.few;
+          few_kept = s.few_kept;
+        };
+        within = All-cons (IsGroupWithin sent) delta [] (IsGroupWithin-weaker s.sent_from (All-head (IsGroupWithin opened) delta deltas all)) (All-nil (IsGroupWithin sent));
+      }
+
+  pub link-sent : (is_nonempty link.delta || (is_nonempty link.again || (is_nonempty link.waiting && nat_lt (length link.kept) KEPT_GROUPS))) ≡ true → Sends opened stage position sent (sent_next link.delta link) (next_to_send link)
+  link-sent some = sent-delta link.delta some s.delta
 
   -- ---- acknowledgements
 
@@ -181,6 +239,8 @@ module _ (opened : ℕ) (stage : Stage) (position sent : ℕ) (link : Link) (s :
         sent_again = above acknowledged s.sent_again;
         again = sym (filter-append (λ (group : Span). nat_lt acknowledged group.after) s.sent_again link.again) ∙ ap (above acknowledged) s.again;
         remote = omega (arith, s.remote);
+        sent_from = s.sent_from;
+        delta = s.delta;
         few = s.few;
         few_kept = omega (arith, s.few_kept, length-filter_both (λ (group : Span). nat_lt acknowledged group.after) (λ (group : Span). not (nat_lt acknowledged group.after)) (λ group. refl) link.kept);
       }
@@ -194,6 +254,8 @@ module _ (opened : ℕ) (stage : Stage) (position sent : ℕ) (link : Link) (s :
     sent_again = s.sent_again;
     again = s.again;
     remote = le_refl link.known;
+    sent_from = s.sent_from;
+    delta = s.delta;
     few = s.few;
     few_kept = s.few_kept;
   }

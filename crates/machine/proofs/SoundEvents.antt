@@ -9,7 +9,7 @@ use Rattle.machine.specs.declared.event.Node.TheVariants as nodes
 use Rattle.machine.specs.declared.event.TheConstants.{PIPE_ITEMS}
 use Rattle.machine.specs.declared.event.Event.{Event}
 use Rattle.machine.specs.declared.event.Event.TheVariants.{Enter, Feed, Offer, Turn, CloseGroup, Commit, RaiseLocal, Hand, Free, AcceptFreed, ClearGap, OpenLink, Send, Deliver, Apply, AckDelivered, RaiseRemote, Hold, Read, Release, Write, Leave, Crash, Reopen}
-use Rattle.machine.specs.Event.{Span, Work, Commits, Frees, Acknowledgement, Link, Standby, World, connection_of, with_committer, with_link, with_standby, with_acknowledged, open_changes, has_room, spans_of, from_group, is_ready, nodes_run, may_commit, reached_lists, first_is_within, may_happen, is_enabled, with_ended, with_notices, with_gaps, closed_group, closed_list, Closes, committed_first, freed_first, freed, accepted, cleared, raised_local, ready_again, handed, handed_to, opened_link, acknowledgement_of, sent_waiting, sent_next, next_to_send, framed, sent, delivered, without_first, Applies, told, knowing, raised_remote, option_items, Happens, Step, asked, crashed, is_open, new_committer, Reopens}
+use Rattle.machine.specs.Event.{Span, Work, Commits, Frees, Acknowledgement, Link, Standby, World, connection_of, with_committer, with_link, with_standby, with_acknowledged, open_changes, has_room, spans_of, from_group, is_ready, nodes_run, may_commit, reached_lists, first_is_within, may_happen, is_enabled, with_ended, with_notices, with_gaps, closed_group, closed_list, Closes, committed_first, freed_first, freed, accepted, cleared, raised_local, ready_again, handed, handed_to, due_delta, opened_link, acknowledgement_of, sent_waiting, sent_group, sent_next, next_to_send, framed, sent, delivered, without_first, Applies, told, knowing, raised_remote, option_items, Happens, Step, asked, crashed, is_open, new_committer, Reopens}
 use Rattle.machine.specs.Sound.{IsChain, IsFrameWithin, IsToldWithin, SoundOutbound, SoundOver, SoundCommitter, SoundStandby, Sound}
 use Rattle.machine.proofs.GroupLemmas.{chain-le, framed-within, frames_within-weaker}
 use Rattle.machine.proofs.OutboundLemmas.{outbound-marked}
@@ -18,7 +18,7 @@ use Rattle.machine.proofs.InboundLemmas.{inbound-items}
 use Rattle.machine.proofs.CrashLemmas.{all-over, count-over, get-over, over-crashed}
 use Rattle.machine.proofs.WorkLemmas.{none-waits, spans_of-from_group, spans_of-none}
 use Rattle.machine.proofs.CommitterLemmas.{committer-new, committer-closed_group, committer-closed_list, committer-committed, committer-listed, committer-raised, committer-handed}
-use Rattle.machine.proofs.LinkLemmas.{link-new, link-committed, link-raised, link-handed, link-opened, link-sent, link-knowing, link-raised_remote}
+use Rattle.machine.proofs.LinkLemmas.{due_delta-within, link-new, link-committed, link-raised, link-handed, link-opened, link-sent, link-knowing, link-raised_remote}
 use Rattle.machine.proofs.StandbyLemmas.{all-at, standby-crashed, standby-sent, standby-known, standby-delivered, standby-without_first, standby-first, standby-takes, TakesWell, told-one, wire-sent, wire-told}
 use Rattle.machine.proofs.SoundConnection.{both, both_ways, sound-Enter, sound-Feed, sound-Hold, sound-Leave, sound-Offer, sound-Read, sound-Release, sound-Turn, sound-Write, three}
 
@@ -172,9 +172,11 @@ sound-ClearGap w s = sound-room w w.primary.ended w.primary.newest (w.primary.no
 
 -- ---- the link and the standby
 
-sound-OpenLink : (w : World) → Sound w → Sound (with_link (opened_link w.primary.link) (with_acknowledged (acknowledgement_of w.standby ∷ []) w))
+sound-OpenLink : (w : World) → Sound w
+    → Sound (with_link (opened_link (due_delta w.standby.position w.primary.opened) w.primary.link) (with_acknowledged (acknowledgement_of w.standby ∷ []) w))
 sound-OpenLink w s =
     let epoch = w.primary.epoch in
+    let delta = due_delta w.standby.position w.primary.opened in
     record {
       connections = s.connections;
       legal = s.legal;
@@ -183,27 +185,35 @@ sound-OpenLink w s =
       over = s.over;
       committer = s.committer;
       sent = s.sent;
-      link = link-opened w.primary.committer.stage w.primary.committer.position s.sent w.primary.link s.link;
+      link = link-opened w.primary.committer.stage w.primary.committer.position s.sent delta w.primary.link (due_delta-within w.standby.position w.primary.opened) s.link;
       standby = s.standby;
       wire = wire-told epoch s.sent w.standby.position w.standby.position (acknowledgement_of w.standby ∷ []) w.wire (le_refl w.standby.position)
           (told-one epoch s.sent w.primary.link.known w.standby s.standby) s.wire;
     }
 
-pub sent-known : (groups : List Span) (link : Link) → (sent_next groups link).known ≡ link.known
-sent-known [] link = go link.waiting
+pub sent-known : (deltas : List Span) (link : Link) → (sent_next deltas link).known ≡ link.known
+sent-known [] link = next link.again
   where
-    go : (waiting : List Span) → (sent_waiting waiting link).known ≡ link.known
-    go [] = refl
-    go (group ∷ groups) = refl
-sent-known (group ∷ groups) link = refl
+    first : (waiting : List Span) → (sent_waiting waiting link).known ≡ link.known
+    first [] = refl
+    first (group ∷ groups) = refl
 
-pub sent-remote : (groups : List Span) (link : Link) → (sent_next groups link).remote ≡ link.remote
-sent-remote [] link = go link.waiting
+    next : (again : List Span) → (sent_group again link).known ≡ link.known
+    next [] = first link.waiting
+    next (group ∷ groups) = refl
+sent-known (delta ∷ deltas) link = refl
+
+pub sent-remote : (deltas : List Span) (link : Link) → (sent_next deltas link).remote ≡ link.remote
+sent-remote [] link = next link.again
   where
-    go : (waiting : List Span) → (sent_waiting waiting link).remote ≡ link.remote
-    go [] = refl
-    go (group ∷ groups) = refl
-sent-remote (group ∷ groups) link = refl
+    first : (waiting : List Span) → (sent_waiting waiting link).remote ≡ link.remote
+    first [] = refl
+    first (group ∷ groups) = refl
+
+    next : (again : List Span) → (sent_group again link).remote ≡ link.remote
+    next [] = first link.waiting
+    next (group ∷ groups) = refl
+sent-remote (delta ∷ deltas) link = refl
 
 sound-Send : (w : World) → may_happen w Send ≡ true → Sound w → Sound (sent w)
 sound-Send w e s =
@@ -214,12 +224,12 @@ sound-Send w e s =
       connections = s.connections;
       legal = s.legal;
       inbound = s.inbound;
-      outbound = λ c is_one. subst (λ remote. SoundOutbound w.primary.calls c w.primary.committer.local remote (connection_of w c).outbound) (sym (sent-remote link.again link)) (s.outbound c is_one);
+      outbound = λ c is_one. subst (λ remote. SoundOutbound w.primary.calls c w.primary.committer.local remote (connection_of w c).outbound) (sym (sent-remote link.delta link)) (s.outbound c is_one);
       over = s.over;
       committer = s.committer;
       sent = sends.after;
       link = sends.sound;
-      standby = subst (λ known. SoundStandby epoch sends.after known w.standby) (sym (sent-known link.again link)) (standby-sent epoch s.sent sends.after link.known w.standby sends.later s.standby);
+      standby = subst (λ known. SoundStandby epoch sends.after known w.standby) (sym (sent-known link.delta link)) (standby-sent epoch s.sent sends.after link.known w.standby sends.later s.standby);
       wire = wire-sent epoch s.sent sends.after w.standby.position (framed epoch (next_to_send link)) w.wire sends.later (framed-within epoch sends.after (next_to_send link) sends.within) s.wire;
     }
 

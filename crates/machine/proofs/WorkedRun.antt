@@ -48,7 +48,7 @@ abbrev committer : ℕ → List Work → Stage → ℕ → ℕ → Committer
 committer closed waiting stage position local = record { closed = closed; waiting = waiting; aside = []; stage = stage; position = position; local = local }
 
 abbrev link : List Span → List Span → ℕ → ℕ → Link
-link waiting kept known remote = record { waiting = waiting; kept = kept; again = []; known = known; remote = remote }
+link waiting kept known remote = record { delta = []; waiting = waiting; kept = kept; again = []; known = known; remote = remote }
 
 abbrev frame : Frame
 frame = record { epoch = FIRST_EPOCH; span = group }

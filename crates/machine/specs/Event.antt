@@ -66,7 +66,9 @@ may_happen w ClearGap =
     let committer = w.primary.committer in
     is_ready committer.stage && has_room w.primary.link.waiting && not (is_nonempty committer.waiting) && not (is_nonempty committer.aside) && nat_lt 0 w.primary.gaps
 may_happen w OpenLink = true
-may_happen w Send = is_nonempty w.primary.link.again || (is_nonempty w.primary.link.waiting && nat_lt (length w.primary.link.kept) KEPT_GROUPS)
+may_happen w Send =
+    let link = w.primary.link in
+    is_nonempty link.delta || (is_nonempty link.again || (is_nonempty link.waiting && nat_lt (length link.kept) KEPT_GROUPS))
 may_happen w (Deliver frame piece) = nat_lt frame (length w.wire.frames)
 may_happen w Apply = is_nonempty w.standby.waiting
 may_happen w (AckDelivered a) = nat_lt a (length w.wire.acknowledgements)
@@ -199,25 +201,33 @@ accepted w = with_notices (w.primary.notices - 1) w
 abbrev pub cleared : World → World
 cleared w = with_notices (w.primary.notices + 1) (with_gaps (w.primary.gaps - 1) w)
 
--- all kept groups are to be sent again
-abbrev pub opened_link : Link → Link
-opened_link link = record link { again = link.kept }
+-- what a standby at this position is to be sent before all groups, where the primary was opened at that one: a delta, where the standby is behind
+abbrev pub due_delta : ℕ → ℕ → List Span
+due_delta position opened = if nat_lt position opened then record { before = position; after = opened } ∷ [] else []
+
+-- the delta, and after it all kept groups, are to be sent
+abbrev pub opened_link : List Span → Link → Link
+opened_link delta link = record link { delta = delta; again = link.kept }
 
 -- what the standby tells about itself
 abbrev pub acknowledgement_of : Standby → Acknowledgement
 acknowledgement_of standby = record { epoch = standby.epoch; position = standby.position }
 
--- what is sent next: a group that is to be sent again, or, where there is none, one that waits
+-- what is sent next: the delta, or else a group that is to be sent again, or, where there is none, one that waits
 abbrev pub next_to_send : Link → List Span
-next_to_send link = take 1 (link.again ++ link.waiting)
+next_to_send link = take 1 (link.delta ++ (link.again ++ link.waiting))
 
 abbrev pub sent_waiting : List Span → Link → Link
 sent_waiting [] link = link
 sent_waiting (group ∷ groups) link = record link { waiting = groups; kept = link.kept ++ group ∷ []; again = [] }
 
+abbrev pub sent_group : List Span → Link → Link
+sent_group [] link = sent_waiting link.waiting link
+sent_group (group ∷ groups) link = record link { again = groups }
+
 abbrev pub sent_next : List Span → Link → Link
-sent_next [] link = sent_waiting link.waiting link
-sent_next (group ∷ groups) link = record link { again = groups }
+sent_next [] link = sent_group link.again link
+sent_next (delta ∷ deltas) link = record link { delta = deltas }
 
 -- the frames of groups, as a primary of this epoch sends them
 abbrev pub framed : ℕ → List Span → List Frame
@@ -226,7 +236,7 @@ framed epoch = map (λ group. record { epoch = epoch; span = group })
 abbrev pub sent : World → World
 sent w =
     let link = w.primary.link in
-    with_sent (framed w.primary.epoch (next_to_send link)) (with_link (sent_next link.again link) w)
+    with_sent (framed w.primary.epoch (next_to_send link)) (with_link (sent_next link.delta link) w)
 
 abbrev pub delivered : List Frame → Standby → Standby
 delivered frames standby = record standby { waiting = standby.waiting ++ frames }
@@ -362,7 +372,8 @@ Happens w Hand new = new ≡ with_link (handed_to (handed w.primary.committer.st
 Happens w Free new = new ≡ freed w
 Happens w AcceptFreed new = new ≡ accepted w
 Happens w ClearGap new = new ≡ cleared w
-Happens w OpenLink new = new ≡ with_link (opened_link w.primary.link) (with_acknowledged (acknowledgement_of w.standby ∷ []) w)
+Happens w OpenLink new =
+    new ≡ with_link (opened_link (due_delta w.standby.position w.primary.opened) w.primary.link) (with_acknowledged (acknowledgement_of w.standby ∷ []) w)
 Happens w Send new = new ≡ sent w
 Happens w (Deliver frame piece) new = new ≡ with_standby (delivered (option_items (slice_get w.wire.frames frame)) w.standby) w
 Happens w Apply new = Applies w new

@@ -6,8 +6,8 @@ use Rattle.kv_types.specs.Reading.{items_at}
 use Rattle.model.specs.declared.call.Call.{Call}
 use Rattle.model.specs.Call.{IsLegal, IsPrefix, Serves, calls_of, cut_at, items_of, keyspace_after, position_of, replies_to}
 use Rattle.machine.specs.declared.event.Event.{Event}
-use Rattle.machine.specs.declared.event.Event.TheVariants.{AckDelivered, Deliver, RaiseRemote}
-use Rattle.machine.specs.Event.{World, Step, Run, start_with, last_world, connection_of, is_open, count_open, asked, spans_of, texts_of, is_enabled}
+use Rattle.machine.specs.declared.event.Event.TheVariants.{AckDelivered, Deliver, OpenLink, RaiseRemote, Send}
+use Rattle.machine.specs.Event.{World, Span, Step, may_happen, next_to_send, Run, start_with, last_world, connection_of, is_open, count_open, asked, spans_of, texts_of, is_enabled}
 use Rattle.machine.specs.Promise.{IsReleased, released_in, fed_to}
 use Rattle.machine.specs.Sound.{HasNothing, IsChain, IsFrameWithin, Sound, answers_to}
 use Rattle.machine.specs.declared.event.TheConstants.{SEATS}
@@ -152,6 +152,13 @@ GroupsAreInOrder = AfterEveryRun (λ w. IsChain w.primary.committer.position (sp
 -- each frame, sent or waiting at the standby, is of the primary's epoch and tells only changes that the primary committed
 abbrev pub FramesAreCommitted : Type 0
 FramesAreCommitted = AfterEveryRun (λ w. All (IsFrameWithin w.primary.epoch w.primary.committer.position) w.wire.frames × All (IsFrameWithin w.primary.epoch w.primary.committer.position) w.standby.waiting)
+
+-- where the link opens to a standby that is behind the position at which the primary was opened, what is sent next leads it from where it stands to there
+abbrev pub WhoIsBehindGetsADelta : Type 0
+WhoIsBehindGetsADelta =
+    (old new : World) → Step old OpenLink true new → old.standby.position < old.primary.opened
+    → let delta : Span = record { before = old.standby.position; after = old.primary.opened } in
+    (next_to_send new.primary.link ≡ delta ∷ []) × (may_happen new Send ≡ true)
 
 -- ---- what has not happened
 

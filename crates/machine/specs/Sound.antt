@@ -140,6 +140,9 @@ pub record SoundLink (opened : ℕ) (stage : Stage) (position sent : ℕ) (link 
   pub sent_again : List Span
   pub again : sent_again ++ link.again ≡ link.kept
   pub remote : link.remote ≤ link.known
+  -- groups were sent from the position on at which the primary was opened, and a delta leads no further
+  pub sent_from : opened ≤ sent
+  pub delta : All (IsGroupWithin opened) link.delta
   pub few : HasRoomFor stage link.waiting
   pub few_kept : length link.kept ≤ KEPT_GROUPS
 

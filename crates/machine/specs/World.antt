@@ -91,6 +91,8 @@ pub record Committer : Type 0 where
 
 -- the primary's link to the standby
 pub record Link : Type 0 where
+  -- what is to be sent before all groups, to a standby that is behind the position at which the primary was opened: the changes up to there
+  pub delta : List Span
   -- groups that wait to be sent for the first time
   pub waiting : List Span
   -- groups that were sent and not acknowledged
@@ -169,7 +171,7 @@ new_committer position = record { closed = position; waiting = []; aside = []; s
 
 -- a link that has sent nothing and knows of no acknowledgement
 abbrev pub new_link : Link
-new_link = record { waiting = []; kept = []; again = []; known = 0; remote = 0 }
+new_link = record { delta = []; waiting = []; kept = []; again = []; known = 0; remote = 0 }
 
 -- two nodes that were formatted together, with this epoch
 abbrev pub start_at : ℕ → Bool → World

@@ -59,7 +59,8 @@ pub enum Event {
     AcceptFreed,
     /// The committer, where nothing waits for it, frees what lies in one gap of the record, and leaves a notice of it for the sequencer.
     ClearGap,
-    /// The link to the standby opens: the standby tells its position, and the link sends again from there.
+    /// The link to the standby opens: the standby tells its position, and the link sends again from there. Where the standby is behind the position at
+    /// which the primary was opened, a delta up to that position comes first.
     OpenLink,
     /// The link sends one frame.
     Send,

@@ -20,6 +20,7 @@ ghost use Rattle.machine.specs.Law.{
   PositionsAreInOrder,
   GroupsAreInOrder,
   FramesAreCommitted,
+  WhoIsBehindGetsADelta,
   NothingIsReleasedUnacknowledged,
   OnlyWhatWasMadeIsDelivered,
 };
@@ -83,6 +84,11 @@ pub fn positions_are_in_order()
 pub fn frames_are_committed_groups()
     ensures groups { GroupsAreInOrder }
     ensures frames { FramesAreCommitted }
+{}
+
+/// A standby that is behind the position at which the primary was opened is sent what leads it there, before all else.
+pub fn who_is_behind_gets_a_delta()
+    ensures { WhoIsBehindGetsADelta }
 {}
 
 /// Unless the remote mark is raised, no reply is released that rests on a change; and nothing is delivered that was not sent or made.
