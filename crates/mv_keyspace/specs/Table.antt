@@ -1,5 +1,5 @@
 -- The table of a node: each live record with its value, the directory entry that holds it and the position of its change, in the order of records.
-use Rattle.std.specs.Prelude.{◌≡◌, ℕ, not, ◌⊎◌, ◌↔◌, List, [], ◌∷◌, map, Option, Some, Contains, IsTrue}
+use Rattle.std.specs.Prelude.{◌≡◌, ℕ, not, ◌⊎◌, ◌↔◌, List, [], ◌∷◌, map, filter, nat_lt, Option, Some, Contains, IsTrue}
 use Rattle.std.specs.List.{IsDistinct, flat_map}
 use Rattle.std.specs.Ordering.{eq_by_cmp}
 use Rattle.std.specs.Cmp.Lexicographic.{pointwise}
@@ -62,6 +62,10 @@ place position table placed.Clear = []
 abbrev pub place_all : ℕ → Table → List PlacedChange → Table
 place_all position table [] = table
 place_all position table (change ∷ changes) = place_all position (place position table change) changes
+
+-- the rows whose change came after this position
+abbrev pub since : ℕ → Table → Table
+since from = filter (λ row. nat_lt from row.1.position)
 
 -- the entries of the live records
 abbrev pub entries_of : Table → List ℕ

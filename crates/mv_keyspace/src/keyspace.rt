@@ -1,10 +1,10 @@
 //! The keyspace as a sequencer and a standby see it.
-ghost use Rattle.std.specs.Prelude.{◌≡◌, ◌++◌, [], List, OnOk, OnErr, IfErr};
+ghost use Rattle.std.specs.Prelude.{◌≡◌, ◌++◌, [], List, OnOk, OnErr, IfErr, IfOk};
 ghost use Rattle.kv_types.specs.declared.place.EntryNo.{EntryNo};
 ghost use Rattle.kv_types.specs.declared.refusal.Refusal.TheVariants.{Memory};
 ghost use Rattle.mv_keyspace.specs.Loading.{AreCompatible, HasRows};
 ghost use Rattle.mv_keyspace.specs.Row.{table_of};
-ghost use Rattle.mv_keyspace.specs.Table.{Table, records, place_all, puts_of, AreEnded, AreFresh, IsLawful};
+ghost use Rattle.mv_keyspace.specs.Table.{Table, records, place_all, puts_of, since, AreEnded, AreFresh, IsLawful};
 
 use crate::row::Row;
 use cmd_core::Lookup;
@@ -45,6 +45,12 @@ pub trait Keyspace: Lookup {
         requires compatible { AreCompatible (table_of rows.items) }
         ensures ok { OnOk result (HasRows (table_of rows.items) (table self.new)) }
         ensures err { OnErr result (table self.new ≡ []) }
+        ensures cause { IfErr result (λ refusal. refusal ≡ Memory) };
+
+    /// The live records whose change came after the position `from` of the list, in the order of records. They share their bytes with the keyspace.
+    /// Refused with `Memory` where a growth was refused.
+    fn since(&self, alloc: Global, from: u64) -> Result<Vec<Row>, Refusal>
+        ensures ok { IfOk result (λ rows. table_of rows.items ≡ since from (table self.now)) }
         ensures cause { IfErr result (λ refusal. refusal ≡ Memory) };
 
     /// What a command reads is the table.

@@ -8,6 +8,7 @@ mod list_keyspace;
 mod loading;
 mod putting;
 mod row;
+mod sharing;
 
 pub use keyspace::Keyspace;
 pub use list_keyspace::ListKeyspace;

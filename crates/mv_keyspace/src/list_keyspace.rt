@@ -16,6 +16,7 @@ use crate::keyspace::Keyspace;
 use crate::loading::sort_rows;
 use crate::putting::put_row;
 use crate::row::{Row, row_of};
+use crate::sharing::rows_since;
 use cmd_core::{
     Lookup, count_fields_in_order, count_keys_in, field_in_order, fields_in_order, has_in_order,
     string_in_order,
@@ -125,6 +126,10 @@ impl Keyspace for ListKeyspace {
         self.keys = count_keys_in(&rows);
         self.rows = rows;
         Ok(())
+    }
+
+    fn since(&self, alloc: Global, from: u64) -> Result<Vec<Row>, Refusal> {
+        Ok(rows_since(alloc, &self.rows, from)?)
     }
 }
 
