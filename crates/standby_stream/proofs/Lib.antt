@@ -1,1 +1,6 @@
 pub mod StreamLemmas
+pub mod OpeningLemmas
+pub mod DeltaLemmas
+pub mod ReadLemmas
+pub mod HeldLines
+pub mod FitLemmas

@@ -17,9 +17,11 @@ pub record Stream : Type 0 where
   pub known : ℕ
   -- a group that was taken and has no frame yet
   pub pending : Option Group
+  -- the frame that is sent before all kept ones, to a standby that is behind the position at which the primary was opened
+  pub delta : Option Frame
 
 abbrev pub new_stream : ℕ → Stream
-new_stream epoch = record { epoch = epoch; kept = []; next = 0; known = 0; pending = None }
+new_stream epoch = record { epoch = epoch; kept = []; next = 0; known = 0; pending = None; delta = None }
 
 -- what is true of every link: it keeps no more than it may, it has the room for that, and what is sent next is kept or comes
 pub record IsStream (kept : List Frame) (next capacity : ℕ) : Type 0 where

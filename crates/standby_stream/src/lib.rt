@@ -2,6 +2,10 @@
 #![tactic(auto)]
 
 mod frame_of;
+mod laws;
 mod link;
+mod opening;
 
+pub use laws::{deltas_lead_on, ended_are_read};
 pub use link::Link;
+pub use opening::{Opening, delta, records_ended};

@@ -26,6 +26,8 @@ pub struct Link {
     known: u64,
     /// A group that was taken and has no frame yet, as memory was refused.
     pending: Option<Group>,
+    /// A frame that is sent before all others, to a standby that is behind the position at which the primary was opened.
+    delta: Option<Frame>,
 }
 
 impl Model for Link {
@@ -40,6 +42,7 @@ impl Model for Link {
       next = link.next;
       known = link.known;
       pending = link.pending;
+      delta = link.delta;
     } };
 
     // The room for all frames is made with the link, so that later calls take memory for a frame's changes alone.
@@ -61,14 +64,31 @@ impl Link {
             next: 0,
             known: 0,
             pending: None,
+            delta: None,
         })
     }
 
-    /// All kept frames are to be sent again, the oldest first.
-    pub fn reopen(&mut self)
-        ensures { self.new ≡ record self.old { next = 0 } }
+    /// The link opens anew: this delta, if the standby is due one, and after it all kept frames are to be sent, the oldest first.
+    pub fn reopen(&mut self, delta: Option<Frame>)
+        ensures { self.new ≡ record self.old { next = 0; delta = delta } }
     {
         self.next = 0;
+        self.delta = delta;
+    }
+
+    /// The delta, if one is to be sent. It comes before what `next_frame` gives, and is given once each time that the link opens.
+    pub fn take_delta(&mut self) -> Option<Frame>
+        ensures given { result ≡ (self.old).delta }
+        ensures left { self.new ≡ record self.old { delta = None } }
+    {
+        self.delta.take()
+    }
+
+    /// The epoch of its frames.
+    pub fn epoch(&self) -> u64
+        ensures { result ≡ (self.now).epoch }
+    {
+        self.epoch
     }
 
     /// The frame that is sent next, by its index for `frame`: of those that are to be sent again the oldest, or else that of the next group. It

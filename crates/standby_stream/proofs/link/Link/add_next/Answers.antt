@@ -8,7 +8,7 @@ use Rattle.standby_stream.proofs.link.Link.add_next.Goals as goal
 pub returns-in_err-frame-clause-refused : goal.returns-in_err-frame-clause-refused
 returns-in_err-frame-clause-refused g c =
     let exit = err_from_is_err_and c.from_residual.result c.from_residual.ensures.1 in
-    let own : Stream = record { epoch = c.self.inside.epoch; kept = c.self.inside.kept.items; next = c.self.inside.next; known = c.self.inside.known; pending = c.self.inside.pending } in
+    let own : Stream = record { epoch = c.self.inside.epoch; kept = c.self.inside.kept.items; next = c.self.inside.next; known = c.self.inside.known; pending = c.self.inside.pending; delta = c.self.inside.delta } in
     rw exit.1 (
       exit.2,
       subst (λ (s : Stream). length s.kept < KEPT_GROUPS) c.self.view_is (omega arith),
@@ -17,6 +17,6 @@ returns-in_err-frame-clause-refused g c =
 
 pub returns-clause-next : goal.returns-clause-next
 returns-clause-next g c = λ few.
-    let own : Stream = record { epoch = c.self.inside.epoch; kept = c.self.inside.kept.items; next = c.self.inside.next; known = c.self.inside.known; pending = c.self.inside.pending } in
+    let own : Stream = record { epoch = c.self.inside.epoch; kept = c.self.inside.kept.items; next = c.self.inside.next; known = c.self.inside.known; pending = c.self.inside.pending; delta = c.self.inside.delta } in
     adds-frame g.I.Inlet.take_gives c.args.groups.now c.take_next.new.groups own c.args.self.now c.self.view_is c.in-Some.group c.take_next.new.pending c.in-Some.is c.take_next.ensures
     c.in_ok-frame.frame c.push_back_reserved.new.self.items c.in_ok-frame.ensures c.push_back_reserved.ensures.items

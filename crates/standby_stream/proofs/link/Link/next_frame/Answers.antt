@@ -8,7 +8,7 @@ pub returns-clause-next : goal.returns-clause-next
 returns-clause-next g c = λ due. elim c.else-self-len.branch [
   | else-self-len-via-then-self-len+in_ok-add_next+else-not-branch w ↦
       let added = w.in_ok-add_next.ensures.next due.room in
-      let new : Stream = record { epoch = c.self-2.inside.epoch; kept = c.self-2.inside.kept.items; next = c.self-2.inside.next; known = c.self-2.inside.known; pending = c.self-2.inside.pending } in (
+      let new : Stream = record { epoch = c.self-2.inside.epoch; kept = c.self-2.inside.kept.items; next = c.self-2.inside.next; known = c.self-2.inside.known; pending = c.self-2.inside.pending; delta = c.self-2.inside.delta } in (
         added.0,
         subst (λ after. TakesNext g.I.Inlet.take_gives c.args.self.now.pending c.args.groups.now added.0 after) (sym w.groups-is) added.1,
         sends-added c.args.self.now new added.0 w.in_ok-add_next.field-0
