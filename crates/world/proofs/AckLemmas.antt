@@ -99,6 +99,7 @@ knows calls code handed remote position machine from to stands chain =
     record {
       waiting = stands.waiting;
       none_pending = stands.none_pending;
+      delta = stands.delta;
       kept = kept;
       next_within = omega (arith, stands.next_within, count, left, length-above position machine.kept);
       again = ap₂ (λ n m. drop (code.next - (n - m)) (above position machine.kept)) count left ∙ drop-above position from code.next machine.kept to chain

@@ -40,7 +40,7 @@ changes-open calls from [] are = refl
 changes-open calls from (part ∷ parts) are = ap₂ (λ (xs ys : List Change). xs ++ ys) are.1 (changes-open calls (from + 1) parts are.2)
 
 -- and they end where the last of them ends
-last-open : (calls : List Call) (from : ℕ) (parts : List Part) → AreOpen calls from parts → last_position from parts ≡ from + length parts
+pub last-open : (calls : List Call) (from : ℕ) (parts : List Part) → AreOpen calls from parts → last_position from parts ≡ from + length parts
 last-open calls from [] are = sym (add-zero from)
 last-open calls from (part ∷ parts) are =
     let rest = last-open calls (from + 1) parts are.2 in
@@ -54,12 +54,12 @@ newest-same_first newest position [] parts later none = later none
 newest-same_first newest position (entry ∷ entries) parts later none = absurd (omega (arith, none))
 
 -- it stays where the parts ended nothing
-newest-same : (newest : ℕ) (parts : List Part) → length (ended_by_parts parts) ≡ 0 → newest_end newest parts ≡ newest
+pub newest-same : (newest : ℕ) (parts : List Part) → length (ended_by_parts parts) ≡ 0 → newest_end newest parts ≡ newest
 newest-same newest [] none = refl
 newest-same newest (part ∷ parts) none = newest-same_first newest part.position part.ended.items parts (newest-same newest parts) none
 
 -- once it is above a position it stays above it, and it is no further than the parts
-newest-rises : (calls : List Call) (low from newest : ℕ) (parts : List Part) → AreOpen calls from parts → low < newest → newest ≤ from
+pub newest-rises : (calls : List Call) (low from newest : ℕ) (parts : List Part) → AreOpen calls from parts → low < newest → newest ≤ from
     → (low < newest_end newest parts) × (newest_end newest parts ≤ from + length parts)
 newest-rises calls low from newest [] are above below = (above, omega (arith, below))
 newest-rises calls low from newest (part ∷ parts) are above below =
@@ -82,7 +82,7 @@ newest-within_first calls from newest position (entry ∷ entries) parts are at 
     (rest.0, omega (arith, rest.1))
 
 -- where they ended something, it is the position of one of them
-newest-within : (calls : List Call) (from newest : ℕ) (parts : List Part) → AreOpen calls from parts → 0 < length (ended_by_parts parts)
+pub newest-within : (calls : List Call) (from newest : ℕ) (parts : List Part) → AreOpen calls from parts → 0 < length (ended_by_parts parts)
     → (from < newest_end newest parts) × (newest_end newest parts ≤ from + length parts)
 newest-within calls from newest [] are some = absurd (omega (arith, some))
 newest-within calls from newest (part ∷ parts) are some =

@@ -14,6 +14,7 @@ use Rattle.model.specs.declared.image.TheConstants.{COUNTER_LIMIT, STAMP_WINDOW}
 use Rattle.model.specs.declared.work.FreeList.{FreeList}
 use Rattle.model.specs.declared.work.Work.{Work}
 use Rattle.model.specs.declared.work.Work.TheVariants as work
+use Rattle.model.specs.Call.{position_of}
 use Rattle.model.specs.Image.{Image}
 use Rattle.model.specs.Group.{AreEnded, AreParts, Contents, IsConsistent, IsGroup, Versions, after_group, last_position, part_versions}
 use Rattle.model.specs.Standing.{Holder}
@@ -39,9 +40,11 @@ use Rattle.world.specs.Cause.{IsAtLimit, EndsBy}
 use Rattle.world.specs.Committing.{AreContentsAt, AreOfEpoch, Committing, CommittingRefines, EngineStands, Leads, StageRefines, StandsAtEither, NearOnly, entries_told, extents_told, next_primary}
 use Rattle.world.specs.Going.{Goes}
 use Rattle.world.specs.GroupSpan.{AreGroupsOf, AreWorkOf, IsGroupOf, positions_of_lists}
+use Rattle.world.specs.Recalling.{Remembers}
 use Rattle.world.proofs.EngineLemmas.{AreContentsAt-after_group, Stands-engine, keeps-stands, rests-same}
 use Rattle.world.proofs.GroupSpanLemmas.{IsGroupOf-grows, length-groups}
 use Rattle.world.proofs.QueueLemmas.{AreWorkOf-grows, ended-reached}
+use Rattle.world.proofs.RecallGroups.{remembers-committed}
 
 -- ---- while the list grows
 
@@ -200,6 +203,27 @@ commit-goes holder w old lists group new device device' contents contents' is_fa
         durable = leaves;
       },
     )
+
+-- what was remembered is so after it
+pub Remembers-committed : (holder : Holder) (w : World) (old : Committing) (lists : List FreeList) (group : Group) (new : Committing) (contents contents' : Contents) (s : Sequencing)
+    → TakesGroup contents old lists group new → Same (after_group contents group) contents' → CommittingRefines w.primary.calls old w.primary.committer
+    → AreContentsAt holder w.primary.calls w.primary.committer.position contents
+    → Remembers w.standby.position w.primary.committer.position w.primary.calls contents old.waiting.items old.aside s
+    → Remembers w.standby.position (next_primary w) w.primary.calls contents' new.waiting.items new.aside s
+Remembers-committed holder w old lists group new contents contents' s takes moved stands at remembers =
+    let calls = w.primary.calls in
+    let low = w.standby.position in
+    let position = w.primary.committer.position in
+    let next = next-group holder calls position contents old lists group new w.primary.committer at takes stands in
+    let span = next.firsts.first in
+    let ends : last_position group.before group.parts.items ≡ next_primary w =
+    next.firsts.is.after ∙ sym (ap (λ works. (committed_first works w.primary.committer).position) next.firsts.from) in
+    let within : last_position group.before group.parts.items ≤ position_of calls = omega (arith, next.firsts.is.after, next.firsts.is.span_within.within) in
+    let after = remembers-committed holder low position calls contents lists group new.waiting.items old.aside s at takes.lawful within
+    (subst (λ (items : List Work). Remembers low position calls contents items old.aside s) takes.taken remembers) in
+    subst (λ (c : Contents). Remembers low (next_primary w) calls c new.waiting.items new.aside s) (sym (Same-is (after_group contents group) contents' moved))
+    (subst (λ (aside : List FreeList). Remembers low (next_primary w) calls (after_group contents group) new.waiting.items aside s) (sym takes.set_aside)
+    (subst (λ p. Remembers low p calls (after_group contents group) new.waiting.items (old.aside ++ lists) s) ends after))
 
 -- at any moment of the engine's call, a crash leaves what was before it or what is after it
 pub commit-moments : (holder : Holder) (w : World) (old : Committing) (lists : List FreeList) (group : Group) (new : Committing) (device device' : State) (contents : Contents) (is_faulted : Bool)

@@ -16,8 +16,7 @@ use Rattle.machine.proofs.GrowLemmas.{cuts-stay}
 use Rattle.standby.specs.declared.frame.Frame.{Frame}
 use Rattle.world.specs.declared.arrivals.Arrivals.{Arrivals}
 use Rattle.world.specs.Committing.{AreContentsAt, EngineStands, IsDown}
-use Rattle.world.specs.GroupSpan.{IsWithin}
-use Rattle.world.specs.Link.{IsFrameOf, IsFrameRead, AreFramesRead, AreFramesSent}
+use Rattle.world.specs.Link.{LiesWithin, IsFrameOf, IsFrameRead, AreFramesRead, AreFramesSent}
 use Rattle.world.specs.Standby.{Node, StandbyStands, ArrivalsRefine}
 
 -- the keyspace up to the cut is that of the whole list
@@ -71,13 +70,13 @@ StandbyStands-cut holder epoch calls n p node le stands = record {
 
 -- ---- frames
 
-IsWithin-cut : (calls : List Call) (n : ℕ) (span : Span) → span.after ≤ n → IsWithin calls span → IsWithin (cut_at calls n) span
-IsWithin-cut calls n span le is = record { rising = is.rising; within = omega (arith, le, is.within, position_of-cut_at calls n); few = is.few }
+LiesWithin-cut : (calls : List Call) (n : ℕ) (span : Span) → span.after ≤ n → LiesWithin calls span → LiesWithin (cut_at calls n) span
+LiesWithin-cut calls n span le is = record { rising = is.rising; within = omega (arith, le, is.within, position_of-cut_at calls n) }
 
 IsFrameOf-cut : (epoch : ℕ) (calls : List Call) (n : ℕ) (frame : Frame) (span : Span) → span.after ≤ n → IsFrameOf epoch calls frame span → IsFrameOf epoch (cut_at calls n) frame span
 IsFrameOf-cut epoch calls n frame span le is =
     record {
-      span_within = IsWithin-cut calls n span le is.span_within;
+      span_within = LiesWithin-cut calls n span le is.span_within;
       epoch_is = is.epoch_is;
       before = is.before;
       after = is.after;

@@ -44,6 +44,9 @@ use Rattle.world.specs.declared.connection.Connection.{Connection}
 use Rattle.world.specs.Standby.{Node, StandbyStands, ArrivalsRefine}
 use Rattle.world.specs.Headline.{start}
 use Rattle.world.specs.Pair.{NodesRefine, Pair, life_if}
+use Rattle.world.specs.Recalling.{Remembers}
+use Rattle.world.proofs.OpeningLemmas.{opening-none}
+use Rattle.world.proofs.RecallLemmas.{remembers-new}
 
 -- ---- the sequencer
 
@@ -163,10 +166,10 @@ none-seated (code ∷ codes) stand s = absurd stand
 pub pair-starts : (first second : Holder) (pair : Pair) → SessionsRefine pair.sessions [] [] → SequencerRefines [] 0 pair.sequencer
     → (pair.sequencer.ended ≡ []) × (pair.sequencer.newest ≡ 0)
     → pair.committing.waiting.items ≡ [] → pair.committing.aside ≡ [] → pair.committing.stage ≡ Ready → pair.committing.local ≡ 0 → pair.notices ≡ [] → EngineStands first [] 0 pair.device pair.contents pair.is_faulted
-    → pair.contents.current.gaps.items ≡ [] → IsAheadOf pair.sequencer pair.contents → Expects pair.sequencer pair.contents [] [] → pair.link ≡ new_stream FIRST_EPOCH → pair.handed.items ≡ [] → pair.remote ≡ 0 → pair.frames ≡ []
+    → pair.contents.current.gaps.items ≡ [] → IsAheadOf pair.sequencer pair.contents → Expects pair.sequencer pair.contents [] [] → pair.link ≡ new_stream FIRST_EPOCH → pair.handed.items ≡ [] → pair.remote ≡ 0 → pair.opening.position ≡ 0 → pair.frames ≡ []
     → ((epoch : ℕ) → ArrivalsRefine epoch [] pair.arrivals [] []) → StandbyStands second pair.link.epoch [] 0 pair.standby
     → first.role ≡ Role.Primary → second.role ≡ Role.Standby → first.epoch ≡ FIRST_EPOCH → second.epoch ≡ FIRST_EPOCH → pair.primary_runs ≡ true → pair.standby_runs ≡ true → NodesRefine first second pair start
-pair-starts first second pair sessions sequencer none_ended none none_aside ready mark none_told engine no_gap ahead expects link no_group remote no_frame arrivals standby first_role second_role first_epoch second_epoch serves follows =
+pair-starts first second pair sessions sequencer none_ended none none_aside ready mark none_told engine no_gap ahead expects link no_group remote never_opened no_frame arrivals standby first_role second_role first_epoch second_epoch serves follows =
     record {
       sound = sound-start true;
       lives = record {
@@ -194,11 +197,15 @@ pair-starts first second pair sessions sequencer none_ended none none_aside read
             notices_are = ap (λ (notices : List Freed). length notices) none_told;
             gaps = ap (λ (gaps : List Gap). length gaps) no_gap;
           };
+          remembers = subst (λ (items : List Work). Remembers 0 0 [] pair.contents items pair.committing.aside pair.sequencer) (sym none)
+              (subst (λ (lists : List FreeList). Remembers 0 0 [] pair.contents [] lists pair.sequencer) (sym none_aside) (remembers-new [] pair.contents pair.sequencer 0));
+          opening = opening-none 0 [] pair.opening never_opened;
           epoch = ap (λ (s : Stream). s.epoch) link;
           link = subst (λ (s : Stream). LinkRefines [] s pair.handed pair.remote start.primary.link) (sym link)
               (record {
                 waiting = subst (λ (groups : List Group). AreGroupsOf [] groups []) (sym no_group) tt;
                 none_pending = refl;
+                delta = tt;
                 kept = tt;
                 next_within = omega arith;
                 again = refl;

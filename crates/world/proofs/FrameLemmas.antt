@@ -8,23 +8,25 @@ use Rattle.kv_types.specs.declared.change.Change.{Change}
 use Rattle.kv_types.specs.Change.{changes_size}
 use Rattle.kv_types.specs.Keyspace.{play_all}
 use Rattle.model.specs.Call.{cut_at, keyspace_after}
-use Rattle.model.proofs.CallsLemmas.{keyspace_after-cut_at-append}
+use Rattle.model.proofs.CallsLemmas.{keyspace_after-cut_at-append, position_of_grows}
 use Rattle.machine.specs.Event.{Span, Frame as Sent, Acknowledgement}
 use Rattle.standby.specs.declared.frame.Frame.{Frame}
 use Rattle.standby.specs.Following.{IsCopy}
 use Rattle.stream_codec.specs.Message.{Sent as Told, Changes, Acknowledged, IsSent, IsWithinLimits, sent_of_frame, sent_of_ack}
 use Rattle.standby.specs.declared.frame.Ack.{Ack}
 use Rattle.world.specs.Standby.{told_by}
-use Rattle.world.specs.Link.{IsFrameOf, AreFramesOf, IsFrameRead, AreFramesRead, IsFrameSent, AreFramesSent, IsAckSent, AreAcksSent}
-use Rattle.world.proofs.GroupSpanLemmas.{IsWithin-grows}
+use Rattle.world.specs.Link.{LiesWithin, IsFrameOf, AreFramesOf, IsFrameRead, AreFramesRead, IsFrameSent, AreFramesSent, IsAckSent, AreAcksSent}
 
 -- ---- the list of calls grows
+
+LiesWithin-grows : (calls more : List Call) (span : Span) → LiesWithin calls span → LiesWithin (calls ++ more) span
+LiesWithin-grows calls more span is = record { rising = is.rising; within = omega (arith, is.within, position_of_grows calls more) }
 
 IsFrameOf-grows : (epoch : ℕ) (calls more : List Call) (frame : Frame) (span : Span) → IsFrameOf epoch calls frame span → IsFrameOf epoch (calls ++ more) frame span
 IsFrameOf-grows epoch calls more frame span is =
     let within = is.span_within in
     record {
-      span_within = IsWithin-grows calls more span within;
+      span_within = LiesWithin-grows calls more span within;
       epoch_is = is.epoch_is;
       before = is.before;
       after = is.after;

@@ -15,7 +15,7 @@ use Rattle.model.specs.Call.{cut_at, is_nonempty, keyspace_after, IsLegal}
 use Rattle.model.proofs.PositionsLemmas.{keyspace_after-cut_at-since}
 use Rattle.model.proofs.SizeLemmas.{changes_of_group_within}
 use Rattle.machine.specs.declared.event.TheConstants.{KEPT_GROUPS}
-use Rattle.machine.specs.Event.{Link as Machine, Span, sent_next, sent_waiting, next_to_send}
+use Rattle.machine.specs.Event.{Link as Machine, Span, option_items, sent_group, sent_next, sent_waiting, next_to_send}
 use Rattle.pipes.specs.Waiting.{Waiting, LocalTakes}
 use Rattle.standby.specs.declared.frame.Frame.{Frame}
 use Rattle.standby_stream.specs.Stream.{Stream, TakesNext, IsFull, IsDue, Frames, IsFrameOf as IsFramed}
@@ -29,6 +29,7 @@ pub LinkRefines-grows : (calls more : List Call) (code : Stream) (handed : Waiti
 LinkRefines-grows calls more code handed remote machine stands = record {
   waiting = AreGroupsOf-grows calls more handed.items machine.waiting stands.waiting;
   none_pending = stands.none_pending;
+  delta = AreFramesOf-grows code.epoch calls more (option_items code.delta) machine.delta stands.delta;
   kept = AreFramesOf-grows code.epoch calls more code.kept machine.kept stands.kept;
   next_within = stands.next_within;
   again = stands.again;
@@ -77,7 +78,7 @@ frame_of_group epoch calls group frame span legal of is =
     let count = span.after - span.before in
     let end : span.before + count ≡ span.after = omega (arith, is.span_within.rising) in
     record {
-      span_within = is.span_within;
+      span_within = record { rising = is.span_within.rising; within = is.span_within.within };
       epoch_is = of.epoch_is;
       before = of.before ∙ is.before;
       after = of.after ∙ is.after;
@@ -91,8 +92,11 @@ slice_get-last : {X : Type 0} (xs : List X) (x : X) → slice_get (xs ++ x ∷ [
 slice_get-last [] x = refl
 slice_get-last (y ∷ xs) x = slice_get-last xs x
 
+abbrev can_send_group : Machine → Bool
+can_send_group machine = is_nonempty machine.again || (is_nonempty machine.waiting && nat_lt (length machine.kept) KEPT_GROUPS)
+
 abbrev can_send : Machine → Bool
-can_send machine = is_nonempty machine.again || (is_nonempty machine.waiting && nat_lt (length machine.kept) KEPT_GROUPS)
+can_send machine = is_nonempty machine.delta || can_send_group machine
 
 -- the frame of this index is sent, and the machine's link sends its span
 pub record SendsAt (epoch : ℕ) (calls : List Call) (machine : Machine) (index : ℕ) (new : Stream) (handed : Waiting Group) (remote : ℕ) : Type 0 where
@@ -103,7 +107,7 @@ pub record SendsAt (epoch : ℕ) (calls : List Call) (machine : Machine) (index 
   pub frame : Frame
   pub stands : slice_get new.kept index ≡ Some frame
   pub is : IsFrameOf epoch calls frame span
-  pub link : LinkRefines calls new handed remote (sent_next machine.again machine)
+  pub link : LinkRefines calls new handed remote (sent_next machine.delta machine)
 
 pub record SendsNone (epoch : ℕ) (calls : List Call) (machine : Machine) (new : Stream) (handed : Waiting Group) (remote : ℕ) : Type 0 where
   pub may : can_send machine ≡ false
@@ -123,7 +127,25 @@ pub record Answers (code : Stream) (handed : Waiting Group) (result : Result (Op
   pub next : IsDue code → IfOk result (λ given. (found : Option Group) × TakesNext LocalTakes code.pending handed found after × Frames code found given new)
   pub refused : IfErr result (λ refusal. (refusal ≡ Memory) × IsDue code × ((group : Group) × TakesNext LocalTakes code.pending handed (Some group) after × (new ≡ record code { pending = Some group })))
 
-module _ (calls : List Call) (code : Stream) (handed : Waiting Group) (remote : ℕ) (machine : Machine) (legal : IsLegal calls) (stands : LinkRefines calls code handed remote machine) where
+-- where no frame comes before all groups, there is no span that does
+no_delta : (epoch : ℕ) (calls : List Call) (delta : Option Frame) (spans : List Span) → delta ≡ None → AreFramesOf epoch calls (option_items delta) spans → spans ≡ []
+no_delta epoch calls delta [] none are = refl
+no_delta epoch calls delta (span ∷ spans) none are = absurd (subst (λ (d : Option Frame). AreFramesOf epoch calls (option_items d) (span ∷ spans)) none are)
+
+-- nothing comes before the groups
+module _ (calls : List Call) (code : Stream) (handed : Waiting Group) (remote : ℕ) (machine : Machine) (legal : IsLegal calls) (stands : LinkRefines calls code handed remote machine) (none_before : code.delta ≡ None) where
+  nothing_before : machine.delta ≡ []
+  nothing_before = no_delta code.epoch calls code.delta machine.delta none_before stands.delta
+
+  may_so : (b : Bool) → can_send_group machine ≡ b → can_send machine ≡ b
+  may_so b is = ap (λ (ds : List Span). is_nonempty ds || can_send_group machine) nothing_before ∙ is
+
+  next_so : (spans : List Span) → take 1 (machine.again ++ machine.waiting) ≡ spans → next_to_send machine ≡ spans
+  next_so spans is = ap (λ (ds : List Span). take 1 (ds ++ (machine.again ++ machine.waiting))) nothing_before ∙ is
+
+  link_so : (new : Stream) (after : Waiting Group) → LinkRefines calls new after remote (sent_group machine.again machine) → LinkRefines calls new after remote (sent_next machine.delta machine)
+  link_so new after is = subst (λ (ds : List Span). LinkRefines calls new after remote (sent_next ds machine)) (sym nothing_before) is
+
   count : length code.kept ≡ length machine.kept
   count = length-frames code.epoch calls code.kept machine.kept stands.kept
 
@@ -135,29 +157,31 @@ module _ (calls : List Call) (code : Stream) (handed : Waiting Group) (remote : 
       let at = frame_at code.epoch calls code.kept machine.kept code.next stands.kept lt in
       let all : machine.again ≡ at.span ∷ at.rest = sym stands.again ∙ at.here in
       record {
-        may = ap (λ (gs : List Span). is_nonempty gs || (is_nonempty machine.waiting && nat_lt (length machine.kept) KEPT_GROUPS)) all;
+        may = may_so true (ap (λ (gs : List Span). is_nonempty gs || (is_nonempty machine.waiting && nat_lt (length machine.kept) KEPT_GROUPS)) all);
         epoch_is = refl;
         span = at.span;
-        next = ap (λ (gs : List Span). take 1 (gs ++ machine.waiting)) all;
+        next = next_so (at.span ∷ []) (ap (λ (gs : List Span). take 1 (gs ++ machine.waiting)) all);
         frame = at.frame;
         stands = at.stands;
         is = at.is;
-        link = subst (λ (gs : List Span). LinkRefines calls (record code { next = code.next + 1 }) handed remote (sent_next gs machine)) (sym all)
+        link = link_so (record code { next = code.next + 1 }) handed
+            (subst (λ (gs : List Span). LinkRefines calls (record code { next = code.next + 1 }) handed remote (sent_group gs machine)) (sym all)
             (record {
               waiting = stands.waiting;
               none_pending = stands.none_pending;
+              delta = stands.delta;
               kept = stands.kept;
               next_within = omega arith;
               again = ap (λ n. drop n machine.kept) (add-one code.next) ∙ at.behind;
               known = stands.known;
               remote_is = stands.remote_is;
-            });
+            }));
       }
 
   sends-full : IsFull code → can_send machine ≡ false
   sends-full full =
-      ap₂ (λ (gs : List Span) b. is_nonempty gs || (is_nonempty machine.waiting && b)) (nothing_again full.all_sent) (le-ltb (length machine.kept) KEPT_GROUPS (omega (arith, count, full.many)))
-      ∙ and-false (is_nonempty machine.waiting)
+      may_so false (ap₂ (λ (gs : List Span) b. is_nonempty gs || (is_nonempty machine.waiting && b)) (nothing_again full.all_sent) (le-ltb (length machine.kept) KEPT_GROUPS (omega (arith, count, full.many)))
+      ∙ and-false (is_nonempty machine.waiting))
 
   takes : (found : Option Group) (after : Waiting Group) → TakesNext LocalTakes code.pending handed found after → LocalTakes handed found after
   takes found after taken = subst (λ pending. TakesNext LocalTakes pending handed found after) stands.none_pending taken
@@ -165,8 +189,8 @@ module _ (calls : List Call) (code : Stream) (handed : Waiting Group) (remote : 
   may_first : (group : Group) (after : Waiting Group) → IsDue code → handed.items ≡ group ∷ after.items → can_send machine ≡ true
   may_first group after due first =
       let one = first_group calls group after.items machine.waiting (subst (λ groups. AreGroupsOf calls groups machine.waiting) first stands.waiting) in
-      ap₂ (λ (gs gs' : List Span). is_nonempty gs || (is_nonempty gs' && nat_lt (length machine.kept) KEPT_GROUPS)) (nothing_again due.all_sent) one.all
-      ∙ lt-ltb (length machine.kept) KEPT_GROUPS (omega (arith, count, due.room))
+      may_so true (ap₂ (λ (gs gs' : List Span). is_nonempty gs || (is_nonempty gs' && nat_lt (length machine.kept) KEPT_GROUPS)) (nothing_again due.all_sent) one.all
+      ∙ lt-ltb (length machine.kept) KEPT_GROUPS (omega (arith, count, due.room)))
 
   sends-first : (group : Group) (frame : Frame) (after : Waiting Group) → IsDue code → handed.items ≡ group ∷ after.items → IsFramed code.epoch group frame
       → SendsAt code.epoch calls machine code.next (record code { kept = code.kept ++ frame ∷ []; next = code.next + 1; pending = None }) after remote
@@ -179,6 +203,7 @@ module _ (calls : List Call) (code : Stream) (handed : Waiting Group) (remote : 
       let now : LinkRefines calls new after remote (sent_waiting (one.span ∷ one.rest) machine) = record {
         waiting = one.are;
         none_pending = refl;
+        delta = stands.delta;
         kept = AreFramesOf-push code.epoch calls code.kept machine.kept frame one.span stands.kept is;
         next_within = omega (arith, more, due.all_sent);
         again = drop_all (code.next + 1) (machine.kept ++ one.span ∷ []) (omega (arith, more_spans, count, due.all_sent));
@@ -189,23 +214,25 @@ module _ (calls : List Call) (code : Stream) (handed : Waiting Group) (remote : 
         may = may_first group after due first;
         epoch_is = refl;
         span = one.span;
-        next = ap₂ (λ (gs gs' : List Span). take 1 (gs ++ gs')) (nothing_again due.all_sent) one.all;
+        next = next_so (one.span ∷ []) (ap₂ (λ (gs gs' : List Span). take 1 (gs ++ gs')) (nothing_again due.all_sent) one.all);
         frame = frame;
         stands = subst (λ n. slice_get (code.kept ++ frame ∷ []) n ≡ Some frame) (sym due.all_sent) (slice_get-last code.kept frame);
         is = is;
-        link = subst (λ (gs : List Span). LinkRefines calls new after remote (sent_next gs machine)) (sym (nothing_again due.all_sent))
-            (subst (λ (gs : List Span). LinkRefines calls new after remote (sent_waiting gs machine)) (sym one.all) now);
+        link = link_so new after
+            (subst (λ (gs : List Span). LinkRefines calls new after remote (sent_group gs machine)) (sym (nothing_again due.all_sent))
+            (subst (λ (gs : List Span). LinkRefines calls new after remote (sent_waiting gs machine)) (sym one.all) now));
       }
 
   sends-nothing : (after : Waiting Group) → IsDue code → (handed.items ≡ []) × (after.items ≡ []) → SendsNone code.epoch calls machine code after remote
   sends-nothing after due none =
       let nothing : machine.waiting ≡ [] = no_group calls machine.waiting (subst (λ groups. AreGroupsOf calls groups machine.waiting) none.0 stands.waiting) in
       record {
-        may = ap₂ (λ (gs gs' : List Span). is_nonempty gs || (is_nonempty gs' && nat_lt (length machine.kept) KEPT_GROUPS)) (nothing_again due.all_sent) nothing;
+        may = may_so false (ap₂ (λ (gs gs' : List Span). is_nonempty gs || (is_nonempty gs' && nat_lt (length machine.kept) KEPT_GROUPS)) (nothing_again due.all_sent) nothing);
         epoch_is = refl;
         link = record {
           waiting = subst (λ groups. AreGroupsOf calls groups machine.waiting) (none.0 ∙ sym none.1) stands.waiting;
           none_pending = stands.none_pending;
+          delta = stands.delta;
           kept = stands.kept;
           next_within = stands.next_within;
           again = stands.again;

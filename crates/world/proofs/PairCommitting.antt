@@ -18,6 +18,7 @@ use Rattle.world.specs.GroupSpan.{AreGroupsOf}
 use Rattle.world.specs.Cause.{Stretch, Breaks, RestsAtLimit, EndsBy, Resting}
 use Rattle.world.specs.Committing.{Committing, EngineStands, Leads, NearOnly, CommittingRefines, next_primary}
 use Rattle.world.specs.Link.{LinkRefines}
+use Rattle.world.specs.Recalling.{Remembers}
 use Rattle.world.specs.Session.{SequencerRefines}
 use Rattle.world.specs.Pair.{Pair, PartsRefine, PairRefines, Steps, Does}
 use Rattle.world.proofs.EngineLemmas.{moves-same}
@@ -90,6 +91,10 @@ shown-parts first second old committing w committer parts waiting aside committi
       leads = subst (λ (waits : Waiting Work). Leads old.contents waits.items committing.aside old.sequencer old.notices) (sym waiting)
           (subst (λ (lists : List FreeList). Leads old.contents old.committing.waiting.items lists old.sequencer old.notices) (sym aside) parts.leads);
       freeing = record { ended = parts.freeing.ended; newest = parts.freeing.newest; notices_are = parts.freeing.notices_are; gaps = parts.freeing.gaps };
+      remembers = subst (λ p. Remembers w.standby.position p w.primary.calls old.contents committing.waiting.items committing.aside old.sequencer) (sym position)
+          (subst (λ (waits : Waiting Work). Remembers w.standby.position w.primary.committer.position w.primary.calls old.contents waits.items committing.aside old.sequencer) (sym waiting)
+          (subst (λ (lists : List FreeList). Remembers w.standby.position w.primary.committer.position w.primary.calls old.contents old.committing.waiting.items lists old.sequencer) (sym aside) parts.remembers));
+      opening = parts.opening;
       epoch = parts.epoch;
       link = parts.link;
       frames = parts.frames;
@@ -142,6 +147,8 @@ hand-does old committing waiting did go same aside =
             engine = shown.engine;
             leads = shown.leads;
             freeing = record { ended = parts.freeing.ended; newest = parts.freeing.newest; notices_are = parts.freeing.notices_are; gaps = parts.freeing.gaps };
+            remembers = shown.remembers;
+            opening = parts.opening;
             epoch = parts.epoch;
             link = waits (handed_to (handed w.primary.committer.stage) w.primary.link) w parts.link refl moved.1;
             frames = parts.frames;
@@ -158,6 +165,8 @@ hand-does old committing waiting did go same aside =
             engine = shown.engine;
             leads = shown.leads;
             freeing = record { ended = parts.freeing.ended; newest = parts.freeing.newest; notices_are = parts.freeing.notices_are; gaps = parts.freeing.gaps };
+            remembers = shown.remembers;
+            opening = parts.opening;
             epoch = parts.epoch;
             link = waits w.primary.link w parts.link refl stayed.1;
             frames = parts.frames;
@@ -175,6 +184,7 @@ hand-does old committing waiting did go same aside =
         (record {
           waiting = groups;
           none_pending = stands.none_pending;
+          delta = stands.delta;
           kept = stands.kept;
           next_within = stands.next_within;
           again = stands.again;

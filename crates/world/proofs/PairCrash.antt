@@ -28,6 +28,7 @@ use Rattle.world.proofs.LivesLemmas.{serves-as}
 use Rattle.world.proofs.PairLemmas.{none-added, primary-stands, primary-within, standby-stands}
 use Rattle.world.proofs.PairLives.{stays-acts}
 use Rattle.world.proofs.PairStandby.{arrivals-stand, follower}
+use Rattle.world.proofs.RecallLemmas.{recalls-crashed}
 use Rattle.standby.specs.declared.frame.Frame.{Frame}
 use Rattle.world.specs.Link.{AreAcksSent, AreFramesRead}
 
@@ -112,6 +113,8 @@ primary-crashes old sessions committing device contents is_faulted picks positio
           none_told = refl;
           image = image;
           gaps = parts.freeing.gaps;
+          opened = refl;
+          recalls = recalls-crashed w.standby.position p calls old.contents old.contents old.committing.waiting.items old.committing.aside old.sequencer (λ i. refl) parts.remembers;
           epoch = parts.epoch;
           frames = AreFramesSent-cut old.link.epoch calls p old.frames w.wire.frames
               (subst (λ e. All (IsFrameWithin e p) w.wire.frames) (sym parts.epoch) (frames_within-weaker w.primary.epoch sound.sent p w.wire.frames behind sound.wire.frames)) parts.frames;
@@ -183,6 +186,8 @@ standby-crashes old arrivals node' picks follows has lost told =
               engine = up.1.engine;
               leads = up.1.leads;
               freeing = up.1.freeing;
+              remembers = up.1.remembers;
+              opening = up.1.opening;
               epoch = up.1.epoch;
               link = up.1.link;
               frames = up.1.frames;
@@ -202,6 +207,8 @@ standby-crashes old arrivals node' picks follows has lost told =
               none_told = fallen.1.none_told;
               image = fallen.1.image;
               gaps = fallen.1.gaps;
+              opened = fallen.1.opened;
+              recalls = fallen.1.recalls;
               epoch = fallen.1.epoch;
               frames = fallen.1.frames;
               arrivals = empty;

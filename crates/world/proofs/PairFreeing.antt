@@ -1,6 +1,6 @@
 -- What freeing, clearing a gap and telling the sequencer of it do to the pair, of what they do to its parts.
 use mathlib.Core.Path.{fun_ext}
-use Rattle.std.proofs.Common.{◌≡◌, ◌⊎◌, ◌+◌, ◌-◌, ◌<◌, ◌≤◌, ℕ, inl, inr, Bool, true, false, not, ◌&&◌, cond, nat_lt, List, [], ◌∷◌, ◌++◌, length, map, drop, Result, Ok, Err, Vec, Global, refl, sym, ap, ap₂, subst, ◌∙◌, arith, append-nil, length-append, true≢false}
+use Rattle.std.proofs.Common.{◌≡◌, ◌⊎◌, ◌+◌, ◌-◌, ◌<◌, ◌≤◌, ℕ, inl, inr, Bool, true, false, not, ◌&&◌, cond, nat_lt, List, [], ◌∷◌, ◌++◌, length, map, drop, Result, Ok, Err, Vec, Global, refl, sym, ap, ap₂, subst, ◌∙◌, arith, append-nil, le_refl, length-append, true≢false}
 use Rattle.std.specs.Coded.{le_prop}
 use Rattle.std.proofs.lemmas.Bool.{cases_lt, le-ltb, lt-ltb, leb-true, ltb-true}
 use Rattle.kv_types.specs.declared.place.EntryNo.{EntryNo}
@@ -29,6 +29,7 @@ use Rattle.wbl_engine.specs.Lawful.{AreLawful}
 use Rattle.wbl_engine.proofs.WithoutLemmas.{AllEnded, IsMapOf-contents_without, consistent_cleared, consistent_without, lawful_cleared, lawful_without}
 use Rattle.pipes.specs.Waiting.{Waiting, LocalTakes}
 use Rattle.redis_core.specs.Sequencing.{Expects, IsAheadOf, Sequencing, TakesBack}
+use Rattle.standby_stream.specs.declared.opening.Opening.{Opening}
 use Rattle.standby_stream.specs.Stream.{Stream}
 use Rattle.group_commit.specs.Group.{after_work, groups_of, lists_of}
 use Rattle.group_commit.specs.Working.{ClearsGap, FreesFirst, IsDrained, TakesLists, TurnsReady, entries_of_lists}
@@ -52,6 +53,7 @@ use Rattle.world.specs.Committing.{AreContentsAt, EngineStands, Leads, NearOnly,
 use Rattle.world.specs.GroupSpan.{AreWorkOf, positions_of_lists}
 use Rattle.world.specs.Pair.{Does, IsCut, Pair, PairRefines, PartsRefine, Steps}
 use Rattle.world.specs.Queue.{has_group, is_first_within, is_ready_now, link_has_room, may_clear_now, may_commit_now, may_free_now, reached_now}
+use Rattle.world.specs.Recalling.{Remembers}
 use Rattle.world.specs.Session.{SeatsFollow, SequencerRefines, seats_of}
 use Rattle.world.specs.Standby.{Node}
 use Rattle.world.specs.declared.arrivals.Arrivals.{Arrivals}
@@ -62,6 +64,7 @@ use Rattle.world.proofs.FreedQueue.{Leads-accepted, Leads-aside, Leads-cleared, 
 use Rattle.world.proofs.LivesLemmas.{Runs, enabled-is, is_own, lives-step, nodes-refine, own-runs}
 use Rattle.world.proofs.PairLemmas.{Led, Stands-standby, cut-for, cut-same, goes-steps, none-added, rests-primary, rests-standby, tells, untouched}
 use Rattle.world.proofs.QueueLemmas.{clear-enabled, free-enabled, reached-positions, room-link}
+use Rattle.world.proofs.RecallLemmas.{remembers-aside, remembers-freed, remembers-on, remembers-same}
 
 -- ---- the engine
 
@@ -220,6 +223,9 @@ accept-parts first second old sequencer notice rest w told takes expected parts 
         notices_are = omega (arith, many);
         gaps = parts.freeing.gaps;
       };
+      remembers = remembers-on w.standby.position w.standby.position w.primary.committer.position calls old.contents old.committing.waiting.items old.committing.aside old.sequencer sequencer (le_refl w.standby.position)
+          (ap (λ (s : Sequencing). s.ended) takes.after) (ap (λ (s : Sequencing). s.newest) takes.after) parts.remembers;
+      opening = parts.opening;
       epoch = parts.epoch;
       link = parts.link;
       frames = parts.frames;
@@ -274,6 +280,8 @@ record Drained (aside lists : List FreeList) (before after : Waiting Work) (hand
   pub reached : reached_now aside before.items handed ≡ aside ++ lists
   pub left : after.items ≡ cond (link_has_room handed) [] before.items
   pub leads : (contents : Contents) (s : Sequencing) (notices : List Freed) → Leads contents before.items aside s notices → Leads contents after.items (aside ++ lists) s notices
+  pub remembers : (low position : ℕ) (calls : List Call) (contents : Contents) (s : Sequencing) → Remembers low position calls contents before.items aside s
+      → Remembers low position calls contents after.items (aside ++ lists) s
 
 has-drained : (before between after : Waiting Work) (aside lists : List FreeList) (handed : Waiting Group) → TakesLists LocalTakes before lists between
     → IsDrained LocalTakes (PIPE_ITEMS - length handed.items) before lists between after → Drained aside lists before after handed.items
@@ -289,6 +297,9 @@ has-drained before between after aside lists handed takes (inl (some, ends)) =
       leads = λ contents s notices leads.
           subst (λ (items : List Work). Leads contents items (aside ++ lists) s notices) (sym none.1)
           (subst (λ (xs : List FreeList). Leads contents [] (aside ++ xs) s notices) lists_are (Leads-aside contents before.items aside s notices groups leads));
+      remembers = λ low position calls contents s remembers.
+          subst (λ (items : List Work). Remembers low position calls contents items (aside ++ lists) s) (sym none.1)
+          (subst (λ (xs : List FreeList). Remembers low position calls contents [] (aside ++ xs) s) lists_are (remembers-aside low position calls contents before.items aside s groups remembers));
     }
 has-drained before between after aside lists handed takes (inr (full, nothing, same)) =
     let has : link_has_room handed.items ≡ false = le-ltb (length handed.items) PIPE_ITEMS (let within = handed.within in omega (arith, full, within)) in
@@ -300,6 +311,9 @@ has-drained before between after aside lists handed takes (inr (full, nothing, s
       leads = λ contents s notices leads.
           subst (λ (items : List Work). Leads contents items (aside ++ lists) s notices) (sym items)
           (subst (λ (xs : List FreeList). Leads contents before.items xs s notices) all leads);
+      remembers = λ low position calls contents s remembers.
+          subst (λ (items : List Work). Remembers low position calls contents items (aside ++ lists) s) (sym items)
+          (subst (λ (xs : List FreeList). Remembers low position calls contents before.items xs s) all remembers);
     }
 
 group_behind : (lists : List FreeList) (group : Group) (others : List Work) → has_group (map work.Free lists ++ work.Commit group ∷ others) ≡ true
@@ -327,6 +341,9 @@ not_true false e = refl
 within_first : (high : ℕ) (lists : List FreeList) → is_first_within high lists ≡ true → (list : FreeList) × (rest : List FreeList) × (lists ≡ list ∷ rest) × (list.position ≤ high)
 within_first high [] within = absurd (true≢false (sym within))
 within_first high (list ∷ rest) within = (list, rest, refl, leb-true list.position high within)
+
+first-within : (high : ℕ) (list : FreeList) (rest : List FreeList) → is_first_within high (list ∷ rest) ≡ true → list.position ≤ high
+first-within high list rest within = leb-true list.position high within
 
 nothing_left : {X : Type 0} (xs : List X) → not (is_nonempty xs) ≡ true → xs ≡ []
 nothing_left [] e = refl
@@ -383,7 +400,7 @@ clear-ready stage aside items handed gaps may =
 
 -- ---- a turn of a committer that is ready
 
-module _ {E : Type 0} (device : E → State) (contents : E → Contents) (is_faulted : E → Bool) (sessions : Sessions) (sequencer : Sequencing) (link : Stream) (remote : ℕ) (frames : List (Vec ℕ Global)) (arrivals : Arrivals) (standby : Node) (primary_runs standby_runs : Bool) where
+module _ {E : Type 0} (device : E → State) (contents : E → Contents) (is_faulted : E → Bool) (sessions : Sessions) (sequencer : Sequencing) (link : Stream) (opening : Opening) (remote : ℕ) (frames : List (Vec ℕ Global)) (arrivals : Arrivals) (standby : Node) (primary_runs standby_runs : Bool) where
   -- a pair with this committer, with this work waiting for it, with these notices and with these groups at the link
   abbrev pub pair_with : Committer E → Waiting Work → List Freed → Waiting Group → Pair
   pair_with committer waiting notices handed = record {
@@ -396,6 +413,7 @@ module _ {E : Type 0} (device : E → State) (contents : E → Contents) (is_fau
     is_faulted = is_faulted committer.engine;
     handed = handed;
     link = link;
+    opening = opening;
     remote = remote;
     frames = frames;
     arrivals = arrivals;
@@ -495,6 +513,12 @@ module _ {E : Type 0} (device : E → State) (contents : E → Contents) (is_fau
       ended-then result frees first second w parts =
           AreEnded-first old.contents frees.list.entries.items (entries_of_lists frees.rest) (leads-then result frees first second w parts).aside_ended
 
+      -- the standby has passed it
+      passed-then : (result : Result Done Refusal) (frees : Frees after waiting' result) (first second : Holder) (w : World) → PairRefines first second old w → frees.list.position ≤ w.standby.position
+      passed-then result frees first second w stands =
+          let due = first-within remote frees.list frees.rest (ap (is_first_within remote) (sym (frees.drains.reached ∙ frees.is)) ∙ told.2) in
+          omega (arith, due, stands.parts.link.remote_is, stands.sound.link.remote, stands.sound.standby.known)
+
       moments-then : (result : Result Done Refusal) (frees : Frees after waiting' result) (first second : Holder) (w : World) → PartsRefine first second old w
           → LeavesOnly (device before.engine) (device after.engine) (StandsAt first w.primary.calls w.primary.committer.position)
       moments-then result frees first second w parts =
@@ -506,6 +530,8 @@ module _ {E : Type 0} (device : E → State) (contents : E → Contents) (is_fau
       free-parts places frees first second w stands =
           let parts = stands.parts in
           let calls = w.primary.calls in
+          let low = w.standby.position in
+          let p = w.primary.committer.position in
           let it = frees.frees in
           let entries = frees.list.entries.items in
           let answer = it.answer in
@@ -542,6 +568,12 @@ module _ {E : Type 0} (device : E → State) (contents : E → Contents) (is_fau
               notices_are = let one = length-append notices (places ∷ []) in omega (arith, one, many);
               gaps = ap (λ (r : Record). length r.gaps.items) it.moved.current ∙ parts.freeing.gaps;
             };
+            remembers = subst (λ (c : Contents). Remembers low p calls c waiting'.items after.aside.items sequencer) (sym (Same-is (after_free entries old.contents) (contents after.engine) it.moved))
+                (subst (λ (xs : List FreeList). Remembers low p calls (after_free entries old.contents) waiting'.items xs sequencer) (sym it.aside)
+                (remembers-freed low p calls old.contents waiting'.items frees.list frees.rest sequencer (passed-then (Ok (done.Freed places)) frees first second w stands) ended
+                (subst (λ (xs : List FreeList). Remembers low p calls old.contents waiting'.items xs sequencer) frees.is
+                (frees.drains.remembers low p calls old.contents sequencer parts.remembers))));
+            opening = parts.opening;
             epoch = parts.epoch;
             link = parts.link;
             frames = parts.frames;
@@ -700,6 +732,8 @@ module _ {E : Type 0} (device : E → State) (contents : E → Contents) (is_fau
       clear-parts places one first second w stands =
           let parts = stands.parts in
           let calls = w.primary.calls in
+          let low = w.standby.position in
+          let p = w.primary.committer.position in
           let it = one.clears in
           let answer = it.answer in
           let same : answer.0 ≡ places = let is = answer.1 in cc in
@@ -730,6 +764,12 @@ module _ {E : Type 0} (device : E → State) (contents : E → Contents) (is_fau
               notices_are = let one = length-append notices (places ∷ []) in omega (arith, one, many);
               gaps = ap (λ (r : Record). length r.gaps.items) clears.current ∙ one_less from.contents.current.gaps.items w.primary.gaps gaps;
             };
+            remembers = subst (λ (items : List Work). Remembers low p calls (contents after.engine) items after.aside.items sequencer) (sym one.left)
+                (subst (λ (xs : List FreeList). Remembers low p calls (contents after.engine) [] xs sequencer) (sym it.aside)
+                (remembers-same low p calls from.contents (contents after.engine) [] [] sequencer clears.versions
+                (subst (λ (items : List Work). Remembers low p calls from.contents items [] sequencer) alone.1
+                (subst (λ (xs : List FreeList). Remembers low p calls from.contents waiting.items xs sequencer) alone.2 parts.remembers))));
+            opening = parts.opening;
             epoch = parts.epoch;
             link = parts.link;
             frames = parts.frames;

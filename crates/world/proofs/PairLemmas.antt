@@ -1,5 +1,5 @@
 -- What each event does to a pair whose primary runs, of what it does to its parts.
-use Rattle.std.proofs.Common.{◌≡◌, inl, inr, ℕ, ◌≤◌, Bool, true, false, List, [], ◌∷◌, ◌++◌, length, slice_index_or, Result, Ok, Err, IfOk, IfErr, OnErr, Vec, Global, refl, sym, ap, subst, ◌∙◌, arith, true≢false}
+use Rattle.std.proofs.Common.{◌≡◌, inl, inr, ℕ, ◌≤◌, Bool, true, false, List, [], ◌∷◌, ◌++◌, length, slice_index_or, Result, Ok, Err, IfOk, IfErr, OnErr, Vec, Global, refl, sym, ap, subst, ◌∙◌, arith, le_refl, true≢false}
 use Rattle.std.proofs.lemmas.List.{length-map}
 use Rattle.kv_types.specs.declared.refusal.Refusal.{Refusal}
 use Rattle.kv_types.specs.declared.refusal.Refusal.TheVariants.{Memory}
@@ -24,6 +24,8 @@ use Rattle.world.specs.declared.sessions.Sessions.{Sessions}
 use Rattle.world.proofs.SessionLemmas.{length-connections, released-told}
 use Rattle.world.proofs.SeatLemmas.{follow-kept}
 use Rattle.world.proofs.SequencerLemmas.{freeing-still, leads-still, still-same}
+use Rattle.world.proofs.RecallLemmas.{remembers-on, remembers-still}
+use Rattle.world.proofs.OpeningLemmas.{opening-still}
 use Rattle.world.proofs.EngineLemmas.{Stands-engine, moves-same, rests-same, EngineStands-grows}
 use Rattle.world.proofs.CommittingLemmas.{CommittingRefines-grows}
 use Rattle.world.proofs.FrameLemmas.{AreFramesSent-grows}
@@ -168,6 +170,8 @@ sessions-parts first second old sessions connections w parts keeps stand =
       engine = parts.engine;
       leads = parts.leads;
       freeing = freeing-still old.sequencer old.sequencer old.notices old.contents w.primary (with_connections connections w).primary (still-same old.sequencer old.sequencer refl) refl refl refl refl parts.freeing;
+      remembers = parts.remembers;
+      opening = parts.opening;
       epoch = parts.epoch;
       link = parts.link;
       frames = parts.frames;
@@ -261,6 +265,9 @@ called-parts first second old sessions sequencer w c call stands sessions_stand 
       engine = EngineStands-grows first w.primary.calls (call ∷ []) w.primary.committer.position old.device old.contents old.is_faulted (primary-within w stands.sound) parts.engine;
       leads = leads-still old.contents old.committing.waiting.items old.committing.aside old.sequencer sequencer old.notices still parts.leads;
       freeing = freeing-still old.sequencer sequencer old.notices old.contents w.primary (called c call w).primary still refl refl refl refl parts.freeing;
+      remembers = remembers-still w.standby.position w.standby.position w.primary.committer.position w.primary.calls (call ∷ []) old.contents old.committing.waiting.items old.committing.aside old.sequencer sequencer
+          (le_refl w.standby.position) (primary-within w stands.sound) still.ended still.newest parts.remembers w.primary.committer.waiting parts.committing.work;
+      opening = opening-still w.standby.position w.standby.position w.primary.opened w.primary.calls (call ∷ []) old.opening (le_refl w.standby.position) parts.opening;
       epoch = parts.epoch;
       link = LinkRefines-grows w.primary.calls (call ∷ []) old.link old.handed old.remote w.primary.link parts.link;
       frames = AreFramesSent-grows old.link.epoch w.primary.calls (call ∷ []) old.frames w.wire.frames parts.frames;
@@ -296,6 +303,8 @@ turn-steps first second old sessions sequencer w c false stands takes keeps stil
       engine = before.engine;
       leads = leads-still old.contents old.committing.waiting.items old.committing.aside old.sequencer sequencer old.notices still before.leads;
       freeing = freeing-still old.sequencer sequencer old.notices old.contents w.primary w.primary still refl refl refl refl before.freeing;
+      remembers = remembers-on w.standby.position w.standby.position w.primary.committer.position w.primary.calls old.contents old.committing.waiting.items old.committing.aside old.sequencer sequencer (le_refl w.standby.position) still.ended still.newest before.remembers;
+      opening = before.opening;
       epoch = before.epoch;
       link = before.link;
       frames = before.frames;
@@ -337,6 +346,8 @@ seats-parts first second old sessions sequencer connections w parts stand sequen
       engine = parts.engine;
       leads = leads-still old.contents old.committing.waiting.items old.committing.aside old.sequencer sequencer old.notices still parts.leads;
       freeing = freeing-still old.sequencer sequencer old.notices old.contents w.primary (with_connections connections w).primary still refl refl refl refl parts.freeing;
+      remembers = remembers-on w.standby.position w.standby.position w.primary.committer.position w.primary.calls old.contents old.committing.waiting.items old.committing.aside old.sequencer sequencer (le_refl w.standby.position) still.ended still.newest parts.remembers;
+      opening = parts.opening;
       epoch = parts.epoch;
       link = parts.link;
       frames = parts.frames;

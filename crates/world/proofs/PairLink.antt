@@ -1,34 +1,39 @@
 -- What the events of the link and its acknowledgements do to the pair, of what they do to its parts.
-use Rattle.std.proofs.Common.{◌≡◌, inl, ℕ, ◌≤◌, Bool, true, false, nat_lt, List, [], ◌∷◌, ◌++◌, length, slice_get, Option, Some, None, Result, Ok, Err, Vec, Global, ◌<◌, refl, sym, ap, ap₂, subst, ◌∙◌, arith, true≢false, cond, eq-eqb, All}
-use Rattle.std.proofs.lemmas.Bool.{lt-ltb, le-ltb, ltb-false}
+use Rattle.std.proofs.Common.{◌≡◌, inl, ℕ, ◌≤◌, Bool, true, false, nat_lt, List, [], ◌∷◌, ◌++◌, length, take, ◌||◌, ◌&&◌, inr, slice_get, Option, Some, None, Result, Ok, Err, Vec, Global, ◌<◌, refl, sym, ap, ap₂, subst, ◌∙◌, arith, true≢false, cond, eq-eqb, All}
+use Rattle.std.proofs.lemmas.Bool.{cases_lt, lt-ltb, le-ltb, ltb-false}
 use Rattle.std.proofs.lemmas.Option.{slice_get_within}
 use Rattle.kv_types.specs.declared.refusal.Refusal.{Refusal}
 use Rattle.kv_types.specs.declared.refusal.Refusal.TheVariants.{Memory}
 use Rattle.pipes.specs.Waiting.{Waiting}
 use Rattle.model.specs.declared.group.Group.{Group}
 use Rattle.model.specs.Group.{Contents}
-use Rattle.model.specs.Call.{IsLegal}
+use Rattle.model.specs.declared.call.Call.{Call}
+use Rattle.model.specs.Call.{IsLegal, is_nonempty}
 use Rattle.model.specs.Standing.{Holder}
 use Rattle.standby.specs.declared.frame.Ack.{Ack}
 use Rattle.standby.specs.declared.frame.Frame.{Frame}
 use Rattle.standby.specs.Following.{IsCopy}
+use Rattle.standby_stream.specs.declared.opening.Opening.{Opening}
 use Rattle.standby_stream.specs.Stream.{Stream}
 use Rattle.redis_core.specs.Sequencing.{Sequencing}
 use Rattle.wbl_engine.specs.declared.freeing.Freed.{Freed}
 use Rattle.stream_codec.specs.Message.{Acknowledged, IsWithinLimits, sent_of_ack, sent_of_frame, sent_text}
+use Rattle.machine.specs.declared.event.TheConstants.{KEPT_GROUPS}
 use Rattle.machine.specs.declared.event.Event.TheVariants as events
 use Rattle.machine.specs.Event.{World, Primary, Link as MachineLink, Frame as Sent, Span, Acknowledgement, may_happen, next_to_send, framed, sent, sent_next, option_items, knowing, raised_remote, told, with_link, with_sent}
 use Rattle.std.proofs.lemmas.List.Elements.{All-head}
-use Rattle.machine.specs.Sound.{IsToldWithin}
+use Rattle.machine.specs.Sound.{IsToldWithin, Sound}
 use Rattle.machine.proofs.StandbyLemmas.{all-at}
 use Rattle.world.proofs.LivesLemmas.{enabled-is, nodes-refine, own-runs}
-use Rattle.world.specs.Link.{IsFrameOf, IsFrameSent, IsAckSent, AreFramesSent, LinkRefines}
+use Rattle.world.specs.Link.{IsFrameOf, AreFramesOf, IsFrameSent, IsAckSent, AreFramesSent, LinkRefines}
+use Rattle.world.specs.Recalling.{OpeningLeads}
 use Rattle.world.specs.Standby.{StandbyRefines, ArrivalsRefine, told_by}
 use Rattle.world.specs.Pair.{FreeingRefines, Pair, PartsRefine, Does}
 use Rattle.world.proofs.FrameLemmas.{AreFramesSent-push, IsFrameOf-copy, may_be_sent, ack_of_read, ack_of_number, length-acks}
 use Rattle.world.proofs.LinkLemmas.{Answers as LinkAnswers, sends}
 use Rattle.world.proofs.AckLemmas.{known_at, knows}
 use Rattle.world.proofs.ArrivalLemmas.{ReadsAs, same_found}
+use Rattle.world.proofs.OpeningLemmas.{opening-forgotten}
 use Rattle.world.proofs.PairLemmas.{cut-same, goes-steps, none-added, tells, untouched}
 
 -- ---- the link
@@ -54,6 +59,8 @@ link-parts first second old waiting link remote frames w machine passed parts sa
       engine = parts.engine;
       leads = parts.leads;
       freeing = freeing-linked parts.freeing;
+      remembers = parts.remembers;
+      opening = parts.opening;
       epoch = same ∙ parts.epoch;
       link = link_stands;
       frames = subst (λ e. AreFramesSent e w.primary.calls frames passed) (sym same) frames_passed;
@@ -69,41 +76,102 @@ link-alone first second old waiting link remote w machine parts same link_stands
 
 -- ---- sending
 
--- a frame that was kept is sent, and the bytes of a copy of it pass
-pub send-does : (old : Pair) (waiting : Waiting Group) (link : Stream) (index : ℕ) (frame copy : Frame) (bytes : Vec ℕ Global) (frames : List (Vec ℕ Global)) → LinkAnswers old.link old.handed (Ok (Some index)) link waiting
-    → slice_get link.kept index ≡ Some frame → IsCopy frame copy → bytes.items ≡ sent_text (sent_of_frame copy) → IsWithinLimits (sent_of_frame copy) → frames ≡ old.frames ++ bytes ∷ []
-    → Does old events.Send (Ok true) (with_frames waiting link old.remote frames old)
-send-does old waiting link index frame copy bytes frames answers there same text within more =
+-- one frame has one span
+one_span : (epoch : ℕ) (calls : List Call) (frame : Frame) (spans : List Span) → AreFramesOf epoch calls (frame ∷ []) spans → (span : Span) × (spans ≡ span ∷ []) × IsFrameOf epoch calls frame span
+one_span epoch calls frame [] are = absurd are
+one_span epoch calls frame (span ∷ []) are = (span, refl, are.0)
+one_span epoch calls frame (span ∷ other ∷ spans) are = absurd are.1
+
+-- the bytes of a frame are those of what was sent
+passes : (epoch : ℕ) (calls : List Call) (frame : Frame) (bytes : Vec ℕ Global) (span : Span) → IsFrameOf epoch calls frame span → bytes.items ≡ sent_text (sent_of_frame frame) → IsWithinLimits (sent_of_frame frame)
+    → IsFrameSent epoch calls bytes.items (record { epoch = epoch; span = span })
+passes epoch calls frame bytes span is text within =
+    record { frame = frame; text = text; may = may_be_sent epoch calls frame span is within; is = record { epoch_is = refl; has = is } }
+
+-- the frame that comes before all groups is sent
+pub delta-does : (old : Pair) (link : Stream) (frame : Frame) (bytes : Vec ℕ Global) (frames : List (Vec ℕ Global)) → Some frame ≡ old.link.delta → link ≡ record old.link { delta = None }
+    → bytes.items ≡ sent_text (sent_of_frame frame) → IsWithinLimits (sent_of_frame frame) → frames ≡ old.frames ++ bytes ∷ []
+    → Does old events.Send (Ok true) (with_frames old.handed link old.remote frames old)
+delta-does old link frame bytes frames given taken text within more =
     record {
       steps = λ first second w stands.
           let parts = stands.parts in
           let machine = w.primary.link in
           let epoch = old.link.epoch in
           let calls = w.primary.calls in
-          let at = sends calls old.link old.handed old.remote machine stands.sound.legal parts.link (Ok (Some index)) link waiting answers in
+          let one = one_span epoch calls frame machine.delta (subst (λ (d : Option Frame). AreFramesOf epoch calls (option_items d) machine.delta) (sym given) parts.link.delta) in
+          let span = one.0 in
+          let after : MachineLink = record machine { delta = [] } in
+          let passed : List Sent = w.wire.frames ++ framed epoch (span ∷ []) in
+          let now : LinkRefines calls (record old.link { delta = None }) old.handed old.remote after = record {
+            waiting = parts.link.waiting;
+            none_pending = parts.link.none_pending;
+            delta = tt;
+            kept = parts.link.kept;
+            next_within = parts.link.next_within;
+            again = parts.link.again;
+            known = parts.link.known;
+            remote_is = parts.link.remote_is;
+          } in
+          let w' = record w { primary = record w.primary { link = after }; wire = record w.wire { frames = passed } } in
+          let moved : PartsRefine first second (with_frames old.handed link old.remote frames old) w' =
+          subst (λ (fs : List (Vec ℕ Global)). PartsRefine first second (with_frames old.handed link old.remote fs old) w') (sym more)
+          (subst (λ (s : Stream). PartsRefine first second (with_frames old.handed s old.remote (old.frames ++ bytes ∷ []) old) w') (sym taken)
+          (link-parts first second old old.handed (record old.link { delta = None }) old.remote (old.frames ++ bytes ∷ []) w after passed parts refl now
+          (AreFramesSent-push epoch calls old.frames w.wire.frames bytes (record { epoch = epoch; span = span }) parts.frames (passes epoch calls frame bytes span one.2 text within)))) in
+          let happens : w' ≡ sent w =
+          ap₂ (λ (e : ℕ) (spans : List Span). with_sent (framed e (take 1 (spans ++ (machine.again ++ machine.waiting)))) (with_link (sent_next spans machine) w)) parts.epoch (sym one.1) in
+          goes-steps first second w w' events.Send true old (with_frames old.handed link old.remote frames old) refl refl stands.sound (own-runs stands events.Send refl) stands.serves happens
+          (record {
+            done = sym (ap (λ (spans : List Span). is_nonempty spans || (is_nonempty machine.again || (is_nonempty machine.waiting && nat_lt (length machine.kept) KEPT_GROUPS))) one.1);
+            goes = λ did. moved;
+            stays = λ did. absurd (true≢false did);
+          });
+      cut = tt;
+      calls = none-added _ _ refl;
+    }
+
+-- there was none, and what was done is of the next group
+pub after-none : (old : Pair) (link : Stream) (result : Result Bool Refusal) (new : Pair) → None ≡ old.link.delta → link ≡ record old.link { delta = None } → Does (record old { link = link }) events.Send result new
+    → Does old events.Send result new
+after-none old link result new none taken does =
+    let same : link ≡ old.link = taken ∙ ap (λ (d : Option Frame). record old.link { delta = d }) none in
+    subst (λ (s : Stream). Does (record old { link = s }) events.Send result new) same does
+
+-- a frame that was kept is sent, and the bytes of a copy of it pass
+pub send-does : (old : Pair) (waiting : Waiting Group) (link : Stream) (index : ℕ) (frame copy : Frame) (bytes : Vec ℕ Global) (frames : List (Vec ℕ Global)) → LinkAnswers old.link old.handed (Ok (Some index)) link waiting
+    → slice_get link.kept index ≡ Some frame → IsCopy frame copy → bytes.items ≡ sent_text (sent_of_frame copy) → IsWithinLimits (sent_of_frame copy) → frames ≡ old.frames ++ bytes ∷ []
+    → old.link.delta ≡ None → Does old events.Send (Ok true) (with_frames waiting link old.remote frames old)
+send-does old waiting link index frame copy bytes frames answers there same text within more none_before =
+    record {
+      steps = λ first second w stands.
+          let parts = stands.parts in
+          let machine = w.primary.link in
+          let epoch = old.link.epoch in
+          let calls = w.primary.calls in
+          let at = sends calls old.link old.handed old.remote machine stands.sound.legal parts.link none_before (Ok (Some index)) link waiting answers in
           let own : at.frame ≡ frame = cc in
           let is : IsFrameOf epoch calls copy at.span = IsFrameOf-copy epoch calls frame copy at.span (subst (λ (f : Frame). IsFrameOf epoch calls f at.span) own at.is) same in
-          let passes : IsFrameSent epoch calls bytes.items (record { epoch = epoch; span = at.span }) =
-          record { frame = copy; text = text; may = may_be_sent epoch calls copy at.span is within; is = record { epoch_is = refl; has = is } } in
           let passed : AreFramesSent epoch calls (old.frames ++ bytes ∷ []) (w.wire.frames ++ framed epoch (next_to_send machine)) =
           subst (λ (spans : List Span). AreFramesSent epoch calls (old.frames ++ bytes ∷ []) (w.wire.frames ++ framed epoch spans)) (sym at.next)
-          (AreFramesSent-push epoch calls old.frames w.wire.frames bytes (record { epoch = epoch; span = at.span }) parts.frames passes) in
-          let w' = record w { primary = record w.primary { link = sent_next machine.again machine }; wire = record w.wire { frames = w.wire.frames ++ framed epoch (next_to_send machine) } } in
+          (AreFramesSent-push epoch calls old.frames w.wire.frames bytes (record { epoch = epoch; span = at.span }) parts.frames (passes epoch calls copy bytes at.span is text within)) in
+          let w' = record w { primary = record w.primary { link = sent_next machine.delta machine }; wire = record w.wire { frames = w.wire.frames ++ framed epoch (next_to_send machine) } } in
           let moved : PartsRefine first second (with_frames waiting link old.remote frames old) w' =
           subst (λ (fs : List (Vec ℕ Global)). PartsRefine first second (with_frames waiting link old.remote fs old) w') (sym more)
-          (link-parts first second old waiting link old.remote (old.frames ++ bytes ∷ []) w (sent_next machine.again machine) (w.wire.frames ++ framed epoch (next_to_send machine)) parts at.epoch_is at.link passed) in
+          (link-parts first second old waiting link old.remote (old.frames ++ bytes ∷ []) w (sent_next machine.delta machine) (w.wire.frames ++ framed epoch (next_to_send machine)) parts at.epoch_is at.link passed) in
           goes-steps first second w w' events.Send true old (with_frames waiting link old.remote frames old) refl refl stands.sound (own-runs stands events.Send refl) stands.serves
-          (ap (λ e. with_sent (framed e (next_to_send machine)) (with_link (sent_next machine.again machine) w)) parts.epoch)
+          (ap (λ e. with_sent (framed e (next_to_send machine)) (with_link (sent_next machine.delta machine) w)) parts.epoch)
           (record { done = sym at.may; goes = λ did. moved; stays = λ did. absurd (true≢false did) });
       cut = tt;
       calls = none-added _ _ refl;
     }
 
-pub send-none : (old : Pair) (waiting : Waiting Group) (link : Stream) → LinkAnswers old.link old.handed (Ok None) link waiting → Does old events.Send (Ok false) (with_frames waiting link old.remote old.frames old)
-send-none old waiting link answers =
+pub send-none : (old : Pair) (waiting : Waiting Group) (link : Stream) → LinkAnswers old.link old.handed (Ok None) link waiting → old.link.delta ≡ None
+    → Does old events.Send (Ok false) (with_frames waiting link old.remote old.frames old)
+send-none old waiting link answers none_before =
     record {
       steps = λ first second w stands.
-          let none = sends w.primary.calls old.link old.handed old.remote w.primary.link stands.sound.legal stands.parts.link (Ok None) link waiting answers in
+          let none = sends w.primary.calls old.link old.handed old.remote w.primary.link stands.sound.legal stands.parts.link none_before (Ok None) link waiting answers in
           let stayed = link-alone first second old waiting link old.remote w w.primary.link stands.parts none.epoch_is none.link in
           goes-steps first second w (sent w) events.Send false old (with_frames waiting link old.remote old.frames old) refl refl stands.sound (own-runs stands events.Send refl) stands.serves refl
           (record { done = sym none.may; goes = λ did. absurd (true≢false (sym did)); stays = λ did. stayed });
@@ -124,30 +192,73 @@ send-cut old waiting link frames result refusal is memory enabled =
       calls = none-added _ _ refl;
     })
 
+-- memory was refused for it
+pub delta-cut : (old : Pair) (link : Stream) (frame : Frame) (frames : List (Vec ℕ Global)) (result : Result Bool Refusal) (refusal : Refusal) → Some frame ≡ old.link.delta → result ≡ Err refusal → refusal ≡ Memory
+    → Does old events.Send result (with_frames old.handed link old.remote frames old)
+delta-cut old link frame frames result refusal given is memory =
+    send-cut old old.handed link frames result refusal is memory
+    (λ w legal stands.
+    let machine = w.primary.link in
+    let one = one_span old.link.epoch w.primary.calls frame machine.delta (subst (λ (d : Option Frame). AreFramesOf old.link.epoch w.primary.calls (option_items d) machine.delta) (sym given) stands.delta) in
+    ap (λ (spans : List Span). is_nonempty spans || (is_nonempty machine.again || (is_nonempty machine.waiting && nat_lt (length machine.kept) KEPT_GROUPS))) one.1)
+
 -- ---- the remote mark
 
-pub raise-does : (old : Pair) (known : ℕ) (did : Bool) → known ≡ old.link.known → did ≡ nat_lt old.remote known
-    → Does old events.RaiseRemote (Ok did) (with_frames old.handed old.link known old.frames old)
-raise-does old known did same is =
+abbrev pub with_opening : Opening → Pair → Pair
+with_opening opening pair = record pair { opening = opening }
+
+abbrev pub with_mark : ℕ → Opening → Pair → Pair
+with_mark remote opening pair = record pair { remote = remote; opening = opening }
+
+-- what a standby is told that is behind is as it was, or the standby is not
+opening-parts : (first second : Holder) (old : Pair) (known : ℕ) (opening : Opening) (w : World) → Sound w → known ≡ w.primary.link.known → opening.position ≡ old.opening.position
+    → (known < old.opening.position → opening ≡ old.opening) → PartsRefine first second old w → PartsRefine first second (with_opening opening old) w
+opening-parts first second old known opening w sound highest same kept parts =
+    record {
+      sessions = parts.sessions;
+      sequencer = parts.sequencer;
+      follow = parts.follow;
+      committing = parts.committing;
+      engine = parts.engine;
+      leads = parts.leads;
+      freeing = parts.freeing;
+      remembers = parts.remembers;
+      opening = elim (cases_lt known old.opening.position) [
+        | inl below ↦ subst (OpeningLeads w.standby.position w.primary.opened w.primary.calls) (sym (kept below)) parts.opening
+        | inr passed ↦ opening-forgotten w.standby.position w.primary.opened w.primary.calls old.opening opening same
+            (let behind = sound.standby.known in let at = parts.opening.position_is in omega (arith, passed, at, highest, behind)) parts.opening
+      ];
+      epoch = parts.epoch;
+      link = parts.link;
+      frames = parts.frames;
+      arrivals = parts.arrivals;
+      standby = parts.standby;
+    }
+
+pub raise-does : (old : Pair) (known : ℕ) (did : Bool) (opening : Opening) → known ≡ old.link.known → did ≡ nat_lt old.remote known → opening.position ≡ old.opening.position
+    → (known < old.opening.position → opening ≡ old.opening) → Does old events.RaiseRemote (Ok did) (with_mark known opening old)
+raise-does old known did opening same is position kept =
     record {
       steps = λ first second w stands.
           let parts = stands.parts in
           let link = parts.link in
           let machine = w.primary.link in
           let highest : known ≡ machine.known = same ∙ link.known in
-          let raised : (remote : ℕ) → known ≡ remote → PartsRefine first second (with_frames old.handed old.link known old.frames old) (with_link (record machine { remote = remote }) w) =
+          let told : PartsRefine first second (with_opening opening old) w = opening-parts first second old known opening w stands.sound highest position kept parts in
+          let raised : (remote : ℕ) → known ≡ remote → PartsRefine first second (with_mark known opening old) (with_link (record machine { remote = remote }) w) =
           (λ remote at.
-          link-alone first second old old.handed old.link known w (record machine { remote = remote }) parts refl
+          link-alone first second (with_opening opening old) old.handed old.link known w (record machine { remote = remote }) told refl
           (record {
             waiting = link.waiting;
             none_pending = link.none_pending;
+            delta = link.delta;
             kept = link.kept;
             next_within = link.next_within;
             again = link.again;
             known = link.known;
             remote_is = at;
           })) in
-          goes-steps first second w (with_link (raised_remote machine) w) events.RaiseRemote did old (with_frames old.handed old.link known old.frames old) refl refl stands.sound (own-runs stands events.RaiseRemote refl) stands.serves refl
+          goes-steps first second w (with_link (raised_remote machine) w) events.RaiseRemote did old (with_mark known opening old) refl refl stands.sound (own-runs stands events.RaiseRemote refl) stands.serves refl
           (record {
             done = is ∙ ap₂ nat_lt link.remote_is highest;
             goes = λ rose. raised machine.known highest;

@@ -1,4 +1,5 @@
 -- What the reopening of a node that crashed does to the pair.
+use mathlib.Core.Path.{fun_ext}
 use Rattle.std.proofs.Common.{◌≡◌, inl, inr, ℕ, Bool, true, false, ◌&&◌, List, [], length, Result, Ok, Err, refl, sym, ap, subst, ◌∙◌, arith, true≢false}
 use Rattle.kv_types.specs.declared.refusal.Refusal.{Refusal}
 use Rattle.kv_types.specs.declared.refusal.Refusal.TheVariants.{Fault, Memory}
@@ -8,14 +9,22 @@ use Rattle.pipes.specs.Waiting.{Waiting}
 use Rattle.model.specs.declared.group.Group.{Group}
 use Rattle.model.specs.declared.record.Role.TheVariants as role
 use Rattle.model.specs.Call.{cut_at, keyspace_after}
-use Rattle.model.specs.Group.{AreEnded, Contents}
+use Rattle.model.specs.declared.work.FreeList.{FreeList}
+use Rattle.model.specs.declared.work.Work.{Work}
+use Rattle.model.specs.Group.{AreEnded, Contents, Versions}
+use Rattle.model.specs.Image.{Image}
 use Rattle.model.specs.Standing.{Holder}
 use Rattle.model.proofs.CallsLemmas.{keyspace_after-cut_at-position}
 use Rattle.mv_keyspace.specs.Table.{records}
 use Rattle.group_commit.specs.declared.stage.Stage.TheVariants.{Ready}
 use Rattle.redis_core.specs.Sequencing.{Sequencing}
 use Rattle.standby.specs.Following.{Follows}
+use Rattle.placing.specs.Read.{Shows}
+use Rattle.standby_stream.specs.declared.opening.Opening.{Opening}
+use Rattle.standby_stream.specs.Delta.{IsOpening, Recalls}
 use Rattle.standby_stream.specs.Stream.{Stream, new_stream}
+use Rattle.standby_stream.proofs.DeltaLemmas.{delta_leads_on}
+use Rattle.standby_stream.proofs.FitLemmas.{deltas_fit}
 use Rattle.wbl_engine.specs.declared.freeing.Freed.{Freed}
 use Rattle.wbl_engine.specs.Reopening.{RefusesReopening}
 use Rattle.machine.specs.declared.event.Event.{Event}
@@ -27,6 +36,7 @@ use Rattle.world.specs.Cause.{EndsBy, Stretch}
 use Rattle.world.specs.Committing.{Committing, CommittingRefines, IsDown, next_primary, next_standby}
 use Rattle.world.specs.GroupSpan.{AreGroupsOf}
 use Rattle.world.specs.Link.{AreFramesSent, LinkRefines}
+use Rattle.world.specs.Recalling.{OpeningLeads, RecallsEach, Remembers}
 use Rattle.world.specs.Serving.{IsOver}
 use Rattle.world.specs.Session.{SequencerRefines}
 use Rattle.world.specs.Standby.{ArrivalsRefine, Node, StandbyRefines, StandbyStands}
@@ -35,7 +45,9 @@ use Rattle.world.proofs.DownLemmas.{restart-refused}
 use Rattle.world.proofs.EngineLemmas.{moves-same}
 use Rattle.world.proofs.FormLemmas.{committing-nothing, leads-nothing}
 use Rattle.world.proofs.PairLemmas.{Led, cut-for, none-added, primary-stands, rests-primary, rests-standby, standby-stands, tells}
-use Rattle.world.proofs.OpenedLemmas.{IsNotOpened, IsOpened, opened-breaks, opened-gaps, opened-limit, opened-moves, opened-rests, opened-stands, table-there}
+use Rattle.world.proofs.OpenedLemmas.{IsNotOpened, IsOpened, opened-breaks, opened-gaps, opened-limit, opened-moves, opened-rests, opened-stands, opened-versions, table-there}
+use Rattle.world.proofs.OpeningLemmas.{have_their_lines, in_order, opening-opened}
+use Rattle.world.proofs.RecallLemmas.{remembers-opened}
 use Rattle.world.proofs.PairLives.{stays-acts}
 
 -- ---- a node that runs
@@ -133,6 +145,8 @@ standby-reopens old node' fallen opened follows own = record { steps = steps; cu
                   engine = up.1.engine;
                   leads = up.1.leads;
                   freeing = up.1.freeing;
+                  remembers = up.1.remembers;
+                  opening = up.1.opening;
                   epoch = up.1.epoch;
                   link = up.1.link;
                   frames = up.1.frames;
@@ -152,6 +166,8 @@ standby-reopens old node' fallen opened follows own = record { steps = steps; cu
                   none_told = lost.1.none_told;
                   image = lost.1.image;
                   gaps = lost.1.gaps;
+                  opened = lost.1.opened;
+                  recalls = lost.1.recalls;
                   epoch = lost.1.epoch;
                   frames = lost.1.frames;
                   arrivals = lost.1.arrivals;
@@ -210,12 +226,24 @@ standby-reopening-cut old node' result refusal is fallen refused =
 
 -- ---- the primary
 
-abbrev pub with_primary_node : Sequencing → Committing → List Freed → State → Contents → Bool → Waiting Group → Stream → ℕ → Bool → Pair → Pair
-with_primary_node sequencer committing notices device contents is_faulted handed link remote runs pair =
-    record pair { sequencer = sequencer; committing = committing; notices = notices; device = device; contents = contents; is_faulted = is_faulted; handed = handed; link = link; remote = remote; primary_runs = runs }
+abbrev pub with_primary_node : Sequencing → Committing → List Freed → State → Contents → Bool → Waiting Group → Stream → Opening → ℕ → Bool → Pair → Pair
+with_primary_node sequencer committing notices device contents is_faulted handed link opening remote runs pair =
+    record pair {
+      sequencer = sequencer;
+      committing = committing;
+      notices = notices;
+      device = device;
+      contents = contents;
+      is_faulted = is_faulted;
+      handed = handed;
+      link = link;
+      opening = opening;
+      remote = remote;
+      primary_runs = runs;
+    }
 
 -- what a primary begins with once it is opened again
-pub record Begins (contents : Contents) (sequencer : Sequencing) (committing : Committing) (notices : List Freed) (handed : Waiting Group) (link : Stream) : Type 0 where
+pub record Begins (contents : Contents) (sequencer : Sequencing) (committing : Committing) (notices : List Freed) (handed : Waiting Group) (link : Stream) (opening : Opening) : Type 0 where
   pub over : IsOver contents sequencer
   pub ready : committing.stage ≡ Ready
   pub local : committing.local ≡ contents.current.position
@@ -224,14 +252,18 @@ pub record Begins (contents : Contents) (sequencer : Sequencing) (committing : C
   pub none_told : notices ≡ []
   pub none_handed : handed.items ≡ []
   pub link_is : link ≡ new_stream contents.current.epoch
+  pub opened_at : opening.position ≡ contents.current.position
+  pub tells : IsOpening contents opening
+  pub image : Image
+  pub shows : Shows contents image
 
-pub primary-reopens : (old : Pair) (sequencer : Sequencing) (committing : Committing) (notices : List Freed) (device : State) (contents : Contents) (is_faulted : Bool) (handed : Waiting Group) (link : Stream) → old.primary_runs ≡ false
-    → IsOpened role.Primary old.device device contents is_faulted → Begins contents sequencer committing notices handed link
-    → Acts old (events.Reopen node.Primary) (Ok true) (with_primary_node sequencer committing notices device contents is_faulted handed link 0 true old)
-primary-reopens old sequencer committing notices device contents is_faulted handed link fallen opened begins = record { steps = steps; cut = tt; calls = none-added _ _ refl }
+pub primary-reopens : (old : Pair) (sequencer : Sequencing) (committing : Committing) (notices : List Freed) (device : State) (contents : Contents) (is_faulted : Bool) (handed : Waiting Group) (link : Stream) (opening : Opening) → old.primary_runs ≡ false
+    → IsOpened role.Primary old.device device contents is_faulted → Begins contents sequencer committing notices handed link opening
+    → Acts old (events.Reopen node.Primary) (Ok true) (with_primary_node sequencer committing notices device contents is_faulted handed link opening 0 true old)
+primary-reopens old sequencer committing notices device contents is_faulted handed link opening fallen opened begins = record { steps = steps; cut = tt; calls = none-added _ _ refl }
   where
     new : Pair
-    new = with_primary_node sequencer committing notices device contents is_faulted handed link 0 true old
+    new = with_primary_node sequencer committing notices device contents is_faulted handed link opening 0 true old
 
     fallen-parts : {first second : Holder} {w : World} → EitherRefines first second old w → DownRefine first second old w
     fallen-parts parts = elim parts [
@@ -268,12 +300,25 @@ primary-reopens old sequencer committing notices device contents is_faulted hand
         (record {
           waiting = subst (λ (groups : List Group). AreGroupsOf calls groups []) (sym begins.none_handed) tt;
           none_pending = refl;
+          delta = tt;
           kept = tt;
           next_within = omega arith;
           again = refl;
           known = refl;
           remote_is = refl;
         })) in
+        let low = w.standby.position in
+        let same_versions = opened-versions first calls p old.device device contents is_faulted lost.image mine in
+        let newest : sequencer.newest ≡ p = ap (λ (s : Sequencing). s.newest) over.starts_so ∙ at.at in
+        let remembered : Remembers low p calls contents committing.waiting.items committing.aside sequencer =
+        subst (λ (items : List Work). Remembers low p calls contents items committing.aside sequencer) (sym begins.no_work)
+        (subst (λ (lists : List FreeList). Remembers low p calls contents [] lists sequencer) (sym begins.none_aside)
+        (remembers-opened low p calls lost.image.contents contents sequencer same_versions newest lost.recalls)) in
+        let recalled : RecallsEach low p calls contents =
+        λ q from below. subst (λ (versions : Versions). Recalls versions (λ i. Unit {0}) q (keyspace_after (cut_at calls q))) (fun_ext (λ i. sym (same_versions i))) (lost.recalls q from below) in
+        let told : OpeningLeads low p calls opening =
+        opening-opened (λ contents opening. delta_leads_on contents opening (λ i. Unit {0})) deltas_fit first low p calls contents opening at (omega (arith, lost.ends)) (in_order contents begins.image begins.shows)
+        (have_their_lines contents begins.image begins.shows) engine.lawful.few (begins.opened_at ∙ at.at) begins.tells recalled in
         let ended = length sequencer.ended in
         let w' = with_primary (reopened_primary ended w.primary) w in
         let step : Step w event true w' =
@@ -289,10 +334,12 @@ primary-reopens old sequencer committing notices device contents is_faulted hand
               (subst (AreEnded contents) (sym (ap (λ (s : Sequencing). s.ended) over.starts_so)) over.listed);
           freeing = record {
             ended = refl;
-            newest = ap (λ (s : Sequencing). s.newest) over.starts_so ∙ at.at ∙ sym lost.newest;
+            newest = newest ∙ sym lost.newest;
             notices_are = ap (λ (told : List Freed). length told) begins.none_told ∙ sym lost.none_told;
             gaps = opened-gaps first calls p old.device device contents is_faulted lost.image mine ∙ ap gaps_reopened lost.gaps;
           };
+          remembers = remembered;
+          opening = subst (λ n. OpeningLeads low n calls opening) (sym lost.opened) told;
           epoch = own;
           link = linked;
           frames = subst (λ e. AreFramesSent e calls old.frames w.wire.frames) same lost.frames;
@@ -324,12 +371,12 @@ primary-reopens old sequencer committing notices device contents is_faulted hand
 
 pub primary-reopening-cut : (old : Pair) (committing : Committing) (device : State) (contents : Contents) (is_faulted : Bool) (result : Result Bool Refusal) (refusal : Refusal) → result ≡ Err refusal
     → old.primary_runs ≡ false → IsNotOpened role.Primary old.device device refusal
-    → Acts old (events.Reopen node.Primary) result (with_primary_node old.sequencer committing old.notices device contents is_faulted old.handed old.link old.remote old.primary_runs old)
+    → Acts old (events.Reopen node.Primary) result (with_primary_node old.sequencer committing old.notices device contents is_faulted old.handed old.link old.opening old.remote old.primary_runs old)
 primary-reopening-cut old committing device' contents is_faulted result refusal is fallen refused =
     subst (λ (r : Result Bool Refusal). Acts old event r new) (sym is) (record { steps = tt; cut = cut; calls = none-added _ _ refl })
   where
     new : Pair
-    new = with_primary_node old.sequencer committing old.notices device' contents is_faulted old.handed old.link old.remote old.primary_runs old
+    new = with_primary_node old.sequencer committing old.notices device' contents is_faulted old.handed old.link old.opening old.remote old.primary_runs old
 
     event : Event
     event = events.Reopen node.Primary

@@ -1,22 +1,32 @@
 -- What the events of the standby do to the pair, of what they do to its parts.
-use Rattle.std.proofs.Common.{◌≡◌, ◌&&◌, inl, inr, ℕ, Bool, true, false, List, [], ◌∷◌, ◌++◌, length, slice_get, Result, Ok, Err, IfOk, IfErr, OnErr, Vec, Global, ◌<◌, refl, sym, ap, subst, ◌∙◌, arith, true≢false, ap₂}
-use Rattle.std.proofs.lemmas.Bool.{lt-ltb}
+use Rattle.std.proofs.Common.{◌≡◌, ◌&&◌, inl, inr, ℕ, Bool, true, false, List, [], ◌∷◌, ◌++◌, length, slice_get, cond, Option, Some, None, Result, Ok, Err, IfOk, IfErr, OnErr, Vec, Global, ◌<◌, ◌≤◌, refl, sym, ap, subst, ◌∙◌, arith, le_refl, true≢false, ap₂}
+use Rattle.std.proofs.lemmas.Bool.{cases_lt, le-ltb, lt-ltb}
 use Rattle.kv_types.specs.declared.refusal.Refusal.{Refusal}
 use Rattle.kv_types.specs.declared.refusal.Refusal.TheVariants.{Memory, Fault, Exhausted}
 use Rattle.model.specs.Standing.{Holder}
+use Rattle.kv_types.specs.declared.change.Change.{Change}
+use Rattle.kv_types.specs.Change.{changes_size}
+use Rattle.kv_types.specs.Keyspace.{play_all}
+use Rattle.model.specs.Call.{cut_at, keyspace_after}
 use Rattle.standby.specs.declared.frame.Ack.{Ack}
+use Rattle.standby.specs.declared.frame.Frame.{Frame}
+use Rattle.standby_stream.specs.declared.opening.Opening.{Opening}
+use Rattle.standby_stream.specs.Delta.{IsDelta}
+use Rattle.stream_codec.specs.declared.message.TheConstants.{MAX_BODY_BYTES}
 use Rattle.standby_stream.specs.Stream.{Stream}
 use Rattle.machine.specs.declared.event.Event.{Event}
 use Rattle.machine.specs.declared.event.Event.TheVariants as events
 use Rattle.model.specs.declared.call.Call.{Call}
-use Rattle.machine.specs.Event.{World, Primary, Standby as MachineStandby, Acknowledgement, Applies, Step, is_running, nodes_run, may_happen, opened_link, acknowledgement_of, delivered, option_items, told, with_link, with_standby, with_acknowledged}
+use Rattle.machine.specs.Event.{World, Primary, Standby as MachineStandby, Acknowledgement, Applies, Span, Step, due_delta, is_running, nodes_run, may_happen, opened_link, acknowledgement_of, delivered, option_items, told, with_link, with_standby, with_acknowledged}
 use Rattle.machine.specs.Sound.{Sound}
+use Rattle.machine.proofs.GrowLemmas.{grows-step}
 use Rattle.machine.proofs.SoundEvents.{sound-step}
 use Rattle.world.proofs.LivesLemmas.{Runs, enabled-is, is_plain, lives-step, nodes-refine, serving}
 use Rattle.world.specs.Going.{Goes}
 use Rattle.world.specs.Cause.{Stretch, Breaks, RestsAtLimit, EndsBy, Resting}
 use Rattle.world.specs.Committing.{NearOnly, Moves, next_standby}
-use Rattle.world.specs.Link.{LinkRefines, AreFramesSent}
+use Rattle.world.specs.Link.{IsFrameOf, AreFramesOf, LinkRefines, AreFramesSent}
+use Rattle.world.specs.Recalling.{OpeningLeads, RecallsEach, Remembers}
 use Rattle.world.specs.Standby.{Node, StandbyStands, StandbyRefines, ArrivalsRefine, AppliesFirst, told_by}
 use Rattle.world.specs.Pair.{Pair, DownRefine, EitherRefines, NodesRefine, PartsRefine, PairRefines, Steps, Acts, Does, life_if}
 use Rattle.world.specs.declared.arrivals.Arrivals.{Arrivals}
@@ -24,6 +34,8 @@ use Rattle.world.proofs.EngineLemmas.{moves-same}
 use Rattle.world.proofs.FrameLemmas.{length-sent}
 use Rattle.world.proofs.PairLemmas.{Led, cut-for, cut-same, goes-either, goes-map, goes-steps, none-added, primary-stands, rests-primary, tells, untouched}
 use Rattle.world.proofs.PairLink.{link-alone}
+use Rattle.world.proofs.OpeningLemmas.{opening-on}
+use Rattle.world.proofs.RecallLemmas.{recalls-still, remembers-on}
 
 -- ---- the standby
 
@@ -45,6 +57,8 @@ arrivals-parts first second old arrivals w machine told parts position arrivals_
       engine = parts.engine;
       leads = parts.leads;
       freeing = parts.freeing;
+      remembers = subst (λ p. Remembers p w.primary.committer.position w.primary.calls old.contents old.committing.waiting.items old.committing.aside old.sequencer) (sym position) parts.remembers;
+      opening = subst (λ p. OpeningLeads p w.primary.opened w.primary.calls old.opening) (sym position) parts.opening;
       epoch = parts.epoch;
       link = parts.link;
       frames = parts.frames;
@@ -70,6 +84,8 @@ arrivals-either first second old arrivals w machine told parts position arrivals
       none_told = down.1.none_told;
       image = down.1.image;
       gaps = down.1.gaps;
+      opened = down.1.opened;
+      recalls = subst (λ p. RecallsEach p w.primary.committer.position w.primary.calls down.1.image.contents) (sym position) down.1.recalls;
       epoch = down.1.epoch;
       frames = down.1.frames;
       arrivals = arrivals_stand;
@@ -131,9 +147,56 @@ Acknowledges ack old new =
     (epoch : ℕ) (w : World) → ArrivalsRefine epoch w.primary.calls old w.standby.waiting w.wire.acknowledgements → told_by ack ≡ acknowledgement_of w.standby
     → ArrivalsRefine epoch w.primary.calls new w.standby.waiting (w.wire.acknowledgements ++ acknowledgement_of w.standby ∷ [])
 
-pub open-does : (old : Pair) (arrivals : Arrivals) (link : Stream) (ack : Ack) → old.standby_runs ≡ true → ack ≡ record { epoch = old.standby.epoch; position = old.standby.contents.current.position } → Acknowledges ack old.arrivals arrivals
-    → link ≡ record old.link { next = 0 } → Does old events.OpenLink (Ok true) (with_opened arrivals link old)
-open-does old arrivals link ack follows is acknowledges reopened =
+-- what a standby at this position is due of what is told of the opening
+pub record IsDue (epoch : ℕ) (opening : Opening) (position : ℕ) (delta : Option Frame) : Type 0 where
+  pub due : position < opening.position → (frame : Frame) × (delta ≡ Some frame) × IsDelta epoch opening position frame
+  pub none : opening.position ≤ position → delta ≡ None
+
+-- it is what was answered
+pub due_so : (epoch position : ℕ) (opening : Opening) (delta : Option Frame) (result : Result (Option Frame) Refusal) → result ≡ Ok delta
+    → (position < opening.position → IfOk result (λ due. (frame : Frame) × (due ≡ Some frame) × IsDelta epoch opening position frame))
+    → (opening.position ≤ position → result ≡ Ok None) → IsDue epoch opening position delta
+due_so epoch position opening delta result is due none = record {
+  due = λ below. subst (λ (r : Result (Option Frame) Refusal). IfOk r (λ given. (frame : Frame) × (given ≡ Some frame) × IsDelta epoch opening position frame)) is (due below);
+  none = λ passed. same (sym is ∙ none passed);
+}
+  where
+    told : Result (Option Frame) Refusal
+    told = Ok delta
+
+    same : told ≡ Ok None → delta ≡ None
+    same e = cc
+
+-- the delta is the frame of its span
+delta-frame : (epoch low opened : ℕ) (calls : List Call) (opening : Opening) (frame : Frame) → OpeningLeads low opened calls opening → low < opened → IsDelta epoch opening low frame
+    → IsFrameOf epoch calls frame (record { before = low; after = opened })
+delta-frame epoch low opened calls opening frame leads below is =
+    record {
+      span_within = record { rising = below; within = leads.within };
+      epoch_is = is.epoch_is;
+      before = is.before;
+      after = is.after ∙ leads.position_is;
+      plays = ap (play_all (keyspace_after (cut_at calls low))) is.changes ∙ leads.leads low (le_refl low) below;
+      size = subst (λ (changes : List Change). changes_size changes ≤ MAX_BODY_BYTES) (sym is.changes) (leads.size low (le_refl low) below);
+    }
+
+delta-frames : (epoch low opened : ℕ) (calls : List Call) (opening : Opening) (delta : Option Frame) → OpeningLeads low opened calls opening → IsDue epoch opening low delta
+    → AreFramesOf epoch calls (option_items delta) (due_delta low opened)
+delta-frames epoch low opened calls opening delta leads is = elim (cases_lt low opened) [
+  | inl below ↦
+      let one = is.due (omega (arith, below, leads.position_is)) in
+      subst (λ (spans : List Span). AreFramesOf epoch calls (option_items delta) spans) (sym (ap (λ b. cond b (record { before = low; after = opened } ∷ []) []) (lt-ltb low opened below)))
+      (subst (λ (d : Option Frame). AreFramesOf epoch calls (option_items d) (record { before = low; after = opened } ∷ [])) (sym one.1)
+      (delta-frame epoch low opened calls opening one.0 leads below one.2, tt))
+  | inr passed ↦
+      subst (λ (spans : List Span). AreFramesOf epoch calls (option_items delta) spans) (sym (ap (λ b. cond b (record { before = low; after = opened } ∷ []) []) (le-ltb low opened passed)))
+      (subst (λ (d : Option Frame). AreFramesOf epoch calls (option_items d) []) (sym (is.none (omega (arith, passed, leads.position_is)))) tt)
+]
+
+pub open-does : (old : Pair) (arrivals : Arrivals) (link : Stream) (ack : Ack) (delta : Option Frame) → old.standby_runs ≡ true
+    → ack ≡ record { epoch = old.standby.epoch; position = old.standby.contents.current.position } → Acknowledges ack old.arrivals arrivals → IsDue old.link.epoch old.opening ack.position delta
+    → link ≡ record old.link { next = 0; delta = delta } → Does old events.OpenLink (Ok true) (with_opened arrivals link old)
+open-does old arrivals link ack delta follows is acknowledges due reopened =
     record {
       steps = λ first second w stands.
           let parts = stands.parts in
@@ -143,18 +206,21 @@ open-does old arrivals link ack follows is acknowledges reopened =
           let told = acknowledges old.link.epoch w parts.arrivals own in
           let w' = with_acknowledged (acknowledgement_of w.standby ∷ []) w in
           let heard : PartsRefine first second (with_arrivals arrivals old) w' = arrivals-parts first second old arrivals w w.standby (w.wire.acknowledgements ++ acknowledgement_of w.standby ∷ []) parts refl told in
-          let opened : LinkRefines w.primary.calls (record old.link { next = 0 }) old.handed old.remote (opened_link w.primary.link) = record {
+          let machine = opened_link (due_delta w.standby.position w.primary.opened) w.primary.link in
+          let opened : LinkRefines w.primary.calls (record old.link { next = 0; delta = delta }) old.handed old.remote machine = record {
             waiting = parts.link.waiting;
             none_pending = parts.link.none_pending;
+            delta = delta-frames old.link.epoch w.standby.position w.primary.opened w.primary.calls old.opening delta parts.opening
+                (subst (λ p. IsDue old.link.epoch old.opening p delta) position due);
             kept = parts.link.kept;
             next_within = omega arith;
             again = refl;
             known = parts.link.known;
             remote_is = parts.link.remote_is;
           } in
-          let moved = link-alone first second (with_arrivals arrivals old) old.handed link old.remote w' (opened_link w.primary.link) heard (ap (λ (s : Stream). s.epoch) reopened)
-          (subst (λ (s : Stream). LinkRefines w.primary.calls s old.handed old.remote (opened_link w.primary.link)) (sym reopened) opened) in
-          goes-steps first second w (with_link (opened_link w.primary.link) w') events.OpenLink true old (with_opened arrivals link old) refl refl stands.sound (both-run follows stands) stands.serves refl
+          let moved = link-alone first second (with_arrivals arrivals old) old.handed link old.remote w' machine heard (ap (λ (s : Stream). s.epoch) reopened)
+          (subst (λ (s : Stream). LinkRefines w.primary.calls s old.handed old.remote machine) (sym reopened) opened) in
+          goes-steps first second w (with_link machine w') events.OpenLink true old (with_opened arrivals link old) refl refl stands.sound (both-run follows stands) stands.serves refl
           (record { done = refl; goes = λ did. moved; stays = λ did. absurd (true≢false did) });
       cut = tt;
       calls = none-added _ _ refl;
@@ -209,10 +275,10 @@ abbrev pub with_node : Arrivals → Node → Pair → Pair
 with_node arrivals node pair = record pair { arrivals = arrivals; standby = node }
 
 node-either : (first second : Holder) (old : Pair) (arrivals : Arrivals) (node : Node) (w w' : World) → old.standby_runs ≡ true → EitherRefines first second old w → w'.primary ≡ w.primary
-    → w'.wire.frames ≡ w.wire.frames
+    → w'.wire.frames ≡ w.wire.frames → w.standby.position ≤ w'.standby.position
     → ArrivalsRefine old.link.epoch w.primary.calls arrivals w'.standby.waiting w'.wire.acknowledgements → StandbyStands second old.link.epoch w.primary.calls w'.standby.position node
     → EitherRefines first second (with_node arrivals node old) w'
-node-either first second old arrivals node w w' follows parts primary frames arrivals_stand node_stands =
+node-either first second old arrivals node w w' follows parts primary frames later arrivals_stand node_stands =
     let calls = ap (λ (p : Primary). p.calls) primary in
     let node_refines : StandbyRefines second old.link.epoch w'.primary.calls w'.standby.position node old.standby_runs =
     record { stands = λ runs. subst (λ (l : List Call). StandbyStands second old.link.epoch l w'.standby.position node) (sym calls) node_stands; down = λ down. absurd (true≢false (sym follows ∙ down)) } in
@@ -227,6 +293,8 @@ node-either first second old arrivals node w w' follows parts primary frames arr
             engine = up.1.engine;
             leads = up.1.leads;
             freeing = up.1.freeing;
+            remembers = remembers-on w.standby.position w'.standby.position w.primary.committer.position w.primary.calls old.contents old.committing.waiting.items old.committing.aside old.sequencer old.sequencer later refl refl up.1.remembers;
+            opening = opening-on w.standby.position w'.standby.position w.primary.opened w.primary.calls old.opening later up.1.opening;
             epoch = up.1.epoch;
             link = up.1.link;
             frames = subst (AreFramesSent old.link.epoch w.primary.calls old.frames) (sym frames) up.1.frames;
@@ -245,6 +313,8 @@ node-either first second old arrivals node w w' follows parts primary frames arr
             none_told = down.1.none_told;
             image = down.1.image;
             gaps = down.1.gaps;
+            opened = down.1.opened;
+            recalls = recalls-still w.standby.position w'.standby.position w.primary.committer.position w.primary.calls down.1.image.contents later down.1.recalls;
             epoch = down.1.epoch;
             frames = subst (AreFramesSent old.link.epoch w.primary.calls old.frames) (sym frames) down.1.frames;
             arrivals = arrivals_stand;
@@ -268,7 +338,7 @@ apply-steps first second old arrivals node w true follows stands applies =
       stands = record {
         sound = sound-step w events.Apply true w' step stands.sound;
         lives = lives-step runs happens;
-        parts = node-either first second old arrivals node w w' follows stands.parts refl refl
+        parts = node-either first second old arrivals node w w' follows stands.parts refl refl (grows-step w events.Apply true w' step stands.sound).standby_position
             (subst (λ (x : World). ArrivalsRefine old.link.epoch w.primary.calls arrivals x.standby.waiting x.wire.acknowledgements) applied.now moved.2)
             (subst (λ (x : World). StandbyStands second old.link.epoch w.primary.calls x.standby.position node) applied.now moved.3);
       };
@@ -279,7 +349,7 @@ apply-steps first second old arrivals node w true follows stands applies =
     }
 apply-steps first second old arrivals node w false follows stands applies =
     let stayed = applies.stays refl in
-    let parts = node-either first second old arrivals node w w follows stands.parts refl refl stayed.0
+    let parts = node-either first second old arrivals node w w follows stands.parts refl refl (le_refl w.standby.position) stayed.0
     (subst (StandbyStands second old.link.epoch w.primary.calls w.standby.position) (sym stayed.1) (follower follows stands.parts)) in
     let runs = standby-runs follows stands events.Apply (λ runs. runs) refl in
     record {

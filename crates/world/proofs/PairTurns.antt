@@ -16,6 +16,7 @@ use Rattle.model.specs.Group.{Contents}
 use Rattle.model.specs.Standing.{Holder}
 use Rattle.wbl_engine.specs.declared.freeing.Freed.{Freed}
 use Rattle.redis_core.specs.Sequencing.{Sequencing}
+use Rattle.standby_stream.specs.declared.opening.Opening.{Opening}
 use Rattle.standby_stream.specs.Stream.{Stream}
 use Rattle.group_commit.specs.Committing.{Commits, raised, ready_again}
 use Rattle.group_commit.specs.Working.{IsDrained, RefusesAside, TakesLists, TurnsReady}
@@ -31,12 +32,13 @@ use Rattle.machine.specs.declared.event.Event.TheVariants as events
 use Rattle.machine.specs.Event.{World, Committer as MachineCommitter, committed_first, from_group, with_committer}
 use Rattle.world.specs.Committing.{EngineStands, CommittingRefines, next_primary}
 use Rattle.world.specs.Queue.{has_group, is_done, is_ready_now, link_has_room, may_commit_now}
+use Rattle.world.specs.Recalling.{Remembers}
 use Rattle.world.specs.Session.{SequencerRefines}
 use Rattle.world.specs.Standby.{Node}
 use Rattle.world.specs.Pair.{Pair, PartsRefine, PairRefines, Steps, Does}
 use Rattle.world.specs.declared.arrivals.Arrivals.{Arrivals}
 use Rattle.world.specs.declared.sessions.Sessions.{Sessions}
-use Rattle.world.proofs.CommittingLemmas.{Leads-committed, TakesGroup, commit-ends, commit-goes, commit-moments, hand-goes, hand-none, hand-room, raise-goes, raise-none, takes-group}
+use Rattle.world.proofs.CommittingLemmas.{Leads-committed, Remembers-committed, TakesGroup, commit-ends, commit-goes, commit-moments, hand-goes, hand-none, hand-room, raise-goes, raise-none, takes-group}
 use Rattle.world.proofs.LivesLemmas.{enabled-is, nodes-refine, own-runs}
 use Rattle.world.proofs.PairLemmas.{Led, cut-for, cut-same, none-added, rests-standby, tells}
 use Rattle.world.proofs.PairCommitting.{commit-steps, ends-commit, hand-does, raise-does, same_closed, stays-does}
@@ -99,7 +101,7 @@ none-drained : (room : ℕ) (before between after : Waiting Work) (lists : List 
 none-drained room before between after lists takes (inl drained) has some = none-ended before between lists takes (EndsLists-none before between after lists takes drained.1).0 some
 none-drained room before between after lists takes (inr full) has some = absurd (omega (arith, full.0, has))
 
-module _ {E : Type 0} (device : E → State) (contents : E → Contents) (is_faulted : E → Bool) (sessions : Sessions) (sequencer : Sequencing) (notices : List Freed) (link : Stream) (remote : ℕ) (frames : List (Vec ℕ Global)) (arrivals : Arrivals) (standby : Node) (primary_runs standby_runs : Bool) where
+module _ {E : Type 0} (device : E → State) (contents : E → Contents) (is_faulted : E → Bool) (sessions : Sessions) (sequencer : Sequencing) (notices : List Freed) (link : Stream) (opening : Opening) (remote : ℕ) (frames : List (Vec ℕ Global)) (arrivals : Arrivals) (standby : Node) (primary_runs standby_runs : Bool) where
   -- a pair with this committer, with this work waiting for it, and with these groups at the link
   abbrev pub pair_of : Committer E → Waiting Work → Waiting Group → Pair
   pair_of committer work waiting = record {
@@ -112,6 +114,7 @@ module _ {E : Type 0} (device : E → State) (contents : E → Contents) (is_fau
     is_faulted = is_faulted committer.engine;
     handed = waiting;
     link = link;
+    opening = opening;
     remote = remote;
     frames = frames;
     arrivals = arrivals;
@@ -145,8 +148,9 @@ module _ {E : Type 0} (device : E → State) (contents : E → Contents) (is_fau
 
       parts-after : (first second : Holder) (w : World) (committer : MachineCommitter) → PartsRefine first second old w → TakesGroup old.contents old.committing lists group new.committing
           → CommittingRefines w.primary.calls new.committing committer × EngineStands first w.primary.calls committer.position new.device new.contents new.is_faulted
-          → committer.closed ≡ w.primary.committer.closed → PartsRefine first second new (with_committer committer w)
-      parts-after first second w committer parts takes stand closed =
+          → committer.closed ≡ w.primary.committer.closed → Remembers w.standby.position committer.position w.primary.calls new.contents new.committing.waiting.items new.committing.aside sequencer
+          → PartsRefine first second new (with_committer committer w)
+      parts-after first second w committer parts takes stand closed remembers =
           record {
             sessions = parts.sessions;
             sequencer = subst (λ n. SequencerRefines w.primary.calls n sequencer) (sym closed) parts.sequencer;
@@ -160,6 +164,8 @@ module _ {E : Type 0} (device : E → State) (contents : E → Contents) (is_fau
               notices_are = parts.freeing.notices_are;
               gaps = ap (λ (r : Record). length r.gaps.items) commits.moved.current ∙ parts.freeing.gaps;
             };
+            remembers = remembers;
+            opening = parts.opening;
             epoch = parts.epoch;
             link = parts.link;
             frames = parts.frames;
@@ -177,7 +183,8 @@ module _ {E : Type 0} (device : E → State) (contents : E → Contents) (is_fau
           commit-steps first second w old new refl stands.sound (own-runs stands events.Commit refl) stands.serves commits.sound.1
           (commit-moments first w old.committing lists group new.committing old.device new.device old.contents old.is_faulted takes commits.moments parts.committing parts.engine)
           (may ∙ commit-enabled w old.committing handed.items parts.committing parts.link.waiting)
-          (parts-after first second w (committed_first (from_group w.primary.committer.waiting) w.primary.committer) parts takes stand (same_closed (from_group w.primary.committer.waiting) w))
+          (parts-after first second w (committed_first (from_group w.primary.committer.waiting) w.primary.committer) parts takes stand (same_closed (from_group w.primary.committer.waiting) w)
+          (Remembers-committed first w old.committing lists group new.committing old.contents new.contents sequencer takes commits.moved parts.committing parts.engine.contents_at parts.remembers))
 
   refused : (before after : Committer E) (works works' : Waiting Work) (handed : Waiting Group) (lists : List FreeList) (group : Group) (refusal : Refusal) → TakesFirst before after works works' lists group
       → true ≡ may_commit_now before.stage works.items handed.items → Commits device contents is_faulted before group (Err refusal) after

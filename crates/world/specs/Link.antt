@@ -1,22 +1,27 @@
 -- How the link, and the bytes that passed over it both ways, refine the machine's.
-use Rattle.std.specs.Prelude.{◌≡◌, ℕ, ◌≤◌, List, [], ◌∷◌, drop, length, None, Vec}
+use Rattle.std.specs.Prelude.{◌≡◌, ℕ, ◌<◌, ◌≤◌, List, [], ◌∷◌, drop, length, None, Vec}
 use Rattle.std.specs.Global.{Global}
 use Rattle.model.specs.declared.call.Call.{Call}
 use Rattle.model.specs.declared.group.Group.{Group}
 use Rattle.kv_types.specs.Keyspace.{play_all}
 use Rattle.kv_types.specs.Change.{changes_size}
-use Rattle.model.specs.Call.{cut_at, keyspace_after}
-use Rattle.machine.specs.Event.{Link as Machine, Span, Frame as Sent, Acknowledgement}
+use Rattle.model.specs.Call.{cut_at, keyspace_after, position_of}
+use Rattle.machine.specs.Event.{Link as Machine, Span, Frame as Sent, Acknowledgement, option_items}
 use Rattle.pipes.specs.Waiting.{Waiting}
 use Rattle.standby.specs.declared.frame.Frame.{Frame}
 use Rattle.standby_stream.specs.Stream.{Stream}
 use Rattle.stream_codec.specs.declared.message.TheConstants.{MAX_BODY_BYTES}
 use Rattle.stream_codec.specs.Message.{Acknowledged, IsSent, sent_of_frame, sent_text}
-use Rattle.world.specs.GroupSpan.{IsWithin, AreGroupsOf}
+use Rattle.world.specs.GroupSpan.{AreGroupsOf}
+
+-- the span lies within the list
+pub record LiesWithin (calls : List Call) (span : Span) : Type 0 where
+  pub rising : span.before < span.after
+  pub within : span.after ≤ position_of calls
 
 -- The frame's changes lead from the keyspace before the span to the one after it, and have no more bytes than one frame.
 pub record IsFrameOf (epoch : ℕ) (calls : List Call) (frame : Frame) (span : Span) : Type 0 where
-  pub span_within : IsWithin calls span
+  pub span_within : LiesWithin calls span
   pub epoch_is : frame.epoch ≡ epoch
   pub before : frame.before ≡ span.before
   pub after : frame.after ≡ span.after
@@ -68,6 +73,7 @@ AreAcksSent _ _ = ⊥
 pub record LinkRefines (calls : List Call) (code : Stream) (handed : Waiting Group) (remote : ℕ) (machine : Machine) : Type 0 where
   pub waiting : AreGroupsOf calls handed.items machine.waiting
   pub none_pending : code.pending ≡ None
+  pub delta : AreFramesOf code.epoch calls (option_items code.delta) machine.delta
   pub kept : AreFramesOf code.epoch calls code.kept machine.kept
   pub next_within : code.next ≤ length code.kept
   -- what is to be sent again is the end of what is kept

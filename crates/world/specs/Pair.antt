@@ -12,6 +12,7 @@ use Rattle.model.specs.Standing.{Holder}
 use Rattle.pipes.specs.Waiting.{Waiting}
 use Rattle.redis_core.specs.Sequencing.{Sequencing}
 use Rattle.standby_stream.specs.Stream.{Stream}
+use Rattle.standby_stream.specs.declared.opening.Opening.{Opening}
 use Rattle.machine.specs.declared.event.Event.{Event}
 use Rattle.machine.specs.declared.event.Event.TheVariants.{Apply, Crash, Deliver, OpenLink, Reopen}
 use Rattle.machine.specs.Event.{Crashed, Life, Primary, Running, World, Step, is_enabled, new_committer, new_link}
@@ -20,6 +21,7 @@ use Rattle.machine.specs.Sound.{Sound}
 use Rattle.world.specs.Cause.{EndsBy}
 use Rattle.world.specs.Committing.{Committing, EngineStands, IsDown, Leads, Moves, CommittingRefines, next_primary, next_standby}
 use Rattle.world.specs.Link.{AreFramesSent, LinkRefines}
+use Rattle.world.specs.Recalling.{OpeningLeads, RecallsEach, Remembers}
 use Rattle.world.specs.Session.{SessionsRefine, SequencerRefines, SeatsFollow, HasSeat, AddsOne, released_of, seats_of}
 use Rattle.world.specs.Standby.{Node, StandbyRefines, ArrivalsRefine}
 use Rattle.world.specs.declared.arrivals.Arrivals.{Arrivals}
@@ -40,6 +42,8 @@ pub record Pair : Type 0 where
   -- groups that were handed on to the link
   pub handed : Waiting Group
   pub link : Stream
+  -- what a standby is told that is behind the position at which the primary was opened
+  pub opening : Opening
   -- the remote mark
   pub remote : ℕ
   -- the bytes of all frames that passed over the link
@@ -66,6 +70,8 @@ pub record PartsRefine (first second : Holder) (pair : Pair) (w : World) : Type 
   pub engine : EngineStands first w.primary.calls w.primary.committer.position pair.device pair.contents pair.is_faulted
   pub leads : Leads pair.contents pair.committing.waiting.items pair.committing.aside pair.sequencer pair.notices
   pub freeing : FreeingRefines pair.sequencer pair.notices pair.contents w.primary
+  pub remembers : Remembers w.standby.position w.primary.committer.position w.primary.calls pair.contents pair.committing.waiting.items pair.committing.aside pair.sequencer
+  pub opening : OpeningLeads w.standby.position w.primary.opened w.primary.calls pair.opening
   pub epoch : pair.link.epoch ≡ w.primary.epoch
   pub link : LinkRefines w.primary.calls pair.link pair.handed pair.remote w.primary.link
   pub frames : AreFramesSent pair.link.epoch w.primary.calls pair.frames w.wire.frames
@@ -84,6 +90,8 @@ pub record DownRefine (first second : Holder) (pair : Pair) (w : World) : Type 0
   pub none_told : w.primary.notices ≡ 0
   pub image : IsDown first w.primary.calls w.primary.committer.position pair.device
   pub gaps : length image.contents.current.gaps.items ≡ w.primary.gaps
+  pub opened : w.primary.opened ≡ w.primary.committer.position
+  pub recalls : RecallsEach w.standby.position w.primary.committer.position w.primary.calls image.contents
   pub epoch : pair.link.epoch ≡ w.primary.epoch
   pub frames : AreFramesSent pair.link.epoch w.primary.calls pair.frames w.wire.frames
   pub arrivals : ArrivalsRefine pair.link.epoch w.primary.calls pair.arrivals w.standby.waiting w.wire.acknowledgements

@@ -29,7 +29,7 @@ use placing::Rebuilt;
 use pmem::Crashing;
 use redis_core::Sequencer;
 use standby::Standby;
-use standby_stream::Link;
+use standby_stream::{Link, Opening};
 use std::alloc::Global;
 use std::collections::VecDeque;
 use std::hash::RandomState;
@@ -148,6 +148,7 @@ pub(crate) fn form<P: Crashing, K: Keyspace + Drop>(
             notices: VecDeque::new(alloc),
             handed: between.handed,
             link: between.link,
+            opening: Opening::none(alloc),
             remote: 0,
             frames: Vec::new(alloc),
             arrivals: between.arrivals,

@@ -1,5 +1,7 @@
 //! A pair of nodes with their connections, one event at a time.
-ghost use Rattle.std.specs.Prelude.{◌≡◌, Ok, true};
+ghost use Rattle.std.specs.Prelude.{◌≡◌, ◌<◌, ◌≤◌, [], Ok, None, Some, true, IfErr, IfOk};
+ghost use Rattle.standby.specs.declared.frame.Frame.{Frame};
+ghost use Rattle.standby_stream.specs.Delta.{IsDelta};
 ghost use Rattle.machine.specs.declared.event.Event.TheVariants as events;
 ghost use Rattle.machine.specs.declared.event.Node.TheVariants as nodes;
 ghost use Rattle.world.specs.Pair.{Acts, Does, HasRoom, HasWorld, takes_part};
@@ -11,7 +13,7 @@ use crate::closing::close_next;
 use crate::queue::{is_step, may_clear, may_commit, may_free};
 use crate::restarting::{Serving, restart_primary};
 use crate::sessions::Sessions;
-use crate::wire::{decode, encode};
+use crate::wire::{decode, pass};
 use bytes::Bytes;
 use group_commit::{Committer, Done, Stage};
 use kv_types::Refusal;
@@ -21,8 +23,8 @@ use mv_keyspace::Keyspace;
 use pipes::LocalPipe;
 use redis_core::Sequencer;
 use reply_gate::Seen;
-use standby::Standby;
-use standby_stream::Link;
+use standby::{Frame, Standby};
+use standby_stream::{Link, Opening, delta};
 use std::alloc::Global;
 use std::collections::VecDeque;
 use std::hash::RandomState;
@@ -58,6 +60,8 @@ pub(crate) struct Pair<E: Durable, K: Keyspace> {
     /// Groups that were committed and handed on, and are not sent.
     pub(crate) handed: LocalPipe<Group>,
     pub(crate) link: Link,
+    /// What a standby is told that is behind the position at which the primary was opened.
+    pub(crate) opening: Opening,
     /// The remote mark.
     pub(crate) remote: u64,
     /// The bytes of all frames that ever passed over the link, in the order of their sending.
@@ -84,6 +88,7 @@ impl<E: Restarting, K: Keyspace + Drop> Stepper for Pair<E, K> {
       is_faulted = E.is_faulted p.committer.engine;
       handed = p.handed;
       link = p.link;
+      opening = p.opening;
       remote = p.remote;
       frames = p.frames.items;
       arrivals = p.arrivals;
@@ -276,20 +281,33 @@ impl<E: Restarting, K: Keyspace + Drop> Pair<E, K> {
         requires follows { self.old.standby_runs ≡ true }
         ensures { Does (⟦<Pair<E, K> as Stepper>⟧.parts self.old) events.OpenLink result (⟦<Pair<E, K> as Stepper>⟧.parts self.new) }
     {
-        self.arrivals.acknowledge(self.alloc, self.standby.ack())?;
-        self.link.reopen();
+        let ack = self.standby.ack();
+        let delta = due_delta(self.alloc, &self.link, &self.opening, ack.position)?;
+        self.arrivals.acknowledge(self.alloc, ack)?;
+        self.link.reopen(delta);
         Ok(true)
     }
 
     fn send(&mut self) -> Result<bool, Refusal>
         ensures { Does (⟦<Pair<E, K> as Stepper>⟧.parts self.old) events.Send result (⟦<Pair<E, K> as Stepper>⟧.parts self.new) }
     {
+        let Some(delta) = self.link.take_delta() else {
+            return self.send_group();
+        };
+        pass(self.alloc, &mut self.frames, delta)?;
+        Ok(true)
+    }
+
+    /// The frame of the next group passes, if there is one. None comes before all groups.
+    fn send_group(&mut self) -> Result<bool, Refusal>
+        requires none_before { (⟦<Pair<E, K> as Stepper>⟧.parts self.old).link.delta ≡ None }
+        ensures { Does (⟦<Pair<E, K> as Stepper>⟧.parts self.old) events.Send result (⟦<Pair<E, K> as Stepper>⟧.parts self.new) }
+    {
         let Some(index) = self.link.next_frame(self.alloc, &mut self.handed)? else {
             return Ok(false);
         };
         let frame = self.link.frame(index).clone()?;
-        let bytes = encode(self.alloc, &Message::Group(frame))?;
-        self.frames.push(bytes)?;
+        pass(self.alloc, &mut self.frames, frame)?;
         Ok(true)
     }
 
@@ -328,6 +346,7 @@ impl<E: Restarting, K: Keyspace + Drop> Pair<E, K> {
         let known = self.link.known();
         let rises = self.remote < known;
         self.remote = known;
+        forget_passed(self.alloc, &mut self.opening, known);
         Ok(rises)
     }
 
@@ -427,12 +446,14 @@ impl<E: Restarting, K: Keyspace + Drop> Pair<E, K> {
             work,
             handed,
             link,
+            opening,
         } = restart_primary(self.alloc, &mut self.committer, self.hash_builder)?;
         self.sequencer = sequencer;
         self.work = work;
         self.notices.clear();
         self.handed = handed;
         self.link = link;
+        self.opening = opening;
         self.remote = 0;
         self.primary_runs = true;
         Ok(true)
@@ -449,5 +470,37 @@ impl<E: Restarting, K: Keyspace + Drop> Pair<E, K> {
         self.standby.restart(self.alloc)?;
         self.standby_runs = true;
         Ok(true)
+    }
+}
+
+/// The delta that a standby at this position is due, if it is behind the position at which the primary was opened.
+///
+/// # Errors
+///
+/// Only `Memory`.
+fn due_delta(
+    alloc: Global,
+    link: &Link,
+    opening: &Opening,
+    position: u64,
+) -> Result<Option<Frame>, Refusal>
+    ensures due { position < opening.now.position → IfOk result (λ due. (frame : Frame) × (due ≡ Some frame) × IsDelta (link.now).epoch opening.now position frame) }
+    ensures none { opening.now.position ≤ position → result ≡ Ok None }
+    ensures cause { IfErr result (λ refusal. refusal ≡ Refusal.Memory) }
+{
+    if opening.position <= position {
+        return Ok(None);
+    }
+    Ok(Some(delta(alloc, link.epoch(), opening, position)?))
+}
+
+/// Forgets what a standby is told that is behind, where none is: the link knows that it is at this position.
+fn forget_passed(alloc: Global, opening: &mut Opening, known: u64)
+    ensures position { opening.new.position ≡ opening.old.position }
+    ensures kept { known < opening.old.position → opening.new ≡ opening.old }
+    ensures forgotten { opening.old.position ≤ known → (opening.new.gone.items ≡ []) × (opening.new.rows.items ≡ []) }
+{
+    if opening.position <= known {
+        opening.forget(alloc);
     }
 }

@@ -173,6 +173,7 @@ fn play_on<P: Crashing, K: Keyspace + Drop>(
         notices: _notices,
         handed: _handed,
         link: _link,
+        opening: _opening,
         remote: _,
         mut frames,
         arrivals,
@@ -231,7 +232,7 @@ fn take_released(connections: Vec<Connection>, released: &mut Vec<Vec<u8>>)
     }
 }
 
-/// Drops the frames that were sent before: each group's frame ends above all earlier ones.
+/// Drops the frames that end no higher than one before them, as a group's does that is sent again.
 fn drop_repeats(frames: &mut Vec<Vec<u8>>) {
     let mut last = 0;
     frames.retain(|frame| {

@@ -7,23 +7,25 @@ ghost use Rattle.model.specs.declared.image.TheConstants.{COUNTER_LIMIT};
 ghost use Rattle.model.specs.declared.record.Record.{Record as CommitRecord};
 ghost use Rattle.model.specs.Group.{Contents};
 ghost use Rattle.mv_keyspace.specs.Row.{numbers_of};
+ghost use Rattle.placing.specs.Read.{Shows};
 ghost use Rattle.placing.specs.Rebuilt.{AreEndedOf, IsRebuilt};
 ghost use Rattle.group_commit.specs.declared.stage.Stage.TheVariants.{Ready};
 ghost use Rattle.wbl_engine.specs.Contents.{IsDurable};
 ghost use Rattle.wbl_engine.specs.Lawful.{IsUndamaged};
 ghost use Rattle.wbl_engine.specs.Reopening.{RefusesReopening, StaysReadable};
 ghost use Rattle.standby.specs.Restarting.{IsReopened};
+ghost use Rattle.standby_stream.specs.Delta.{AreIdsEnded, IsOpening};
 ghost use Rattle.standby_stream.specs.Stream.{new_stream};
 ghost use Rattle.world.specs.Serving.{IsOver};
 
 use group_commit::Committer;
-use kv_types::Refusal;
+use kv_types::{RecordId, Refusal};
 use model::{Group, Work};
 use mv_keyspace::Keyspace;
 use pipes::LocalPipe;
 use placing::{Rebuilt, rebuild};
 use redis_core::Sequencer;
-use standby_stream::Link;
+use standby_stream::{Link, Opening, records_ended};
 use std::alloc::Global;
 use std::hash::RandomState;
 use wbl_engine::{Restarting, Role};
@@ -35,6 +37,8 @@ pub(crate) struct Serving<K: Keyspace> {
     pub(crate) work: LocalPipe<Work>,
     pub(crate) handed: LocalPipe<Group>,
     pub(crate) link: Link,
+    /// What a standby is told that is behind.
+    pub(crate) opening: Opening,
 }
 
 /// Opens the image of a crashed primary again, and makes what it holds beside it from the versions there: nothing waits, and no seat is open. The
@@ -51,6 +55,7 @@ pub(crate) fn restart_primary<E: Restarting, K: Keyspace + Drop>(
     requires settled { (word : ℕ) → Only ((E.device committer.old.engine).words word) (image_of (E.device committer.old.engine).words word) }
     ensures reopens { OnOk result (IsReopened (E.device committer.old.engine).lines (image_of (E.device committer.old.engine).words) Role.Primary
         (E.contents committer.new.engine)) }
+    ensures shows { OnOk result (Shows (E.contents committer.new.engine) (image_of (E.device committer.new.engine).words)) }
     ensures durable { OnOk result (IsDurable (E.device committer.new.engine) (E.contents committer.new.engine)) }
     ensures sound { OnOk result (E.is_faulted committer.new.engine ≡ false) }
     ensures ready { OnOk result ((committer.new.stage ≡ Ready) × (committer.new.aside.items ≡ []) × (committer.new.local ≡ (E.contents committer.new.engine).current.position)) }
@@ -58,6 +63,8 @@ pub(crate) fn restart_primary<E: Restarting, K: Keyspace + Drop>(
     ensures work { IfOk result (λ serving. serving.work.items ≡ []) }
     ensures handed { IfOk result (λ serving. serving.handed.items ≡ []) }
     ensures link { IfOk result (λ serving. serving.link ≡ new_stream (E.contents committer.new.engine).current.epoch) }
+    ensures opening { IfOk result (λ serving. (serving.opening.position ≡ (E.contents committer.new.engine).current.position)
+        × IsOpening (E.contents committer.new.engine) serving.opening) }
     ensures failures { ¬ IsErrOf result Refusal.Fault → (E.device committer.new.engine).failures ≡ (E.device committer.old.engine).failures }
     ensures refused { IfErr result (λ refusal. (refusal ≡ Refusal.Fault) ⊎ ((refusal ≡ Refusal.Memory)
         ⊎ (RefusesReopening (E.device committer.old.engine).lines (image_of (E.device committer.old.engine).words) Role.Primary refusal
@@ -67,11 +74,12 @@ pub(crate) fn restart_primary<E: Restarting, K: Keyspace + Drop>(
         → LeavesOnly (E.device committer.old.engine) (E.device committer.new.engine)
         (StaysReadable (E.device committer.old.engine).lines r (image_of (E.device committer.old.engine).words)) }
 {
-    let (keyspace, room) = restart_keyspace(alloc, committer)?;
+    let (keyspace, room, ended) = restart_keyspace(alloc, committer)?;
     make_serving(
         alloc,
         keyspace,
         room,
+        ended,
         (committer.position(), committer.epoch()),
         hash_builder,
     )
@@ -81,15 +89,17 @@ pub(crate) fn restart_primary<E: Restarting, K: Keyspace + Drop>(
 fn restart_keyspace<E: Restarting, K: Keyspace + Drop>(
     alloc: Global,
     committer: &mut Committer<E>,
-) -> Result<(K, Rebuilt), Refusal>
+) -> Result<(K, Rebuilt, Vec<RecordId>), Refusal>
     requires settled { (word : ℕ) → Only ((E.device committer.old.engine).words word) (image_of (E.device committer.old.engine).words word) }
     ensures reopens { OnOk result (IsReopened (E.device committer.old.engine).lines (image_of (E.device committer.old.engine).words) Role.Primary
         (E.contents committer.new.engine)) }
+    ensures shows { OnOk result (Shows (E.contents committer.new.engine) (image_of (E.device committer.new.engine).words)) }
     ensures durable { OnOk result (IsDurable (E.device committer.new.engine) (E.contents committer.new.engine)) }
     ensures sound { OnOk result (E.is_faulted committer.new.engine ≡ false) }
     ensures ready { OnOk result ((committer.new.stage ≡ Ready) × (committer.new.aside.items ≡ []) × (committer.new.local ≡ (E.contents committer.new.engine).current.position)) }
     ensures rebuilt { IfOk result (λ made. IsRebuilt (E.contents committer.new.engine) (K.table made.0) made.1.heap
         × AreEndedOf (E.contents committer.new.engine) (numbers_of made.1.ended.items)) }
+    ensures ids { IfOk result (λ made. AreIdsEnded (E.contents committer.new.engine) made.2.items) }
     ensures counted { OnOk result ((E.contents committer.new.engine).current.position < COUNTER_LIMIT) }
     ensures failures { ¬ IsErrOf result Refusal.Fault → (E.device committer.new.engine).failures ≡ (E.device committer.old.engine).failures }
     ensures refused { IfErr result (λ refusal. (refusal ≡ Refusal.Fault) ⊎ ((refusal ≡ Refusal.Memory)
@@ -101,6 +111,7 @@ fn restart_keyspace<E: Restarting, K: Keyspace + Drop>(
         (StaysReadable (E.device committer.old.engine).lines r (image_of (E.device committer.old.engine).words)) }
 {
     let versions = committer.restart(alloc, Role::Primary)?;
+    let ended = records_ended(alloc, &versions.counted)?;
     let mut keyspace = K::empty(alloc);
     let rebuilt = rebuild(
         alloc,
@@ -109,7 +120,7 @@ fn restart_keyspace<E: Restarting, K: Keyspace + Drop>(
         versions.counted,
         &versions.gapped,
     )?;
-    Ok((keyspace, rebuilt))
+    Ok((keyspace, rebuilt, ended))
 }
 
 /// What a primary holds beside its committer, over this keyspace and this room, while nothing waits; `at` is the position and the epoch of its record.
@@ -118,23 +129,28 @@ fn make_serving<K: Keyspace + Drop>(
     alloc: Global,
     keyspace: K,
     room: Rebuilt,
+    ended: Vec<RecordId>,
     at: (u64, u64),
     hash_builder: RandomState,
 ) -> Result<Serving<K>, Refusal>
     requires rebuilt { (contents : Contents) × (contents.current.position ≡ at.0) × IsRebuilt contents (K.table keyspace) room.heap
-        × AreEndedOf contents (numbers_of room.ended.items) }
+        × AreEndedOf contents (numbers_of room.ended.items) × AreIdsEnded contents ended.items }
     requires counted { at.0 < COUNTER_LIMIT }
     ensures sequencer { IfOk result (λ serving. (contents : Contents) → contents.current.position ≡ at.0 → contents.current.epoch ≡ at.1
         → IsRebuilt contents (K.table keyspace) room.heap → AreEndedOf contents (numbers_of room.ended.items) → IsOver contents serving.sequencer) }
     ensures work { IfOk result (λ serving. serving.work.items ≡ []) }
     ensures handed { IfOk result (λ serving. serving.handed.items ≡ []) }
     ensures link { IfOk result (λ serving. serving.link ≡ new_stream at.1) }
+    ensures opening { IfOk result (λ serving. (serving.opening.position ≡ at.0) × ((contents : Contents) → IsRebuilt contents (K.table keyspace) room.heap
+        → AreIdsEnded contents ended.items → IsOpening contents serving.opening)) }
     ensures cause { IfErr result (λ refusal. refusal ≡ Refusal.Memory) }
 {
+    let opening = Opening::new(alloc, &keyspace, ended, at.0)?;
     Ok(Serving {
         sequencer: Sequencer::new(alloc, keyspace, room, at.0, at.1, hash_builder)?,
         work: LocalPipe::new(alloc)?,
         handed: LocalPipe::new(alloc)?,
         link: Link::new(alloc, at.1)?,
+        opening,
     })
 }

@@ -1,9 +1,10 @@
 //! What passes between the two nodes: the bytes of their messages.
-ghost use Rattle.std.specs.Prelude.{◌≡◌, ◌≤◌, [], IfOk, IfErr, OnOk, vec_capacity};
-ghost use Rattle.stream_codec.specs.Message.{Sent, IsSent, IsWithinLimits, sent_of, sent_of_ack, sent_text};
+ghost use Rattle.std.specs.Prelude.{◌≡◌, ◌≤◌, ℕ, [], ◌∷◌, ◌++◌, IfOk, IfErr, OnOk, Vec, vec_capacity};
+ghost use Rattle.std.specs.Global.{Global};
+ghost use Rattle.stream_codec.specs.Message.{Sent, IsSent, IsWithinLimits, sent_of, sent_of_ack, sent_of_frame, sent_text};
 
 use kv_types::Refusal;
-use standby::Ack;
+use standby::{Ack, Frame};
 use std::alloc::{AllocError, Global};
 use stream_codec::{Decoder, Message, write_frame};
 
@@ -21,6 +22,21 @@ pub(crate) fn encode(alloc: Global, message: &Message) -> Result<Vec<u8>, AllocE
     let mut bytes = Vec::new(alloc);
     write_frame(message, &mut bytes)?;
     Ok(bytes)
+}
+
+/// A frame passes: its bytes come behind those of all that passed before.
+///
+/// # Errors
+///
+/// Only `Memory`.
+pub(crate) fn pass(alloc: Global, frames: &mut Vec<Vec<u8>>, frame: Frame) -> Result<(), Refusal>
+    ensures passes { OnOk result ((bytes : Vec ℕ Global) × (bytes.items ≡ sent_text (sent_of_frame frame)) × IsWithinLimits (sent_of_frame frame)
+        × (frames.new.items ≡ frames.old.items ++ bytes ∷ [])) }
+    ensures cause { IfErr result (λ refusal. refusal ≡ Refusal.Memory) }
+{
+    let bytes = encode(alloc, &Message::Group(frame))?;
+    frames.push(bytes)?;
+    Ok(())
 }
 
 /// The bytes of an acknowledgement, in room that was made for them.

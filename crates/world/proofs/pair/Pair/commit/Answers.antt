@@ -12,7 +12,7 @@ pub returns-then-not-may_commit : goal.returns-then-not-may_commit
 returns-then-not-may_commit g c =
     let E = g.E.Durable in
     let pair = c.args.self.now in
-    commit-stays E.device E.contents E.is_faulted _ _ _ pair.link _ _ _ _ _ _ pair.committer pair.work pair.handed c.if-not-may_commit.ensures
+    commit-stays E.device E.contents E.is_faulted _ _ _ pair.link pair.opening _ _ _ _ _ _ pair.committer pair.work pair.handed c.if-not-may_commit.ensures
 
 pub returns-in_err-turn : goal.returns-in_err-turn
 returns-in_err-turn g c =
@@ -21,7 +21,7 @@ returns-in_err-turn g c =
     let exit = err_from_is_err_and c.from_residual.result c.from_residual.ensures.1 in
     let turned = c.turn.ensures.ready (ready-now pair.committer.stage pair.work.items pair.handed.items c.if-not-may_commit.ensures) in
     told-so _ _ _ _ _ (ap went c.in_err-turn.was ∙ sym (exit.1 ∙ ap Err exit.2))
-    (commit-does E.device E.contents E.is_faulted _ _ _ pair.link _ _ _ _ _ _ pair.committer c.turn.new.self pair.work c.turn.new.work pair.handed c.turn.new.link c.turn.result c.if-not-may_commit.ensures turned.0 turned.2)
+    (commit-does E.device E.contents E.is_faulted _ _ _ pair.link pair.opening _ _ _ _ _ _ pair.committer c.turn.new.self pair.work c.turn.new.work pair.handed c.turn.new.link c.turn.result c.if-not-may_commit.ensures turned.0 turned.2)
 
 pub returns : goal.returns
 returns g c =
@@ -29,4 +29,4 @@ returns g c =
     let pair = c.args.self.now in
     let turned = c.turn.ensures.ready (ready-now pair.committer.stage pair.work.items pair.handed.items c.if-not-may_commit.ensures) in
     told-so _ _ _ _ _ (ap went c.in_ok-turn.was)
-    (commit-does E.device E.contents E.is_faulted _ _ _ pair.link _ _ _ _ _ _ pair.committer c.turn.new.self pair.work c.turn.new.work pair.handed c.turn.new.link c.turn.result c.if-not-may_commit.ensures turned.0 turned.2)
+    (commit-does E.device E.contents E.is_faulted _ _ _ pair.link pair.opening _ _ _ _ _ _ pair.committer c.turn.new.self pair.work c.turn.new.work pair.handed c.turn.new.link c.turn.result c.if-not-may_commit.ensures turned.0 turned.2)

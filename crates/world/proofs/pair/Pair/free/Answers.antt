@@ -11,7 +11,7 @@ pub returns-then-not-may_free : goal.returns-then-not-may_free
 returns-then-not-may_free g c =
     let E = g.E.Durable in
     let pair = c.args.self.now in
-    free-idle E.device E.contents E.is_faulted _ _ pair.link pair.remote _ _ _ _ _ pair.committer pair.work pair.notices.items pair.handed (sym c.may_free.ensures ∙ c.if-not-may_free.true)
+    free-idle E.device E.contents E.is_faulted _ _ pair.link pair.opening pair.remote _ _ _ _ _ pair.committer pair.work pair.notices.items pair.handed (sym c.may_free.ensures ∙ c.if-not-may_free.true)
 
 pub returns-in_err-reserve : goal.returns-in_err-reserve
 returns-in_err-reserve g c =
@@ -19,7 +19,7 @@ returns-in_err-reserve g c =
     let pair = c.args.self.now in
     let exit = err_from_is_err_and c.from_residual.result c.from_residual.ensures.1 in
     rw exit.1
-    (free-roomless E.device E.contents E.is_faulted _ _ pair.link pair.remote _ _ _ _ _ pair.committer pair.work pair.notices.items c.reserve.new.self.items pair.handed exit.0 exit.2
+    (free-roomless E.device E.contents E.is_faulted _ _ pair.link pair.opening pair.remote _ _ _ _ _ pair.committer pair.work pair.notices.items c.reserve.new.self.items pair.handed exit.0 exit.2
     (sym c.may_free.ensures ∙ c.if-not-may_free.false))
 
 pub turn-requires : goal.turn-requires
@@ -35,7 +35,7 @@ returns-in_err-done g c =
     let turned = c.in_err-done.ensures.ready ready in
     rw (exit.1 ∙ ap Err exit.2)
     (rw c.reserve.ensures.items
-    (free-ends E.device E.contents E.is_faulted _ _ pair.link pair.remote _ _ _ _ _ pair.committer c.turn.new.self pair.work c.turn.new.work pair.notices.items pair.handed c.turn.new.link
+    (free-ends E.device E.contents E.is_faulted _ _ pair.link pair.opening pair.remote _ _ _ _ _ pair.committer c.turn.new.self pair.work c.turn.new.work pair.notices.items pair.handed c.turn.new.link
     c.in_err-done.field-0.0 ready may turned.0 turned.2))
 
 pub returns : goal.returns
@@ -48,10 +48,10 @@ returns g c =
     elim c.match-done.branch [
       | in-Freed w ↦
           rw w.self-is
-          (free-does E.device E.contents E.is_faulted _ _ pair.link pair.remote _ _ _ _ _ pair.committer c.turn.new.self pair.work c.turn.new.work pair.notices.items pair.handed c.turn.new.link
+          (free-does E.device E.contents E.is_faulted _ _ pair.link pair.opening pair.remote _ _ _ _ _ pair.committer c.turn.new.self pair.work c.turn.new.work pair.notices.items pair.handed c.turn.new.link
           w.in-Freed.freed c.in_ok-done.done w.push_back_reserved.new.self.items w.in-Freed.is
           (w.push_back_reserved.ensures.items ∙ ap (λ xs. xs ++ w.in-Freed.freed ∷ []) c.reserve.ensures.items) ready may turned.0 turned.2)
       | in_default w ↦
-          let told = free-told E.device E.contents E.is_faulted pair.sessions pair.sequencer pair.link pair.remote pair.frames.items pair.arrivals (node_at (E.device pair.standby.engine) (E.contents pair.standby.engine) (E.is_faulted pair.standby.engine) (g.K.Keyspace.table pair.standby.keyspace) pair.standby.heap pair.standby.ended.items) pair.primary_runs pair.standby_runs pair.committer c.turn.new.self pair.work c.turn.new.work pair.handed c.turn.new.link c.in_ok-done.done may turned.0 turned.2 in
+          let told = free-told E.device E.contents E.is_faulted pair.sessions pair.sequencer pair.link pair.opening pair.remote pair.frames.items pair.arrivals (node_at (E.device pair.standby.engine) (E.contents pair.standby.engine) (E.is_faulted pair.standby.engine) (g.K.Keyspace.table pair.standby.keyspace) pair.standby.heap pair.standby.ended.items) pair.primary_runs pair.standby_runs pair.committer c.turn.new.self pair.work c.turn.new.work pair.handed c.turn.new.link c.in_ok-done.done may turned.0 turned.2 in
           absurd (w.in_default.not-Freed told.0 told.1)
     ]

@@ -7,7 +7,7 @@ pub returns-in_default : goal.returns-in_default
 returns-in_default g c =
     let E = g.E.Durable in
     let pair = c.args.self.now in
-    hand-none-does E.device E.contents E.is_faulted _ _ _ pair.link _ _ _ _ _ _ pair.committer pair.work pair.handed (λ group shown. c.in_default.not-Shown group (c.stage.ensures ∙ shown))
+    hand-none-does E.device E.contents E.is_faulted _ _ _ pair.link pair.opening _ _ _ _ _ _ pair.committer pair.work pair.handed (λ group shown. c.in_default.not-Shown group (c.stage.ensures ∙ shown))
 
 pub returns-in_err-done : goal.returns-in_err-done
 returns-in_err-done g c =
@@ -16,7 +16,7 @@ returns-in_err-done g c =
     let exit = err_from_is_err_and c.from_residual.result c.from_residual.ensures.1 in
     let shown = sym c.stage.ensures ∙ c.in-Shown.is in
     told-so _ _ _ _ _ (ap did_of c.in_err-done.was ∙ sym (exit.1 ∙ ap Err exit.2))
-    (hand-turned E.device E.contents E.is_faulted _ _ _ pair.link _ _ _ _ _ _ pair.committer c.turn.new.self pair.work c.turn.new.work pair.handed c.turn.new.link c.in-Shown.field-0 c.turn.result
+    (hand-turned E.device E.contents E.is_faulted _ _ _ pair.link pair.opening _ _ _ _ _ _ pair.committer c.turn.new.self pair.work c.turn.new.work pair.handed c.turn.new.link c.in-Shown.field-0 c.turn.result
     shown (c.turn.ensures.shown c.in-Shown.field-0 shown))
 
 pub returns : goal.returns
@@ -25,5 +25,5 @@ returns g c =
     let pair = c.args.self.now in
     let shown = sym c.stage.ensures ∙ c.in-Shown.is in
     told-so _ _ _ _ _ (ap did_of c.in_ok-done.was ∙ ap Ok (sym c.is_step.ensures))
-    (hand-turned E.device E.contents E.is_faulted _ _ _ pair.link _ _ _ _ _ _ pair.committer c.turn.new.self pair.work c.turn.new.work pair.handed c.turn.new.link c.in-Shown.field-0 c.turn.result
+    (hand-turned E.device E.contents E.is_faulted _ _ _ pair.link pair.opening _ _ _ _ _ _ pair.committer c.turn.new.self pair.work c.turn.new.work pair.handed c.turn.new.link c.in-Shown.field-0 c.turn.result
     shown (c.turn.ensures.shown c.in-Shown.field-0 shown))

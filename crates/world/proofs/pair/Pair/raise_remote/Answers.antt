@@ -3,4 +3,4 @@ use Rattle.world.proofs.PairLink.{raise-does}
 use Rattle.world.proofs.pair.Pair.raise_remote.Goals as goal
 
 pub returns : goal.returns
-returns g c = raise-does _ c.known-known.result _ c.known-known.ensures refl
+returns g c = raise-does _ c.known-known.result _ c.forget_passed.new.opening c.known-known.ensures refl c.forget_passed.ensures.position c.forget_passed.ensures.kept

@@ -1,5 +1,6 @@
 use Rattle.std.proofs.Common.{Err, ap, sym, subst}
 use Rattle.std.proofs.lemmas.Result.{err_from_is_err_and}
+use Rattle.pmem.specs.Crash.{image_of}
 use Rattle.model.specs.declared.record.Role.TheVariants.{Primary}
 use Rattle.world.proofs.OpenedLemmas.{IsNotOpened}
 use Rattle.world.proofs.PairReopen.{primary-reopening-cut, primary-reopens, primary-runs-on}
@@ -24,6 +25,6 @@ returns g c =
     let E = g.E.Durable in
     let committer = c.restart_primary.new.committer in
     let told = c.in_ok-sequencer.ensures in
-    primary-reopens _ _ _ _ (E.device committer.engine) (E.contents committer.engine) (E.is_faulted committer.engine) _ _ c.if-self.false
+    primary-reopens _ _ _ _ (E.device committer.engine) (E.contents committer.engine) (E.is_faulted committer.engine) _ _ _ c.if-self.false
     (record { reopens = told.reopens; durable = told.durable; sound = told.sound; failures = told.failures (λ fault. cc); moments = told.moments })
-    (record { over = told.sequencer; ready = told.ready.0; local = told.ready.2; no_work = told.work; none_aside = told.ready.1; none_told = c.clear.ensures.items; none_handed = told.handed; link_is = told.link })
+    (record { over = told.sequencer; ready = told.ready.0; local = told.ready.2; no_work = told.work; none_aside = told.ready.1; none_told = c.clear.ensures.items; none_handed = told.handed; link_is = told.link; opened_at = told.opening.0; tells = told.opening.1; image = image_of (E.device committer.engine).words; shows = told.shows })

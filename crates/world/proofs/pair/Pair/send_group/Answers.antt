@@ -1,0 +1,64 @@
+use Rattle.std.proofs.Common.{◌≡◌, ◌∙◌, ℕ, Option, Some, Result, Ok, Err, ap, subst}
+use Rattle.std.proofs.lemmas.Result.{err_from_is_err_and}
+use Rattle.kv_types.specs.declared.refusal.Refusal.{Refusal}
+use Rattle.kv_types.specs.declared.refusal.Refusal.TheVariants.{Memory}
+use Rattle.world.proofs.LinkLemmas.{Answers, sends}
+use Rattle.world.proofs.PairLink.{send-does, send-none, send-cut}
+use Rattle.world.proofs.pair.Pair.send_group.Goals as goal
+
+pub returns-in_err-index : goal.returns-in_err-index
+returns-in_err-index g c =
+    let old = c.args.self.now in
+    let link = c.next_frame.new.self in
+    let waiting = c.next_frame.new.groups in
+    let exit = err_from_is_err_and c.from_residual.result c.from_residual.ensures.1 in
+    let memory : exit.0 ≡ Memory = exit.2 ∙ c.in_err-index.ensures.refused.0 in
+    let told : Answers old.link old.handed c.next_frame.result link waiting =
+    record { again = c.next_frame.ensures.again; full = c.next_frame.ensures.full; next = c.next_frame.ensures.next; refused = c.next_frame.ensures.refused } in
+    let answers = subst (λ (r : Result (Option ℕ) Refusal). Answers old.link old.handed r link waiting) c.in_err-index.was told in
+    send-cut _ waiting link _ c.from_residual.result exit.0 exit.1 memory
+    (λ w legal stands. sends w.primary.calls old.link old.handed old.remote w.primary.link legal stands c.requires.none_before (Err c.in_err-index.field-0.0) link waiting answers)
+
+pub returns-in_default : goal.returns-in_default
+returns-in_default g c =
+    let old = c.args.self.now in
+    let link = c.next_frame.new.self in
+    let waiting = c.next_frame.new.groups in
+    let told : Answers old.link old.handed c.next_frame.result link waiting =
+    record { again = c.next_frame.ensures.again; full = c.next_frame.ensures.full; next = c.next_frame.ensures.next; refused = c.next_frame.ensures.refused } in
+    send-none _ waiting link (subst (λ (r : Result (Option ℕ) Refusal). Answers old.link old.handed r link waiting) (c.in_ok-index.was ∙ ap Ok c.in_default.is) told) c.requires.none_before
+
+pub returns-in_err-frame : goal.returns-in_err-frame
+returns-in_err-frame g c =
+    let old = c.args.self.now in
+    let link = c.next_frame.new.self in
+    let waiting = c.next_frame.new.groups in
+    let exit = err_from_is_err_and c.from_residual-in_err-frame.result c.from_residual-in_err-frame.ensures.1 in
+    let told : Answers old.link old.handed c.next_frame.result link waiting =
+    record { again = c.next_frame.ensures.again; full = c.next_frame.ensures.full; next = c.next_frame.ensures.next; refused = c.next_frame.ensures.refused } in
+    let answers = subst (λ (r : Result (Option ℕ) Refusal). Answers old.link old.handed r link waiting) (c.in_ok-index.was ∙ ap Ok c.in-Some.is) told in
+    send-cut _ waiting link _ c.from_residual-in_err-frame.result exit.0 exit.1 exit.2
+    (λ w legal stands. (sends w.primary.calls old.link old.handed old.remote w.primary.link legal stands c.requires.none_before (Ok (Some c.in-Some.index)) link waiting answers).may)
+
+pub returns-in_err-pass : goal.returns-in_err-pass
+returns-in_err-pass g c =
+    let old = c.args.self.now in
+    let link = c.next_frame.new.self in
+    let waiting = c.next_frame.new.groups in
+    let exit = err_from_is_err_and c.from_residual-in_err-pass.result c.from_residual-in_err-pass.ensures.1 in
+    let told : Answers old.link old.handed c.next_frame.result link waiting =
+    record { again = c.next_frame.ensures.again; full = c.next_frame.ensures.full; next = c.next_frame.ensures.next; refused = c.next_frame.ensures.refused } in
+    let answers = subst (λ (r : Result (Option ℕ) Refusal). Answers old.link old.handed r link waiting) (c.in_ok-index.was ∙ ap Ok c.in-Some.is) told in
+    send-cut _ waiting link c.pass.new.frames.items c.from_residual-in_err-pass.result exit.0 exit.1 (exit.2 ∙ c.in_err-pass.ensures.cause)
+    (λ w legal stands. (sends w.primary.calls old.link old.handed old.remote w.primary.link legal stands c.requires.none_before (Ok (Some c.in-Some.index)) link waiting answers).may)
+
+pub returns : goal.returns
+returns g c =
+    let old = c.args.self.now in
+    let link = c.next_frame.new.self in
+    let waiting = c.next_frame.new.groups in
+    let told : Answers old.link old.handed c.next_frame.result link waiting =
+    record { again = c.next_frame.ensures.again; full = c.next_frame.ensures.full; next = c.next_frame.ensures.next; refused = c.next_frame.ensures.refused } in
+    let answers = subst (λ (r : Result (Option ℕ) Refusal). Answers old.link old.handed r link waiting) (c.in_ok-index.was ∙ ap Ok c.in-Some.is) told in
+    let passed = c.in_ok-pass.ensures.passes in
+    send-does _ waiting link c.in-Some.index c.frame.result.now c.in_ok-frame.frame passed.0 c.pass.new.frames.items answers c.frame.ensures c.in_ok-frame.ensures.cases passed.1 passed.2 passed.3 c.requires.none_before
