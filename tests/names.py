@@ -2,8 +2,8 @@
 
 # Calls and definitions that pages say come later. Once one is there, the pages say so and it is removed from here.
 LATER = [
-    "IsFenced", "IsRightDelta", "Promotes",
-    "delta", "pin", "promote", "raise_round", "rejoin",
+    "IsFenced", "Promotes",
+    "pin", "promote", "raise_round", "rejoin",
 ]
 
 # What belongs to Redis, to the toolchain or to the system, requests of one word, and what a page spells for a word of the
@@ -55,7 +55,7 @@ REPEATED = {
     "closes": "the connection is over then: after a request, and after an item of it",
     "crash": "a device loses what was not made durable: by itself, under its engine, and under a node's committer or standby",
     "enter": "a connection takes a seat",
-    "epoch": "the epoch of the record: of the image under a committer, and of a standby's",
+    "epoch": "the epoch of the record: of the image under a committer, and of a standby's; and of the frames of a link",
     "feed": "takes the next piece: of a client's bytes, of a server's, and of frames",
     "field": "the field of a hash: of a record its name, of a keyspace what it holds",
     "finish": "an end of a ring is given up and keeps what it was",

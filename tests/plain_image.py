@@ -51,6 +51,15 @@ class Record(typing.NamedTuple):
         return 1 <= stamp <= self.cp and not any(first <= stamp <= last for first, last in self.gaps)
 
 
+class Version(typing.NamedTuple):
+    """A version whose begin counts: of which record, with which value, the position at which it was put, and whether its end counts."""
+
+    name: tuple
+    value: bytes
+    position: int
+    has_ended: bool
+
+
 class Versions(typing.NamedTuple):
     """The entries of an image: those whose begin counts, each with its end, or 0 where that does not count; and the others that were
     begun."""
@@ -123,6 +132,13 @@ def read_versions(device, record):
         elif entry.begin:
             gapped.append(number)
     return Versions(counted, gapped)
+
+
+def versions_on(device):
+    """What the versions of a whole image are."""
+    record = read_image(device).record
+    counted = [entry for entry in _read_entries(device) if record.counts(entry.begin)]
+    return [Version(*_read_version(device, record, entry), entry.position, record.counts(entry.end)) for entry in counted]
 
 
 def free_lines(device, record):

@@ -4,6 +4,7 @@ which event a fence that fails ends the run."""
 
 import typing
 
+import plain_delta
 import plain_image
 import plain_redis
 import spelling
@@ -56,6 +57,14 @@ class Group(typing.NamedTuple):
 
     before: int
     after: int
+
+
+class Frame(typing.NamedTuple):
+    """What is sent: the changes that lead from the position before to the one after."""
+
+    before: int
+    after: int
+    changes: tuple
 
 
 class FreeList(typing.NamedTuple):
@@ -145,7 +154,7 @@ class Machine:
         self.parts = []
         self.done = []
         self.ended = None
-        self._begin(0)
+        self._begin(plain_delta.FORMATTED)
         self.frames = []
         self.arrived = []
         self.acknowledgements = []
@@ -157,15 +166,18 @@ class Machine:
             self.redis = plain_redis.Redis()
             self.ended = "formatting"
 
-    def _begin(self, position, unlisted=()):
-        """What a primary holds that begins at this position, with these entries of versions that have ended: nothing waits for the committer or
+    def _begin(self, opening, unlisted=()):
+        """What a primary holds that begins with this opening and these entries of versions that have ended: nothing waits for the committer or
         the link."""
-        self.closed = self.local = self.newest = position
+        self.opening = opening
+        self.closed = self.local = self.newest = opening.position
         self.unlisted = list(unlisted)
         self.work = []
         self.aside = []
         self.notices = []
         self.stage = ("ready", None)
+        # what is sent before all groups, if anything is
+        self.delta = None
         self.sending = []
         self.kept = []
         self.again = []
@@ -315,22 +327,31 @@ class Machine:
             self.stage = ("ready", None)
             return True
 
-    # ---- the link and the standby: a frame is its group
+    # ---- the link and the standby
 
-    def changes_of(self, before, after):
-        """All changes of the calls between two positions."""
-        return [change for part in self.redis.parts[before:after] for change in part]
+    def frame_of(self, group):
+        """All changes of the calls between the positions of a group."""
+        return Frame(*group, tuple(change for part in self.redis.parts[group.before:group.after] for change in part))
+
+    def due_delta(self):
+        """The frame that a standby is due which is behind the position at which the primary was opened, or None."""
+        before, after = self.standby.position, self.opening.position
+        return Frame(before, after, plain_delta.changes_since(before, self.opening)) if before < after else None
 
     def open_link(self):
+        self.delta = self.due_delta()
         self.again = list(self.kept)
         self.acknowledgements.append(self.standby.position)
         return True
 
     def send(self):
-        if self.again:
+        if self.delta is not None:
+            self.frames.append(self.delta)
+            self.delta = None
+        elif self.again:
             self.frames.append(self.again.pop(0))
         elif self.sending and len(self.kept) < KEPT_GROUPS:
-            self.frames.append(self.sending.pop(0))
+            self.frames.append(self.frame_of(self.sending.pop(0)))
             self.kept.append(self.frames[-1])
         else:
             return False
@@ -344,9 +365,9 @@ class Machine:
     def apply(self):
         if not self.arrived:
             return False
-        before, after = self.arrived.pop(0)
+        before, after, changes = self.arrived.pop(0)
         if before == self.standby.position:
-            self.standby.take(self.changes_of(before, after), after - before)
+            self.standby.take(changes, after - before)
         if after <= self.standby.position:
             self.acknowledgements.append(self.standby.position)
         return True
@@ -354,8 +375,8 @@ class Machine:
     def ack_delivered(self, number):
         if int(number) < len(self.acknowledgements):
             position = self.acknowledgements[int(number)]
-            self.kept = [(before, after) for before, after in self.kept if after > position]
-            self.again = [(before, after) for before, after in self.again if after > position]
+            self.kept = [frame for frame in self.kept if frame.after > position]
+            self.again = [frame for frame in self.again if frame.after > position]
             self.known = max(self.known, position)
             return True
 
@@ -412,13 +433,14 @@ class Machine:
         return True
 
     def _crash_primary(self, position):
-        """All connections are over, and the calls after this position, that of the image, are gone."""
+        """All connections are over, and the calls after this position, that of the image, are gone. What the image tells of the list
+        that is left is what a standby may be told that is behind."""
         for connection in self.connections:
             connection.is_open = False
         self.calls = [call for call in self.calls if call[3] <= position]
         self.parts = self.parts[:position]
         self.redis.crash(position, self.primary.image.room)
-        self._begin(position, self.primary.image.ended)
+        self._begin(plain_delta.opening_of(self.primary.image), self.primary.image.ended)
 
     def reopen(self, node):
         return getattr(self, node).reopen()

@@ -97,16 +97,17 @@ class Schedule:
 
     def drain(self, connections, items, frames):
         """All that was fed is served to its end: at most `items` items of each connection, and `frames` frames in
-        all."""
+        all. Connections are told by their numbers, or by how many there are."""
+        connections = range(connections) if isinstance(connections, int) else connections
         for _ in range(items):
-            for c in range(connections):
+            for c in connections:
                 self.serve(c)
                 self.commit()
                 self.add("send")
         for number in range(frames):
             self.commit()
             self.replicate(number)
-        for c in range(connections):
+        for c in connections:
             self.read_marks(c)
             self.write_out(c)
 
@@ -221,16 +222,27 @@ def in_order(rows):
         raise AssertionError("a line of the primary stands after one of the standby")
 
 
+def told_frames(machine):
+    """The frames of a run of the plain machine of which a line tells: each that ends above all that were sent before it. So a group has one,
+    however often it was sent."""
+    told, last = [], 0
+    for frame in machine.frames:
+        if frame.after > last:
+            told.append(frame)
+            last = frame.after
+    return told
+
+
 def told_between(machine):
-    """The frames and acknowledgements of a run of the plain machine: a frame for each group that was sent, with all changes
-    of its commands, all of epoch 1 (docs/replication.md)."""
-    frames = [Frame(1, *group, len(machine.changes_of(*group))) for group in sorted(set(machine.frames))]
+    """The frames and acknowledgements of a run of the plain machine, with the number of changes of each frame, all of epoch 1
+    (docs/replication.md)."""
+    frames = [Frame(1, before, after, len(changes)) for before, after, changes in told_frames(machine)]
     return frames, [(1, position) for position in machine.acknowledgements]
 
 
 def texts_between(machine):
     """The same as bytes."""
-    groups = [plain_wire.Group(1, *group, tuple(machine.changes_of(*group))) for group in sorted(set(machine.frames))]
+    groups = [plain_wire.Group(1, *frame) for frame in told_frames(machine)]
     acknowledgements = [plain_wire.Acknowledgement(1, position) for position in machine.acknowledgements]
     return [plain_wire.text(group) for group in groups], [plain_wire.text(ack) for ack in acknowledgements]
 

@@ -217,10 +217,13 @@ class Drawn(Runs):
             schedule.add(f"ack-delivered {len(machine.acknowledgements)}", "raise-remote", *drawn.sample(FREEING, drawn.randrange(3)))
             if drawn.randrange(3):
                 schedule.free()
-            if drawn.randrange(100) == 0:
-                schedule.add("crash primary 0", "reopen primary", "enter", "open-link")
-                crashes += 1
             machine.play(schedule.events[start:] if start > 1 else schedule.events)
+            if drawn.randrange(100) == 0:
+                # a delta, where the standby is behind
+                crash = ["crash primary 0", "reopen primary", "enter", "open-link", "send", f"deliver {len(machine.frames)}", "apply"]
+                schedule.add(*crash)
+                machine.play(crash)
+                crashes += 1
         return schedule
 
     def check(self, seed, lines):

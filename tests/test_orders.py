@@ -10,12 +10,12 @@ import plain_machine
 import plain_redis
 import plain_replies
 import spelling
+from plain_keyspace import Drop
 from simulation import NODES, Runs, Schedule, simulate, texts_between, told_between
 
 PROGRAMS = ["simulator"]
 IS_SLOW = True
 
-CONNECTIONS = 5
 # Connections that enter between the other events, and leave at any time.
 GUESTS = 8
 REQUESTS_OF_A_GUEST = 30
@@ -35,6 +35,9 @@ LONGEST_PIECE = 60
 
 # A crash leaves the oldest or newest candidate of a word, or one between.
 PICKS = [0, 2**64 - 1, 1, 2]
+
+# So many groups the standby lacks at most when it is to catch up.
+UNTAKEN = 40
 
 # Pieces of a connection's bytes, and of what is written to it, are shorter than one of these.
 PIECES = [24, 24, 24, 24, 200, 2_000, 20_000]
@@ -57,19 +60,19 @@ class ToldRoom:
 
 class Order:
     """Events drawn by a seed, and what the connections still have to send. One connection more than have entered
-    is drawn too, and so are those that left. `crashing` are the nodes that crash, and are opened again; `first` are the first requests."""
+    is drawn too, and so are those that left. Both nodes crash, and are opened again; `first` are the first requests."""
 
-    def __init__(self, seed, crashing, first=()):
+    def __init__(self, seed, first=()):
         self.draws = draws.numbers(f"order {seed}")
-        self.crashing = crashing
         self.schedule = Schedule()
         # of each connection that entered
         self.scripts = []
-        # those that entered since the primary was opened last
+        # those that entered since the primary was opened last, and those of them that stay
         self.present = []
+        self.staying = []
         self.guests = []
         for c, count in enumerate(REQUESTS_OF_EACH):
-            self.enter(count, () if c else first)
+            self.stay(count, () if c else first)
         self.feed(0, sum(len(spelling.spell(*words)) for words in first))
         for _ in first:
             self.schedule.serve(0)
@@ -88,7 +91,7 @@ class Order:
             if self.draws.randrange(events) < 3 * GUESTS:
                 self.come_or_go()
             if self.draws.randrange(events) < CRASHES:
-                self.crash_and_reopen(self.draws.choice(self.crashing))
+                self.crash_and_reopen(self.draws.choice(["primary", "primary", "standby"]))
             self.draw_one()
 
     def draw_one(self):
@@ -100,6 +103,11 @@ class Order:
         self.scripts.append(draws.Script(self.draws, count, first))
         self.schedule.add("enter")
 
+    def stay(self, count, first=()):
+        """One enters that never leaves."""
+        self.staying.append(len(self.scripts))
+        self.enter(count, first)
+
     def come_or_go(self):
         """A guest enters or leaves; one may leave that is not there yet, or no more."""
         if self.draws.randrange(2) and len(self.guests) < GUESTS:
@@ -109,9 +117,9 @@ class Order:
             self.schedule.add(f"leave {self.draws.choice([*self.guests, len(self.scripts)])}")
 
     def crash_and_reopen(self, node):
-        """A node crashes, other events come, and it is opened again. Of a primary most often all that it has committed was sent
-        before, since nothing else would ever bring it to the standby; new connections enter then."""
-        if node == "primary" and self.draws.randrange(8):
+        """A node crashes, other events come, and it is opened again. Of a primary now and then all that it has committed was sent
+        before; new connections enter then, and most often the link opens soon."""
+        if node == "primary" and self.draws.randrange(3) == 0:
             self.schedule.add("raise-local", "hand", *8 * ["send"])
             self.frames += 8
         self.schedule.add(" ".join(["crash", node, *(str(self.draws.choice(PICKS)) for _ in range(self.draws.randint(1, 3)))]))
@@ -123,9 +131,13 @@ class Order:
         self.schedule.add(f"reopen {node}")
         self.fronts.append(len(self.schedule.events))
         if node == "primary":
-            self.present = []
+            self.present, self.staying = [], []
             for count in REQUESTS_OF_EACH:
-                self.enter(count)
+                self.stay(count)
+            for _ in range(self.draws.randrange(60)):
+                self.draw_one()
+            if self.draws.randrange(4):
+                self.open_link()
 
     def draw_of_connection(self):
         c = self.draws.choice(self.present) if self.draws.randrange(12) else self.draws.randrange(len(self.scripts) + 1)
@@ -160,15 +172,32 @@ class Order:
         self.schedule.take(*range(self.frames))
         self.acknowledgements += self.frames
 
+    def open_link(self):
+        """The link opens, and one frame is sent: the delta, where one is due."""
+        self.schedule.add("open-link", "send")
+        self.frames += 1
+        self.acknowledgements += 1
+
+    def catch_up(self):
+        """What is committed is sent, and the standby takes of all that was ever sent what joins on; then the delta from there, if it is due
+        one, and all groups that follow."""
+        self.schedule.add("raise-local", "hand")
+        for _ in range(2):
+            self.deliver_all()
+            self.open_link()
+            self.schedule.add(*UNTAKEN * ["send"])
+            self.frames += UNTAKEN
+        self.deliver_all()
+
     def finish(self):
-        """What is left of the scripts is fed and served to its end, but not that of the guests."""
-        for c in range(CONNECTIONS):
+        """What is left of the scripts is fed and served to its end, but only that of connections that stayed."""
+        for c in self.staying:
             self.feed(c)
-        self.schedule.drain(CONNECTIONS, max(len(script.items) for script in self.scripts), 1_000)
-        for number in range(self.acknowledgements + 1_000):
+        self.schedule.drain(self.staying, max(len(self.scripts[c].items) for c in self.staying), self.frames + 1_000)
+        for number in range(self.acknowledgements + self.frames + 1_000):
             self.schedule.add(f"ack-delivered {number}")
         self.schedule.add("raise-remote")
-        for c in range(CONNECTIONS):
+        for c in self.staying:
             self.schedule.read_marks(c)
             self.schedule.write_out(c)
 
@@ -181,12 +210,13 @@ def told_redis():
 
 class Orders(Runs):
     """One test a seed. What is looked at is the promise; that each event did its step where it should is the plain
-    machine's part."""
+    machine's part. At the end of some runs the standby catches up, by a delta where the primary was opened again; some are then finished."""
 
-    def check(self, seed, lines, is_finished):
-        # what a primary lost on its way to the standby never comes there, and then no run can be served to its end
-        order = Order(seed, ["standby"] if is_finished else ["primary", "primary", "standby"], FILLING if lines == SCARCE_LINES else ())
+    def check(self, seed, lines, is_caught_up, is_finished):
+        order = Order(seed, FILLING if lines == SCARCE_LINES else ())
         order.draw(EVENTS)
+        if is_caught_up:
+            order.catch_up()
         if is_finished:
             order.finish()
         trace = simulate(order.schedule.events, "--map", "--images", "--lines", f"{lines},{lines}")
@@ -195,13 +225,13 @@ class Orders(Runs):
         self.check_front(trace, order, lines)
         stands = [self.check_image(trace, node, lines) for node in NODES]
         with self.case("positions", stands=stands):
-            self.assertTrue(stands[1] == stands[0] if is_finished else stands[1] <= stands[0])
+            self.assertTrue(stands[1] == stands[0] if is_caught_up else stands[1] <= stands[0])
             # what has ended is freed, again and again, where the standby follows
             done = collections.Counter(event for event, did in zip(order.schedule.events, trace.done) if did)
             self.assertGreater(min(done["free"], done["accept-freed"]), 4 if 2 * stands[1] > stands[0] else -1)
             self.check_draws(trace, stands[0])
         for c, script in enumerate(order.scripts):
-            is_whole = is_finished and c < CONNECTIONS
+            is_whole = is_finished and c in order.staying
             self.check_requests(trace, c, script, is_whole)
             self.check_released(trace, c, positions, stands[1], is_whole)
         self.check_machine(trace, order.schedule.events, lines)
@@ -303,11 +333,27 @@ class Orders(Runs):
                 self.assert_image(trace, machine, node, lines)
 
 
+class Draws(Runs):
+    """The draws, played by the plain machine alone."""
+
+    def test_deltas_are_drawn(self):
+        # no command drops a string by itself, so a frame that does is a delta
+        found = []
+        for seed in range(6):
+            order = Order(seed)
+            order.draw(EVENTS)
+            machine = plain_machine.Machine((AMPLE_LINES, AMPLE_LINES)).play(order.schedule.events)
+            found.append(sum(any(isinstance(change, Drop) and len(change.name) == 1 for change in frame.changes) for frame in machine.frames))
+        self.assertGreater(sum(map(bool, found)), 4, found)
+        self.assertGreater(sum(found), 20, found)
+
+
 def add_seeds(count):
-    """One test for each seed. Each fourth run is finished, and each third is over images that fill."""
+    """One test for each seed. In each second run the standby catches up, each fourth is finished, and each third is over images that
+    fill."""
     for seed in range(count):
         lines = SCARCE_LINES if seed % 3 == 2 else AMPLE_LINES
-        setattr(Orders, f"test_seed_{seed}", lambda self, at=(seed, lines, seed % 4 == 0): self.check(*at))
+        setattr(Orders, f"test_seed_{seed}", lambda self, at=(seed, lines, seed % 2 == 0, seed % 4 == 0): self.check(*at))
 
 
 add_seeds(12)

@@ -59,7 +59,7 @@ class Commands(common.Cases):
 
     def test_what_is_said_of_the_sessions(self):
         # the second with another crash, and the third with the lines that let the standby catch up
-        _, ((_, failing), fails, (_, left)), ((_, lagging), lags, _), _ = self.sessions()
+        _, ((_, failing), fails, (_, left)), ((_, lagging), lags, _), *_ = self.sessions()
         other, added = [lines for _, lines in pages.blocks(SESSIONS) if lines[0].startswith(("primary:", "open-link"))]
         found = self.run_command(fails, lines_of(failing).replace(b"crash primary 0", b"crash primary 1"))
         self.assertEqual(found.splitlines(), [*left[:2], other[0], left[3], other[1], *left[4:]])
@@ -74,7 +74,7 @@ class Commands(common.Cases):
             line = text.count("\n", 0, shown.start()) + 1
             above, below = [it for it in blocks if it[0] < line], [it for it in blocks if it[0] > line]
             found.append((above[-1], shown[1], below[0]))
-        self.assertEqual(len(found), 4)
+        self.assertEqual(len(found), 5)
         return found
 
     def test_the_answers_of_the_probe(self):

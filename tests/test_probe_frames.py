@@ -5,13 +5,11 @@ import random
 from plain_keyspace import Clear, Drop, DropKey, Put
 from plain_wire import Acknowledgement, Group, change_text, read, read_stream, text
 from probe_client import Probing, drop, drop_key, hexed, put
+from worked_cases import DELTA
 
 PROGRAMS = ["probe"]
 
 SET_A = bytes.fromhex("01 0000000000000001 0000000000000000 0000000000000001 0000000000000009 01 0001 61 00000001 31")
-DELTA = bytes.fromhex(
-    "01 0000000000000001 0000000000000006 0000000000000009 0000000000000014 03 0002 6b31 03 0002 6b33 01 0002 6b32 00000001 78"
-)
 FAULT = "refusal 10: frame fault"
 
 # Where the numbers of a group's frame are.
@@ -154,6 +152,16 @@ class Frames(Probing):
             with self.case(f"byte {byte} at {at}"):
                 self.assertEqual(read_stream(data)[1], fault)
             self.show([(line_of(pieces_of(data, 1)), answer_to(data, 1))])
+
+    def test_the_worked_delta_with_another_byte_in_each_place(self):
+        """What a damaged frame is read as, or where it is at fault, in pieces of any size; a frame comes behind it."""
+        damaged_ones = [
+            written(DELTA, at, byte, 1) + SET_A for at in range(len(DELTA)) for byte in {0, 255, DELTA[at] ^ 1, DELTA[at] ^ 4} - {DELTA[at]}
+        ]
+        for size in (1, 5, 10**6):
+            self.show((line_of(pieces_of(data, size)), answer_to(data, size)) for data in damaged_ones)
+        # about half are at fault; the others are read as another frame, for epoch, positions and bytes of values may be any
+        self.assertGreater(sum(read_stream(data)[1] is not None for data in damaged_ones), 80)
 
     def test_500_damaged_frames(self):
         rows = [damaged(seed) for seed in range(500)]

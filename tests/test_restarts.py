@@ -15,17 +15,16 @@ class Restarts(Runs):
 
     def asked_after(self, before, request):
         """The trace of a run in which a connection has set a, with these events after its turn, and the primary crashed; then another
-        sends a request, and both marks are read."""
+        sends a request, the link opens, what it sends comes, also what was sent before, and both marks are read."""
         schedule = Schedule(1)
         schedule.feed(0, SET_A)
         schedule.serve(0)
         schedule.add(*before, "crash primary 0", "reopen primary", "enter")
         schedule.feed(1, request)
         schedule.serve(1)
-        schedule.add("send")
-        schedule.take(0)
-        schedule.add("open-link")
-        schedule.acknowledge(0)
+        schedule.add("open-link", "send")
+        schedule.take(0, 1)
+        schedule.acknowledge(1)
         schedule.read_marks(1)
         schedule.write_out(1)
         return self.play(schedule)
@@ -44,10 +43,9 @@ class Restarts(Runs):
             with self.case("events", count=count):
                 trace = self.asked_after(way[:count], GET_A)
                 self.assertEqual([call.reply for call in trace.calls], [OK, ONE])
-                # what was not sent before the crash never comes to the standby, so nobody is told of it
-                was_sent = count == 5
-                self.assertEqual(trace.released, [b"", ONE if was_sent else b""])
-                self.assertEqual([line.position for line in trace.nodes.values()], [1, int(was_sent)])
+                # what was not sent before the crash comes to the standby by a delta
+                self.assertEqual(trace.released, [b"", ONE])
+                self.assertEqual([line.position for line in trace.nodes.values()], [1, 1])
 
     def test_frames_that_a_standby_lost_come_again(self):
         schedule = Schedule(1)

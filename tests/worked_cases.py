@@ -10,6 +10,11 @@ GET_A = b"*2\r\n$3\r\nGET\r\n$1\r\na\r\n"
 PING = b"*1\r\n$4\r\nPING\r\n"
 SHORTEST = b"*1\r\n$0\r\n\r\n"
 
+# The worked delta: epoch 1, from 6 to 9, drop k1, drop k3, put k2 `x`.
+DELTA = bytes.fromhex(
+    "01 0000000000000001 0000000000000006 0000000000000009 0000000000000014 03 0002 6b31 03 0002 6b33 01 0002 6b32 00000001 78"
+)
+
 OK = b"+OK\r\n"
 ONE = b"$1\r\n1\r\n"
 PONG = b"+PONG\r\n"
