@@ -7,7 +7,7 @@ use Rattle.std.proofs.lemmas.Bool.Decides.{nat_tests}
 use Rattle.std.proofs.lemmas.List.{take_at, drop_at, take-append-drop, length-append, length-take}
 use Rattle.std.proofs.lemmas.Nat.{div_below, mod_below, div-add-mod', mul-le, be_bytes_2, be_bytes_4, be_bytes_8}
 use Rattle.stream_codec.specs.declared.reading.Stop.TheVariants.{Short, Broken}
-use Rattle.stream_codec.specs.Bytes.{Read, two_places, four_places, eight_places, span, ArePlaces, number_from, number_at, bytes_at, counted_at}
+use Rattle.stream_codec.specs.Bytes.{Read, two_places, four_places, eight_places, span, ArePlaces, IsBytes, number_from, number_at, bytes_at, counted_at}
 use Rattle.stream_codec.proofs.Readers.{read_is, Reads, Reads-as, Reads-then, Then}
 
 -- ---- digits
@@ -157,6 +157,39 @@ number_grows (place ∷ places) least most sum (byte ∷ bytes) more n rest e =
       )
       | inr f ↦ let broken = sym (cond_false (fits place places least most sum byte) (number_from places least most (sum + byte * place) bytes) (Err Broken) f) ∙ e in absurd cc
     ]
+
+-- the end of bytes
+pub IsBytes-end : (front rest : List ℕ) → IsBytes (front ++ rest) → IsBytes rest
+IsBytes-end [] rest are = are
+IsBytes-end (byte ∷ front) rest are = IsBytes-end front rest (λ i. are (suc i))
+
+pub IsBytes-append : (bytes more : List ℕ) → IsBytes bytes → IsBytes more → IsBytes (bytes ++ more)
+IsBytes-append [] more are more_are i = more_are i
+IsBytes-append (byte ∷ bytes) more are more_are zero = are 0
+IsBytes-append (byte ∷ bytes) more are more_are (suc i) = IsBytes-append bytes more (λ k. are (suc k)) more_are i
+
+-- where the last byte alone can pass the bound, bytes that are too few for the places are only short
+pub number_waits : (places : List ℕ) (most sum : ℕ) → ArePlaces places → sum + span places ≤ most + 256 → (bytes : List ℕ) → IsBytes bytes → length bytes < length places → number_from places 0 most sum bytes ≡ Err Short
+number_waits [] most sum a wide bytes are h = absurd (omega (arith, h))
+number_waits (place ∷ places) most sum a wide [] are h = refl
+number_waits (place ∷ []) most sum a wide (byte ∷ bytes) are h = absurd (omega (arith, h))
+number_waits (place ∷ next ∷ places) most sum a wide (byte ∷ bytes) are h =
+    let low = share byte place (are 0) in
+    let pos = span_pos places a.1.1 in
+    let t = is_in_range byte (sum + byte * place) (sum + byte * place + (place - 1)) 0 most (are 0) (omega (arith, wide, low, pos, a.0, a.1.0)) (omega arith) in
+    cond_true (fits place (next ∷ places) 0 most sum byte) (number_from (next ∷ places) 0 most (sum + byte * place) bytes) (Err Broken) t
+    ∙ number_waits (next ∷ places) most (sum + byte * place) a.1 (omega (arith, wide, low, a.0)) bytes (λ i. are (suc i)) (omega (arith, h))
+
+-- where the bound is not below any number of so many bytes, no byte breaks it
+pub number_unbroken : (places : List ℕ) (most sum : ℕ) → ArePlaces places → sum + span places ≤ most + 1 → (bytes : List ℕ) → IsBytes bytes → number_from places 0 most sum bytes ≡ Err Broken → ⊥
+number_unbroken [] most sum a wide bytes are e = absurd cc
+number_unbroken (place ∷ places) most sum a wide [] are e = absurd cc
+number_unbroken (place ∷ places) most sum a wide (byte ∷ bytes) are e =
+    let low = share byte place (are 0) in
+    let pos = span_pos places a.1 in
+    let t = is_in_range byte (sum + byte * place) (sum + byte * place + (place - 1)) 0 most (are 0) (omega (arith, wide, low, pos, a.0)) (omega arith) in
+    number_unbroken places most (sum + byte * place) a.1 (omega (arith, wide, low, a.0)) bytes (λ i. are (suc i))
+    (sym (cond_true (fits place places 0 most sum byte) (number_from places 0 most (sum + byte * place) bytes) (Err Broken) t) ∙ e)
 
 -- a number within the bounds
 pub record IsNumber (places : List ℕ) (least most n : ℕ) (text : List ℕ) : Type 0 where

@@ -1,7 +1,7 @@
 -- Changes that are skipped, and frames that are looked at in steps.
 use Rattle.std.proofs.Common.{◌≡◌, ℕ, zero, suc, ◌+◌, ◌-◌, ◌<◌, ◌≤◌, true, false, List, [], ◌∷◌, ◌++◌, length, take, drop, Option, None, Some, Ok, Err, refl, sym, ap, ◌∙◌, arith}
 use Rattle.std.proofs.lemmas.Bool.Decides.{nat_tests}
-use Rattle.std.proofs.lemmas.List.{take-append-drop, drop_at, append_assoc, append-nil, length-append}
+use Rattle.std.proofs.lemmas.List.{take-append-drop, drop-append-le, drop_at, append_assoc, append-nil, length-append}
 use Rattle.kv_types.specs.declared.change.Change.{Change}
 use Rattle.kv_types.specs.Change.{change_text}
 use Rattle.kv_types.proofs.ChangeTextLemmas.{change_text_nonempty}
@@ -10,7 +10,7 @@ use Rattle.stream_codec.specs.declared.reading.Stop.TheVariants.{Short, Broken}
 use Rattle.stream_codec.specs.declared.head.Head.TheVariants as head
 use Rattle.standby.specs.declared.frame.Ack.{Ack}
 use Rattle.stream_codec.specs.Message.{Sent, Changes, Acknowledged, IsChange, sent_of}
-use Rattle.stream_codec.specs.Bytes.{Read, ◌>>=◌}
+use Rattle.stream_codec.specs.Bytes.{Read, IsBytes, ◌>>=◌}
 use Rattle.stream_codec.specs.Reading.{change_at, changes_at, head_at, body_at, message_at}
 use Rattle.std.specs.Prelude.{option_map}
 use Rattle.std.specs.Option.{IsSome}
@@ -22,6 +22,7 @@ use Rattle.stream_codec.specs.Stepping.{skipped, is_more, end_from}
 use Rattle.stream_codec.specs.Scanning.{with_front, IsEnd, Waits, EndsAlike, IsAt, IsTaken, sent_of_all}
 use Rattle.stream_codec.specs.Stream.{with_first, stream_at}
 use Rattle.stream_codec.proofs.Readers.{bind_ok, read_is, grows}
+use Rattle.stream_codec.proofs.Numbers.{IsBytes-append}
 use Rattle.stream_codec.proofs.Streams.{behind, stream_at-read, stream_at-short}
 use Rattle.stream_codec.proofs.Bodies.{changes_at-step, changes_at-stop, changes_at-none}
 use Rattle.stream_codec.proofs.Changes.{IsChangeWithin, change_reads}
@@ -141,24 +142,38 @@ look_begun bytes progress body next rest wanted missing i is alike end short wai
       record {
         within = omega arith;
         same = λ more. same more ∙ ap (λ d. end_from next (d ++ more)) (sym (IsEnd-drop bytes rest last));
-        waits = λ more h. skipped_err (message_at (bytes ++ more)) Short (same more ∙ waits more (omega (arith, h, fits)));
+        waits = λ more are h. skipped_err (message_at (bytes ++ more)) Short (same more ∙ waits more are (omega (arith, h, fits)));
       },
     )
 
 pub look_broken : (bytes : List ℕ) (progress : Progress) (body : List ℕ) → IsAt bytes progress → body ≡ drop progress.at bytes → end_from progress.next body ≡ Err Broken → message_at bytes ≡ Err Broken
 look_broken bytes progress body i is e = skipped_err (message_at bytes) Broken (from_place bytes progress i ∙ ap (end_from progress.next) (sym is) ∙ e)
 
+-- a place stays what it is when bytes come
+pub still_at : (bytes piece : List ℕ) (progress : Progress) → IsAt bytes progress → IsBytes piece → IsAt (bytes ++ piece) progress
+still_at bytes piece progress i are =
+    record {
+      within = omega (arith, i.within, length-append bytes piece);
+      same = λ more.
+          ap (λ s. skipped (message_at s)) (append_assoc bytes piece more) ∙ i.same (piece ++ more)
+          ∙ ap (end_from progress.next) (sym (append_assoc (drop progress.at bytes) piece more))
+          ∙ ap (λ d. end_from progress.next (d ++ more)) (sym (drop-append-le progress.at bytes piece i.within));
+      waits = λ more more_are h.
+          ap message_at (append_assoc bytes piece more)
+          ∙ i.waits (piece ++ more) (IsBytes-append piece more are more_are) (omega (arith, h, length-append bytes piece, length-append piece more));
+    }
+
 -- with fewer bytes than are wanted there is no frame, and no fault
 pub still_taken : (bytes : List ℕ) (progress : Progress) (messages : List Message) → IsAt bytes progress → length bytes < progress.wanted → messages ≡ [] → IsTaken bytes messages false bytes progress
 still_taken bytes progress messages i h none =
-    let begun : message_at bytes ≡ Err Short = ap message_at (sym (append-nil bytes)) ∙ i.waits [] (omega (arith, h)) in
+    let begun : message_at bytes ≡ Err Short = ap message_at (sym (append-nil bytes)) ∙ i.waits [] (λ k. omega arith) (omega (arith, h)) in
     record {
       stream = stream_at-short bytes begun ∙ ap (λ m. record { messages = sent_of_all m; unread = Some bytes }) (sym none);
       at = i;
     }
 
 pub at_start : (bytes : List ℕ) → IsAt bytes (record { at = 0; next = next.Kind; wanted = 0 })
-at_start bytes = record { within = omega arith; same = λ more. refl; waits = λ more h. absurd (omega (arith, h)) }
+at_start bytes = record { within = omega arith; same = λ more. refl; waits = λ more are h. absurd (omega (arith, h)) }
 
 -- ---- frames that are read
 

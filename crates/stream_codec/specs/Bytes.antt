@@ -1,11 +1,15 @@
 -- Reading numbers and runs of bytes from the front of bytes that may be only the beginning of what is read.
-use Rattle.std.specs.Prelude.{ℕ, ◌≡◌, ◌+◌, ◌-◌, ◌*◌, ◌^◌, List, [], ◌∷◌, length, take, drop, ◌&&◌, if◌then◌else◌, nat_lt, nat_le, Result, Ok, Err}
+use Rattle.std.specs.Prelude.{ℕ, ◌≡◌, ◌+◌, ◌-◌, ◌*◌, ◌^◌, ◌<◌, List, [], ◌∷◌, length, take, drop, get_or, ◌&&◌, if◌then◌else◌, nat_lt, nat_le, Result, Ok, Err}
 use Rattle.stream_codec.specs.declared.reading.Stop.{Stop}
 use Rattle.stream_codec.specs.declared.reading.Stop.TheVariants.{Short, Broken}
 
 -- what was read and the bytes after it; or why nothing could be: further bytes may complete it, or no further bytes can
 abbrev pub Read : Type 0 → Type 0
 Read A = Result (A × List ℕ) Stop
+
+-- each is a byte
+abbrev pub IsBytes : List ℕ → Type 0
+IsBytes bytes = (i : ℕ) → get_or bytes i 0 < 256
 
 infixl 10 ◌>>=◌
 abbrev pub ◌>>=◌ : {A B : Type 0} → Result A Stop → (A → Result B Stop) → Result B Stop

@@ -10,7 +10,7 @@ use Rattle.stream_codec.specs.declared.scan.Pass.{Pass}
 use Rattle.stream_codec.specs.declared.scan.Pass.TheVariants as pass
 use Rattle.stream_codec.specs.declared.step.Next.{Next}
 use Rattle.stream_codec.specs.Message.{Sent, sent_of}
-use Rattle.stream_codec.specs.Bytes.{Read, ◌>>=◌}
+use Rattle.stream_codec.specs.Bytes.{Read, IsBytes, ◌>>=◌}
 use Rattle.stream_codec.specs.Reading.{name_at, value_at, message_at}
 use Rattle.stream_codec.specs.Stepping.{skipped, IsMore, end_from}
 use Rattle.stream_codec.specs.Stream.{stream_at}
@@ -23,9 +23,9 @@ with_front front read = read >>= λ x. Ok (front ++ x.0, x.1)
 abbrev pub IsEnd : List ℕ → List ℕ → Type 0
 IsEnd bytes rest = (prefix : List ℕ) × (bytes ≡ prefix ++ rest)
 
--- with fewer bytes more than are missing, `read` has only the beginning of what it reads, whatever they are
+-- with fewer bytes more than are missing, `read` has only the beginning of what it reads, whatever bytes they are
 abbrev pub Waits : {A : Type 0} → (List ℕ → Result A Stop) → List ℕ → ℕ → Type 0
-Waits read bytes missing = (more : List ℕ) → length more < missing → read (bytes ++ more) ≡ Err Short
+Waits read bytes missing = (more : List ℕ) → IsBytes more → length more < missing → read (bytes ++ more) ≡ Err Short
 
 abbrev pub field_and_value_at : ℕ → List ℕ → Read (List ℕ)
 field_and_value_at spare bytes = name_at spare bytes >>= λ field. value_at (spare - length field.0) field.1
@@ -44,7 +44,7 @@ IsPass first bytes pass.Broken = end_from first bytes ≡ Err Broken
 pub record IsAt (bytes : List ℕ) (progress : Progress) : Type 0 where
   pub within : progress.at ≤ length bytes
   pub same : (more : List ℕ) → skipped (message_at (bytes ++ more)) ≡ end_from progress.next (drop progress.at bytes ++ more)
-  pub waits : (more : List ℕ) → length bytes + length more < progress.wanted → message_at (bytes ++ more) ≡ Err Short
+  pub waits : (more : List ℕ) → IsBytes more → length bytes + length more < progress.wanted → message_at (bytes ++ more) ≡ Err Short
 
 -- what is at the front
 abbrev pub IsLook : List ℕ → Look → Type 0

@@ -55,14 +55,18 @@ fn pass_on(bytes: &[u8], next: Next) -> Pass<'_>
     Pass::Whole(rest)
 }
 
-/// How many bytes are missing before there is more than the beginning of what comes next, whatever they are.
+/// How many bytes are missing before it is of use to look again: with fewer there is only the beginning of a frame, whatever they are.
 fn missing_of(bytes: &[u8], next: Next) -> u64
     requires { IsMore next }
     ensures { Waits (end_from next) bytes.now result }
 {
     match next {
+        // No byte breaks an epoch, nor the position of an acknowledgement; that before a group is broken by its last byte alone.
+        Next::Epoch | Next::AckEpoch => 16_u64.saturating_sub(bytes.len() as u64),
+        Next::Before | Next::AckPosition => 8_u64.saturating_sub(bytes.len() as u64),
+        // Each byte can break the position after a group, and the length of its body.
+        Next::Kind | Next::After(_) | Next::Size => 0,
         Next::Changes(left) => missing_of_change(bytes, left),
-        _ => 0,
     }
 }
 

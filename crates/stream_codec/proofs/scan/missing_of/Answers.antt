@@ -1,5 +1,23 @@
-use Rattle.stream_codec.proofs.Waiting.{waits_changes}
+use Rattle.std.proofs.Common.{inl, inr, arith}
+use Rattle.stream_codec.specs.Bytes.{IsBytes}
+use Rattle.stream_codec.proofs.Waiting.{waits_epoch, waits_before, waits_ack_epoch, waits_ack_position, waits_changes}
 use Rattle.stream_codec.proofs.scan.missing_of.Goals as goal
+
+pub returns-in-Epoch : goal.returns-in-Epoch
+returns-in-Epoch c =
+    let are : IsBytes c.args.bytes.now = λ k. omega (arith, c.type_inv.bytes k) in
+    elim c.in-Epoch.is [
+      | inl is ↦ waits_epoch c.args.next c.args.bytes.now c.saturating_sub.result is are (omega (arith, c.saturating_sub.ensures))
+      | inr is ↦ waits_ack_epoch c.args.next c.args.bytes.now c.saturating_sub.result is are (omega (arith, c.saturating_sub.ensures))
+    ]
+
+pub returns-in-Before : goal.returns-in-Before
+returns-in-Before c =
+    let are : IsBytes c.args.bytes.now = λ k. omega (arith, c.type_inv.bytes k) in
+    elim c.in-Before.is [
+      | inl is ↦ waits_before c.args.next c.args.bytes.now c.saturating_sub-in-Before.result is are (omega (arith, c.saturating_sub-in-Before.ensures))
+      | inr is ↦ waits_ack_position c.args.next c.args.bytes.now c.saturating_sub-in-Before.result is are (omega (arith, c.saturating_sub-in-Before.ensures))
+    ]
 
 pub returns-in-Changes : goal.returns-in-Changes
 returns-in-Changes c =
