@@ -1,8 +1,8 @@
 -- The pair of nodes as a machine (this project's profile): which event may happen, what it does, and what a run is. The state is defined in
--- `World`, whose definitions this file re-exports.
-pub use Rattle.machine.specs.World.{Inbound, Outbound, Connection, Span, Frame, Acknowledgement, Stage, Ready, Durable, Shown, Work, Commits, Frees, Committer, Link, Life, Running, Stopped, Crashed, Primary, Standby, Wire, World, no_connection, new_connection, new_committer, new_link, start_at, start_with, start, is_running, is_crashed, get_connection, connection_of, is_open, count_open, changed_at, with_inbound, with_outbound, with_primary, with_connections, on_inbound, on_outbound, with_committer, with_link, with_standby, with_sent, with_acknowledged, asked, is_closed_by, open_changes, has_room, spans_of, lists_of, lists_before, from_group, is_ready, is_durable, is_shown, is_covered, covered_prefix, uncovered_rest, texts_of}
+-- `Connection` and `World`, whose definitions this file re-exports.
+pub use Rattle.machine.specs.Connection.{may_enter, may_feed, may_offer, may_turn, may_hold, may_release, may_write, fed_with, offered_next, taken_first, with_made, held_first, having_seen, having_released, written, left_inbound, left_outbound, left}
+pub use Rattle.machine.specs.World.{Inbound, Outbound, Connection, Span, Frame, Acknowledgement, Stage, Ready, Durable, Shown, Work, Commits, Frees, Committer, Link, Life, Running, Stopped, Crashed, Primary, Standby, Wire, World, no_connection, new_connection, new_committer, new_link, start_at, start_with, start, is_running, is_crashed, get_connection, connection_of, is_open, is_open_at, count_open, changed_at, with_inbound, with_outbound, with_primary, with_connections, on_inbound, on_outbound, with_committer, with_link, with_standby, with_sent, with_acknowledged, asked, is_closed_by, open_changes, has_room, spans_of, lists_of, lists_before, from_group, is_ready, is_durable, is_shown, is_covered, covered_prefix, uncovered_rest, texts_of}
 use Rattle.std.specs.Prelude.{◌≡◌, ◌⊎◌, ℕ, ◌+◌, ◌-◌, ◌<◌, ◌≤◌, Bool, true, false, not, ◌&&◌, ◌||◌, nat_lt, nat_le, nat_eq, if◌then◌else◌, max, List, [], ◌∷◌, ◌++◌, length, take, drop, map, filter, ◌≢◌, slice_get, Option, Some, None}
-use Rattle.kv_types.specs.declared.reply.Held.{Held}
 use Rattle.model.specs.declared.call.Call.{Call}
 use Rattle.model.specs.declared.record.TheConstants.{MAX_GAPS}
 use Rattle.model.specs.Call.{MayReply, cut_at, is_nonempty, position_of, state_after}
@@ -11,8 +11,7 @@ use Rattle.machine.specs.declared.event.Event.TheVariants.{Enter, Feed, Offer, T
 use Rattle.machine.specs.declared.event.Node.{Node}
 use Rattle.machine.specs.declared.event.Node.TheVariants as node
 use Rattle.machine.specs.declared.event.Mark.{Mark}
-use Rattle.machine.specs.declared.event.Mark.TheVariants.{Local, Remote}
-use Rattle.machine.specs.declared.event.TheConstants.{SEATS, OPEN_CHANGES, KEPT_GROUPS}
+use Rattle.machine.specs.declared.event.TheConstants.{KEPT_GROUPS}
 
 -- ---- which event may happen
 
@@ -48,14 +47,10 @@ first_is_within high (position ∷ positions) = nat_le position high
 
 -- there is something for the event to do, and room for what it makes
 abbrev pub may_happen : World → Event → Bool
-may_happen w Enter = nat_lt (count_open w.primary.connections) SEATS
-may_happen w (Feed c piece) = is_open w c && not (is_closed_by (connection_of w c).inbound.fed)
-may_happen w (Offer c) =
-    let inbound = (connection_of w c).inbound in
-    is_open w c && nat_lt inbound.offered (length (asked inbound.fed)) && has_room inbound.waiting
-may_happen w (Turn c) =
-    let connection = connection_of w c in
-    is_open w c && is_nonempty connection.inbound.waiting && has_room connection.outbound.made && nat_lt (open_changes w) OPEN_CHANGES
+may_happen w Enter = may_enter w.primary.connections
+may_happen w (Feed c piece) = may_feed w.primary.connections c
+may_happen w (Offer c) = may_offer w.primary.connections c
+may_happen w (Turn c) = may_turn w.primary.connections c (open_changes w)
 may_happen w CloseGroup = (nat_lt 0 (open_changes w) || nat_lt 0 w.primary.ended) && has_room w.primary.committer.waiting
 may_happen w Commit = may_commit w
 may_happen w RaiseLocal = is_durable w.primary.committer.stage
@@ -73,12 +68,10 @@ may_happen w (Deliver frame piece) = nat_lt frame (length w.wire.frames)
 may_happen w Apply = is_nonempty w.standby.waiting
 may_happen w (AckDelivered a) = nat_lt a (length w.wire.acknowledgements)
 may_happen w RaiseRemote = nat_lt w.primary.link.remote w.primary.link.known
-may_happen w (Hold c) = is_open w c && is_nonempty (connection_of w c).outbound.made
+may_happen w (Hold c) = may_hold w.primary.connections c
 may_happen w (Read c mark) = is_open w c
-may_happen w (Release c) =
-    let outbound = (connection_of w c).outbound in
-    is_open w c && is_nonempty (covered_prefix outbound.local outbound.remote outbound.held)
-may_happen w (Write c n) = is_open w c && nat_le n (length (connection_of w c).outbound.pending)
+may_happen w (Release c) = may_release w.primary.connections c
+may_happen w (Write c n) = may_write w.primary.connections c n
 may_happen w (Leave c) = is_open w c
 may_happen w (Crash node picks) = w.restarts && not (is_crashed (life_of w node))
 may_happen w (Reopen node) = w.restarts && is_crashed (life_of w node)
@@ -90,19 +83,6 @@ is_enabled w event = nodes_run w event && may_happen w event
 
 abbrev pub entered : World → World
 entered w = with_connections (w.primary.connections ++ new_connection ∷ []) w
-
-abbrev pub fed_with : List ℕ → Inbound → Inbound
-fed_with piece inbound = record inbound { fed = inbound.fed ++ piece }
-
--- the next of the items asked for joins those that wait
-abbrev pub offered_next : Inbound → Inbound
-offered_next inbound = record inbound { offered = inbound.offered + 1; waiting = inbound.waiting ++ take 1 (drop inbound.offered (asked inbound.fed)) }
-
-abbrev pub taken_first : Inbound → Inbound
-taken_first inbound = record inbound { waiting = drop 1 inbound.waiting }
-
-abbrev pub with_made : Held → Outbound → Outbound
-with_made reply outbound = record outbound { made = outbound.made ++ reply ∷ [] }
 
 abbrev pub with_call : Call → World → World
 with_call call w = record w { primary = record w.primary { calls = w.primary.calls ++ call ∷ [] } }
@@ -283,35 +263,8 @@ told epoch (Some ack) link = if nat_eq ack.epoch epoch then knowing ack.position
 abbrev pub raised_remote : Link → Link
 raised_remote link = record link { remote = link.known }
 
-abbrev pub held_first : Outbound → Outbound
-held_first outbound = record outbound { made = drop 1 outbound.made; held = outbound.held ++ take 1 outbound.made }
-
 abbrev pub having_read : Mark → World → Outbound → Outbound
-having_read Local w outbound = record outbound { local = w.primary.committer.local }
-having_read Remote w outbound = record outbound { remote = w.primary.link.remote }
-
--- exactly the covered prefix is released
-abbrev pub having_released : Outbound → Outbound
-having_released outbound =
-    record outbound {
-      held = uncovered_rest outbound.local outbound.remote outbound.held;
-      pending = outbound.pending ++ texts_of (covered_prefix outbound.local outbound.remote outbound.held);
-    }
-
-abbrev pub written : ℕ → Outbound → Outbound
-written n outbound = record outbound { pending = drop n outbound.pending; released = outbound.released ++ take n outbound.pending }
-
--- what was handed to the sequencer and not called is dropped
-abbrev pub left_inbound : Inbound → Inbound
-left_inbound inbound = record inbound { offered = inbound.offered - length inbound.waiting; waiting = [] }
-
--- what was not written to the connection is dropped
-abbrev pub left_outbound : Outbound → Outbound
-left_outbound outbound = record outbound { made = []; held = []; pending = [] }
-
--- the connection is over
-abbrev pub left : Connection → Connection
-left connection = record { is_open = false; inbound = left_inbound connection.inbound; outbound = left_outbound connection.outbound }
+having_read mark w outbound = having_seen mark w.primary.committer.local w.primary.link.remote outbound
 
 abbrev pub option_items : {X : Type 0} → Option X → List X
 option_items None = []

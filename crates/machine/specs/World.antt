@@ -1,48 +1,12 @@
 -- The state of the pair of nodes and their connections (this project's profile), and definitions on it. Calls are appended to the list as the
 -- sequencer runs them; groups and frames are named by the positions of the list that they lie between.
-use Rattle.std.specs.Prelude.{ℕ, zero, suc, Bool, true, false, ◌&&◌, nat_lt, nat_le, if◌then◌else◌, List, [], ◌∷◌, ◌++◌, length, ◌+◌, ◌-◌}
-use Rattle.std.specs.List.{flat_map, list_any}
-use Rattle.kv_types.specs.declared.item.Item.{Item}
-use Rattle.kv_types.specs.declared.limits.TheConstants.{REQUEST_LIMITS}
-use Rattle.kv_types.specs.declared.reply.Held.{Held}
-use Rattle.kv_types.specs.Reading.{items_at}
-use Rattle.kv_types.specs.Reply.{text_of}
+pub use Rattle.machine.specs.Connection.{Inbound, Outbound, Connection, no_connection, new_connection, get_connection, is_open_at, count_open, changed_at, with_inbound, with_outbound, asked, is_closed_by, has_room, is_covered, covered_prefix, uncovered_rest, texts_of}
+use Rattle.std.specs.Prelude.{ℕ, Bool, true, false, List, [], ◌∷◌, ◌++◌, ◌-◌}
 use Rattle.model.specs.declared.call.Call.{Call}
-use Rattle.model.specs.Command.{closes}
-use Rattle.model.specs.Call.{position_of, up_to_closing}
-use Rattle.machine.specs.declared.event.TheConstants.{PIPE_ITEMS}
+use Rattle.model.specs.Call.{position_of}
 use Rattle.model.specs.declared.record.TheConstants.{FIRST_EPOCH}
 
 -- ---- the state
-
--- the inbound side of a connection: the bytes that came in, and the items made of them
-pub record Inbound : Type 0 where
-  -- all bytes fed to it
-  pub fed : List ℕ
-  -- how many of the items that they ask for were handed to the sequencer, and not dropped when the connection left
-  pub offered : ℕ
-  -- those of them that wait to be run
-  pub waiting : List Item
-
--- a connection's gate and what lies on either side of it
-pub record Outbound : Type 0 where
-  -- replies that the gate has not taken yet
-  pub made : List Held
-  -- replies that the gate holds
-  pub held : List Held
-  -- bytes that the gate has released
-  pub pending : List ℕ
-  -- bytes that were written to the connection
-  pub released : List ℕ
-  -- the marks, as the gate last read them
-  pub local : ℕ
-  pub remote : ℕ
-
--- A client's connection. It is open until it is over; then its seat goes to another connection, but its number stays its own for ever.
-pub record Connection : Type 0 where
-  pub is_open : Bool
-  pub inbound : Inbound
-  pub outbound : Outbound
 
 -- a group, or what a frame tells: the changes of the list between two positions, call by call
 pub record Span : Type 0 where
@@ -154,17 +118,6 @@ pub record World : Type 0 where
 
 -- ---- the start
 
--- a connection that nothing came from, which `connection_of` gives for a number that no connection has
-abbrev pub no_connection : Connection
-no_connection = record {
-  is_open = false;
-  inbound = record { fed = []; offered = 0; waiting = [] };
-  outbound = record { made = []; held = []; pending = []; released = []; local = 0; remote = 0 };
-}
-
-abbrev pub new_connection : Connection
-new_connection = record no_connection { is_open = true }
-
 -- a committer over an image at this position, to which nothing was handed yet
 abbrev pub new_committer : ℕ → Committer
 new_committer position = record { closed = position; waiting = []; aside = []; stage = Ready; position = position; local = position }
@@ -213,33 +166,12 @@ is_crashed Running = false
 is_crashed Stopped = false
 is_crashed Crashed = true
 
-abbrev pub get_connection : List Connection → ℕ → Connection
-get_connection [] c = no_connection
-get_connection (connection ∷ connections) zero = connection
-get_connection (connection ∷ connections) (suc c) = get_connection connections c
-
 -- connection c, or `no_connection` where there is none
 abbrev pub connection_of : World → ℕ → Connection
 connection_of w c = get_connection w.primary.connections c
 
 abbrev pub is_open : World → ℕ → Bool
-is_open w c = (connection_of w c).is_open
-
--- how many seats are taken
-abbrev pub count_open : List Connection → ℕ
-count_open [] = 0
-count_open (connection ∷ connections) = (if connection.is_open then 1 else 0) + count_open connections
-
-abbrev pub changed_at : ℕ → (Connection → Connection) → List Connection → List Connection
-changed_at c change [] = []
-changed_at zero change (connection ∷ connections) = change connection ∷ connections
-changed_at (suc c) change (connection ∷ connections) = connection ∷ changed_at c change connections
-
-abbrev pub with_inbound : (Inbound → Inbound) → Connection → Connection
-with_inbound change connection = record connection { inbound = change connection.inbound }
-
-abbrev pub with_outbound : (Outbound → Outbound) → Connection → Connection
-with_outbound change connection = record connection { outbound = change connection.outbound }
+is_open w c = is_open_at w.primary.connections c
 
 abbrev pub with_primary : Primary → World → World
 with_primary primary w = record w { primary = primary }
@@ -270,20 +202,9 @@ with_sent frames w = record w { wire = record w.wire { frames = w.wire.frames ++
 abbrev pub with_acknowledged : List Acknowledgement → World → World
 with_acknowledged acknowledgements w = record w { wire = record w.wire { acknowledgements = w.wire.acknowledgements ++ acknowledgements } }
 
--- the items that the bytes of a connection ask for, up to and including the one that closes it
-abbrev pub asked : List ℕ → List Item
-asked fed = up_to_closing (items_at REQUEST_LIMITS fed)
-
--- the bytes hold an item that closes the connection
-abbrev pub is_closed_by : List ℕ → Bool
-is_closed_by fed = list_any closes (items_at REQUEST_LIMITS fed)
-
 -- how many changing commands wait to be closed into a group
 abbrev pub open_changes : World → ℕ
 open_changes w = position_of w.primary.calls - w.primary.committer.closed
-
-abbrev pub has_room : {X : Type 0} → List X → Bool
-has_room items = nat_lt (length items) PIPE_ITEMS
 
 -- the groups among what waits for the committer
 abbrev pub spans_of : List Work → List Span
@@ -323,19 +244,3 @@ abbrev pub is_shown : Stage → Bool
 is_shown Ready = false
 is_shown (Durable group) = false
 is_shown (Shown group) = true
-
-abbrev pub is_covered : ℕ → ℕ → Held → Bool
-is_covered local remote reply = nat_le reply.position local && nat_le reply.position remote
-
--- the longest prefix of the replies in which all are covered
-abbrev pub covered_prefix : ℕ → ℕ → List Held → List Held
-covered_prefix local remote [] = []
-covered_prefix local remote (reply ∷ replies) = if is_covered local remote reply then reply ∷ covered_prefix local remote replies else []
-
--- the replies after it
-abbrev pub uncovered_rest : ℕ → ℕ → List Held → List Held
-uncovered_rest local remote [] = []
-uncovered_rest local remote (reply ∷ replies) = if is_covered local remote reply then uncovered_rest local remote replies else reply ∷ replies
-
-abbrev pub texts_of : List Held → List ℕ
-texts_of = flat_map (λ reply. text_of reply.reply)
