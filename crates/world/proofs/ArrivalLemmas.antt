@@ -9,7 +9,7 @@ use Rattle.machine.specs.Event.{World, Frame as Sent, Acknowledgement, delivered
 use Rattle.standby.specs.declared.frame.Frame.{Frame}
 use Rattle.stream_codec.specs.Message.{Sent as Told, IsSent, sent_of_frame, sent_text}
 use Rattle.world.specs.declared.arrivals.Arrivals.{Arrivals}
-use Rattle.world.specs.Going.{Goes}
+use Rattle.connections.specs.Going.{Goes}
 use Rattle.world.specs.Link.{IsFrameOf, IsFrameSent, AreFramesRead, AreFramesSent, AreAcksSent}
 use Rattle.world.specs.Standby.{Node, ArrivalsRefine, AppliesFirst}
 use Rattle.world.proofs.FrameLemmas.{AreFramesRead-grows, AreFramesRead-push, IsFrameOf-copy, copy_of_read, frame_of_number, length-sent}

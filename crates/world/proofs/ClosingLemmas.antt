@@ -29,8 +29,8 @@ use Rattle.pipes.specs.Waiting.{Waiting}
 use Rattle.world.specs.Closing.{ClosesGroup, ClosesList, MayClose}
 use Rattle.world.specs.Committing.{AreOfEpoch, Leads, entries_told, extents_told}
 use Rattle.world.specs.GroupSpan.{AreWorkOf, IsGroupOf, IsWorkOf}
-use Rattle.world.specs.Session.{AreOpen, SeatsFollow, SequencerRefines}
-use Rattle.world.proofs.SequencerLemmas.{follow-same}
+use Rattle.connections.specs.Session.{AreOpen, SeatsFollow, SequencerRefines}
+use Rattle.connections.proofs.SequencerLemmas.{follow-same}
 
 -- ---- the parts that wait
 

@@ -39,8 +39,8 @@ use Rattle.group_commit.specs.declared.stage.Stage.TheVariants.{Ready}
 use Rattle.world.specs.Committing.{Committing, CommittingRefines, FormattingOnly, EngineStands, Leads, StageRefines}
 use Rattle.world.specs.GroupSpan.{AreGroupsOf, AreWorkOf, positions_of_lists}
 use Rattle.world.specs.Link.{AreFramesSent, LinkRefines}
-use Rattle.world.specs.Session.{ConnectionsRefine, SessionsRefine, SequencerRefines, SeatsFollow, seats_of}
-use Rattle.world.specs.declared.connection.Connection.{Connection}
+use Rattle.connections.specs.Session.{ConnectionsRefine, SessionsRefine, SequencerRefines, SeatsFollow, seats_of}
+use Rattle.connections.specs.declared.connection.Connection.{Connection}
 use Rattle.world.specs.Standby.{Node, StandbyStands, ArrivalsRefine}
 use Rattle.world.specs.Headline.{start}
 use Rattle.world.specs.Pair.{NodesRefine, Pair, life_if}

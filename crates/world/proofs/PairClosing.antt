@@ -21,7 +21,7 @@ use Rattle.world.specs.Closing.{ClosesGroup, ClosesList, ClosesOne, MayClose}
 use Rattle.world.specs.Committing.{CommittingRefines, Leads}
 use Rattle.world.specs.GroupSpan.{AreWorkOf}
 use Rattle.world.specs.Recalling.{Remembers}
-use Rattle.world.specs.Session.{SequencerRefines, seats_of}
+use Rattle.connections.specs.Session.{SequencerRefines, seats_of}
 use Rattle.world.specs.Pair.{Pair, PartsRefine, PairRefines, Steps, Does}
 use Rattle.world.proofs.LivesLemmas.{enabled-is, nodes-refine, own-runs}
 use Rattle.world.proofs.ClosingLemmas.{AreWorkOf-push, IsGroupOf-handed, Leads-group, Leads-list, closes-group, closes-list, follow-handed, follow-listed, grouped, may-close, may-not-close, sequencer-handed, sequencer-listed}

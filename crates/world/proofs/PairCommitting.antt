@@ -13,13 +13,13 @@ use Rattle.machine.specs.Event.{Commits, Frees, Link as MachineLink, Work as Mac
 use Rattle.machine.specs.Sound.{Sound}
 use Rattle.machine.proofs.SoundEvents.{sound-step}
 use Rattle.world.proofs.LivesLemmas.{Runs, enabled-is, is_own, lives-step, nodes-refine, own-runs}
-use Rattle.world.specs.Going.{Goes}
+use Rattle.connections.specs.Going.{Goes}
 use Rattle.world.specs.GroupSpan.{AreGroupsOf}
 use Rattle.world.specs.Cause.{Stretch, Breaks, RestsAtLimit, EndsBy, Resting}
 use Rattle.world.specs.Committing.{Committing, EngineStands, Leads, NearOnly, CommittingRefines, next_primary}
 use Rattle.world.specs.Link.{LinkRefines}
 use Rattle.world.specs.Recalling.{Remembers}
-use Rattle.world.specs.Session.{SequencerRefines}
+use Rattle.connections.specs.Session.{SequencerRefines}
 use Rattle.world.specs.Pair.{Pair, PartsRefine, PairRefines, Steps, Does}
 use Rattle.world.proofs.EngineLemmas.{moves-same}
 use Rattle.world.proofs.PairLemmas.{Stands-standby, goes-map, goes-steps, none-added, untouched}

@@ -14,11 +14,11 @@ use Rattle.machine.specs.Event.{World, Step, crashed, is_crashed, is_enabled, le
 use Rattle.machine.specs.Sound.{IsFrameWithin}
 use Rattle.machine.proofs.SoundEvents.{sound-step}
 use Rattle.world.specs.Committing.{Committing}
-use Rattle.world.specs.Session.{AddsOne, HasSeat, SessionsRefine, seats_of}
+use Rattle.connections.specs.Session.{AddsOne, HasSeat, SessionsRefine, seats_of}
 use Rattle.world.specs.Standby.{ArrivalsRefine, Node, StandbyRefines}
 use Rattle.world.specs.Pair.{Acts, AreLives, DownRefine, EitherRefines, NodesRefine, Pair, Steps, life_if}
 use Rattle.world.specs.declared.arrivals.Arrivals.{Arrivals}
-use Rattle.world.specs.declared.sessions.Sessions.{Sessions}
+use Rattle.connections.specs.declared.sessions.Sessions.{Sessions}
 use Rattle.world.proofs.CutLemmas.{AreFramesSent-cut, ArrivalsRefine-cut, IsDown-cut, StandbyStands-cut}
 use Rattle.world.proofs.MovesLemmas.{moves-cut}
 use Rattle.machine.proofs.GroupLemmas.{chain-le, frames_within-weaker}

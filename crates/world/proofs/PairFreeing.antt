@@ -54,10 +54,10 @@ use Rattle.world.specs.GroupSpan.{AreWorkOf, positions_of_lists}
 use Rattle.world.specs.Pair.{Does, IsCut, Pair, PairRefines, PartsRefine, Steps}
 use Rattle.world.specs.Queue.{has_group, is_first_within, is_ready_now, link_has_room, may_clear_now, may_commit_now, may_free_now, reached_now}
 use Rattle.world.specs.Recalling.{Remembers}
-use Rattle.world.specs.Session.{SeatsFollow, SequencerRefines, seats_of}
+use Rattle.connections.specs.Session.{SeatsFollow, SequencerRefines, seats_of}
 use Rattle.world.specs.Standby.{Node}
 use Rattle.world.specs.declared.arrivals.Arrivals.{Arrivals}
-use Rattle.world.specs.declared.sessions.Sessions.{Sessions}
+use Rattle.connections.specs.declared.sessions.Sessions.{Sessions}
 use Rattle.world.proofs.AheadLemmas.{AreLaid, laid-engine}
 use Rattle.world.proofs.EngineLemmas.{keeps-stands, moves-same}
 use Rattle.world.proofs.FreedQueue.{Leads-accepted, Leads-aside, Leads-cleared, Leads-freed}

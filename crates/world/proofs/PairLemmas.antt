@@ -1,5 +1,5 @@
 -- What each event does to a pair whose primary runs, of what it does to its parts.
-use Rattle.std.proofs.Common.{◌≡◌, inl, inr, ℕ, ◌≤◌, Bool, true, false, List, [], ◌∷◌, ◌++◌, length, slice_index_or, Result, Ok, Err, IfOk, IfErr, OnErr, Vec, Global, refl, sym, ap, subst, ◌∙◌, arith, le_refl, true≢false}
+use Rattle.std.proofs.Common.{◌≡◌, inl, inr, ℕ, ◌≤◌, Bool, true, false, List, [], ◌∷◌, ◌++◌, length, slice_index_or, Result, Ok, Err, IfOk, IfErr, OnErr, Vec, Global, refl, sym, ap, ap₂, subst, ◌∙◌, arith, le_refl, true≢false}
 use Rattle.std.proofs.lemmas.List.{length-map}
 use Rattle.kv_types.specs.declared.refusal.Refusal.{Refusal}
 use Rattle.kv_types.specs.declared.refusal.Refusal.TheVariants.{Memory}
@@ -9,21 +9,25 @@ use Rattle.model.specs.Standing.{Holder}
 use Rattle.redis_core.specs.Sequencing.{Sequencing}
 use Rattle.machine.specs.declared.event.Event.{Event}
 use Rattle.machine.specs.declared.event.Event.TheVariants as events
+use Rattle.machine.specs.declared.event.Mark.{Mark}
+use Rattle.machine.specs.Connection.{having_seen, is_open_at, may_enter, with_outbound}
 use Rattle.machine.specs.Event.{Connection, World, Happens, Step, Turns, changed_at, left, new_connection, is_enabled, may_happen, called, with_connections}
+use Rattle.machine.proofs.SoundConnection.{uncalled}
 use Rattle.machine.specs.Sound.{Sound}
 use Rattle.machine.proofs.GroupLemmas.{chain-le}
 use Rattle.machine.proofs.SoundEvents.{sound-step}
-use Rattle.world.specs.Going.{Goes}
+use Rattle.connections.specs.Going.{Goes}
 use Rattle.world.specs.Cause.{Stretch, EndsBy, asks_memory}
 use Rattle.world.specs.Committing.{Rests, Stands, next_primary, next_standby}
-use Rattle.world.specs.Session.{SessionsRefine, SequencerRefines, SeatsFollow, KeepsSeats, AddsOne, StandsStill, TakesTurn, TellsTheSame, bytes_of, seats_of}
+use Rattle.connections.specs.Session.{IsListOf, SessionsRefine, SequencerRefines, SeatsFollow, KeepsSeats, AddsOne, StandsStill, TakesTurn, TellsTheSame, bytes_of, seats_of}
 use Rattle.world.specs.Pair.{Pair, EitherRefines, NodesRefine, PartsRefine, PairRefines, IsCut, MovesBoth, Steps, Does}
 use Rattle.world.specs.Standby.{Node, StandbyRefines}
 use Rattle.world.proofs.LivesLemmas.{Runs, enabled-is, is_own, lives-step, nodes-refine, own-runs}
-use Rattle.world.specs.declared.sessions.Sessions.{Sessions}
-use Rattle.world.proofs.SessionLemmas.{length-connections, released-told}
-use Rattle.world.proofs.SeatLemmas.{follow-kept}
-use Rattle.world.proofs.SequencerLemmas.{freeing-still, leads-still, still-same}
+use Rattle.connections.specs.declared.sessions.Sessions.{Sessions}
+use Rattle.connections.proofs.SessionLemmas.{length-connections, released-told}
+use Rattle.connections.proofs.SeatLemmas.{follow-kept}
+use Rattle.connections.proofs.SequencerLemmas.{still-same}
+use Rattle.world.proofs.StillLemmas.{freeing-still, leads-still}
 use Rattle.world.proofs.RecallLemmas.{remembers-on, remembers-still}
 use Rattle.world.proofs.OpeningLemmas.{opening-still}
 use Rattle.world.proofs.EngineLemmas.{Stands-engine, moves-same, rests-same, EngineStands-grows}
@@ -179,59 +183,75 @@ sessions-parts first second old sessions connections w parts keeps stand =
       standby = parts.standby;
     }
 
--- what the sessions did, of each world that they stood for
-abbrev pub SessionsGo : Event → (World → List Connection) → Bool → Sessions → Sessions → Type 0
-SessionsGo event change did old new =
-    (w : World) → SessionsRefine old w.primary.connections w.primary.calls
-    → Goes (may_happen w event) did (SessionsRefine new (change w) w.primary.calls) (SessionsRefine new w.primary.connections w.primary.calls)
+-- What the sessions did, of all connections and every list that they stood for: they changed the connections so just where that was enabled.
+abbrev pub SessionsGo : (List Connection → Bool) → (List Connection → List Connection) → Bool → Sessions → Sessions → Type 0
+SessionsGo enabled change did old new =
+    (machines : List Connection) (list : List Call) → SessionsRefine old machines list
+    → Goes (enabled machines) did (SessionsRefine new (change machines) list) (SessionsRefine new machines list)
 
-sessions-steps : (event : Event) (change : World → List Connection) → is_own event ≡ true → ((w : World) → Happens w event (with_connections (change w) w))
-    → (old : Pair) (sessions : Sessions) (did : Bool) → SessionsGo event change did old.sessions sessions → KeepsSeats old.sessions.connections.items sessions.connections.items
+-- an event of the primary that is enabled by its connections alone, and changes nothing else
+pub record IsOfConnections (event : Event) (enabled : List Connection → Bool) (change : List Connection → List Connection) : Type 0 where
+  pub own : is_own event ≡ true
+  pub may : (w : World) → may_happen w event ≡ enabled w.primary.connections
+  pub happens : (w : World) → Happens w event (with_connections (change w.primary.connections) w)
+
+-- the list of calls is of the connections
+list-of : (w : World) → Sound w → IsListOf w.primary.connections w.primary.calls
+list-of w sound = record {
+  order = λ c is_one. (sound.inbound c is_one).order;
+  none = λ c past. uncalled w c sound past;
+}
+
+sessions-steps : (event : Event) (enabled : List Connection → Bool) (change : List Connection → List Connection) → IsOfConnections event enabled change
+    → (old : Pair) (sessions : Sessions) (did : Bool) → SessionsGo enabled change did old.sessions sessions → KeepsSeats old.sessions.connections.items sessions.connections.items
     → (first second : Holder) (w : World) → PairRefines first second old w → Steps first second w event did old (with_sessions sessions old)
-sessions-steps event change own happens old sessions did go keeps first second w stands =
-    goes-steps first second w (with_connections (change w) w) event did old (with_sessions sessions old) refl refl stands.sound (own-runs stands event own) stands.serves (happens w)
-    (goes-map (go w stands.parts.sessions)
-    (sessions-parts first second old sessions (change w) w stands.parts keeps)
+sessions-steps event enabled change is old sessions did go keeps first second w stands =
+    let went = go w.primary.connections w.primary.calls stands.parts.sessions in
+    goes-steps first second w (with_connections (change w.primary.connections) w) event did old (with_sessions sessions old) refl refl stands.sound (own-runs stands event is.own) stands.serves (is.happens w)
+    (goes-map (record { done = went.done ∙ sym (is.may w); goes = went.goes; stays = went.stays })
+    (sessions-parts first second old sessions (change w.primary.connections) w stands.parts keeps)
     (sessions-parts first second old sessions w.primary.connections w stands.parts keeps))
 
-pub sessions-do : (event : Event) (change : World → List Connection) → is_own event ≡ true → ((w : World) → Happens w event (with_connections (change w) w)) → asks_memory event ≡ true
-    → (old : Pair) (sessions : Sessions) (result : Result Bool Refusal) → IfOk result (λ did. SessionsGo event change did old.sessions sessions)
+pub sessions-do : (event : Event) (enabled : List Connection → Bool) (change : List Connection → List Connection) → IsOfConnections event enabled change → asks_memory event ≡ true
+    → (old : Pair) (sessions : Sessions) (result : Result Bool Refusal) → IfOk result (λ did. SessionsGo enabled change did old.sessions sessions)
     → OnErr result (TellsTheSame old.sessions sessions) → IfErr result (λ refusal. refusal ≡ Memory)
-    → OnErr result ((w : World) → SessionsRefine old.sessions w.primary.connections w.primary.calls → may_happen w event ≡ true)
+    → OnErr result ((machines : List Connection) (list : List Call) → SessionsRefine old.sessions machines list → enabled machines ≡ true)
     → KeepsSeats old.sessions.connections.items sessions.connections.items → sessions.calls ≡ old.sessions.calls → Does old event result (with_sessions sessions old)
-sessions-do event change own happens asks old sessions (Ok did) go same memory enabled keeps calls =
-    record { steps = sessions-steps event change own happens old sessions did go keeps; cut = tt; calls = none-added _ _ calls }
-sessions-do event change own happens asks old sessions (Err refusal) go same memory enabled keeps calls =
+sessions-do event enabled change is asks old sessions (Ok did) go same memory may keeps calls =
+    record { steps = sessions-steps event enabled change is old sessions did go keeps; cut = tt; calls = none-added _ _ calls }
+sessions-do event enabled change is asks old sessions (Err refusal) go same memory may keeps calls =
     record {
       steps = tt;
       cut = λ first second w stands.
-          cut-same first second event refusal old (with_sessions sessions old) w asks memory refl refl same (own-runs stands event own) (enabled w stands.parts.sessions) (nodes-refine stands);
+          cut-same first second event refusal old (with_sessions sessions old) w asks memory refl refl same (own-runs stands event is.own)
+          (is.may w ∙ may w.primary.connections w.primary.calls stands.parts.sessions) (nodes-refine stands);
       calls = none-added _ _ calls;
     }
 
 -- an event that cannot be refused
-pub sessions-did : (event : Event) (change : World → List Connection) → is_own event ≡ true → ((w : World) → Happens w event (with_connections (change w) w))
-    → (old : Pair) (sessions : Sessions) (did : Bool) → SessionsGo event change did old.sessions sessions → KeepsSeats old.sessions.connections.items sessions.connections.items → sessions.calls ≡ old.sessions.calls
+pub sessions-did : (event : Event) (enabled : List Connection → Bool) (change : List Connection → List Connection) → IsOfConnections event enabled change
+    → (old : Pair) (sessions : Sessions) (did : Bool) → SessionsGo enabled change did old.sessions sessions → KeepsSeats old.sessions.connections.items sessions.connections.items → sessions.calls ≡ old.sessions.calls
     → Does old event (Ok did) (with_sessions sessions old)
-sessions-did event change own happens old sessions did go keeps calls =
-    record { steps = sessions-steps event change own happens old sessions did go keeps; cut = tt; calls = none-added _ _ calls }
+sessions-did event enabled change is old sessions did go keeps calls =
+    record { steps = sessions-steps event enabled change is old sessions did go keeps; cut = tt; calls = none-added _ _ calls }
 
--- a read needs the marks, which are the machine's
-pub read-does : (event : Event) (change : World → List Connection) → is_own event ≡ true → ((w : World) → Happens w event (with_connections (change w) w))
-    → (old : Pair) (sessions : Sessions) (did : Bool)
-    → ((w : World) → SessionsRefine old.sessions w.primary.connections w.primary.calls → old.committing.local ≡ w.primary.committer.local → old.remote ≡ w.primary.link.remote
-    → Goes (may_happen w event) did (SessionsRefine sessions (change w) w.primary.calls) (SessionsRefine sessions w.primary.connections w.primary.calls))
-    → KeepsSeats old.sessions.connections.items sessions.connections.items → sessions.calls ≡ old.sessions.calls → Does old event (Ok did) (with_sessions sessions old)
-read-does event change own happens old sessions did go keeps calls =
-    record {
-      steps = λ first second w stands.
-          goes-steps first second w (with_connections (change w) w) event did old (with_sessions sessions old) refl refl stands.sound (own-runs stands event own) stands.serves (happens w)
-          (goes-map (go w stands.parts.sessions stands.parts.committing.local_is stands.parts.link.remote_is)
-          (sessions-parts first second old sessions (change w) w stands.parts keeps)
-          (sessions-parts first second old sessions w.primary.connections w stands.parts keeps));
-      cut = tt;
-      calls = none-added _ _ calls;
-    }
+-- a read is of the marks as they stand
+pub read-does : (c : ℕ) (mark : Mark) (local remote : ℕ) (old : Pair) (sessions : Sessions) (did : Bool) → local ≡ old.committing.local → remote ≡ old.remote
+    → SessionsGo (λ machines. is_open_at machines c) (changed_at c (with_outbound (having_seen mark local remote))) did old.sessions sessions
+    → KeepsSeats old.sessions.connections.items sessions.connections.items → sessions.calls ≡ old.sessions.calls → Does old (events.Read c mark) (Ok did) (with_sessions sessions old)
+read-does c mark local remote old sessions did local_is remote_is go keeps calls =
+    record { steps = steps; cut = tt; calls = none-added _ _ calls }
+  where
+    steps : (first second : Holder) (w : World) → PairRefines first second old w → Steps first second w (events.Read c mark) did old (with_sessions sessions old)
+    steps first second w stands =
+        let change : ℕ → ℕ → List Connection = λ l r. changed_at c (with_outbound (having_seen mark l r)) w.primary.connections in
+        let now : List Connection = change w.primary.committer.local w.primary.link.remote in
+        let marks : change local remote ≡ now = ap₂ change (local_is ∙ stands.parts.committing.local_is) (remote_is ∙ stands.parts.link.remote_is) in
+        let went = go w.primary.connections w.primary.calls stands.parts.sessions in
+        goes-steps first second w (with_connections now w) (events.Read c mark) did old (with_sessions sessions old) refl refl stands.sound (own-runs stands (events.Read c mark) refl) stands.serves refl
+        (goes-map went
+        (λ stand. sessions-parts first second old sessions now w stands.parts keeps (subst (λ (connections : List Connection). SessionsRefine sessions connections w.primary.calls) marks stand))
+        (sessions-parts first second old sessions w.primary.connections w stands.parts keeps))
 
 -- ---- the list grows
 
@@ -276,19 +296,17 @@ called-parts first second old sessions sequencer w c call stands sessions_stand 
     }
 
 turn-steps : (first second : Holder) (old : Pair) (sessions : Sessions) (sequencer : Sequencing) (w : World) (c : ℕ) (did : Bool) → PairRefines first second old w
-    → TakesTurn w c did sessions old.sequencer sequencer → KeepsSeats old.sessions.connections.items sessions.connections.items
+    → TakesTurn w.primary.connections w.primary.calls w.primary.committer.closed c did sessions old.sequencer sequencer → KeepsSeats old.sessions.connections.items sessions.connections.items
     → StandsStill old.sequencer sequencer
     → Steps first second w (events.Turn c) did old (with_turn sessions sequencer old)
 turn-steps first second old sessions sequencer w c true stands takes keeps still =
     let moved = takes.goes refl in
-    let turns : Turns w c moved.0 = moved.1 in
-    let w' = called c turns.call w in
-    let parts : PartsRefine first second (with_turn sessions sequencer old) w' =
-    called-parts first second old sessions sequencer w c turns.call stands
-    (subst (λ (x : World). SessionsRefine sessions x.primary.connections x.primary.calls) turns.now moved.2)
-    (subst (λ (x : World). SequencerRefines x.primary.calls x.primary.committer.closed sequencer) turns.now moved.3)
-    (subst (λ (x : World). SeatsFollow x.primary.calls (seats_of sessions.connections.items) sequencer) turns.now moved.4) still in
-    goes-steps first second w w' (events.Turn c) true old (with_turn sessions sequencer old) refl refl stands.sound (own-runs stands (events.Turn c) refl) stands.serves (subst (Turns w c) turns.now turns)
+    let call = moved.0 in
+    let next = moved.1 in
+    let w' = called c call w in
+    let turns : Turns w c w' = record { call = call; connection = next.connection; first = next.first; reply = next.reply; now = refl } in
+    let parts : PartsRefine first second (with_turn sessions sequencer old) w' = called-parts first second old sessions sequencer w c call stands moved.2 moved.3 moved.4 still in
+    goes-steps first second w w' (events.Turn c) true old (with_turn sessions sequencer old) refl refl stands.sound (own-runs stands (events.Turn c) refl) stands.serves turns
     (record { done = takes.done; goes = λ did. parts; stays = λ did. absurd (true≢false did) })
 turn-steps first second old sessions sequencer w c false stands takes keeps still =
     let stayed = takes.stays refl in
@@ -320,14 +338,16 @@ turn-steps first second old sessions sequencer w c false stands takes keeps stil
     }
 
 pub turn-does : (old : Pair) (sessions : Sessions) (sequencer : Sequencing) (c : ℕ) (did : Bool)
-    → ((w : World) → Sound w → SessionsRefine old.sessions w.primary.connections w.primary.calls → SequencerRefines w.primary.calls w.primary.committer.closed old.sequencer
-    → SeatsFollow w.primary.calls (seats_of old.sessions.connections.items) old.sequencer → TakesTurn w c did sessions old.sequencer sequencer)
+    → ((machines : List Connection) (list : List Call) (closed : ℕ) → IsListOf machines list → SessionsRefine old.sessions machines list → SequencerRefines list closed old.sequencer
+    → SeatsFollow list (seats_of old.sessions.connections.items) old.sequencer → TakesTurn machines list closed c did sessions old.sequencer sequencer)
     → KeepsSeats old.sessions.connections.items sessions.connections.items
     → StandsStill old.sequencer sequencer
     → AddsOne old.sessions.calls sessions.calls → Does old (events.Turn c) (Ok did) (with_turn sessions sequencer old)
 turn-does old sessions sequencer c did takes keeps still calls =
     record {
-      steps = λ first second w stands. turn-steps first second old sessions sequencer w c did stands (takes w stands.sound stands.parts.sessions stands.parts.sequencer stands.parts.follow) keeps still;
+      steps = λ first second w stands.
+          turn-steps first second old sessions sequencer w c did stands
+          (takes w.primary.connections w.primary.calls w.primary.committer.closed (list-of w stands.sound) stands.parts.sessions stands.parts.sequencer stands.parts.follow) keeps still;
       cut = tt;
       calls = calls;
     }
@@ -355,37 +375,39 @@ seats-parts first second old sessions sequencer connections w parts stand sequen
       standby = parts.standby;
     }
 
--- what was done to the seats, of each world that they stood for
+-- what was done to the seats, of all connections and every list that they stood for
 abbrev pub SeatsGo : Sessions → Sequencing → Sessions → Sequencing → Type 0
 SeatsGo old s new s' =
-    (w : World) → Sound w → SessionsRefine old w.primary.connections w.primary.calls → SeatsFollow w.primary.calls (seats_of old.connections.items) s
-    → SeatsFollow w.primary.calls (seats_of new.connections.items) s'
+    (machines : List Connection) (list : List Call) → IsListOf machines list → SessionsRefine old machines list → SeatsFollow list (seats_of old.connections.items) s
+    → SeatsFollow list (seats_of new.connections.items) s'
 
-seats-steps : (event : Event) (change : World → List Connection) → is_own event ≡ true → ((w : World) → Happens w event (with_connections (change w) w))
-    → (old : Pair) (sessions : Sessions) (sequencer : Sequencing) (did : Bool) → SessionsGo event change did old.sessions sessions → SeatsGo old.sessions old.sequencer sessions sequencer
+seats-steps : (event : Event) (enabled : List Connection → Bool) (change : List Connection → List Connection) → IsOfConnections event enabled change
+    → (old : Pair) (sessions : Sessions) (sequencer : Sequencing) (did : Bool) → SessionsGo enabled change did old.sessions sessions → SeatsGo old.sessions old.sequencer sessions sequencer
     → ((calls : List Call) (closed : ℕ) → SequencerRefines calls closed old.sequencer → SequencerRefines calls closed sequencer)
     → StandsStill old.sequencer sequencer
     → (first second : Holder) (w : World) → PairRefines first second old w → Steps first second w event did old (with_turn sessions sequencer old)
-seats-steps event change own happens old sessions sequencer did go follows sequencer_stands still first second w stands =
+seats-steps event enabled change is old sessions sequencer did go follows sequencer_stands still first second w stands =
     let parts = stands.parts in
-    let follow = follows w stands.sound parts.sessions parts.follow in
+    let connections = w.primary.connections in
+    let went = go connections w.primary.calls parts.sessions in
+    let follow = follows connections w.primary.calls (list-of w stands.sound) parts.sessions parts.follow in
     let table = sequencer_stands w.primary.calls w.primary.committer.closed parts.sequencer in
-    goes-steps first second w (with_connections (change w) w) event did old (with_turn sessions sequencer old) refl refl stands.sound (own-runs stands event own) stands.serves (happens w)
-    (goes-map (go w parts.sessions)
-    (λ stand. seats-parts first second old sessions sequencer (change w) w parts stand table follow still)
+    goes-steps first second w (with_connections (change connections) w) event did old (with_turn sessions sequencer old) refl refl stands.sound (own-runs stands event is.own) stands.serves (is.happens w)
+    (goes-map (record { done = went.done ∙ sym (is.may w); goes = went.goes; stays = went.stays })
+    (λ stand. seats-parts first second old sessions sequencer (change connections) w parts stand table follow still)
     (λ stand. seats-parts first second old sessions sequencer w.primary.connections w parts stand table follow still))
 
 pub enter-does : (old : Pair) (sessions : Sessions) (sequencer : Sequencing) (result : Result Bool Refusal)
-    → IfOk result (λ did. SessionsGo events.Enter (λ w. w.primary.connections ++ new_connection ∷ []) did old.sessions sessions)
+    → IfOk result (λ did. SessionsGo may_enter (λ machines. machines ++ new_connection ∷ []) did old.sessions sessions)
     → IfOk result (λ did. SeatsGo old.sessions old.sequencer sessions sequencer)
     → ((calls : List Call) (closed : ℕ) → SequencerRefines calls closed old.sequencer → SequencerRefines calls closed sequencer)
     → StandsStill old.sequencer sequencer
     → OnErr result (TellsTheSame old.sessions sessions) → IfErr result (λ refusal. refusal ≡ Memory)
-    → OnErr result ((w : World) → SessionsRefine old.sessions w.primary.connections w.primary.calls → may_happen w events.Enter ≡ true)
+    → OnErr result ((machines : List Connection) (list : List Call) → SessionsRefine old.sessions machines list → may_enter machines ≡ true)
     → sessions.calls ≡ old.sessions.calls → Does old events.Enter result (with_turn sessions sequencer old)
 enter-does old sessions sequencer (Ok did) go follows sequencer_stands still same memory enabled calls =
     record {
-      steps = seats-steps events.Enter (λ w. w.primary.connections ++ new_connection ∷ []) refl (λ w. refl) old sessions sequencer did go follows sequencer_stands still;
+      steps = seats-steps events.Enter may_enter (λ machines. machines ++ new_connection ∷ []) (record { own = refl; may = λ w. refl; happens = λ w. refl }) old sessions sequencer did go follows sequencer_stands still;
       cut = tt;
       calls = none-added _ _ calls;
     }
@@ -393,20 +415,22 @@ enter-does old sessions sequencer (Err refusal) go follows sequencer_stands stil
     record {
       steps = tt;
       cut = λ first second w stands.
-          cut-same first second events.Enter refusal old (with_turn sessions sequencer old) w refl memory refl refl same (own-runs stands events.Enter refl) (enabled w stands.parts.sessions) (nodes-refine stands);
+          cut-same first second events.Enter refusal old (with_turn sessions sequencer old) w refl memory refl refl same (own-runs stands events.Enter refl)
+          (enabled w.primary.connections w.primary.calls stands.parts.sessions) (nodes-refine stands);
       calls = none-added _ _ calls;
     }
 
 pub leave-does : (old : Pair) (sessions : Sessions) (sequencer : Sequencing) (c : ℕ) (did : Bool)
-    → SessionsGo (events.Leave c) (λ w. changed_at c left w.primary.connections) did old.sessions sessions
-    → ((w : World) → SessionsRefine old.sessions w.primary.connections w.primary.calls → SeatsFollow w.primary.calls (seats_of old.sessions.connections.items) old.sequencer
-    → SeatsFollow w.primary.calls (seats_of sessions.connections.items) sequencer)
+    → SessionsGo (λ machines. is_open_at machines c) (changed_at c left) did old.sessions sessions
+    → ((machines : List Connection) (list : List Call) → SessionsRefine old.sessions machines list → SeatsFollow list (seats_of old.sessions.connections.items) old.sequencer
+    → SeatsFollow list (seats_of sessions.connections.items) sequencer)
     → ((calls : List Call) (closed : ℕ) → SequencerRefines calls closed old.sequencer → SequencerRefines calls closed sequencer)
     → StandsStill old.sequencer sequencer
     → sessions.calls ≡ old.sessions.calls → Does old (events.Leave c) (Ok did) (with_turn sessions sequencer old)
 leave-does old sessions sequencer c did go follows sequencer_stands still calls =
     record {
-      steps = seats-steps (events.Leave c) (λ w. changed_at c left w.primary.connections) refl (λ w. refl) old sessions sequencer did go (λ w sound stand follow. follows w stand follow) sequencer_stands still;
+      steps = seats-steps (events.Leave c) (λ machines. is_open_at machines c) (changed_at c left) (record { own = refl; may = λ w. refl; happens = λ w. refl }) old sessions sequencer did go
+          (λ machines list is stand follow. follows machines list stand follow) sequencer_stands still;
       cut = tt;
       calls = none-added _ _ calls;
     }

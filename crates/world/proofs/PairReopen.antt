@@ -38,7 +38,7 @@ use Rattle.world.specs.GroupSpan.{AreGroupsOf}
 use Rattle.world.specs.Link.{AreFramesSent, LinkRefines}
 use Rattle.world.specs.Recalling.{OpeningLeads, RecallsEach, Remembers}
 use Rattle.world.specs.Serving.{IsOver}
-use Rattle.world.specs.Session.{SequencerRefines}
+use Rattle.connections.specs.Session.{SequencerRefines}
 use Rattle.world.specs.Standby.{ArrivalsRefine, Node, StandbyRefines, StandbyStands}
 use Rattle.world.specs.Pair.{Acts, AreLives, DownRefine, EitherRefines, IsCut, NodesRefine, Pair, PartsRefine, Steps, life_if}
 use Rattle.world.proofs.DownLemmas.{restart-refused}

@@ -22,7 +22,7 @@ use Rattle.machine.specs.Sound.{Sound}
 use Rattle.machine.proofs.GrowLemmas.{grows-step}
 use Rattle.machine.proofs.SoundEvents.{sound-step}
 use Rattle.world.proofs.LivesLemmas.{Runs, enabled-is, is_plain, lives-step, nodes-refine, serving}
-use Rattle.world.specs.Going.{Goes}
+use Rattle.connections.specs.Going.{Goes}
 use Rattle.world.specs.Cause.{Stretch, Breaks, RestsAtLimit, EndsBy, Resting}
 use Rattle.world.specs.Committing.{NearOnly, Moves, next_standby}
 use Rattle.world.specs.Link.{IsFrameOf, AreFramesOf, LinkRefines, AreFramesSent}

@@ -33,11 +33,11 @@ use Rattle.machine.specs.Event.{World, Committer as MachineCommitter, committed_
 use Rattle.world.specs.Committing.{EngineStands, CommittingRefines, next_primary}
 use Rattle.world.specs.Queue.{has_group, is_done, is_ready_now, link_has_room, may_commit_now}
 use Rattle.world.specs.Recalling.{Remembers}
-use Rattle.world.specs.Session.{SequencerRefines}
+use Rattle.connections.specs.Session.{SequencerRefines}
 use Rattle.world.specs.Standby.{Node}
 use Rattle.world.specs.Pair.{Pair, PartsRefine, PairRefines, Steps, Does}
 use Rattle.world.specs.declared.arrivals.Arrivals.{Arrivals}
-use Rattle.world.specs.declared.sessions.Sessions.{Sessions}
+use Rattle.connections.specs.declared.sessions.Sessions.{Sessions}
 use Rattle.world.proofs.CommittingLemmas.{Leads-committed, Remembers-committed, TakesGroup, commit-ends, commit-goes, commit-moments, hand-goes, hand-none, hand-room, raise-goes, raise-none, takes-group}
 use Rattle.world.proofs.LivesLemmas.{enabled-is, nodes-refine, own-runs}
 use Rattle.world.proofs.PairLemmas.{Led, cut-for, cut-same, none-added, rests-standby, tells}

@@ -41,7 +41,7 @@ use Rattle.machine.proofs.GroupLemmas.{chain-le}
 use Rattle.world.specs.Committing.{AreContentsAt}
 use Rattle.world.specs.GroupSpan.{AreWorkOf}
 use Rattle.world.specs.Recalling.{HoldsEnded, IsHeld, IsRecalled, Remembers}
-use Rattle.world.specs.Session.{AreOpen, SequencerRefines}
+use Rattle.connections.specs.Session.{AreOpen, SequencerRefines}
 use Rattle.world.proofs.ClosingLemmas.{last-open, newest-rises, newest-same, newest-within}
 
 -- ---- where a version stays

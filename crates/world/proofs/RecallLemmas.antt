@@ -28,7 +28,7 @@ use Rattle.world.specs.GroupSpan.{AreWorkOf}
 use Rattle.world.specs.Recalling.{HoldsEnded, IsHeld, IsRecalled, RecallsEach, Remembers}
 use Rattle.world.proofs.ClosingLemmas.{last-open}
 use Rattle.world.proofs.CutLemmas.{keyspace_after-cut_at-cut}
-use Rattle.world.proofs.SequencerLemmas.{AreOpen-grows}
+use Rattle.connections.proofs.SequencerLemmas.{AreOpen-grows}
 
 -- ---- where more entries count
 

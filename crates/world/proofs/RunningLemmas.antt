@@ -32,11 +32,11 @@ use Rattle.world.specs.declared.trace.EarlyEnd.{EarlyEnd}
 use Rattle.world.specs.declared.trace.EarlyEnd.TheVariants.{AtFormatting, AtEvent}
 use Rattle.world.specs.Headline.{AnyWorld, Enables, start, primary_position, standby_position, AreMoments, IsKept, KeepsItsWord, PlaysOn, AreMoves, Reaches, StandsAfter, IsCutAfter, Plays}
 use Rattle.world.specs.Pair.{Pair, NodesRefine, HasWorld, IsCut, Steps}
-use Rattle.world.specs.Session.{released_of}
+use Rattle.connections.specs.Session.{released_of}
 use Rattle.world.proofs.EngineLemmas.{rests-same}
 use Rattle.world.proofs.MovesLemmas.{moves-over}
 use Rattle.world.proofs.PairLemmas.{primary-stands, primary-within, sessions-stand, standby-stands, standby-within}
-use Rattle.world.proofs.SessionLemmas.{length-connections, released-told}
+use Rattle.connections.proofs.SessionLemmas.{length-connections, released-told}
 
 -- ---- from event to event
 
@@ -324,12 +324,13 @@ played-cut first second began events event refusal done pair released same after
     (subst (λ (calls : List Call). second_last second calls w.standby.position (next_standby w) before.standby.device pair.standby.device) (sym cut.calls) led.1))
     cut.cause
 
-pub plays-on : (first second : Holder) (began : Pair) (events : List Event) (ended : Option EarlyEnd) (done : List Bool) (pair : Pair) (released : List (List ℕ)) (primary standby : State)
-    → released ≡ released_of pair.sessions.connections.items → primary ≡ pair.device → standby ≡ pair.standby.device → Plays first second began events ended done pair
-    → PlaysOn first second events ended done pair.sessions.calls.items released began.device began.standby.device primary standby
-plays-on first second began events ended done pair released primary standby same primary_same standby_same plays =
-    subst (λ (d : State). PlaysOn first second events ended done pair.sessions.calls.items released began.device began.standby.device d standby) (sym primary_same)
-    (subst (λ (d : State). PlaysOn first second events ended done pair.sessions.calls.items released began.device began.standby.device pair.device d) (sym standby_same) (go ended plays))
+pub plays-on : (first second : Holder) (began : Pair) (events : List Event) (ended : Option EarlyEnd) (done : List Bool) (pair : Pair) (calls : List Call) (released : List (List ℕ)) (primary standby : State)
+    → calls ≡ pair.sessions.calls.items → released ≡ released_of pair.sessions.connections.items → primary ≡ pair.device → standby ≡ pair.standby.device
+    → Plays first second began events ended done pair → PlaysOn first second events ended done calls released began.device began.standby.device primary standby
+plays-on first second began events ended done pair calls released primary standby calls_same same primary_same standby_same plays =
+    subst (λ (xs : List Call). PlaysOn first second events ended done xs released began.device began.standby.device primary standby) (sym calls_same)
+    (subst (λ (d : State). PlaysOn first second events ended done pair.sessions.calls.items released began.device began.standby.device d standby) (sym primary_same)
+    (subst (λ (d : State). PlaysOn first second events ended done pair.sessions.calls.items released began.device began.standby.device pair.device d) (sym standby_same) (go ended plays)))
   where
     go : (ended : Option EarlyEnd) → Plays first second began events ended done pair
         → PlaysOn first second events ended done pair.sessions.calls.items released began.device began.standby.device pair.device pair.standby.device

@@ -22,10 +22,10 @@ use Rattle.world.specs.Cause.{EndsBy}
 use Rattle.world.specs.Committing.{Committing, EngineStands, IsDown, Leads, Moves, CommittingRefines, next_primary, next_standby}
 use Rattle.world.specs.Link.{AreFramesSent, LinkRefines}
 use Rattle.world.specs.Recalling.{OpeningLeads, RecallsEach, Remembers}
-use Rattle.world.specs.Session.{SessionsRefine, SequencerRefines, SeatsFollow, HasSeat, AddsOne, released_of, seats_of}
+use Rattle.connections.specs.Session.{SessionsRefine, SequencerRefines, SeatsFollow, HasSeat, AddsOne, released_of, seats_of}
 use Rattle.world.specs.Standby.{Node, StandbyRefines, ArrivalsRefine}
 use Rattle.world.specs.declared.arrivals.Arrivals.{Arrivals}
-use Rattle.world.specs.declared.sessions.Sessions.{Sessions}
+use Rattle.connections.specs.declared.sessions.Sessions.{Sessions}
 
 -- what a pair is made of
 pub record Pair : Type 0 where

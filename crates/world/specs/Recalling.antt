@@ -16,7 +16,7 @@ use Rattle.redis_core.specs.Sequencing.{Sequencing}
 use Rattle.standby_stream.specs.declared.opening.Opening.{Opening}
 use Rattle.standby_stream.specs.Delta.{Recalls, delta_changes}
 use Rattle.stream_codec.specs.declared.message.TheConstants.{MAX_BODY_BYTES}
-use Rattle.world.specs.Session.{AreOpen}
+use Rattle.connections.specs.Session.{AreOpen}
 
 -- The version in entry i may be freed only once the standby has passed a position above this one: each free list that has the entry is of such a position,
 -- and so is the newest end of what is in no free list, where the entry is there.

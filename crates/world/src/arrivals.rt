@@ -6,7 +6,7 @@ ghost use Rattle.machine.specs.Event.{World, may_happen, acknowledgement_of, del
 ghost use Rattle.machine.specs.Sound.{Sound};
 ghost use Rattle.wbl_engine.specs.Contents.{IsDurable};
 ghost use Rattle.standby.specs.Following.{Follows};
-ghost use Rattle.world.specs.Going.{Goes};
+ghost use Rattle.connections.specs.Going.{Goes};
 ghost use Rattle.world.specs.Cause.{EndsBy};
 ghost use Rattle.world.specs.Committing.{NearOnly, next_standby};
 ghost use Rattle.world.specs.Link.{AreFramesSent};

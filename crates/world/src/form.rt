@@ -11,14 +11,14 @@ ghost use Rattle.standby_stream.specs.Stream.{new_stream};
 ghost use Rattle.world.specs.Standby.{ArrivalsRefine};
 ghost use Rattle.world.specs.Headline.{start};
 ghost use Rattle.world.specs.Pair.{NodesRefine};
-ghost use Rattle.world.specs.Session.{SessionsRefine, SequencerRefines};
+ghost use Rattle.connections.specs.Session.{SessionsRefine, SequencerRefines};
 ghost use Rattle.extent_heap.specs.Room.{fresh_room, is_free_line, is_free_entry};
 ghost use Rattle.model.specs.Image.{entries_of_lines, first_extent_line};
 ghost use Rattle.wbl_engine.specs.Contents.{IsDurable};
 
 use crate::arrivals::Arrivals;
 use crate::pair::{Pair, Stepper};
-use crate::sessions::Sessions;
+use connections::Sessions;
 use extent_heap::ExtentHeap;
 use group_commit::Committer;
 use kv_types::Refusal;

@@ -3,15 +3,11 @@
 
 mod arrivals;
 mod closing;
-mod connection;
 mod form;
-mod inbound;
-mod outbound;
 mod pair;
 mod playing;
 mod queue;
 mod restarting;
-mod sessions;
 mod trace;
 mod wire;
 

@@ -4,14 +4,13 @@ ghost use Rattle.model.specs.Standing.{Holder};
 ghost use Rattle.world.specs.declared.trace.EarlyEnd.TheVariants.{AtFormatting};
 ghost use Rattle.world.specs.Headline.{KeepsItsWord, PlaysOn, Plays, start};
 ghost use Rattle.world.specs.Pair.{NodesRefine};
-ghost use Rattle.world.specs.Session.{released_of};
+ghost use Rattle.connections.specs.Session.{released_of};
 
-use crate::connection::Connection;
 use crate::form::form;
 use crate::pair::{Pair, Stepper};
-use crate::sessions::Sessions;
 use crate::trace::{EarlyEnd, Trace};
 use crate::wire::end_of_frame;
+use connections::Connection;
 use kv_types::Refusal;
 use machine::Event;
 use model::Call;
@@ -182,13 +181,7 @@ fn play_on<P: Crashing, K: Keyspace + Drop>(
         primary_runs: _,
         standby_runs: _,
     } = pair;
-    let Sessions {
-        lobby: _lobby,
-        connections,
-        calls,
-        positions: _positions,
-        replies: _replies,
-    } = sessions;
+    let (calls, connections) = sessions.into_parts();
     take_released(connections, &mut released);
     drop_repeats(&mut frames);
     Played {

@@ -1,7 +1,7 @@
 use Rattle.std.proofs.Common.{◌≡◌, ◌+◌, ◌≤◌, ◌++◌, map, length, vec_len}
 use Rattle.std.specs.Vec.{vec_capacity}
 use Rattle.std.specs.Vec.Iter.{into_iter_items}
-use Rattle.world.specs.Session.{released_of}
+use Rattle.connections.specs.Session.{released_of}
 use Rattle.world.proofs.playing.take_released.Given as goal
 
 abbrev pub invariant-loop-connection : goal.invariant-loop-connection

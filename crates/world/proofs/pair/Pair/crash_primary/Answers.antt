@@ -20,4 +20,4 @@ returns g c =
       failures = crashed.failures;
       moments = crashed.moments;
     })
-    ended.goes ended.unseated ended.calls
+    (λ w stand. ended.goes w.primary.connections w.primary.calls stand) ended.unseated ended.calls

@@ -1,9 +1,6 @@
-use Rattle.std.proofs.Common.{refl, ◌∙◌}
-use Rattle.machine.specs.declared.event.Event.TheVariants as events
-use Rattle.machine.specs.Event.{World, changed_at, with_outbound, having_read}
+use Rattle.std.proofs.Common.{refl}
 use Rattle.world.proofs.PairLemmas.{read-does}
 use Rattle.world.proofs.pair.Pair.read.Goals as goal
 
 pub returns : goal.returns
-returns g c = read-does (events.Read c.args.c c.args.mark) (λ (w : World). changed_at c.args.c (with_outbound (having_read c.args.mark w)) w.primary.connections) refl (λ w. refl) _ c.read.new.self c.read.result
-    (λ w sessions local remote. c.read.ensures.goes w sessions (c.local.ensures ∙ local) remote) c.read.ensures.seats c.read.ensures.calls
+returns g c = read-does c.args.c c.args.mark c.local.result c.args.self.now.remote _ c.read.new.self c.read.result c.local.ensures refl c.read.ensures.goes c.read.ensures.seats c.read.ensures.calls

@@ -1,8 +1,10 @@
 use Rattle.std.proofs.Common.{refl}
 use Rattle.machine.specs.declared.event.Event.TheVariants as events
-use Rattle.machine.specs.Event.{World, changed_at, with_outbound, having_released}
+use Rattle.machine.specs.Connection.{changed_at, may_release, with_outbound, having_released}
 use Rattle.world.proofs.PairLemmas.{sessions-did}
 use Rattle.world.proofs.pair.Pair.release.Goals as goal
 
 pub returns : goal.returns
-returns g c = sessions-did (events.Release c.args.c) (λ (w : World). changed_at c.args.c (with_outbound having_released) w.primary.connections) refl (λ w. refl) _ c.release.new.self c.release.result c.release.ensures.goes c.release.ensures.seats c.release.ensures.calls
+returns g c =
+    sessions-did (events.Release c.args.c) (λ machines. may_release machines c.args.c) (changed_at c.args.c (with_outbound having_released)) (record { own = refl; may = λ w. refl; happens = λ w. refl }) _ c.release.new.self c.release.result
+    c.release.ensures.goes c.release.ensures.seats c.release.ensures.calls

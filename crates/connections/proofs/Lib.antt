@@ -1,0 +1,9 @@
+pub mod ParserLemmas
+pub mod InboundLemmas
+pub mod OutboundLemmas
+pub mod SessionLemmas
+pub mod PositionsLemmas
+pub mod SequencerLemmas
+pub mod SeatLemmas
+pub mod OverLemmas
+pub mod TurnLemmas

@@ -1,0 +1,46 @@
+use Rattle.std.proofs.Common.{◌&&◌, nat_lt, length, refl}
+use Rattle.std.proofs.lemmas.Result.{IfOk-weaker}
+use Rattle.machine.specs.Connection.{offered_next, asked, has_room, get_connection}
+use Rattle.connections.specs.declared.connection.Client.{Client}
+use Rattle.connections.specs.declared.connection.Connection.{Connection}
+use Rattle.connections.specs.declared.connection.Connection.TheVariants.{Open}
+use Rattle.connections.proofs.SessionLemmas.{client-at, client-keeps, over-stays, inbound-goes, none-goes, enabled-at, tells-the-same, on_err_from, on_err_both}
+use Rattle.connections.proofs.InboundLemmas.{may-offer}
+use Rattle.connections.proofs.sessions.Sessions.offer.Goals as goal
+
+pub returns-in-Open-clause-goes : goal.returns-in-Open-clause-goes
+returns-in-Open-clause-goes c = IfOk-weaker c.offer.result _ _
+    (λ did offers. λ machines list stand.
+    let inbound = (get_connection machines c.args.c).inbound in
+    inbound-goes (λ b. b && nat_lt inbound.offered (length (asked inbound.fed)) && has_room inbound.waiting) did machines list c.args.self.now c.args.c c.in-Open.client c.offer.new.self offered_next
+    c.in-Some.ensures.item.3.0 (client-at c.args.self.now.connections.items c.args.c c.in-Some.connection.now c.in-Open.client c.in-Some.ensures.value c.in-Open.is) stand
+    (λ stands. let went = offers inbound stands in record { done = went.done; goes = went.offered; stays = went.stays }))
+    c.offer.ensures.offers
+
+pub returns-in-Open-clause-told : goal.returns-in-Open-clause-told
+returns-in-Open-clause-told c =
+    let now : Connection = Open (record { seat = c.in-Open.client.seat; inbound = c.offer.new.self; outbound = c.in-Open.client.outbound }) in
+    on_err_from c.offer.result (tells-the-same c.args.self.now c.args.c (Open c.in-Open.client) now (client-at c.args.self.now.connections.items c.args.c c.in-Some.connection.now c.in-Open.client c.in-Some.ensures.value c.in-Open.is) refl)
+
+pub returns-in-Open-clause-seats : goal.returns-in-Open-clause-seats
+returns-in-Open-clause-seats c =
+    let now : Client = record { seat = c.in-Open.client.seat; inbound = c.offer.new.self; outbound = c.in-Open.client.outbound } in
+    client-keeps c.args.self.now c.args.c c.in-Open.client now (client-at c.args.self.now.connections.items c.args.c c.in-Some.connection.now c.in-Open.client c.in-Some.ensures.value c.in-Open.is) refl
+
+pub returns-in-Over-clause-goes : goal.returns-in-Over-clause-goes
+returns-in-Over-clause-goes c = λ machines list stand.
+    let inbound = (get_connection machines c.args.c).inbound in
+    over-stays (λ b. b && nat_lt inbound.offered (length (asked inbound.fed)) && has_room inbound.waiting) machines list c.args.self.now c.args.c c.in-Some.connection.now c.in-Over.field-0 c.in-Some.ensures.item.3.0 c.in-Some.ensures.value c.in-Over.is refl stand
+
+pub returns-in-None-clause-goes : goal.returns-in-None-clause-goes
+returns-in-None-clause-goes c = λ machines list stand.
+    let inbound = (get_connection machines c.args.c).inbound in
+    none-goes (λ b. b && nat_lt inbound.offered (length (asked inbound.fed)) && has_room inbound.waiting) machines list c.args.self.now c.args.c c.in-None.ensures.item.3 refl stand
+
+pub returns-in-Open-clause-enabled : goal.returns-in-Open-clause-enabled
+returns-in-Open-clause-enabled c = on_err_both c.offer.result
+    (λ some room. λ machines list stand.
+    let inbound = (get_connection machines c.args.c).inbound in
+    enabled-at (λ b. b && nat_lt inbound.offered (length (asked inbound.fed)) && has_room inbound.waiting) machines list c.args.self.now c.args.c c.in-Open.client
+    c.in-Some.ensures.item.3.0 (client-at c.args.self.now.connections.items c.args.c c.in-Some.connection.now c.in-Open.client c.in-Some.ensures.value c.in-Open.is) stand (λ stands. may-offer c.in-Open.client.inbound inbound stands.inbound some room))
+    c.offer.ensures.some c.offer.ensures.room

@@ -1,0 +1,10 @@
+//! The connections of clients, from the bytes that come in to those that go out, and the one list of calls that is made of their items.
+#![tactic(auto)]
+
+mod connection;
+mod inbound;
+mod outbound;
+mod sessions;
+
+pub use connection::{Client, Connection};
+pub use sessions::Sessions;

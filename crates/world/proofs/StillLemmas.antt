@@ -1,0 +1,37 @@
+-- What a pair keeps where its sequencer stands, to an engine, as it did.
+use Rattle.std.proofs.Common.{◌≡◌, ◌++◌, List, length, sym, ap, subst, ◌∙◌}
+use Rattle.kv_types.specs.declared.place.EntryNo.{EntryNo}
+use Rattle.model.specs.declared.work.FreeList.{FreeList}
+use Rattle.model.specs.declared.work.Work.{Work}
+use Rattle.model.specs.Group.{AreEnded, Contents}
+use Rattle.redis_core.specs.Sequencing.{Sequencing}
+use Rattle.wbl_engine.specs.declared.freeing.Freed.{Freed}
+use Rattle.group_commit.specs.Group.{after_work, lists_of}
+use Rattle.group_commit.specs.Working.{entries_of_lists}
+use Rattle.connections.specs.Session.{StandsStill}
+use Rattle.machine.specs.Event.{Primary}
+use Rattle.world.specs.Committing.{Leads}
+use Rattle.world.specs.Pair.{FreeingRefines}
+
+pub leads-still : (contents : Contents) (items : List Work) (aside : List FreeList) (old new : Sequencing) (notices : List Freed) → StandsStill old new
+    → Leads contents items aside old notices → Leads contents items aside new notices
+leads-still contents items aside old new notices still leads =
+    record {
+      work_is = leads.work_is;
+      epochs = leads.epochs;
+      stands = still.stands _ leads.stands;
+      expects = still.expects _ _ _ leads.stands leads.expects;
+      aside_ended = leads.aside_ended;
+      listed = subst (λ (xs : List EntryNo). AreEnded (after_work contents items) (entries_of_lists (aside ++ lists_of items) ++ xs)) (sym still.ended) leads.listed;
+    }
+
+pub freeing-still : (old new : Sequencing) (notices : List Freed) (contents : Contents) (before after : Primary) → StandsStill old new
+    → before.ended ≡ after.ended → before.newest ≡ after.newest → before.notices ≡ after.notices → before.gaps ≡ after.gaps
+    → FreeingRefines old notices contents before → FreeingRefines new notices contents after
+freeing-still old new notices contents before after still ended newest told gaps freeing =
+    record {
+      ended = ap length still.ended ∙ freeing.ended ∙ ended;
+      newest = still.newest ∙ freeing.newest ∙ newest;
+      notices_are = freeing.notices_are ∙ told;
+      gaps = freeing.gaps ∙ gaps;
+    }
