@@ -40,6 +40,10 @@ pub struct Sessions {
 
 impl Sessions {
     /// No connection and no call, with room for `calls` calls.
+    ///
+    /// # Errors
+    ///
+    /// `Memory` alone, where that room, or the room of the lobby and of the pipe of replies, was refused.
     pub fn new(alloc: Global, calls: usize) -> Result<Sessions, Refusal>
         ensures stands { IfOk result (λ sessions. SessionsRefine sessions [] []) }
         ensures room { IfOk result (λ sessions. calls ≤ vec_capacity sessions.calls) }
@@ -54,7 +58,11 @@ impl Sessions {
         })
     }
 
-    /// Gives a new connection a seat, if one is free. Returns whether it did.
+    /// Gives a new connection a seat, if one is free. Returns whether it did. Connections count from 0, in the order in which they enter.
+    ///
+    /// # Errors
+    ///
+    /// `Memory` alone, where a seat is free and the room of the connection was refused. The list and what was written to the connections are as before.
     pub fn enter<K: Keyspace>(
         &mut self,
         alloc: Global,
@@ -86,7 +94,11 @@ impl Sessions {
         Ok(true)
     }
 
-    /// Takes a piece of a connection's bytes, unless an item closed it. Returns whether it did.
+    /// Takes a piece of the bytes of connection `c`, any part of its requests, unless an item closed it. Returns whether it did.
+    ///
+    /// # Errors
+    ///
+    /// `Memory` alone, where the connection is open and room for the piece or its items was refused. The list and what was written to the connections are as before.
     pub fn feed(&mut self, c: u64, piece: &Bytes) -> Result<bool, Refusal>
         ensures goes { IfOk result (λ did. (machines : List Machine) (list : List Call) → SessionsRefine self.old machines list
             → Goes (may_feed machines c) did
@@ -109,6 +121,10 @@ impl Sessions {
     }
 
     /// Hands a connection's next item to the sequencer, if there is one and there is room for it. Returns whether it did.
+    ///
+    /// # Errors
+    ///
+    /// `Memory` alone, where there is one and its clone was refused. The list and what was written to the connections are as before.
     pub fn offer(&mut self, c: u64) -> Result<bool, Refusal>
         ensures goes { IfOk result (λ did. (machines : List Machine) (list : List Call) → SessionsRefine self.old machines list
             → Goes (may_offer machines c) did
@@ -130,6 +146,10 @@ impl Sessions {
     }
 
     /// A connection's gate takes the first reply that waits. Returns whether there was one.
+    ///
+    /// # Errors
+    ///
+    /// `Memory` alone, where there is one and room for its text was refused. The list and what was written to the connections are as before.
     pub fn hold(&mut self, c: u64) -> Result<bool, Refusal>
         ensures goes { IfOk result (λ did. (machines : List Machine) (list : List Call) → SessionsRefine self.old machines list
             → Goes (may_hold machines c) did
@@ -190,6 +210,10 @@ impl Sessions {
     }
 
     /// Writes `n` of a connection's pending bytes to it, if there are that many. Returns whether it did.
+    ///
+    /// # Errors
+    ///
+    /// `Memory` alone, where there are that many and room for them was refused. The list and what was written to the connections are as before.
     pub fn write(&mut self, c: u64, n: u64) -> Result<bool, Refusal>
         ensures goes { IfOk result (λ did. (machines : List Machine) (list : List Call) → SessionsRefine self.old machines list
             → Goes (may_write machines c n) did

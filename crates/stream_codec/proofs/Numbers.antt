@@ -5,6 +5,7 @@ use Rattle.std.specs.Int.{w16, w32, w64, to_be_bytes}
 use Rattle.std.proofs.lemmas.Bool.{ltb-true, ltb-false, le-ltb}
 use Rattle.std.proofs.lemmas.Bool.Decides.{nat_tests}
 use Rattle.std.proofs.lemmas.List.{take_at, drop_at, take-append-drop, length-append, length-take}
+use Rattle.std.proofs.Math.Nat.{pow-suc, one-le-pow}
 use Rattle.std.proofs.lemmas.Nat.{div_below, mod_below, div-add-mod', mul-le, be_bytes_2, be_bytes_4, be_bytes_8}
 use Rattle.stream_codec.specs.declared.reading.Stop.TheVariants.{Short, Broken}
 use Rattle.stream_codec.specs.Bytes.{Read, two_places, four_places, eight_places, span, ArePlaces, IsBytes, number_from, number_at, bytes_at, counted_at}
@@ -179,6 +180,20 @@ number_waits (place ∷ next ∷ places) most sum a wide (byte ∷ bytes) are h 
     let t = is_in_range byte (sum + byte * place) (sum + byte * place + (place - 1)) 0 most (are 0) (omega (arith, wide, low, pos, a.0, a.1.0)) (omega arith) in
     cond_true (fits place (next ∷ places) 0 most sum byte) (number_from (next ∷ places) 0 most (sum + byte * place) bytes) (Err Broken) t
     ∙ number_waits (next ∷ places) most (sum + byte * place) a.1 (omega (arith, wide, low, a.0)) bytes (λ i. are (suc i)) (omega (arith, h))
+
+-- Where no number of so many bytes is too high, and the least of them is no less than `least` by so many zeros, those bytes are only short.
+pub number_waits_above : (places : List ℕ) (least most sum : ℕ) → ArePlaces places → sum + span places ≤ most + 1 → (bytes : List ℕ) → IsBytes bytes → length bytes < length places → least * 256 ^ length bytes < span places → number_from places least most sum bytes ≡ Err Short
+number_waits_above [] least most sum a wide bytes are h low = absurd (omega (arith, h))
+number_waits_above (place ∷ places) least most sum a wide [] are h low = refl
+number_waits_above (place ∷ places) least most sum a wide (byte ∷ bytes) are h low =
+    let high = share byte place (are 0) in
+    let pos = span_pos places a.1 in
+    let scaled : least * 256 ^ suc (length bytes) ≡ 256 * (least * 256 ^ length bytes) = ap (λ n. least * n) (pow-suc 256 (length bytes)) ∙ omega arith in
+    let more : least * 1 ≤ least * 256 ^ length bytes = mul-le least 1 least (256 ^ length bytes) (omega arith) (one-le-pow (length bytes) 256 (omega arith)) in
+    let below : least * 256 ^ length bytes < place = omega (arith, low, scaled) in
+    let t = is_in_range byte (sum + byte * place) (sum + byte * place + (place - 1)) least most (are 0) (omega (arith, wide, high, pos, a.0)) (omega (arith, more, below)) in
+    cond_true (fits place places least most sum byte) (number_from places least most (sum + byte * place) bytes) (Err Broken) t
+    ∙ number_waits_above places least most (sum + byte * place) a.1 (omega (arith, wide, high, a.0)) bytes (λ i. are (suc i)) (omega (arith, h)) (omega (arith, below, a.0))
 
 -- where the bound is not below any number of so many bytes, no byte breaks it
 pub number_unbroken : (places : List ℕ) (most sum : ℕ) → ArePlaces places → sum + span places ≤ most + 1 → (bytes : List ℕ) → IsBytes bytes → number_from places 0 most sum bytes ≡ Err Broken → ⊥

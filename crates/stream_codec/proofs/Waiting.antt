@@ -1,7 +1,13 @@
 -- Bytes of which so many are missing that nothing is whole, whatever bytes they are.
-use Rattle.std.proofs.Common.{◌≡◌, ℕ, ◌+◌, ◌-◌, ◌^◌, ◌<◌, ◌≤◌, ltb, List, [], ◌++◌, length, take, drop, Result, Ok, Err, refl, sym, ap, subst, ◌∙◌, arith}
+use Rattle.std.proofs.Common.{◌≡◌, ℕ, zero, suc, ◌+◌, ◌-◌, ◌*◌, ◌^◌, ◌<◌, ◌≤◌, true, nat_eq, ltb, List, [], ◌∷◌, ◌++◌, length, take, drop, Result, Ok, Err, refl, sym, ap, subst, ◌∙◌, arith}
 use Rattle.std.proofs.lemmas.Bool.{lt-ltb}
+use Rattle.std.proofs.lemmas.Bool.Decides.{nat_tests}
 use Rattle.std.proofs.lemmas.List.{length-append}
+use Rattle.std.proofs.lemmas.Nat.{mul-le, pow-add, leading_length}
+use Rattle.std.proofs.Math.Nat.{pow-suc, suc-mul, one-le-pow}
+use Rattle.std.proofs.Math.Pow.{pow_mono}
+use Rattle.std.specs.Int.{w64, leading_zeros}
+use Rattle.std.specs.List.{starts_with}
 use Rattle.stream_codec.specs.declared.reading.Stop.{Stop}
 use Rattle.stream_codec.specs.declared.reading.Stop.TheVariants.{Short, Broken}
 use Rattle.kv_types.specs.declared.record_id.RecordId.TheVariants.{Str, Field}
@@ -12,11 +18,12 @@ use Rattle.stream_codec.specs.declared.change.Kind.TheVariants as kind
 use Rattle.stream_codec.specs.declared.step.Next.{Next}
 use Rattle.stream_codec.specs.declared.step.Next.TheVariants as next
 use Rattle.stream_codec.specs.Bytes.{Read, IsBytes, ◌>>=◌, eight_places, ArePlaces, number_at, bytes_at, counted_at}
-use Rattle.stream_codec.specs.Reading.{least_size, kind_at, name_at, value_at, change_of, change_at, long_at}
-use Rattle.stream_codec.specs.Stepping.{IsMore, skipped, after_end, before_end, position_end, end_from}
+use Rattle.stream_codec.specs.Reading.{least_size, kind_at, name_at, value_at, change_of, change_at, changes_at, long_at}
+use Rattle.stream_codec.specs.declared.message.TheConstants.{MAX_BODY_BYTES}
+use Rattle.stream_codec.specs.Stepping.{IsMore, skipped, size_end, after_end, before_end, position_end, end_from}
 use Rattle.stream_codec.specs.Scanning.{Waits, field_and_value_at}
 use Rattle.stream_codec.proofs.Readers.{Reads, grows}
-use Rattle.stream_codec.proofs.Numbers.{cond_true, number_grows, IsBytes-end, IsBytes-append, number_waits, number_unbroken}
+use Rattle.stream_codec.proofs.Numbers.{cond_true, number_grows, IsBytes-end, IsBytes-append, number_waits, number_waits_above, number_unbroken}
 use Rattle.stream_codec.proofs.Names.{IsName, name_reads, IsKind, kind_reads}
 use Rattle.stream_codec.proofs.Bodies.{changes_at-stop}
 
@@ -127,3 +134,53 @@ waits_ack_epoch n bytes missing is are fits =
 
 pub waits_ack_position : (n : Next) (bytes : List ℕ) (missing : ℕ) → n ≡ next.AckPosition → IsBytes bytes → missing ≤ 8 - length bytes → Waits (end_from n) bytes missing
 waits_ack_position n bytes missing is are fits = waits_until n next.AckPosition 8 is position_waits bytes missing are fits
+
+-- ---- the numbers of frames that a leading byte may break
+
+pow_256 : (k : ℕ) → 256 ^ k ≡ 2 ^ (8 * k)
+pow_256 zero = refl
+pow_256 (suc k) = let step : 8 * k + 8 ≡ 8 * suc k = omega arith in pow-suc 256 k ∙ ap (λ n. n * 256) (pow_256 k) ∙ sym (pow-add 2 (8 * k) 8) ∙ ap (λ n. 2 ^ n) step
+
+-- a number with so many zeros in front
+scaled_below : (n k m : ℕ) → n < 2 ^ m → m + 8 * k ≤ 64 → n * 256 ^ k < 2 ^ 64
+scaled_below n k m low fits =
+    let some = one-le-pow k 256 (omega arith) in
+    let grown : suc n * 256 ^ k ≤ 2 ^ m * 256 ^ k = mul-le (suc n) (256 ^ k) (2 ^ m) (256 ^ k) low (omega arith) in
+    let joined : 2 ^ m * 256 ^ k ≡ 2 ^ (m + 8 * k) = ap (λ p. 2 ^ m * p) (pow_256 k) ∙ sym (pow-add 2 m (8 * k)) in
+    let within : 2 ^ (m + 8 * k) ≤ 2 ^ 64 = pow_mono fits in
+    let next = suc-mul n (256 ^ k) in
+    omega (arith, some, grown, joined, within, next)
+
+-- the position after a group: as many bytes as what it has to be at least has zeros in front
+after_waits : (least : ℕ) → least < 2 ^ 64 → (bytes : List ℕ) → IsBytes bytes → length bytes < 8 → 8 * length bytes ≤ leading_zeros w64 least → after_end least bytes ≡ Err Short
+after_waits least fits bytes are h in_front =
+    let t = leading_length 64 least fits in
+    let low = scaled_below least (length bytes) t.0 t.2 (omega (arith, t.1, in_front)) in
+    ap (λ z. z >>= λ after. size_end after.1) (number_waits_above eight_places least (2 ^ 64 - 1) 0 are_eight (omega arith) bytes are (omega (arith, h)) low)
+
+pub waits_after : (least : ℕ) → least < 2 ^ 64 → (bytes : List ℕ) (first missing : ℕ) → IsBytes bytes → first ≤ 7 → 8 * first ≤ leading_zeros w64 least → missing ≤ first + 1 - length bytes → Waits (after_end least) bytes missing
+waits_after least least_fits bytes first missing are few in_front fits more more_are h =
+    after_waits least least_fits (bytes ++ more) (IsBytes-append bytes more are more_are) (omega (arith, h, fits, few, length-append bytes more)) (omega (arith, h, fits, in_front, length-append bytes more))
+
+-- the length of a body that begins with three zeros
+size_waits : (bytes : List ℕ) → IsBytes bytes → length bytes < 5 → size_end (0 ∷ 0 ∷ 0 ∷ bytes) ≡ Err Short
+size_waits bytes are h =
+    ap (λ z. z >>= λ size. skipped (changes_at size.0 size.1))
+    (number_waits (2 ^ 32 ∷ 2 ^ 24 ∷ 2 ^ 16 ∷ 2 ^ 8 ∷ 1 ∷ []) MAX_BODY_BYTES 0 are_eight.1.1.1 (omega arith) bytes are (omega (arith, h)))
+
+three_zeros : (bytes : List ℕ) → starts_with nat_eq bytes (0 ∷ 0 ∷ 0 ∷ []) ≡ true → (rest : List ℕ) × (bytes ≡ 0 ∷ 0 ∷ 0 ∷ rest)
+three_zeros [] e = absurd cc
+three_zeros (a ∷ []) e = absurd (grind (arith, nat_tests))
+three_zeros (a ∷ b ∷ []) e = absurd (grind (arith, nat_tests))
+three_zeros (a ∷ b ∷ c ∷ rest) e =
+    let x : a ≡ 0 = grind (arith, nat_tests) in
+    let y : b ≡ 0 = grind (arith, nat_tests) in
+    let z : c ≡ 0 = grind (arith, nat_tests) in
+    (rest, rw (x, y, z) refl)
+
+pub waits_size : (bytes : List ℕ) (missing : ℕ) → starts_with nat_eq bytes (0 ∷ 0 ∷ 0 ∷ []) ≡ true → IsBytes bytes → missing ≤ 8 - length bytes → Waits size_end bytes missing
+waits_size bytes missing e are fits more more_are h =
+    let t = three_zeros bytes e in
+    let rest_are : IsBytes t.0 = IsBytes-end (0 ∷ 0 ∷ 0 ∷ []) t.0 (subst IsBytes t.1 are) in
+    ap (λ b. size_end (b ++ more)) t.1
+    ∙ size_waits (t.0 ++ more) (IsBytes-append t.0 more rest_are more_are) (omega (arith, h, fits, ap length t.1, length-append t.0 more))

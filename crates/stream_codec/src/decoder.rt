@@ -37,6 +37,12 @@ impl Begun {
     {
         let before = self.unread.len();
         self.unread.extend_from_slice(piece)?;
+        if self.unread.len() < self.progress.wanted {
+            return Ok(Taken {
+                messages: Vec::new(*self.unread.allocator()),
+                is_broken: false,
+            });
+        }
         match self.split() {
             Ok(taken) => Ok(taken),
             Err(error) => {
@@ -46,19 +52,14 @@ impl Begun {
         }
     }
 
-    /// Gives the frames that are whole.
+    /// Gives the frames that are whole. (Few short pieces come so far: what each of them passes stays small.)
+    #[inline(never)]
     fn split(&mut self) -> Result<Taken, AllocError>
         requires { IsAt self.old.unread.items self.old.progress }
         ensures taken { IfOk result (λ t. IsTaken self.old.unread.items t.messages.items t.is_broken self.new.unread.items self.new.progress) }
         ensures err { OnErr result ((self.new.unread.items ≡ self.old.unread.items) × (self.new.progress ≡ self.old.progress)) }
     {
         let alloc = *self.unread.allocator();
-        if self.unread.len() < self.progress.wanted {
-            return Ok(Taken {
-                messages: Vec::new(alloc),
-                is_broken: false,
-            });
-        }
         let split = split_frames(alloc, self.unread.as_slice(), self.progress)?;
         let given = self.unread.len() - split.rest.len();
         let messages = split.messages;

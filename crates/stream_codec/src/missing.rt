@@ -1,11 +1,31 @@
-//! How many bytes of a change are missing at least, by its lengths that are there.
+//! How many bytes are missing at least: of a number, by its bounds, and of a change, by its lengths that are there.
 ghost use Rattle.std.specs.Prelude.{◌<◌};
 ghost use Rattle.stream_codec.specs.Reading.{name_at, value_at, change_of, change_at};
+ghost use Rattle.stream_codec.specs.Stepping.{after_end, size_end};
 ghost use Rattle.stream_codec.specs.Scanning.{Waits, field_and_value_at};
 
 use crate::change::{Kind, kind_at, name_at};
 use crate::reading::{u16_at, u32_at};
 use kv_types::{MAX_KEY_BYTES, MAX_VALUE_BYTES};
+
+/// How many bytes of the position after a group are missing up to the first that can be too low: none can before the first of `least` that is not 0.
+pub(crate) fn missing_of_after(bytes: &[u8], least: u64) -> u64
+    ensures { Waits (after_end least) bytes.now result }
+{
+    let zeros = least.leading_zeros() / 8;
+    (u64::from(zeros.min(7)) + 1).saturating_sub(bytes.len() as u64)
+}
+
+/// How many bytes of the length of a body are missing behind three zeros, where none can be too high, or 0.
+pub(crate) fn missing_of_size(bytes: &[u8]) -> u64
+    ensures { Waits size_end bytes.now result }
+{
+    if bytes.starts_with(&[0, 0, 0]) {
+        8_u64.saturating_sub(bytes.len() as u64)
+    } else {
+        0
+    }
+}
 
 /// How many bytes of a key or a field are missing, or 0 where its length is not there.
 fn missing_of_name(bytes: &[u8], spare: u64) -> u64

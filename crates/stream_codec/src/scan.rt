@@ -3,7 +3,7 @@ ghost use Rattle.std.specs.Prelude.{◌≡◌, ◌≤◌, length};
 ghost use Rattle.stream_codec.specs.Stepping.{IsMore, end_from};
 ghost use Rattle.stream_codec.specs.Scanning.{IsAt, IsPass, IsLook, Waits};
 
-use crate::missing::missing_of_change;
+use crate::missing::{missing_of_after, missing_of_change, missing_of_size};
 use crate::reading::Stop;
 use crate::step::{Next, step_at};
 
@@ -64,8 +64,9 @@ fn missing_of(bytes: &[u8], next: Next) -> u64
         // No byte breaks an epoch, nor the position of an acknowledgement; that before a group is broken by its last byte alone.
         Next::Epoch | Next::AckEpoch => 16_u64.saturating_sub(bytes.len() as u64),
         Next::Before | Next::AckPosition => 8_u64.saturating_sub(bytes.len() as u64),
-        // Each byte can break the position after a group, and the length of its body.
-        Next::Kind | Next::After(_) | Next::Size => 0,
+        Next::Kind => 0,
+        Next::After(least) => missing_of_after(bytes, least),
+        Next::Size => missing_of_size(bytes),
         Next::Changes(left) => missing_of_change(bytes, left),
     }
 }
