@@ -178,8 +178,7 @@ def owner_of(kind, rest):
 
 
 def named(known, crate, path, lines, line):
-    """Returns the names of the innermost function around the line, and its first and last line. Where no name is known, it is the one that a check would
-    print, but for an impl of a trait with a parameter."""
+    """Returns the names of the innermost function around the line, and its first and last line."""
     around = [it for it in blocks_of(lines) if it[2] <= line <= it[3]]
     functions = [it for it in around if it[0] == "fn"]
     if not functions:
@@ -190,13 +189,11 @@ def named(known, crate, path, lines, line):
     modules += [re.match(r"\w+", it[1])[0] for it in above if it[0] == "mod"]
     start = "::".join([crate, *modules, ""])
     word = re.match(r"\w+", rest)[0]
-    owners = [owner_of(it[0], it[1]) for it in above if it[0] != "mod"]
-    of_type, of_trait, argument = owners[-1] if owners else ("", "", "")
-    if known is None:
-        return set() if argument else {start + (f"{of_type}{of_trait}::{word}" if owners else word)}, (first, last)
     within = [(it, it.removeprefix(start).split("::")) for it in known if it.startswith(start)]
+    owners = [owner_of(it[0], it[1]) for it in above if it[0] != "mod"]
     if not owners:
         return {name for name, parts in within if parts == [word]}, (first, last)
+    of_type, of_trait, argument = owners[-1]
     fits = lambda it: it.startswith(of_type + of_trait) if of_trait else it == of_type
     names = {name: parts[0] for name, parts in within if len(parts) == 2 and parts[1] == word and fits(parts[0])}
     exact = {name for name, owner in names.items() if owner == of_type + of_trait + argument}
@@ -213,7 +210,7 @@ def body_of(lines, span):
 
 
 def locate(edit, folder, known):
-    """Finds the functions that the edit changes, among those that a check named, if it ran."""
+    """Finds the functions that the edit changes."""
     edit.bad = edit.bad or edit.apply({}, folder)
     for path, old, new in [] if edit.bad else edit.pairs:
         text = (folder / path).read_text(encoding="utf-8")
@@ -248,9 +245,6 @@ class Said:
     def unproved(self):
         rows = (re.match(r"fn (\S+): (not proved|no proof)\b(.*)", it) for it in self.lines)
         return {it[1]: it[0] for it in rows if it}
-
-    def lacks_a_function(self):
-        return any(re.search(r"error: `\w+` has no function `", it) for it in self.lines)
 
     def reached_the_prover(self):
         return any(re.match(r"only=\d+ proved=\d+$|logic=", it) for it in self.lines)
@@ -288,8 +282,6 @@ def is_in(name, edit):
 
 def judged(said, edit, is_alone):
     """Returns ("refused" or "bad", why), or None where this check does not tell."""
-    if said.lacks_a_function():
-        return None
     changed = {path for path, _, _ in edit.pairs}
     if said.unread(changed):
         return ("bad", f"a text cannot be read: {said.unread(changed)}") if is_alone else None
