@@ -5,6 +5,7 @@ import fcntl
 import hashlib
 import os
 import re
+import shutil
 import subprocess
 from pathlib import Path
 
@@ -60,13 +61,19 @@ def version():
     return subprocess.run(["rt", "version"], capture_output=True, text=True, check=True).stdout.strip()
 
 
-def digest(root, crates, name, toolchain):
-    """Returns the checksum of all that decides whether the crate's edits are refused. Which of its folders holds an edit does not."""
+def sum_of_sources(root, crates, name, toolchain):
+    """Returns the checksum, to be continued, of all that decides whether the crate is proved."""
     found = hashlib.sha256(f"{toolchain}\n{crates.rows[name]}\n".encode())
     files = [(root / "crates" / name, SOURCES)] + [(root / "crates" / it, SOURCES[:2]) for it in crates.below(name)]
     for folder, parts in files:
         for file in [it for part in parts for it in files_of(folder / part)]:
             found.update(f"{folder.name}/{file.relative_to(folder)}\0{hashlib.sha256(file.read_bytes()).hexdigest()}\n".encode())
+    return found
+
+
+def digest(root, crates, name, toolchain):
+    """Returns the checksum of all that decides whether the crate's edits are refused. Which of its folders holds an edit does not."""
+    found = sum_of_sources(root, crates, name, toolchain)
     for file in edits_in(root / "crates" / name):
         found.update(f"{file.name}\0{hashlib.sha256(file.read_bytes()).hexdigest()}\n".encode())
     return found.hexdigest()
@@ -95,6 +102,53 @@ def stale_crates(crates):
     toolchain, rows = version(), recorded()
     with_edits = [it for it in crates.rows if edits_in(ROOT / "crates" / it)]
     return [it for it in with_edits if rows.get(it, "").split()[-1:] != [digest(ROOT, crates, it, toolchain)]]
+
+
+# What the gate proved
+
+def proved_file(root, name):
+    return root / "crates" / name / "out" / "proved.txt"
+
+
+def note_proved(root, lines):
+    """Notes of each crate, after a gate that passed and printed these lines, the checksum of what it proved and the names of its functions."""
+    crates, toolchain, names = Crates(root), version(), {}
+    for found in (re.match(r"fn ((\w+)::\S+): proved$", line) for line in lines):
+        if found:
+            names.setdefault(found[2], []).append(found[1])
+    for name in crates.rows:
+        file = proved_file(root, name)
+        file.parent.mkdir(exist_ok=True)
+        sum_ = sum_of_sources(root, crates, name, toolchain).hexdigest()
+        file.write_text("".join(f"{it}\n" for it in [sum_, *sorted(set(names.get(name, [])))]), encoding="ascii")
+
+
+def proved_functions(root, crates, name, toolchain):
+    """Returns the names of the crate's functions, of which there may be none, if the gate proved it as it is and its library is still there, or None."""
+    file, library = proved_file(root, name), root / "crates" / name / "out" / "rlib"
+    if not file.exists():
+        return None
+    sum_, *names = file.read_text(encoding="ascii").splitlines()
+    # (one with a stamp was built by another command, and does not fit those of the gate)
+    is_there = (library / f"{name}.rlib" / "format").exists() and not (library / "stamp").exists()
+    is_library = (root / "crates" / name / "src" / "lib.rt").exists()
+    is_same = sum_ == sum_of_sources(root, crates, name, toolchain).hexdigest()
+    return names if is_same and (is_there or not is_library) else None
+
+
+def check_words(crates, name, root):
+    """Returns the words of the prover for a check of the crate, in its folder, over the libraries that the gate made below root. (`rt check` takes no such library.)"""
+    kit = Path(shutil.which("rt")).resolve().parent.parent
+    uses = crates.uses[name]
+    library = lambda it: root / "crates" / it / "out" / "rlib"
+    top = "lib" if (root / "crates" / name / "src" / "lib.rt").exists() else "main"
+    words = [f"{kit}/bin/rattle", "check", "--crate-name", name, f"src/{top}.rt"]
+    given = [("std", kit / "rlibs")] + [(it, library(it) if it in crates.rows else kit / "rlibs") for it in uses if it]
+    for it, folder in given:
+        words += ["--extern", f"{it}={folder}/{it}.rlib"]
+    for folder in [kit / "rlibs", *map(library, crates.below(name))]:
+        words += ["-L", f"dependency={folder}"]
+    return words + ["--antt-project", f"{kit}/rattle/logic/antt-project.json", "--logic-built", f"{kit}/logic_built", "--links", f"{name}="]
 
 
 # The edits

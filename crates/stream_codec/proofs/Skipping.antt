@@ -1,5 +1,5 @@
 -- Changes that are skipped, and frames that are looked at in steps.
-use Rattle.std.proofs.Common.{◌≡◌, ℕ, zero, suc, ◌+◌, ◌-◌, ◌<◌, ◌≤◌, true, false, List, [], ◌∷◌, ◌++◌, length, take, drop, Option, None, Some, Ok, Err, refl, sym, ap, ◌∙◌, arith}
+use Rattle.std.proofs.Common.{◌≡◌, ℕ, zero, suc, ◌+◌, ◌-◌, ◌<◌, ◌≤◌, true, false, List, [], ◌∷◌, ◌++◌, length, take, drop, Option, None, Some, Ok, Err, refl, sym, ap, subst, ◌∙◌, arith}
 use Rattle.std.proofs.lemmas.Bool.Decides.{nat_tests}
 use Rattle.std.proofs.lemmas.List.{take-append-drop, drop-append-le, drop_at, append_assoc, append-nil, length-append}
 use Rattle.kv_types.specs.declared.change.Change.{Change}
@@ -150,7 +150,7 @@ pub look_broken : (bytes : List ℕ) (progress : Progress) (body : List ℕ) →
 look_broken bytes progress body i is e = skipped_err (message_at bytes) Broken (from_place bytes progress i ∙ ap (end_from progress.next) (sym is) ∙ e)
 
 -- a place stays what it is when bytes come
-pub still_at : (bytes piece : List ℕ) (progress : Progress) → IsAt bytes progress → IsBytes piece → IsAt (bytes ++ piece) progress
+still_at : (bytes piece : List ℕ) (progress : Progress) → IsAt bytes progress → IsBytes piece → IsAt (bytes ++ piece) progress
 still_at bytes piece progress i are =
     record {
       within = omega (arith, i.within, length-append bytes piece);
@@ -162,6 +162,9 @@ still_at bytes piece progress i are =
           ap message_at (append_assoc bytes piece more)
           ∙ i.waits (piece ++ more) (IsBytes-append piece more are more_are) (omega (arith, h, length-append bytes piece, length-append piece more));
     }
+
+pub kept_at : (all bytes piece : List ℕ) (progress : Progress) → all ≡ bytes ++ piece → IsAt bytes progress → IsBytes piece → IsAt all progress
+kept_at all bytes piece progress is i are = subst (λ b. IsAt b progress) (sym is) (still_at bytes piece progress i are)
 
 -- with fewer bytes than are wanted there is no frame, and no fault
 pub still_taken : (bytes : List ℕ) (progress : Progress) (messages : List Message) → IsAt bytes progress → length bytes < progress.wanted → messages ≡ [] → IsTaken bytes messages false bytes progress

@@ -7,7 +7,7 @@ ghost use Rattle.stream_codec.specs.Scanning.{IsAt, sent_of_all, IsTaken};
 use crate::frames::split_frames;
 use crate::message::Message;
 use crate::scan::{Progress, START};
-use bytes::BytesMut;
+use bytes::{BufMut, BytesMut};
 use kv_types::Refusal;
 use std::alloc::{AllocError, Global};
 use std::marker::Model;
@@ -28,6 +28,17 @@ struct Taken {
     is_broken: bool,
 }
 
+/// Keeps a piece. (A single byte is stored without a call.)
+fn keep(unread: &mut BytesMut, piece: &[u8]) -> Result<(), AllocError>
+    ensures ok { OnOk result (unread.new.items ≡ unread.old.items ++ piece.now) }
+    ensures err { OnErr result (unread.new.items ≡ unread.old.items) }
+{
+    match piece {
+        [byte] => unread.put_u8(*byte),
+        _ => unread.extend_from_slice(piece),
+    }
+}
+
 impl Begun {
     /// Takes a piece, and gives the frames that are whole now. After an error nothing of the piece was taken. What is left behind a fault means nothing.
     fn take(&mut self, piece: &[u8]) -> Result<Taken, AllocError>
@@ -36,7 +47,7 @@ impl Begun {
         ensures err { OnErr result ((self.new.unread.items ≡ self.old.unread.items) × (self.new.progress ≡ self.old.progress)) }
     {
         let before = self.unread.len();
-        self.unread.extend_from_slice(piece)?;
+        keep(&mut self.unread, piece)?;
         if self.unread.len() < self.progress.wanted {
             return Ok(Taken {
                 messages: Vec::new(*self.unread.allocator()),
@@ -52,7 +63,7 @@ impl Begun {
         }
     }
 
-    /// Gives the frames that are whole. (Few short pieces come so far: what each of them passes stays small.)
+    /// Gives the frames that are whole. Few short pieces come so far, so it is not inlined into what each of them passes.
     #[inline(never)]
     fn split(&mut self) -> Result<Taken, AllocError>
         requires { IsAt self.old.unread.items self.old.progress }
