@@ -110,17 +110,24 @@ def proved_file(root, name):
     return root / "crates" / name / "out" / "proved.txt"
 
 
-def note_proved(root, lines):
-    """Notes of each crate, after a gate that passed and printed these lines, the checksum of what it proved and the names of its functions."""
-    crates, toolchain, names = Crates(root), version(), {}
+def sums_of_sources(root):
+    """Returns of each crate the checksum of all that decides whether it is proved."""
+    crates, toolchain = Crates(root), version()
+    return {it: sum_of_sources(root, crates, it, toolchain).hexdigest() for it in crates.rows}
+
+
+def note_proved(root, sums, began, lines):
+    """Notes of each crate what a gate proved that passed: the checksum when it began, and the names of its functions, which the gate's lines have
+    unless it took the proof from an earlier run. The file is as old as the gate's beginning."""
+    names = {}
     for found in (re.match(r"fn ((\w+)::\S+): proved$", line) for line in lines):
         if found:
-            names.setdefault(found[2], []).append(found[1])
-    for name in crates.rows:
+            names.setdefault(found[2], set()).add(found[1])
+    for name, sum_ in sums.items():
         file = proved_file(root, name)
         file.parent.mkdir(exist_ok=True)
-        sum_ = sum_of_sources(root, crates, name, toolchain).hexdigest()
-        file.write_text("".join(f"{it}\n" for it in [sum_, *sorted(set(names.get(name, [])))]), encoding="ascii")
+        file.write_text("".join(f"{it}\n" for it in [sum_, *sorted(names.get(name, ()))]), encoding="ascii")
+        os.utime(file, (began, began))
 
 
 def proved_functions(root, crates, name, toolchain):
@@ -250,6 +257,10 @@ def named(known, crate, path, lines, line):
     of_type, of_trait, argument = owners[-1]
     fits = lambda it: it.startswith(of_type + of_trait) if of_trait else it == of_type
     names = {name: parts[0] for name, parts in within if len(parts) == 2 and parts[1] == word and fits(parts[0])}
+    if not names:
+        # (an impl may stand in another file than its type, and a check names its functions by the type's)
+        elsewhere = [(it, it.split("::")[-2:]) for it in known if it.startswith(f"{crate}::")]
+        names = {name: parts[0] for name, parts in elsewhere if parts[1] == word and fits(parts[0])}
     exact = {name for name, owner in names.items() if owner == of_type + of_trait + argument}
     return exact or {*names}, (first, last)
 
