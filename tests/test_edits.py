@@ -1,0 +1,147 @@
+"""What `bin/` knows of a whole check: which functions an edit changes, which crates the gate proved as they are, and when a program is built anew."""
+
+import contextlib
+import os
+import pathlib
+import shutil
+import subprocess
+import sys
+import tempfile
+
+import common
+
+sys.path.insert(0, str(common.ROOT / "bin"))
+import wrong_bodies  # noqa: E402
+
+PROGRAMS = []
+
+# The type stands in src/shelf.rt.
+SOURCE = """\
+impl<K: Ord> Shelf<K> {
+    pub fn put(&mut self, key: K)
+        requires { HasRoom self.old }
+    {
+        self.keys.push(key);
+    }
+}
+
+impl From<Box> for Shelf<u8> {
+    fn from(other: Box) -> Self {
+        other.shelf
+    }
+}
+
+fn is_full() -> bool {
+    true
+}
+
+const MOST: u64 = 8;
+""".split("\n")
+PUT, FROM_BOX, FROM_KEY, IS_FULL = (
+    "store::shelf::Shelf::put", "store::shelf::ShelfFromBox::from", "store::shelf::ShelfFromKey::from", "store::taking::is_full"
+)
+KNOWN = {PUT, FROM_BOX, FROM_KEY, IS_FULL, "store::shelf::is_full", "store::shelf::Shelf::take"}
+TOOLCHAIN = "a kit"
+
+
+class Functions(common.Cases):
+    """An edit is tried in the functions that it changes, by the names that a check gives them."""
+
+    CASES = [(4, {PUT}), (1, {PUT}), (10, {FROM_BOX}), (15, {IS_FULL}), (18, set())]
+
+    def test_the_function_around_a_line(self):
+        for line, wanted in self.CASES:
+            with self.case("line", line=line):
+                found, _ = wrong_bodies.named(KNOWN, "store", "src/taking.rt", SOURCE, line)
+                self.assertEqual(found, wanted)
+
+
+@contextlib.contextmanager
+def repository():
+    """A repository of a library and of a program that uses it, as a gate leaves it that proved both."""
+    with tempfile.TemporaryDirectory() as folder:
+        root = pathlib.Path(folder)
+        (root / "crates.txt").write_text("low: bytes\ntop: low\n", encoding="utf-8")
+        for crate, file in (("low", "lib.rt"), ("top", "main.rt")):
+            (root / "crates" / crate / "src").mkdir(parents=True)
+            (root / "crates" / crate / "src" / file).write_text("fn f() {}\n", encoding="utf-8")
+        library = root / "crates" / "low" / "out" / "rlib" / "low.rlib"
+        library.mkdir(parents=True)
+        (library / "format").write_text("1\n", encoding="utf-8")
+        crates = wrong_bodies.Crates(root)
+        sums = {it: wrong_bodies.sum_of_sources(root, crates, it, TOOLCHAIN).hexdigest() for it in crates.rows}
+        (root / "crates" / "top" / "out").mkdir()
+        wrong_bodies.note_proved(root, sums, 1_000_000_000, ["fn low::f: proved", "fn low::g: not proved", "fn low::f: proved"])
+        yield root
+
+
+class Proved(common.Cases):
+    """What the gate proved is tried over its libraries, as long as it is what stands there."""
+
+    def functions(self, root, crate, toolchain=TOOLCHAIN):
+        return wrong_bodies.proved_functions(root, wrong_bodies.Crates(root), crate, toolchain)
+
+    def test_as_the_gate_left_it(self):
+        with repository() as root:
+            with self.case("library"):
+                self.assertEqual(self.functions(root, "low"), ["low::f"])
+            with self.case("program that was kept"):
+                self.assertEqual(self.functions(root, "top"), [])
+
+    def test_no_longer_as_the_gate_left_it(self):
+        low = pathlib.Path("crates", "low")
+        changes = [
+            ("source", "low", lambda root: (root / low / "src" / "lib.rt").write_text("fn f() { }\n", encoding="utf-8")),
+            ("source below", "top", lambda root: (root / low / "src" / "lib.rt").write_text("fn f() { }\n", encoding="utf-8")),
+            ("line of crates.txt", "top", lambda root: (root / "crates.txt").write_text("low: bytes\ntop: low bytes\n", encoding="utf-8")),
+            ("library gone", "low", lambda root: shutil.rmtree(root / low / "out" / "rlib")),
+            ("library of another command", "low", lambda root: (root / low / "out" / "rlib" / "stamp").write_text("1", encoding="utf-8")),
+            ("nothing noted", "low", lambda root: (root / low / "out" / "proved.txt").unlink()),
+        ]
+        for name, crate, change in changes:
+            with self.case(name), repository() as root:
+                change(root)
+                self.assertIsNone(self.functions(root, crate))
+        with self.case("toolchain"), repository() as root:
+            self.assertIsNone(self.functions(root, "low", "another kit"))
+
+
+class Programs(common.Cases):
+    """A program is run as it is where what it was built from is no younger, else the toolchain builds it."""
+
+    def run_with(self, marks, source_time):
+        """Runs a program that is there, with marks of these names and times, and a toolchain that builds nothing."""
+        with tempfile.TemporaryDirectory() as folder:
+            root = pathlib.Path(folder)
+            for name in ("bin", "tools", "crates/top/src", "crates/top/specs", "crates/top/proofs", "crates/top/out"):
+                (root / name).mkdir(parents=True)
+            shutil.copy(common.ROOT / "bin" / "run-program", root / "bin" / "run-program")
+            self.write(root / "crates.txt", "top:\n", 1_000)
+            self.write(root / "crates" / "top" / "src" / "main.rt", "fn main() {}\n", source_time)
+            for program, text in (("tools/rt", "exit 1"), ("crates/top/out/top", 'echo "ran $*"')):
+                self.write(root / program, f"#!/bin/sh\n{text}\n", 1_000)
+                (root / program).chmod(0o755)
+            for name, time in marks.items():
+                self.write(root / "crates" / "top" / "out" / name, "", time)
+            for at in [root / "crates" / "top" / it for it in ("src", "specs", "proofs")]:
+                os.utime(at, (1_000, 1_000))
+            path = {**os.environ, "PATH": f"{root / 'tools'}:{os.environ['PATH']}"}
+            return subprocess.run([root / "bin" / "run-program", "top", "wbl-top", "a", "b"], env=path, capture_output=True, text=True)
+
+    @staticmethod
+    def write(file, text, time):
+        file.write_text(text, encoding="utf-8")
+        os.utime(file, (time, time))
+
+    def test_programs_that_are_run_as_they_are(self):
+        for marks in ({"wbl-top.built": 2_000}, {"proved.txt": 2_000}, {"wbl-top.built": 1_000, "proved.txt": 2_000}):
+            with self.case("marks", marks=marks):
+                ran = self.run_with(marks, source_time=1_500)
+                self.assertEqual((ran.returncode, ran.stdout, ran.stderr), (0, "ran a b\n", ""))
+
+    def test_programs_that_are_built_anew(self):
+        for marks in ({}, {"wbl-top.built": 1_000}, {"proved.txt": 1_000}, {"wbl-sim.built": 2_000}):
+            with self.case("marks", marks=marks):
+                ran = self.run_with(marks, source_time=1_500)
+                self.assertEqual((ran.returncode, ran.stdout), (1, ""))
+                self.assertIn("wbl-top: it was not proved and built, so it does not run", ran.stderr)
