@@ -89,6 +89,11 @@ pub fn add_word(answer: &mut String, word: &str) -> Result<(), AllocError> {
     answer.push_str(word)
 }
 
+/// Adds bytes in hexadecimal to an answer of several words.
+pub fn add_bytes(alloc: Global, answer: &mut String, bytes: &[u8]) -> Result<(), AllocError> {
+    add_word(answer, &hexed(alloc, bytes)?)
+}
+
 /// Adds a number to an answer of several words.
 pub fn add_number(alloc: Global, answer: &mut String, number: u64) -> Result<(), AllocError> {
     add_word(answer, &number.to_string(alloc)?)

@@ -2,8 +2,8 @@
 use crate::answers::{done, refused};
 use crate::cause::Cause;
 use crate::lives;
+use crate::probe::made;
 use crate::versions::{record_text, versions_text};
-use crate::words::number;
 use heap_layout::read_versions;
 use model::{MIN_LINES, Role};
 use pmem::{Pmem, SimPmem};
@@ -11,26 +11,31 @@ use std::alloc::Global;
 use wbl_engine::{Durable, WblEngine, inspect};
 use wbl_record::read_current;
 
-/// Makes the call that the words name over the device, which stays.
+/// Makes the call that the words name over the device in the slot, which stays there.
 pub fn answer(alloc: Global, slot: &mut Option<SimPmem>, words: &[&str]) -> Result<String, Cause> {
-    let device = slot.take().ok_or(Cause::NotMade)?;
-    let (answer, device) = call(alloc, device, words)?;
-    *slot = Some(device);
-    Ok(answer)
+    match words {
+        ["inspect"] => inspect_text(alloc, made(slot)?),
+        ["current"] => current_text(alloc, made(slot)?),
+        ["versions"] => read_versions_text(alloc, made(slot)?),
+        [call, role, words @ ..] => answer_as(alloc, slot, call, role, words),
+        _ => Err(Cause::NoCall),
+    }
 }
 
-fn call(alloc: Global, device: SimPmem, words: &[&str]) -> Result<(String, SimPmem), Cause> {
-    match words {
-        ["format", role] => format(alloc, device, role_of(role)?),
-        ["reopen", role] => lives::reopen(alloc, device, role_of(role)?),
-        ["clear", role, times] => lives::clear(alloc, device, role_of(role)?, number(times)?),
-        ["rebuild", role, ids @ ..] => lives::rebuild(alloc, device, role_of(role)?, ids),
-        ["free", role, count] => lives::free(alloc, device, role_of(role)?, number(count)?),
-        ["take", role, groups @ ..] => lives::take(alloc, device, role_of(role)?, groups),
-        _ => {
-            let answer = read(alloc, &device, words)?;
-            Ok((answer, device))
-        }
+/// The calls that name a role.
+fn answer_as(
+    alloc: Global,
+    slot: &mut Option<SimPmem>,
+    call: &str,
+    role: &str,
+    words: &[&str],
+) -> Result<String, Cause> {
+    let role = role_of(role)?;
+    match call {
+        "format" if words.is_empty() => format(alloc, slot, role),
+        "reopen" | "clear" => lives::answer_engine(alloc, slot, call, role, words),
+        "rebuild" | "free" | "take" => lives::answer_node(alloc, slot, call, role, words),
+        _ => Err(Cause::NoCall),
     }
 }
 
@@ -43,23 +48,17 @@ fn role_of(word: &str) -> Result<Role, Cause> {
     }
 }
 
-fn format(alloc: Global, device: SimPmem, role: Role) -> Result<(String, SimPmem), Cause> {
+fn format(alloc: Global, slot: &mut Option<SimPmem>, role: Role) -> Result<String, Cause> {
+    let device = slot.take().ok_or(Cause::NotMade)?;
     match WblEngine::format(device, role) {
         Ok(engine) => {
-            let device = engine.into_device();
-            Ok((done(alloc)?, device))
+            *slot = Some(engine.into_device());
+            done(alloc)
         }
-        Err((refusal, device)) => Ok((refused(alloc, refusal)?, device)),
-    }
-}
-
-/// The calls that store nothing.
-fn read(alloc: Global, device: &SimPmem, words: &[&str]) -> Result<String, Cause> {
-    match words {
-        ["inspect"] => inspect_text(alloc, device),
-        ["current"] => current_text(alloc, device),
-        ["versions"] => read_versions_text(alloc, device),
-        _ => Err(Cause::NoCall),
+        Err((refusal, device)) => {
+            *slot = Some(device);
+            refused(alloc, refusal)
+        }
     }
 }
 

@@ -28,18 +28,41 @@ impl FileProbe {
     {
         match words {
             ["open", path] => self.keep(alloc, FilePmem::open(rt, path)),
-            ["create", path, lines] => match lines.parse::<u64>() {
-                Ok(lines) => self.keep(alloc, FilePmem::create(rt, path, lines)),
-                Err(_) => Ok(None),
-            },
-            ["close"] => {
-                self.device = None;
-                told(alloc, "done")
-            }
-            _ => match self.device.as_mut() {
-                Some(device) => call(alloc, device, words),
-                None => Ok(None),
-            },
+            ["create", path, lines] => self.create(rt, alloc, path, lines),
+            ["close"] => self.close(alloc),
+            _ => self.call(alloc, words),
+        }
+    }
+
+    fn create(
+        &mut self,
+        rt: &HostRuntime,
+        alloc: Global,
+        path: &str,
+        lines: &str,
+    ) -> Result<Option<String>, AllocError>
+        ensures { IfOk result (λ answer. IfNone answer (self.new ≡ self.old)) }
+    {
+        match lines.parse::<u64>() {
+            Ok(lines) => self.keep(alloc, FilePmem::create(rt, path, lines)),
+            Err(_) => Ok(None),
+        }
+    }
+
+    fn close(&mut self, alloc: Global) -> Result<Option<String>, AllocError>
+        ensures { IfOk result (λ answer. IsSome answer) }
+    {
+        self.device = None;
+        told(alloc, "done")
+    }
+
+    /// A call of the open device, or nothing where none is open or it is no call, and then nothing was done.
+    fn call(&mut self, alloc: Global, words: &[&str]) -> Result<Option<String>, AllocError>
+        ensures { IfOk result (λ answer. IfNone answer (self.new ≡ self.old)) }
+    {
+        match self.device.as_mut() {
+            Some(device) => call(alloc, device, words),
+            None => Ok(None),
         }
     }
 

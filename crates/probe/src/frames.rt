@@ -21,16 +21,21 @@ use wbl_engine::{Durable, WblEngine};
 pub fn answer(alloc: Global, words: &[&str]) -> Result<String, Cause> {
     match words {
         ["take", epoch, before, after, words @ ..] => {
-            let frame = Frame {
-                epoch: number(epoch)?,
-                before: number(before)?,
-                after: number(after)?,
-                changes: changes(alloc, words)?,
-            };
+            let frame = frame_of(alloc, [epoch, before, after], words)?;
             answer_to(alloc, &frame)
         }
         _ => Err(Cause::NoCall),
     }
+}
+
+fn frame_of(alloc: Global, numbers: [&str; 3], words: &[&str]) -> Result<Frame, Cause> {
+    let [epoch, before, after] = numbers;
+    Ok(Frame {
+        epoch: number(epoch)?,
+        before: number(before)?,
+        after: number(after)?,
+        changes: changes(alloc, words)?,
+    })
 }
 
 /// What a new standby answers to a frame, and what its image holds then.
@@ -42,12 +47,20 @@ fn answer_to(alloc: Global, frame: &Frame) -> Result<String, Cause> {
     match new_engine(alloc) {
         Ok(engine) => {
             let (answer, device) = take(alloc, engine, ListKeyspace::new(alloc), room, frame);
-            let answer = ack_text(alloc, answer)?;
-            let contents = device_text(alloc, &device)?;
-            Ok(format!(in alloc; "{answer}, {contents}")?)
+            answer_text(alloc, answer, &device)
         }
         Err(refusal) => refused(alloc, refusal),
     }
+}
+
+fn answer_text(
+    alloc: Global,
+    answer: Result<Ack, Refusal>,
+    device: &SimPmem,
+) -> Result<String, Cause> {
+    let answer = ack_text(alloc, answer)?;
+    let contents = device_text(alloc, device)?;
+    Ok(format!(in alloc; "{answer}, {contents}")?)
 }
 
 fn ack_text(alloc: Global, answer: Result<Ack, Refusal>) -> Result<String, Cause> {

@@ -3,6 +3,7 @@ ghost use Rattle.std.specs.Prelude.{◌≡◌, ◌<◌, IfOk, OnOk};
 
 use crate::answers::{done, refused};
 use crate::cause::Cause;
+use crate::probe::made;
 use crate::words::number;
 use extent_heap::ExtentHeap;
 use kv_types::Refusal;
@@ -15,27 +16,44 @@ pub struct HeapProbe {
 
 impl HeapProbe {
     pub fn answer(&mut self, alloc: Global, words: &[&str]) -> Result<String, Cause> {
-        if let ["new", first, end, entries] = words {
-            return match ExtentHeap::new(alloc, number(first)?, number(end)?, number(entries)?) {
-                Ok(heap) => {
-                    self.heap = Some(heap);
-                    done(alloc)
-                }
-                Err(refusal) => refused(alloc, refusal),
-            };
-        }
-        let heap = self.heap.as_mut().ok_or(Cause::NotMade)?;
         match words {
-            ["free"] => Ok(heap.free_lines().to_string(alloc)?),
-            ["take", lines] => take(alloc, heap, lines_of(lines)?),
-            ["take-entry"] => take_entry(alloc, heap),
-            ["take-and-give", first, second] => {
-                let given = take_and_give(heap, lines_of(first)?, lines_of(second)?);
-                given_text(alloc, given)
+            ["new", first, end, entries] => {
+                let heap = ExtentHeap::new(alloc, number(first)?, number(end)?, number(entries)?);
+                self.keep(alloc, heap)
             }
-            ["take-and-give-entry"] => given_text(alloc, take_and_give_entry(heap)),
-            _ => Err(Cause::NoCall),
+            _ => answer_of(alloc, made(&mut self.heap)?, words),
         }
+    }
+
+    fn keep(&mut self, alloc: Global, heap: Result<ExtentHeap, Refusal>) -> Result<String, Cause> {
+        match heap {
+            Ok(heap) => {
+                self.heap = Some(heap);
+                done(alloc)
+            }
+            Err(refusal) => refused(alloc, refusal),
+        }
+    }
+}
+
+fn answer_of(alloc: Global, heap: &mut ExtentHeap, words: &[&str]) -> Result<String, Cause> {
+    match words {
+        ["free"] => Ok(heap.free_lines().to_string(alloc)?),
+        ["take", lines] => take(alloc, heap, lines_of(lines)?),
+        ["take-entry"] => take_entry(alloc, heap),
+        ["take-and-give", words @ ..] => give_back(alloc, heap, words),
+        ["take-and-give-entry"] => given_text(alloc, take_and_give_entry(heap)),
+        _ => Err(Cause::NoCall),
+    }
+}
+
+fn give_back(alloc: Global, heap: &mut ExtentHeap, words: &[&str]) -> Result<String, Cause> {
+    match words {
+        [first, second] => {
+            let given = take_and_give(heap, lines_of(first)?, lines_of(second)?);
+            given_text(alloc, given)
+        }
+        _ => Err(Cause::NoCall),
     }
 }
 

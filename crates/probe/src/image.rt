@@ -1,6 +1,7 @@
 //! The words of an image, as the plain reader reads them.
 use crate::answers::{done, none};
 use crate::cause::Cause;
+use crate::probe::made;
 use crate::records::records_text;
 use crate::words::{number, pairs};
 use model::{ImageContents, read_image};
@@ -16,24 +17,32 @@ pub struct ImageProbe {
 
 impl ImageProbe {
     pub fn answer(&mut self, alloc: Global, words: &[&str]) -> Result<String, Cause> {
-        if let ["new", lines] = words {
-            self.words = Some(zeros(alloc, number(lines)?)?);
-            return done(alloc);
-        }
-        let image = self.words.as_mut().ok_or(Cause::NotMade)?;
         match words {
-            ["set", words @ ..] => {
-                set(image, &pairs(alloc, words)?)?;
-                done(alloc)
-            }
-            ["read"] => contents_text(alloc, read_image(alloc, image)?),
-            ["counts", stamp] => counts(alloc, image, number(stamp)?),
-            _ => Err(Cause::NoCall),
+            ["new", lines] => self.make(alloc, lines),
+            words => answer_of(alloc, made(&mut self.words)?, words),
         }
+    }
+
+    fn make(&mut self, alloc: Global, lines: &str) -> Result<String, Cause> {
+        self.words = Some(zeros(alloc, lines)?);
+        done(alloc)
     }
 }
 
-fn zeros(alloc: Global, lines: u64) -> Result<Vec<u64>, Cause> {
+fn answer_of(alloc: Global, image: &mut Vec<u64>, words: &[&str]) -> Result<String, Cause> {
+    match words {
+        ["set", words @ ..] => {
+            set(image, &pairs(alloc, words)?)?;
+            done(alloc)
+        }
+        ["read"] => contents_text(alloc, read_image(alloc, image)?),
+        ["counts", stamp] => counts(alloc, image, number(stamp)?),
+        _ => Err(Cause::NoCall),
+    }
+}
+
+fn zeros(alloc: Global, lines: &str) -> Result<Vec<u64>, Cause> {
+    let lines = number(lines)?;
     if lines > MOST_LINES {
         return Err(Cause::OutOfRange);
     }

@@ -21,6 +21,6 @@ fn read(alloc: Global, text: &str) -> Result<String, Cause> {
 }
 
 fn write(alloc: Global, number: &str) -> Result<String, Cause> {
-    let number = number.parse::<i64>().map_err(|_| Cause::NotNumber)?;
+    let number = number.parse::<i64>().ok().ok_or(Cause::NotNumber)?;
     Ok(hexed(alloc, &write_int(alloc, number)?)?)
 }

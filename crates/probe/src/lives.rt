@@ -12,7 +12,7 @@ use crate::cause::Cause;
 use crate::versions::{
     add_pair, entries_text, record_text, take_entries, take_lines, versions_text,
 };
-use crate::words::{changes, record_id};
+use crate::words::{changes, listed, number, record_id};
 use cmd_core::Lookup;
 use extent_heap::ExtentHeap;
 use kv_types::{EntryNo, RecordId, Refusal};
@@ -24,22 +24,81 @@ use standby::{Frame, Standby};
 use std::alloc::Global;
 use wbl_engine::{Durable, Freed, Versions, WblEngine};
 
-/// What a call answered, and the device.
-pub type Answered = Result<(String, SimPmem), Cause>;
-
 type Engine = WblEngine<SimPmem>;
 
 type Node = Standby<Engine, ListKeyspace>;
 
-/// The record that is written then, and all versions; or the refusal.
-pub fn reopen(alloc: Global, device: SimPmem, role: Role) -> Answered {
+/// Makes a call over an engine that is opened again.
+pub fn answer_engine(
+    alloc: Global,
+    slot: &mut Option<SimPmem>,
+    call: &str,
+    role: Role,
+    words: &[&str],
+) -> Result<String, Cause> {
+    let device = slot.take().ok_or(Cause::NotMade)?;
     match crash_and_reopen(alloc, device, role) {
         Ok((engine, versions)) => {
-            let answer = opened_text(alloc, &engine, &versions);
-            let device = engine.into_device();
-            Ok((answer?, device))
+            let mut engine = engine;
+            let answer = ask_engine(alloc, &mut engine, &versions, call, words);
+            *slot = Some(engine.into_device());
+            answer
         }
-        Err((refusal, device)) => Ok((refused(alloc, refusal)?, device)),
+        Err((refusal, device)) => {
+            *slot = Some(device);
+            refused(alloc, refusal)
+        }
+    }
+}
+
+fn ask_engine(
+    alloc: Global,
+    engine: &mut Engine,
+    versions: &Versions,
+    call: &str,
+    words: &[&str],
+) -> Result<String, Cause> {
+    match (call, words) {
+        ("reopen", []) => opened_text(alloc, engine, versions),
+        ("clear", [times]) => clear_gaps(alloc, engine, number(times)?),
+        _ => Err(Cause::NoCall),
+    }
+}
+
+/// Makes a call over an engine that is opened again, with what a node keeps in memory.
+pub fn answer_node(
+    alloc: Global,
+    slot: &mut Option<SimPmem>,
+    call: &str,
+    role: Role,
+    words: &[&str],
+) -> Result<String, Cause> {
+    let device = slot.take().ok_or(Cause::NotMade)?;
+    match wake(alloc, device, role) {
+        Ok(node) => {
+            let mut node = node;
+            let answer = ask_node(alloc, &mut node, call, words);
+            *slot = Some(node.into_device());
+            answer
+        }
+        Err((refusal, device)) => {
+            *slot = Some(device);
+            refused(alloc, refusal)
+        }
+    }
+}
+
+fn ask_node(alloc: Global, node: &mut Node, call: &str, words: &[&str]) -> Result<String, Cause>
+    requires follows { Follows (⟦<WblEngine<SimPmem> as Durable>⟧.contents node.old.engine)
+        (⟦<ListKeyspace as Keyspace>⟧.table node.old.keyspace) node.old.heap node.old.ended.items }
+    requires durable { IsDurable (⟦<WblEngine<SimPmem> as Durable>⟧.device node.old.engine) (⟦<WblEngine<SimPmem> as Durable>⟧.contents node.old.engine) }
+    requires sound { ⟦<WblEngine<SimPmem> as Durable>⟧.is_faulted node.old.engine ≡ false }
+{
+    match (call, words) {
+        ("rebuild", ids) => rebuilt_text(alloc, node, ids),
+        ("free", [count]) => free(alloc, node, number(count)?),
+        ("take", groups) => take_groups(alloc, node, groups),
+        _ => Err(Cause::NoCall),
     }
 }
 
@@ -59,25 +118,14 @@ fn crash_and_reopen(
     WblEngine::reopen(alloc, device, role)
 }
 
+/// The record that was written, and all versions.
 fn opened_text(alloc: Global, engine: &Engine, versions: &Versions) -> Result<String, Cause> {
     let current = record_text(alloc, engine.record())?;
     let versions = versions_text(alloc, versions)?;
     Ok(format!(in alloc; "{current} / {versions}")?)
 }
 
-/// Clears gaps, the oldest first: what each call has made free, and the record then; or the refusal.
-pub fn clear(alloc: Global, device: SimPmem, role: Role, times: u64) -> Answered {
-    match crash_and_reopen(alloc, device, role) {
-        Ok((engine, _)) => {
-            let mut engine = engine;
-            let answer = clear_gaps(alloc, &mut engine, times);
-            let device = engine.into_device();
-            Ok((answer?, device))
-        }
-        Err((refusal, device)) => Ok((refused(alloc, refusal)?, device)),
-    }
-}
-
+/// Clears gaps, the oldest first: what each call has made free, or its refusal, and the record then.
 fn clear_gaps(alloc: Global, engine: &mut Engine, times: u64) -> Result<String, Cause> {
     let mut answer = String::new(alloc);
     for _ in 0..times {
@@ -92,15 +140,17 @@ fn clear_gaps(alloc: Global, engine: &mut Engine, times: u64) -> Result<String, 
 /// The entries that a call has made free, and each extent as `LINE=LINES`; or the refusal.
 fn freed_text(alloc: Global, freed: Result<Freed, Refusal>) -> Result<String, Cause> {
     match freed {
-        Ok(freed) => {
-            let mut answer = entries_text(alloc, &freed.entries)?;
-            for extent in freed.extents.iter() {
-                add_pair(alloc, &mut answer, extent.first_line, extent.lines)?;
-            }
-            Ok(answer)
-        }
+        Ok(freed) => all_freed_text(alloc, &freed),
         Err(refusal) => refused(alloc, refusal),
     }
+}
+
+fn all_freed_text(alloc: Global, freed: &Freed) -> Result<String, Cause> {
+    let mut answer = entries_text(alloc, &freed.entries)?;
+    for extent in freed.extents.iter() {
+        add_pair(alloc, &mut answer, extent.first_line, extent.lines)?;
+    }
+    Ok(answer)
 }
 
 /// Crashes and opens the image again, with what a node keeps in memory.
@@ -131,41 +181,26 @@ fn wake(alloc: Global, device: SimPmem, role: Role) -> Result<Node, (Refusal, Si
 }
 
 /// What a node keeps in memory: how many records and how many keys, the value of each of these records, the runs of free lines and of free
-/// entries, and the entries of versions that have ended; or the refusal.
-pub fn rebuild(alloc: Global, device: SimPmem, role: Role, ids: &[&str]) -> Answered {
-    let entries = device.lines() / 8;
-    match wake(alloc, device, role) {
-        Ok(node) => {
-            let Standby {
-                engine,
-                keyspace,
-                heap,
-                ended,
-            } = node;
-            let device = engine.into_device();
-            let records = keyspace_text(alloc, &keyspace, ids)?;
-            let room = room_text(alloc, heap, entries)?;
-            let ended = entries_text(alloc, &ended)?;
-            Ok((format!(in alloc; "{records} / {room} / {ended}")?, device))
-        }
-        Err((refusal, device)) => Ok((refused(alloc, refusal)?, device)),
-    }
+/// entries, all of which are taken, and the entries of versions that have ended.
+fn rebuilt_text(alloc: Global, node: &mut Node, ids: &[&str]) -> Result<String, Cause> {
+    let entries = node.engine.lines() / 8;
+    let records = keyspace_text(alloc, &node.keyspace, ids)?;
+    let room = room_text(alloc, &mut node.heap, entries)?;
+    let ended = entries_text(alloc, &node.ended)?;
+    Ok(format!(in alloc; "{records} / {room} / {ended}")?)
 }
 
 fn keyspace_text(alloc: Global, keyspace: &ListKeyspace, ids: &[&str]) -> Result<String, Cause> {
     let mut answer = format!(in alloc; "{} {}", keyspace.len(), keyspace.count_keys())?;
     for id in ids {
-        add_word(
-            &mut answer,
-            &value_text(alloc, keyspace, &record_id(alloc, id)?)?,
-        )?;
+        add_word(&mut answer, &value_text(alloc, keyspace, id)?)?;
     }
     Ok(answer)
 }
 
 /// The value of a record as BYTES, or `none`.
-fn value_text(alloc: Global, keyspace: &ListKeyspace, id: &RecordId) -> Result<String, Cause> {
-    let found = match id {
+fn value_text(alloc: Global, keyspace: &ListKeyspace, id: &str) -> Result<String, Cause> {
+    let found = match &record_id(alloc, id)? {
         RecordId::Str(key) => keyspace.string(key.as_slice()),
         RecordId::Field(key, field) => keyspace.field(key.as_slice(), field.as_slice()),
     };
@@ -175,39 +210,31 @@ fn value_text(alloc: Global, keyspace: &ListKeyspace, id: &RecordId) -> Result<S
     }
 }
 
-fn room_text(alloc: Global, heap: ExtentHeap, entries: u64) -> Result<String, Cause> {
-    let mut heap = heap;
-    let lines = take_lines(alloc, &mut heap)?;
-    let entries = take_entries(alloc, &mut heap, entries)?;
+fn room_text(alloc: Global, heap: &mut ExtentHeap, entries: u64) -> Result<String, Cause> {
+    let lines = take_lines(alloc, heap)?;
+    let entries = take_entries(alloc, heap, entries)?;
     Ok(format!(in alloc; "{lines} / {entries}")?)
 }
 
-/// Frees the first `count` entries of versions that have ended: what the call has made free, and the record then; or the refusal.
-pub fn free(alloc: Global, device: SimPmem, role: Role, count: u64) -> Answered {
-    match wake(alloc, device, role) {
-        Ok(node) => {
-            let mut engine = node.engine;
-            let freed = free_first(alloc, &mut engine, node.ended, count);
-            let answer = freed_and_record_text(alloc, freed, &engine);
-            let device = engine.into_device();
-            Ok((answer?, device))
-        }
-        Err((refusal, device)) => Ok((refused(alloc, refusal)?, device)),
-    }
+/// Frees the first `count` entries of versions that have ended: what the call has made free or its refusal, and the record then.
+fn free(alloc: Global, node: &mut Node, count: u64) -> Result<String, Cause>
+    requires { AreEnded (⟦<WblEngine<SimPmem> as Durable>⟧.contents node.old.engine) node.old.ended.items }
+{
+    let freed = free_first(alloc, &mut node.engine, &mut node.ended, count);
+    freed_and_record_text(alloc, freed, &node.engine)
 }
 
-/// Frees the first `count` of these entries.
+/// Frees the first `count` of these entries, and leaves the others out.
 fn free_first<E: Durable>(
     alloc: Global,
     engine: &mut E,
-    ended: Vec<EntryNo>,
+    ended: &mut Vec<EntryNo>,
     count: u64,
 ) -> Result<Freed, Refusal>
-    requires { AreEnded (E.contents engine.old) ended.items }
+    requires { AreEnded (E.contents engine.old) ended.old.items }
 {
-    let mut ended = ended;
     ended.truncate(count as usize);
-    engine.free(alloc, &ended)
+    engine.free(alloc, ended)
 }
 
 fn freed_and_record_text(
@@ -221,18 +248,6 @@ fn freed_and_record_text(
 }
 
 /// Takes groups, each one position on: the record then, or the first refusal.
-pub fn take(alloc: Global, device: SimPmem, role: Role, groups: &[&str]) -> Answered {
-    match wake(alloc, device, role) {
-        Ok(node) => {
-            let mut node = node;
-            let answer = take_groups(alloc, &mut node, groups);
-            let device = node.into_device();
-            Ok((answer?, device))
-        }
-        Err((refusal, device)) => Ok((refused(alloc, refusal)?, device)),
-    }
-}
-
 fn take_groups<E: Durable, K: Keyspace>(
     alloc: Global,
     node: &mut Standby<E, K>,
@@ -253,11 +268,11 @@ fn take_groups<E: Durable, K: Keyspace>(
 
 /// The frame that comes after a position, with these changes, between which are commas.
 fn next_frame(alloc: Global, epoch: u64, before: u64, group: &str) -> Result<Frame, Cause> {
-    let words: Vec<&str> = group.split(',').collect(alloc)?;
+    let changes = changes(alloc, &listed(alloc, group)?)?;
     Ok(Frame {
         epoch,
         before,
         after: before.saturating_add(1),
-        changes: changes(alloc, &words)?,
+        changes,
     })
 }

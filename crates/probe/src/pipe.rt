@@ -1,9 +1,10 @@
 //! Two pipes within one thread.
 use crate::answers::{done, none};
 use crate::cause::Cause;
+use crate::probe::made;
 use crate::words::number;
 use pipes::{Inlet, LocalPipe, Outlet};
-use std::alloc::Global;
+use std::alloc::{AllocError, Global};
 
 #[derive(Default, Drop)]
 pub struct PipeProbe {
@@ -18,26 +19,41 @@ struct Pipes {
 
 impl PipeProbe {
     pub fn answer(&mut self, alloc: Global, words: &[&str]) -> Result<String, Cause> {
-        if let ["new"] = words {
-            self.pipes = Some(Pipes {
-                first: LocalPipe::new(alloc)?,
-                second: LocalPipe::new(alloc)?,
-            });
-            return done(alloc);
-        }
-        let pipes = self.pipes.as_mut().ok_or(Cause::NotMade)?;
         match words {
-            ["offer", item] => offer(alloc, &mut pipes.first, number(item)?),
-            ["take"] => take(alloc, &mut pipes.first),
-            ["room"] => Ok(pipes.first.room().to_string(alloc)?),
-            ["counts"] => {
-                let count = pipes.first.len();
-                Ok(format!(in alloc; "{count} {}", pipes.first.is_empty())?)
-            }
-            ["pass"] => Ok(pass(&mut pipes.first, &mut pipes.second).to_string(alloc)?),
-            ["take-passed"] => take(alloc, &mut pipes.second),
-            _ => Err(Cause::NoCall),
+            ["new"] => self.make(alloc),
+            words => answer_of(alloc, made(&mut self.pipes)?, words),
         }
+    }
+
+    fn make(&mut self, alloc: Global) -> Result<String, Cause> {
+        self.pipes = Some(new_pipes(alloc)?);
+        done(alloc)
+    }
+}
+
+fn new_pipes(alloc: Global) -> Result<Pipes, AllocError> {
+    Ok(Pipes {
+        first: LocalPipe::new(alloc)?,
+        second: LocalPipe::new(alloc)?,
+    })
+}
+
+fn answer_of(alloc: Global, pipes: &mut Pipes, words: &[&str]) -> Result<String, Cause> {
+    match words {
+        ["offer", item] => offer(alloc, &mut pipes.first, number(item)?),
+        ["take"] => take(alloc, &mut pipes.first),
+        ["take-passed"] => take(alloc, &mut pipes.second),
+        ["pass"] => Ok(pass(&mut pipes.first, &mut pipes.second).to_string(alloc)?),
+        _ => count(alloc, &mut pipes.first, words),
+    }
+}
+
+/// How much room a pipe has, or how many items and whether none.
+fn count(alloc: Global, pipe: &mut LocalPipe<u64>, words: &[&str]) -> Result<String, Cause> {
+    match words {
+        ["room"] => Ok(pipe.room().to_string(alloc)?),
+        ["counts"] => Ok(format!(in alloc; "{} {}", pipe.len(), pipe.is_empty())?),
+        _ => Err(Cause::NoCall),
     }
 }
 

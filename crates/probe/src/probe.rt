@@ -53,3 +53,8 @@ fn answer_alone(alloc: Global, subject: &str, words: &[&str]) -> Result<String, 
         _ => texts::answer(alloc, subject, words),
     }
 }
+
+/// What an earlier line made.
+pub fn made<T>(slot: &mut Option<T>) -> Result<&mut T, Cause> {
+    slot.as_mut().ok_or(Cause::NotMade)
+}

@@ -28,7 +28,11 @@ fn read(alloc: Global, pieces: &[&str]) -> Result<String, Cause> {
 }
 
 fn feed(parser: &mut ReplyParser, piece: Bytes) -> Result<(), Cause> {
-    parser.feed(piece).map_err(|_| Cause::Memory)
+    parser.feed(piece).ok().ok_or(Cause::Memory)
+}
+
+fn next_item(parser: &mut ReplyParser) -> Result<Option<ReplyItem>, Cause> {
+    parser.next().ok().ok_or(Cause::Memory)
 }
 
 /// Adds a word for each item that is ahead.
@@ -42,12 +46,19 @@ fn add_items(alloc: Global, parser: &mut ReplyParser, answer: &mut String) -> Re
     Ok(())
 }
 
-/// The next item, if it is ahead: a reply's bytes, or `fault`.
+/// The next item, if it is ahead.
 fn next_text(alloc: Global, parser: &mut ReplyParser) -> Result<Option<String>, Cause> {
-    match parser.next().map_err(|_| Cause::Memory)? {
+    match next_item(parser)? {
         None => Ok(None),
-        Some(ReplyItem::Fault) => Ok(Some(word(alloc, "fault")?)),
-        Some(ReplyItem::Reply(reply)) => Ok(Some(reply_text(alloc, &reply)?)),
+        Some(item) => Ok(Some(item_text(alloc, &item)?)),
+    }
+}
+
+/// A reply's bytes, or `fault`.
+fn item_text(alloc: Global, item: &ReplyItem) -> Result<String, Cause> {
+    match item {
+        ReplyItem::Fault => word(alloc, "fault"),
+        ReplyItem::Reply(reply) => reply_text(alloc, reply),
     }
 }
 
@@ -65,7 +76,7 @@ fn within(alloc: Global, most: usize, text: Bytes) -> Result<String, Cause> {
 fn write_clones<B: BufMut>(parser: &mut ReplyParser, out: &mut B) -> Result<bool, Cause> {
     let mut is_whole = true;
     for _ in 0..u64::MAX {
-        let Some(ReplyItem::Reply(reply)) = parser.next().map_err(|_| Cause::Memory)? else {
+        let Some(ReplyItem::Reply(reply)) = next_item(parser)? else {
             break;
         };
         is_whole &= write_clone(&reply, out)?;

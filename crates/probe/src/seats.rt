@@ -1,6 +1,7 @@
 //! All seats, and a lobby with those that it gave out.
 use crate::answers::{add_number, done, refused};
 use crate::cause::Cause;
+use crate::probe::made;
 use crate::words::number;
 use lobby::{Lobby, Seat};
 use std::alloc::Global;
@@ -27,27 +28,34 @@ struct House {
 
 impl LobbyProbe {
     pub fn answer(&mut self, alloc: Global, words: &[&str]) -> Result<String, Cause> {
-        if let ["new"] = words {
-            return match Lobby::new(alloc) {
-                Ok(lobby) => {
-                    let taken = Vec::new(alloc);
-                    self.house = Some(House { lobby, taken });
-                    done(alloc)
-                }
-                Err(refusal) => refused(alloc, refusal),
-            };
-        }
-        let house = self.house.as_mut().ok_or(Cause::NotMade)?;
         match words {
-            ["enter"] => house.enter(alloc),
-            ["leave", number_of_seat] => house.leave(alloc, number(number_of_seat)?),
-            ["leave-stranger"] => house.leave_stranger(alloc),
-            _ => Err(Cause::NoCall),
+            ["new"] => self.make(alloc),
+            words => made(&mut self.house)?.answer(alloc, words),
+        }
+    }
+
+    fn make(&mut self, alloc: Global) -> Result<String, Cause> {
+        match Lobby::new(alloc) {
+            Ok(lobby) => {
+                let taken = Vec::new(alloc);
+                self.house = Some(House { lobby, taken });
+                done(alloc)
+            }
+            Err(refusal) => refused(alloc, refusal),
         }
     }
 }
 
 impl House {
+    fn answer(&mut self, alloc: Global, words: &[&str]) -> Result<String, Cause> {
+        match words {
+            ["enter"] => self.enter(alloc),
+            ["leave", seat] => self.leave(alloc, number(seat)?),
+            ["leave-stranger"] => self.leave_stranger(alloc),
+            _ => Err(Cause::NoCall),
+        }
+    }
+
     /// Gives out a seat, and answers its number.
     fn enter(&mut self, alloc: Global) -> Result<String, Cause> {
         match self.lobby.enter() {

@@ -1,9 +1,9 @@
 //! Texts of refusals, protocol faults and events; copies of items; and laws.
-use crate::answers::{add_word, done, hexed};
+use crate::answers::{add_bytes, add_word, done, hexed};
 use crate::cause::Cause;
 use crate::seats;
 use crate::words::{bytes, fault, item, number};
-use kv_types::{Item, Refusal};
+use kv_types::{Item, ProtocolFault, Refusal, Request};
 use machine::{Event, Mark};
 use std::alloc::Global;
 
@@ -30,12 +30,9 @@ const REFUSALS: [Refusal; 16] = [
 pub fn answer(alloc: Global, subject: &str, words: &[&str]) -> Result<String, Cause> {
     match (subject, words) {
         ("refusals", []) => refusals(alloc),
-        ("fault", [kind]) => Ok(hexed(alloc, &fault(kind)?.message(alloc)?)?),
+        ("fault", [kind]) => fault_text(alloc, fault(kind)?),
         ("item", words) => copy(alloc, item(alloc, words)?),
-        ("event", words) => {
-            let event = event(alloc, words)?;
-            Ok(format!(in alloc; "{event:?}")?)
-        }
+        ("event", words) => event_text(alloc, &event(alloc, words)?),
         ("seats", []) => seats::all(alloc),
         ("laws", []) => {
             call_laws();
@@ -43,6 +40,14 @@ pub fn answer(alloc: Global, subject: &str, words: &[&str]) -> Result<String, Ca
         }
         _ => Err(Cause::NoCall),
     }
+}
+
+fn fault_text(alloc: Global, fault: ProtocolFault) -> Result<String, Cause> {
+    Ok(hexed(alloc, &fault.message(alloc)?)?)
+}
+
+fn event_text(alloc: Global, event: &Event) -> Result<String, Cause> {
+    Ok(format!(in alloc; "{event:?}")?)
 }
 
 /// The name, the number and the text of each refusal.
@@ -62,24 +67,34 @@ fn refusals(alloc: Global) -> Result<String, Cause> {
 fn copy(alloc: Global, item: Item) -> Result<String, Cause> {
     match item.clone()? {
         Item::Fault(fault) => Ok(format!(in alloc; "{fault:?}")?),
-        Item::Request(request) => {
-            let mut answer = String::new(alloc);
-            for word in request.words() {
-                add_word(&mut answer, &hexed(alloc, word)?)?;
-            }
-            Ok(answer)
-        }
+        Item::Request(request) => { request_text(alloc, &request) }
     }
+}
+
+fn request_text(alloc: Global, request: &Request) -> Result<String, Cause> {
+    let mut answer = String::new(alloc);
+    for word in request.words() {
+        add_bytes(alloc, &mut answer, word)?;
+    }
+    Ok(answer)
 }
 
 fn event(alloc: Global, words: &[&str]) -> Result<Event, Cause> {
     match words {
         ["enter"] => Ok(Event::Enter),
         ["feed", connection, piece] => Ok(Event::Feed(number(connection)?, bytes(alloc, piece)?)),
-        ["read", connection, "local"] => Ok(Event::Read(number(connection)?, Mark::Local)),
-        ["read", connection, "remote"] => Ok(Event::Read(number(connection)?, Mark::Remote)),
-        ["write", connection, count] => Ok(Event::Write(number(connection)?, number(count)?)),
         ["leave", connection] => Ok(Event::Leave(number(connection)?)),
+        [call, connection, word] => reading(call, number(connection)?, word),
+        _ => Err(Cause::NotWord),
+    }
+}
+
+/// A connection reads a mark, or writes.
+fn reading(call: &str, connection: u64, word: &str) -> Result<Event, Cause> {
+    match (call, word) {
+        ("read", "local") => Ok(Event::Read(connection, Mark::Local)),
+        ("read", "remote") => Ok(Event::Read(connection, Mark::Remote)),
+        ("write", count) => Ok(Event::Write(connection, number(count)?)),
         _ => Err(Cause::NotWord),
     }
 }

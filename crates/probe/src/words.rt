@@ -1,4 +1,7 @@
 //! What the words of a line say.
+ghost use Rattle.std.specs.Prelude.{◌≤◌, length, IfOk};
+ghost use Rattle.kv_types.specs.declared.limits.TheConstants.{REQUEST_LIMITS};
+
 use crate::cause::Cause;
 use bytes::Bytes;
 use hex::FromHexError;
@@ -6,7 +9,7 @@ use kv_types::{Change, Item, Key, ProtocolFault, REQUEST_LIMITS, RecordId, Reque
 use std::alloc::Global;
 
 pub fn number(word: &str) -> Result<u64, Cause> {
-    word.parse::<u64>().map_err(|_| Cause::NotNumber)
+    word.parse::<u64>().ok().ok_or(Cause::NotNumber)
 }
 
 pub fn numbers(alloc: Global, words: &[&str]) -> Result<Vec<u64>, Cause> {
@@ -21,10 +24,19 @@ pub fn numbers(alloc: Global, words: &[&str]) -> Result<Vec<u64>, Cause> {
 pub fn pairs(alloc: Global, words: &[&str]) -> Result<Vec<(u64, u64)>, Cause> {
     let mut pairs = Vec::new(alloc);
     for word in words {
-        let (left, right) = word.split_once('=').ok_or(Cause::NotWord)?;
-        pairs.push((number(left)?, number(right)?))?;
+        pairs.push(pair(word)?)?;
     }
     Ok(pairs)
+}
+
+fn pair(word: &str) -> Result<(u64, u64), Cause> {
+    let (left, right) = word.split_once('=').ok_or(Cause::NotWord)?;
+    Ok((number(left)?, number(right)?))
+}
+
+/// The words between the commas of a word.
+pub fn listed<'a>(alloc: Global, word: &'a str) -> Result<Vec<&'a str>, Cause> {
+    Ok(word.split(',').collect(alloc)?)
 }
 
 /// Bytes in hexadecimal, `-` for none.
@@ -65,15 +77,17 @@ pub fn record_and_value(alloc: Global, word: &str) -> Result<(RecordId, Value), 
 pub fn change(alloc: Global, word: &str) -> Result<Change, Cause> {
     let (kind, rest) = word.split_once(':').unwrap_or((word, ""));
     match kind {
-        "put" => {
-            let (id, value) = record_and_value(alloc, rest)?;
-            Ok(Change::Put(id, value))
-        }
+        "put" => put(alloc, rest),
         "drop" => Ok(Change::Drop(record_id(alloc, rest)?)),
         "drop-key" => Ok(Change::DropKey(key(alloc, rest)?)),
         "clear" => Ok(Change::Clear),
         _ => Err(Cause::NotWord),
     }
+}
+
+fn put(alloc: Global, word: &str) -> Result<Change, Cause> {
+    let (id, value) = record_and_value(alloc, word)?;
+    Ok(Change::Put(id, value))
 }
 
 pub fn changes(alloc: Global, words: &[&str]) -> Result<Vec<Change>, Cause> {
@@ -100,13 +114,19 @@ pub fn request(alloc: Global, words: &[&str]) -> Result<Request, Cause> {
     }
     let mut copies = Vec::new(alloc);
     for word in words {
-        let copy = bytes(alloc, word)?;
-        if copy.len() as u64 > REQUEST_LIMITS.word_bytes {
-            return Err(Cause::OutOfRange);
-        }
-        copies.push(copy)?;
+        copies.push(request_word(alloc, word)?)?;
     }
     Ok(Request::new(copies))
+}
+
+fn request_word(alloc: Global, word: &str) -> Result<Bytes, Cause>
+    ensures { IfOk result (λ bytes. length bytes ≤ REQUEST_LIMITS.word_bytes) }
+{
+    let bytes = bytes(alloc, word)?;
+    if bytes.len() as u64 > REQUEST_LIMITS.word_bytes {
+        return Err(Cause::OutOfRange);
+    }
+    Ok(bytes)
 }
 
 /// `array`, `multibulk-length`, `bulk:BYTE`, `bulk-length` or `line-end`.
@@ -116,10 +136,12 @@ pub fn fault(word: &str) -> Result<ProtocolFault, Cause> {
         "multibulk-length" => Ok(ProtocolFault::InvalidMultibulkLength),
         "bulk-length" => Ok(ProtocolFault::InvalidBulkLength),
         "line-end" => Ok(ProtocolFault::ExpectedLineEnd),
-        _ => {
-            let byte = word.strip_prefix("bulk:").ok_or(Cause::NotWord)?;
-            let byte = u8::try_from(number(byte)?).map_err(|_| Cause::OutOfRange)?;
-            Ok(ProtocolFault::ExpectedBulk(byte))
-        }
+        _ => bulk_fault(word),
     }
+}
+
+fn bulk_fault(word: &str) -> Result<ProtocolFault, Cause> {
+    let byte = number(word.strip_prefix("bulk:").ok_or(Cause::NotWord)?)?;
+    let byte = u8::try_from(byte).ok().ok_or(Cause::OutOfRange)?;
+    Ok(ProtocolFault::ExpectedBulk(byte))
 }

@@ -6,4 +6,4 @@ use Rattle.probe.proofs.lives.free_first.Goals as goal
 pub free-requires : goal.free-requires
 free-requires g c =
     let contents = g.E.Durable.contents c.args.engine.now in
-    subst (AreEnded contents) (sym (c.deref.ensures.value ∙ c.truncate.ensures.items)) (ended_take contents c.args.count c.args.ended.items c.requires)
+    subst (AreEnded contents) (sym (c.deref.ensures.value ∙ c.truncate.ensures.items)) (ended_take contents c.args.count c.args.ended.now.items c.requires)
