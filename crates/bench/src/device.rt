@@ -87,23 +87,41 @@ fn run_round<P: Pmem>(
     Ok(())
 }
 
-/// Makes the calls of a load twice, so that the second round's stores overwrite the first's.
+/// Prints how many calls a round over the first `count` lines makes.
+fn print_calls(rt: &impl Print, device_lines: u32, count: u64) -> io::Result<()>
+    requires { count ≤ device_lines }
+{
+    println!(rt;
+        "device of {device_lines} lines: {} stores, {count} flushes, 1 fence",
+        WORDS_A_LINE * count
+    )
+}
+
+/// Makes the calls of a load twice, so that the second round's stores overwrite the first's. A load larger than the device is left out.
+fn run_rounds<P: Pmem>(
+    rt: &(impl Print + Clock),
+    device: &mut P,
+    load: Load,
+    timed: bool,
+) -> io::Result<()>
+    requires { (P.state device.old).lines ≡ load.device_lines }
+{
+    let count = u64::from(load.values) * u64::from(load.lines_a_value);
+    if count > device.lines() {
+        return Ok(());
+    }
+    print_calls(rt, load.device_lines, count)?;
+    run_round(rt, device, count, 1, timed)?;
+    run_round(rt, device, count, 2, timed)
+}
+
+/// Makes the calls of a load on a new device.
 pub fn time_device(
     rt: &(impl Print + Clock),
     alloc: Global,
     load: Load,
     timed: bool,
 ) -> io::Result<()> {
-    let count = u64::from(load.values) * u64::from(load.lines_a_value);
     let mut device = SimPmem::new(alloc, u64::from(load.device_lines))?;
-    if count > device.lines() {
-        return Ok(());
-    }
-    println!(rt;
-        "device of {} lines: {} stores, {count} flushes, 1 fence",
-        load.device_lines,
-        WORDS_A_LINE * count
-    )?;
-    run_round(rt, &mut device, count, 1, timed)?;
-    run_round(rt, &mut device, count, 2, timed)
+    run_rounds(rt, &mut device, load, timed)
 }

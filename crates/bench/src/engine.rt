@@ -6,6 +6,7 @@ ghost use Rattle.standby.specs.Following.{Follows};
 ghost use Rattle.wbl_engine.specs.Contents.{IsDurable, IsNew};
 
 use crate::counting::{Calls, CountingPmem};
+use crate::refused::print_refusal;
 use crate::sets::frame_of;
 use extent_heap::ExtentHeap;
 use kv_types::Refusal;
@@ -86,9 +87,9 @@ fn commit_rounds<E: Durable, K: Keyspace>(
 fn calls_after(alloc: Global, sets: u64, rounds: u64) -> Result<Calls, Refusal> {
     let mut node = new_node(alloc)?;
     let committed = commit_rounds(alloc, &mut node, sets, rounds);
-    let device = node.into_device();
+    let calls = node.into_device().calls();
     committed?;
-    Ok(device.calls())
+    Ok(calls)
 }
 
 /// The calls of a commit of new records, and those of one that overwrites them.
@@ -121,7 +122,7 @@ fn print_calls(rt: &impl Print, sets: u64, kind: &str, calls: Calls) -> io::Resu
 fn print_commits_of(rt: &impl Print, alloc: Global, sets: u64) -> io::Result<()> {
     let commits = match calls_of_commits(alloc, sets) {
         Ok(commits) => commits,
-        Err(refusal) => return println!(rt; "commit: refused: {refusal}"),
+        Err(refusal) => return print_refusal(rt, "commit", refusal),
     };
     print_calls(rt, sets, "new", commits.new)?;
     print_calls(rt, sets, "overwriting", commits.overwriting)

@@ -74,15 +74,18 @@ fn time_load(rt: &HostRuntime, device: &mut FilePmem, load: Load, rounds: u32) -
     Ok(())
 }
 
+/// Times each load over a device.
+fn time_loads(rt: &HostRuntime, device: &mut FilePmem, rounds: u32) -> io::Result<()> {
+    for load in LOADS {
+        time_load(rt, device, load, rounds)?;
+    }
+    Ok(())
+}
+
 /// Times each load over the file at a path, which is made where there is none.
 pub fn time_fences(rt: &HostRuntime, path: &str, rounds: u32) -> io::Result<()> {
     match FilePmem::create(rt, path, LINES) {
-        Ok(mut device) => {
-            for load in LOADS {
-                time_load(rt, &mut device, load, rounds)?;
-            }
-            Ok(())
-        }
+        Ok(mut device) => time_loads(rt, &mut device, rounds),
         Err(Refusal::Memory) => Err(io::ErrorKind::OutOfMemory.into()),
         Err(_) => Err(io::ErrorKind::Other.into()),
     }

@@ -1,12 +1,13 @@
 //! Extents that are taken among many free runs and given back.
 ghost use Rattle.std.specs.Prelude.{◌≡◌, ◌<◌, ◌≤◌, IfOk, OnOk};
 
+use crate::refused::print_refusal;
 use extent_heap::ExtentHeap;
 use kv_types::{Extent, Refusal};
 use std::alloc::Global;
 use std::io;
 use std::rt::Clock;
-use std::time::Instant;
+use std::time::{Duration, Instant};
 
 /// How many lines the longest run and the longest extent have.
 const LONGEST: u64 = 40;
@@ -90,30 +91,46 @@ fn spin(heap: &mut ExtentHeap, pairs: u32) -> Result<(), Refusal>
     Ok(())
 }
 
-/// Prints how many lines of a scattered heap are free before extents are taken and given back, and after.
+/// Prints how many lines are free after so many times, and how long that took.
+fn print_spun(
+    rt: &impl Print,
+    pairs: u32,
+    free_lines: u64,
+    time: Duration,
+    timed: bool,
+) -> io::Result<()> {
+    println!(rt; "heap: two taken and given back, {pairs} times: {free_lines} lines are free")?;
+    if timed {
+        println!(rt; "heap: took {time:?}")?;
+    }
+    Ok(())
+}
+
+/// Prints how many lines of a heap are free before extents are taken and given back, and after.
+fn time_spin(
+    rt: &(impl Print + Clock),
+    heap: &mut ExtentHeap,
+    pairs: u32,
+    timed: bool,
+) -> io::Result<()> {
+    println!(rt; "heap: {} lines are free", heap.free_lines())?;
+    let start = Instant::now(rt)?;
+    if let Err(refusal) = spin(heap, pairs) {
+        return print_refusal(rt, "heap", refusal);
+    }
+    let time = start.elapsed(rt)?;
+    print_spun(rt, pairs, heap.free_lines(), time, timed)
+}
+
+/// Takes extents of a scattered heap and gives them back, as often as a load has it.
 pub fn time_heap(
     rt: &(impl Print + Clock),
     alloc: Global,
     load: Load,
     timed: bool,
 ) -> io::Result<()> {
-    let mut heap = match scattered(alloc, load.runs) {
-        Ok(heap) => heap,
-        Err(refusal) => return println!(rt; "heap: refused: {refusal}"),
-    };
-    println!(rt; "heap: {} lines are free", heap.free_lines())?;
-    let start = Instant::now(rt)?;
-    if let Err(refusal) = spin(&mut heap, load.pairs) {
-        return println!(rt; "heap: refused: {refusal}");
+    match scattered(alloc, load.runs) {
+        Ok(mut heap) => time_spin(rt, &mut heap, load.pairs, timed),
+        Err(refusal) => print_refusal(rt, "heap", refusal),
     }
-    let done = start.elapsed(rt)?;
-    println!(rt;
-        "heap: two taken and given back, {} times: {} lines are free",
-        load.pairs,
-        heap.free_lines()
-    )?;
-    if timed {
-        println!(rt; "heap: took {done:?}")?;
-    }
-    Ok(())
 }

@@ -12,6 +12,7 @@ mod fences;
 mod heap;
 mod marks_of_threads;
 mod rate;
+mod refused;
 mod reopen;
 mod ring;
 mod sets;
@@ -26,6 +27,10 @@ use crate::marks_of_threads::time_marks;
 use crate::reopen::time_reopen;
 use crate::ring::time_ring;
 use crate::stream::time_stream;
+use std::alloc::Global;
+use std::rt::Clock;
+use std::sync::Wait;
+use std::thread::Threads;
 use std::{env, io};
 
 const SOME: u64 = 10_000;
@@ -41,39 +46,75 @@ const MANY_FRAMES: u64 = 100_000;
 fn main(rt: HostRuntime) -> io::Result<()> {
     let words: Vec<String> = env::args(&rt)?.skip(1).collect(rt.alloc())?;
     match words.as_slice() {
-        [] => {
-            time_heap(&rt, rt.alloc(), heap::SMALL, false)?;
-            time_device(&rt, rt.alloc(), device::SMALL, false)?;
-            print_commits(&rt, rt.alloc())?;
-            time_reopen(&rt, rt.alloc(), reopen::SMALL, false)?;
-            time_stream(&rt, rt.alloc(), SOME_FRAMES, false)?;
-            time_ring(&rt, rt.alloc(), SOME, false)?;
-            time_marks(&rt, rt.alloc(), SOME, false)?;
-            time_arrivals(&rt, rt.alloc(), SOME, false)
+        [] => make_some(&rt, rt.alloc()),
+        [name] => make_many(&rt, rt.alloc(), name.as_str()),
+        [name, path, rounds] if name.as_str() == "fences" => {
+            make_fences(&rt, path.as_str(), rounds.as_str())
         }
-        [name] => match name.as_str() {
-            "heap" => time_heap(&rt, rt.alloc(), heap::LARGE, true),
-            "device" => time_devices(&rt),
-            "engine" => print_commits(&rt, rt.alloc()),
-            "reopen" => time_reopen(&rt, rt.alloc(), reopen::LARGE, true),
-            "stream" => time_stream(&rt, rt.alloc(), MANY_FRAMES, true),
-            "ring" => time_ring(&rt, rt.alloc(), MANY, true),
-            "marks" => time_marks(&rt, rt.alloc(), MANY, true),
-            "arrivals" => time_arrivals(&rt, rt.alloc(), MANY_ARRIVALS, true),
-            _ => Err(io::ErrorKind::InvalidInput.into()),
-        },
-        [name, path, rounds] if name.as_str() == "fences" => match rounds.parse::<u32>() {
-            Ok(rounds) => time_fences(&rt, path.as_str(), rounds),
-            Err(_) => Err(io::ErrorKind::InvalidInput.into()),
-        },
+        _ => Err(io::ErrorKind::InvalidInput.into()),
+    }
+}
+
+/// Makes some of each, but no fences over a file.
+fn make_some(rt: &(impl Threads + Wait + Sync + Print + Clock), alloc: Global) -> io::Result<()> {
+    time_heap(rt, alloc, heap::SMALL, false)?;
+    time_device(rt, alloc, device::SMALL, false)?;
+    print_commits(rt, alloc)?;
+    time_reopen(rt, alloc, reopen::SMALL, false)?;
+    time_stream(rt, alloc, SOME_FRAMES, false)?;
+    make_some_between_threads(rt, alloc)
+}
+
+fn make_some_between_threads(
+    rt: &(impl Threads + Wait + Sync + Print + Clock),
+    alloc: Global,
+) -> io::Result<()> {
+    time_ring(rt, alloc, SOME, false)?;
+    time_marks(rt, alloc, SOME, false)?;
+    time_arrivals(rt, alloc, SOME, false)
+}
+
+/// Makes many of what bears this name.
+fn make_many(
+    rt: &(impl Threads + Wait + Sync + Print + Clock),
+    alloc: Global,
+    name: &str,
+) -> io::Result<()> {
+    match name {
+        "heap" => time_heap(rt, alloc, heap::LARGE, true),
+        "device" => time_devices(rt, alloc),
+        "engine" => print_commits(rt, alloc),
+        "reopen" => time_reopen(rt, alloc, reopen::LARGE, true),
+        "stream" => time_stream(rt, alloc, MANY_FRAMES, true),
+        _ => make_many_between_threads(rt, alloc, name),
+    }
+}
+
+fn make_many_between_threads(
+    rt: &(impl Threads + Wait + Sync + Print + Clock),
+    alloc: Global,
+    name: &str,
+) -> io::Result<()> {
+    match name {
+        "ring" => time_ring(rt, alloc, MANY, true),
+        "marks" => time_marks(rt, alloc, MANY, true),
+        "arrivals" => time_arrivals(rt, alloc, MANY_ARRIVALS, true),
         _ => Err(io::ErrorKind::InvalidInput.into()),
     }
 }
 
 /// Each of the large loads of a simulated device.
-fn time_devices(rt: &HostRuntime) -> io::Result<()> {
+fn time_devices(rt: &(impl Print + Clock), alloc: Global) -> io::Result<()> {
     for load in device::LARGE {
-        time_device(rt, rt.alloc(), load, true)?;
+        time_device(rt, alloc, load, true)?;
     }
     Ok(())
+}
+
+/// Makes so many rounds of fences over the file at a path.
+fn make_fences(rt: &HostRuntime, path: &str, rounds: &str) -> io::Result<()> {
+    match rounds.parse::<u32>() {
+        Ok(rounds) => time_fences(rt, path, rounds),
+        Err(_) => Err(io::ErrorKind::InvalidInput.into()),
+    }
 }

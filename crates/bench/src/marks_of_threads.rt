@@ -9,7 +9,7 @@ use std::io;
 use std::rt::Clock;
 use std::sync::Wait;
 use std::thread::{Threads, join};
-use std::time::Instant;
+use std::time::{Duration, Instant};
 
 /// Raises the remote mark to each position up to `count`.
 fn raise_all(marks: &Marks, seat: MarkSeat, count: u64)
@@ -48,40 +48,6 @@ fn read_until(rt: &impl Wait, marks: &Marks, seat: MarkSeat, count: u64) -> (u64
     (readings, rises)
 }
 
-/// Raises a mark in one thread while two others read it.
-pub fn time_marks<R: Threads + Wait + Sync + Print + Clock>(
-    rt: &R,
-    alloc: Global,
-    count: u64,
-    timed: bool,
-) -> io::Result<()> {
-    let Ok((marks, seat)) = Marks::new(alloc, 0) else {
-        return Err(io::ErrorKind::OutOfMemory.into());
-    };
-    let mut seat = seat;
-    let first = marks.split_seat::<Reader>(&mut seat);
-    let second = marks.split_seat::<Reader>(&mut seat);
-    let start = Instant::now(rt)?;
-    let ((), (one, other)) = join(
-        rt,
-        ||
-            requires { (seat.marks ≡ marks) × (seat.knows.raises_remote ≡ true) }
-        { raise_all(&marks, seat, count) },
-        || -> ((u64, bool), (u64, bool))
-            requires { (first.marks ≡ marks) × (second.marks ≡ marks) }
-        { read_twice(rt, &marks, first, second, count) },
-    );
-    let time = start.elapsed(rt)?;
-    let rises = one.1 && other.1;
-    println!(rt; "marks: {count} raises, no reading fell: {rises}")?;
-    if timed {
-        let raises = a_second(count, time);
-        let readings = a_second(one.0.saturating_add(other.0), time);
-        println!(rt; "marks: {raises} raises and {readings} readings a second")?;
-    }
-    Ok(())
-}
-
 /// Reads in two threads.
 fn read_twice<R: Threads + Wait + Sync>(
     rt: &R,
@@ -104,4 +70,63 @@ fn read_twice<R: Threads + Wait + Sync>(
             ensures { result.1 ≡ true }
         { read_until(rt, marks, second, count) },
     )
+}
+
+/// Raises a mark in one thread while two others read it. Answers how often they read, and whether no reading fell.
+fn raise_and_read<R: Threads + Wait + Sync>(
+    rt: &R,
+    marks: &Marks,
+    seat: MarkSeat,
+    count: u64,
+) -> (u64, bool)
+    requires marks { seat.marks ≡ marks.now }
+    requires raises { seat.knows.raises_remote ≡ true }
+{
+    let mut seat = seat;
+    let first = marks.split_seat::<Reader>(&mut seat);
+    let second = marks.split_seat::<Reader>(&mut seat);
+    let ((), (one, other)) = join(
+        rt,
+        ||
+            requires { (seat.marks ≡ marks.now) × (seat.knows.raises_remote ≡ true) }
+        { raise_all(marks, seat, count) },
+        || -> ((u64, bool), (u64, bool))
+            requires { (first.marks ≡ marks.now) × (second.marks ≡ marks.now) }
+        { read_twice(rt, marks, first, second, count) },
+    );
+    (one.0.saturating_add(other.0), one.1 && other.1)
+}
+
+/// Prints whether no reading fell during so many raises, and how many raises and readings a second there were.
+fn print_found(
+    rt: &impl Print,
+    count: u64,
+    found: (u64, bool),
+    time: Duration,
+    timed: bool,
+) -> io::Result<()> {
+    let (readings, rises) = found;
+    println!(rt; "marks: {count} raises, no reading fell: {rises}")?;
+    if timed {
+        let raises = a_second(count, time);
+        let readings = a_second(readings, time);
+        println!(rt; "marks: {raises} raises and {readings} readings a second")?;
+    }
+    Ok(())
+}
+
+/// Raises a mark in one thread while two others read it, and prints whether no reading fell.
+pub fn time_marks<R: Threads + Wait + Sync + Print + Clock>(
+    rt: &R,
+    alloc: Global,
+    count: u64,
+    timed: bool,
+) -> io::Result<()> {
+    let Ok((marks, seat)) = Marks::new(alloc, 0) else {
+        return Err(io::ErrorKind::OutOfMemory.into());
+    };
+    let start = Instant::now(rt)?;
+    let found = raise_and_read(rt, &marks, seat, count);
+    let time = start.elapsed(rt)?;
+    print_found(rt, count, found, time, timed)
 }

@@ -8,7 +8,9 @@ ghost use Rattle.model.specs.Group.{Contents, HasItsLines, IsPlaced};
 ghost use Rattle.model.specs.Image.{Image};
 ghost use Rattle.wbl_engine.specs.Reopening.{Reopens};
 
+use crate::refused::print_refusal;
 use crate::sets::{key_of, value_of};
+use extent_heap::ExtentHeap;
 use heap_layout::{lines_for, write_entry};
 use kv_types::{EntryNo, Extent, RecordId, Refusal};
 use model::{LAYOUT, LINE_WORDS, MAX_LINES, MIN_LINES, Put, STAMP_WINDOW};
@@ -18,7 +20,7 @@ use pmem::{Crashing, Pmem, SimPmem, flush_lines, store_words};
 use std::alloc::Global;
 use std::io;
 use std::rt::Clock;
-use std::time::Instant;
+use std::time::{Duration, Instant};
 use wbl_engine::{Durable, Role, Versions, WblEngine};
 
 /// How many lines an image has, and how many versions are in it.
@@ -101,7 +103,7 @@ fn write_all<P: Pmem>(alloc: Global, device: &mut P, versions: u64) -> Result<()
     write_versions(alloc, device, versions)?;
     write_record(device, versions);
     flush_lines(device, 0, lines);
-    device.fence().map_err(|_| Refusal::Fault)
+    device.fence().ok().ok_or(Refusal::Fault)
 }
 
 /// A device with an image of so many versions, on which nothing is pending.
@@ -164,6 +166,124 @@ fn rebuild_from(
     Ok((keyspace, rebuilt))
 }
 
+/// An image that was reopened from `start` on: how many lines it has, and its position.
+#[derive(Clone, Copy)]
+struct Opened {
+    start: Instant,
+    lines: u64,
+    position: u64,
+}
+
+/// Prints what was made from an image.
+fn print_made(
+    rt: &impl Print,
+    opened: Opened,
+    keyspace: &ListKeyspace,
+    heap: &ExtentHeap,
+) -> io::Result<()> {
+    println!(rt;
+        "reopen: {} lines, position {}: {} records, {} lines are free",
+        opened.lines,
+        opened.position,
+        keyspace.len(),
+        heap.free_lines()
+    )
+}
+
+/// How long the reopening of an image took, and then the making of its keyspace and its heap.
+#[derive(Clone, Copy)]
+struct Times {
+    reopening: Duration,
+    rebuilding: Duration,
+}
+
+/// Prints how long so many entries took.
+fn print_times(rt: &impl Print, entries: u64, times: Times) -> io::Result<()> {
+    println!(rt;
+        "reopened {entries} entries in {:?}, rebuilt in {:?}",
+        times.reopening, times.rebuilding
+    )
+}
+
+/// Prints why there are no times.
+fn no_times(rt: &impl Print, refusal: Refusal) -> io::Result<Option<Times>> {
+    print_refusal(rt, "reopen", refusal)?;
+    Ok(None)
+}
+
+/// The times of an image whose keyspace and heap have just been made. Prints what was made.
+fn times_of(
+    rt: &(impl Print + Clock),
+    opened: Opened,
+    reopening: Duration,
+    keyspace: &ListKeyspace,
+    heap: &ExtentHeap,
+) -> io::Result<Option<Times>> {
+    let made = opened.start.elapsed(rt)?;
+    print_made(rt, opened, keyspace, heap)?;
+    Ok(Some(Times {
+        reopening,
+        rebuilding: made.saturating_sub(reopening),
+    }))
+}
+
+/// Makes a keyspace and a heap from what the reopening of an image, which has just ended, read. `None` where that is refused, which it prints.
+fn time_rebuilding(
+    rt: &(impl Print + Clock),
+    alloc: Global,
+    opened: Opened,
+    versions: Versions,
+) -> io::Result<Option<Times>>
+    requires { (image : Image) × (role : NodeRole) × (contents : Contents)
+        × Reopens opened.lines image role contents versions.counted.items versions.gapped.items }
+{
+    let reopening = opened.start.elapsed(rt)?;
+    match rebuild_from(alloc, opened.lines, versions) {
+        Ok((keyspace, rebuilt)) => times_of(rt, opened, reopening, &keyspace, &rebuilt.heap),
+        Err(refusal) => no_times(rt, refusal),
+    }
+}
+
+/// Makes a keyspace and a heap from an image that was reopened from `start` on, as `time_rebuilding`. The device is kept until then.
+fn time_reopened(
+    rt: &(impl Print + Clock),
+    alloc: Global,
+    start: Instant,
+    reopened: Reopened,
+) -> io::Result<Option<Times>>
+    requires { (lines : ℕ) × (image : Image) × (role : NodeRole) × (contents : Contents)
+        × Reopens lines image role contents reopened.versions.counted.items reopened.versions.gapped.items
+        × (lines ≡ (⟦<SimPmem as Pmem>⟧.state reopened.device).lines) }
+{
+    let Reopened {
+        device,
+        position,
+        versions,
+    } = reopened;
+    let opened = Opened {
+        start,
+        lines: device.lines(),
+        position,
+    };
+    time_rebuilding(rt, alloc, opened, versions)
+}
+
+/// Reopens the image of a device, and makes a keyspace and a heap from it. `None` where either is refused, which it prints.
+fn time_image(
+    rt: &(impl Print + Clock),
+    alloc: Global,
+    device: SimPmem,
+) -> io::Result<Option<Times>>
+    requires settled { (word : ℕ)
+        → Only ((⟦<SimPmem as Pmem>⟧.state device).words word) (image_of (⟦<SimPmem as Pmem>⟧.state device).words word) }
+{
+    let start = Instant::now(rt)?;
+    match reopen(alloc, device) {
+        Ok(reopened) => time_reopened(rt, alloc, start, reopened),
+        Err(refusal) => no_times(rt, refusal),
+    }
+}
+
 /// Reopens an image of a load, and makes a keyspace and a heap from it.
 pub fn time_reopen(
     rt: &(impl Print + Clock),
@@ -171,37 +291,12 @@ pub fn time_reopen(
     load: Load,
     timed: bool,
 ) -> io::Result<()> {
-    let device = match new_image(alloc, load) {
-        Ok(device) => device,
-        Err(refusal) => return println!(rt; "reopen: refused: {refusal}"),
+    let times = match new_image(alloc, load) {
+        Ok(device) => time_image(rt, alloc, device)?,
+        Err(refusal) => no_times(rt, refusal)?,
     };
-    let start = Instant::now(rt)?;
-    let Reopened {
-        device,
-        position,
-        versions,
-    } = match reopen(alloc, device) {
-        Ok(reopened) => reopened,
-        Err(refusal) => return println!(rt; "reopen: refused: {refusal}"),
-    };
-    let reopened = start.elapsed(rt)?;
-    let (keyspace, rebuilt) = match rebuild_from(alloc, device.lines(), versions) {
-        Ok(made) => made,
-        Err(refusal) => return println!(rt; "reopen: refused: {refusal}"),
-    };
-    let made = start.elapsed(rt)?;
-    println!(rt;
-        "reopen: {} lines, position {position}: {} records, {} lines are free",
-        device.lines(),
-        keyspace.len(),
-        rebuilt.heap.free_lines()
-    )?;
-    if timed {
-        println!(rt;
-            "reopened {} entries in {reopened:?}, rebuilt in {:?}",
-            load.versions,
-            made.saturating_sub(reopened)
-        )?;
+    match times {
+        Some(times) if timed => print_times(rt, load.versions, times),
+        _ => Ok(()),
     }
-    Ok(())
 }

@@ -2,6 +2,7 @@
 ghost use Rattle.std.specs.Prelude.{◌≡◌, ◌==◌, ◌*◌, ◌/◌, ◌≤◌, ◌<◌, if◌then◌else◌};
 ghost use Rattle.std.specs.Duration.{as_nanos};
 
+use crate::refused::print_refusal;
 use crate::sets::frame_of;
 use bytes::BytesMut;
 use kv_types::Refusal;
@@ -72,7 +73,7 @@ fn time_pieces(
     let start = Instant::now(rt)?;
     let position = match feed_all(alloc, text, piece) {
         Ok(position) => position,
-        Err(refusal) => return println!(rt; "stream: refused: {refusal}"),
+        Err(refusal) => return print_refusal(rt, "stream", refusal),
     };
     let time = start.elapsed(rt)?;
     println!(rt; "stream: pieces of {piece}: position {position}")?;
