@@ -14,54 +14,67 @@ use std::alloc::{AllocError, Global};
 /// The event with this name and the words that follow it.
 pub fn read_event(
     alloc: Global,
-    name: &[u8],
+    name: &str,
     words: &mut LineWords<'_>,
 ) -> Result<Event, LineError> {
-    let event = match name {
-        b"feed" => read_request(alloc, words)?,
-        b"feed-bytes" => read_piece(alloc, words)?,
-        b"read" => read_mark(words)?,
-        b"write" => read_write(words)?,
-        b"deliver" => read_deliver(words)?,
-        b"crash" => read_crash(alloc, words)?,
-        b"reopen" => Event::Reopen(words.node()?),
-        _ => match event_alone(name) {
-            Some(event) => event,
-            None => event_with_number(name, words)?,
-        },
-    };
+    let event = event_named(alloc, name, words)?;
     words.end()?;
     Ok(event)
 }
 
-/// The event whose name takes no more words.
-fn event_alone(name: &[u8]) -> Option<Event> {
+/// The event with this name, whose words may be bytes.
+fn event_named(alloc: Global, name: &str, words: &mut LineWords<'_>) -> Result<Event, LineError> {
     match name {
-        b"enter" => Some(Event::Enter),
-        b"close-group" => Some(Event::CloseGroup),
-        b"commit" => Some(Event::Commit),
-        b"raise-local" => Some(Event::RaiseLocal),
-        b"hand" => Some(Event::Hand),
-        b"free" => Some(Event::Free),
-        b"accept-freed" => Some(Event::AcceptFreed),
-        b"clear-gap" => Some(Event::ClearGap),
-        b"open-link" => Some(Event::OpenLink),
-        b"send" => Some(Event::Send),
-        b"apply" => Some(Event::Apply),
-        b"raise-remote" => Some(Event::RaiseRemote),
+        "feed" => read_request(alloc, words),
+        "feed-bytes" => read_piece(alloc, words),
+        "crash" => read_crash(alloc, words),
+        _ => Ok(event_of_words(name, words)?),
+    }
+}
+
+/// The event with this name, whose words are numbers, marks and nodes.
+fn event_of_words(name: &str, words: &mut LineWords<'_>) -> Result<Event, Cause> {
+    match name {
+        "read" => read_mark(words),
+        "write" => read_write(words),
+        "deliver" => read_deliver(words),
+        "reopen" => Ok(Event::Reopen(words.node()?)),
+        _ => match event_alone(name) {
+            Some(event) => Ok(event),
+            None => event_with_number(name, words),
+        },
+    }
+}
+
+/// The event whose name takes no more words.
+fn event_alone(name: &str) -> Option<Event> {
+    match name {
+        "enter" => Some(Event::Enter),
+        "close-group" => Some(Event::CloseGroup),
+        "commit" => Some(Event::Commit),
+        "raise-local" => Some(Event::RaiseLocal),
+        "hand" => Some(Event::Hand),
+        "free" => Some(Event::Free),
+        "accept-freed" => Some(Event::AcceptFreed),
+        "clear-gap" => Some(Event::ClearGap),
+        "open-link" => Some(Event::OpenLink),
+        "send" => Some(Event::Send),
+        "apply" => Some(Event::Apply),
+        "raise-remote" => Some(Event::RaiseRemote),
         _ => None,
     }
 }
 
 /// The event whose name takes a number: a connection or an acknowledgement.
-fn event_with_number(name: &[u8], words: &mut LineWords<'_>) -> Result<Event, Cause> {
+fn event_with_number(name: &str, words: &mut LineWords<'_>) -> Result<Event, Cause> {
+    let number = words.number();
     match name {
-        b"offer" => Ok(Event::Offer(words.number()?)),
-        b"turn" => Ok(Event::Turn(words.number()?)),
-        b"ack-delivered" => Ok(Event::AckDelivered(words.number()?)),
-        b"hold" => Ok(Event::Hold(words.number()?)),
-        b"release" => Ok(Event::Release(words.number()?)),
-        b"leave" => Ok(Event::Leave(words.number()?)),
+        "offer" => Ok(Event::Offer(number?)),
+        "turn" => Ok(Event::Turn(number?)),
+        "ack-delivered" => Ok(Event::AckDelivered(number?)),
+        "hold" => Ok(Event::Hold(number?)),
+        "release" => Ok(Event::Release(number?)),
+        "leave" => Ok(Event::Leave(number?)),
         _ => Err(Cause::UnknownEvent),
     }
 }

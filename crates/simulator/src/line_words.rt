@@ -54,18 +54,18 @@ impl<'a> LineWords<'a> {
 
     /// The next word, a mark.
     pub fn mark(&mut self) -> Result<Mark, Cause> {
-        match self.word()? {
-            b"local" => Ok(Mark::Local),
-            b"remote" => Ok(Mark::Remote),
+        match text_of(self.word()?) {
+            "local" => Ok(Mark::Local),
+            "remote" => Ok(Mark::Remote),
             _ => Err(Cause::NotMark),
         }
     }
 
     /// The next word, a node.
     pub fn node(&mut self) -> Result<Node, Cause> {
-        match self.word()? {
-            b"primary" => Ok(Node::Primary),
-            b"standby" => Ok(Node::Standby),
+        match text_of(self.word()?) {
+            "primary" => Ok(Node::Primary),
+            "standby" => Ok(Node::Standby),
             _ => Err(Cause::NotNode),
         }
     }
@@ -77,6 +77,11 @@ impl<'a> LineWords<'a> {
             Some(_) => Err(Cause::NeedlessWord),
         }
     }
+}
+
+/// A word as text: empty, as no word is, if it is not UTF-8.
+pub fn text_of(word: &[u8]) -> &str {
+    str::from_utf8(word).unwrap_or("")
 }
 
 /// The line from its first word on.

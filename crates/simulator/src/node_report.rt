@@ -8,7 +8,7 @@ use kv_types::RecordId;
 use machine::Node;
 use model::Role;
 use pmem::SimPmem;
-use std::alloc::Global;
+use std::alloc::{AllocError, Global};
 use std::io;
 use std::io::Write;
 
@@ -19,22 +19,45 @@ pub fn write_nodes<W: Write>(
     options: &Options,
     devices: &[SimPmem],
 ) -> Result<(), SimulatorError> {
+    let nodes = read_nodes(alloc, devices)?;
+    write_positions(out, &nodes)?;
+    if options.map {
+        write_maps(out, &nodes)?;
+    }
+    if options.images {
+        write_images(out, &nodes)?;
+    }
+    Ok(())
+}
+
+/// A node's name, and what its device holds.
+type NodeImage = (&'static str, DeviceImage);
+
+fn read_nodes(alloc: Global, devices: &[SimPmem]) -> Result<Vec<NodeImage>, AllocError> {
     let mut nodes = Vec::new(alloc);
     for (node, device) in [Node::Primary, Node::Standby].iter().zip(devices) {
         nodes.push((name_of(*node), read_device(alloc, device)?))?;
     }
-    for (node, image) in &nodes {
+    Ok(nodes)
+}
+
+fn write_positions<W: Write>(out: &mut W, nodes: &[NodeImage]) -> io::Result<()> {
+    for (node, image) in nodes {
         write_position(out, node, image)?;
     }
-    if options.map {
-        for (node, image) in &nodes {
-            write_records(out, node, image)?;
-        }
+    Ok(())
+}
+
+fn write_maps<W: Write>(out: &mut W, nodes: &[NodeImage]) -> io::Result<()> {
+    for (node, image) in nodes {
+        write_records(out, node, image)?;
     }
-    if options.images {
-        for (node, image) in &nodes {
-            write_words(out, node, image.words.as_slice())?;
-        }
+    Ok(())
+}
+
+fn write_images<W: Write>(out: &mut W, nodes: &[NodeImage]) -> io::Result<()> {
+    for (node, image) in nodes {
+        write_words(out, node, image.words.as_slice())?;
     }
     Ok(())
 }

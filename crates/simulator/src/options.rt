@@ -57,9 +57,9 @@ fn unread(error: io::Error) -> SimulatorError {
 }
 
 fn take_switch(options: &mut Options, word: &str) -> Result<(), SimulatorError> {
-    match word.as_bytes() {
-        b"--map" => options.map = true,
-        b"--images" => options.images = true,
+    match word {
+        "--map" => options.map = true,
+        "--images" => options.images = true,
         _ => return Err(SimulatorError::Usage),
     }
     Ok(())

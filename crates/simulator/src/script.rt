@@ -2,7 +2,7 @@
 use crate::cause::{Cause, LineError};
 use crate::error::SimulatorError;
 use crate::event_words::read_event;
-use crate::line_words::LineWords;
+use crate::line_words::{LineWords, text_of};
 use crate::schedule::Schedule;
 use machine::Node;
 use std::alloc::Global;
@@ -45,16 +45,26 @@ fn add_line(alloc: Global, script: &mut Script, line: &[u8], number: u64) -> Res
         return Ok(());
     }
     let mut words = LineWords::new(line);
-    match words.next() {
-        None => Ok(()),
-        Some(b"fail") => add_failure(script, &mut words),
-        Some(b"repeat") => {
-            let times = words.number()?;
-            let name = words.word()?;
-            add_events(alloc, script, times, name, &mut words, number)
-        }
-        Some(name) => add_events(alloc, script, 1, name, &mut words, number),
+    let Some(word) = words.next() else {
+        return Ok(());
+    };
+    match text_of(word) {
+        "fail" => add_failure(script, &mut words),
+        "repeat" => add_repeated(alloc, script, &mut words, number),
+        name => add_events(alloc, script, 1, name, &mut words, number),
     }
+}
+
+/// Adds the event of these words, the first of which is how often.
+fn add_repeated(
+    alloc: Global,
+    script: &mut Script,
+    words: &mut LineWords<'_>,
+    number: u64,
+) -> Result<(), LineError> {
+    let times = words.number()?;
+    let name = text_of(words.word()?);
+    add_events(alloc, script, times, name, words, number)
 }
 
 /// Adds the event with this name and the words that follow it, `times` times.
@@ -62,7 +72,7 @@ fn add_events(
     alloc: Global,
     script: &mut Script,
     times: u64,
-    name: &[u8],
+    name: &str,
     words: &mut LineWords<'_>,
     number: u64,
 ) -> Result<(), LineError> {
