@@ -18,18 +18,18 @@ ghost use Rattle.wbl_engine.specs.Contents.{IsDurable};
 
 use crate::arrivals::Arrivals;
 use crate::pair::{Pair, Stepper};
+use crate::waiting::Waiting;
 use connections::Sessions;
 use extent_heap::ExtentHeap;
 use group_commit::Committer;
 use kv_types::Refusal;
-use model::{FIRST_EPOCH, Group, LAYOUT, Work};
+use model::{FIRST_EPOCH, LAYOUT};
 use mv_keyspace::Keyspace;
-use pipes::LocalPipe;
 use placing::Rebuilt;
 use pmem::Crashing;
 use redis_core::Sequencer;
 use standby::Standby;
-use standby_stream::{Link, Opening};
+use standby_stream::Opening;
 use std::alloc::Global;
 use std::collections::VecDeque;
 use std::hash::RandomState;
@@ -40,9 +40,7 @@ use wbl_engine::{Durable, Role, WblEngine};
 struct Between<K: Keyspace> {
     sessions: Sessions,
     sequencer: Sequencer<K>,
-    work: LocalPipe<Work>,
-    handed: LocalPipe<Group>,
-    link: Link,
+    waiting: Waiting,
     arrivals: Arrivals,
     /// The standby's.
     room: Rebuilt,
@@ -63,9 +61,9 @@ fn make_between<K: Keyspace + Drop>(
     ensures underlies { IfOk result (λ between. (contents : Contents) → IsNew lines.0 contents.current.role contents → IsAheadOf between.sequencer contents) }
     ensures expects { IfOk result (λ between. (contents : Contents) → IsNew lines.0 contents.current.role contents → Expects between.sequencer contents [] []) }
     ensures ended { IfOk result (λ between. (between.sequencer.ended ≡ []) × (between.sequencer.newest ≡ 0)) }
-    ensures no_work { IfOk result (λ between. between.work.items ≡ []) }
-    ensures link { IfOk result (λ between. between.link ≡ new_stream FIRST_EPOCH) }
-    ensures handed { IfOk result (λ between. between.handed.items ≡ []) }
+    ensures no_work { IfOk result (λ between. between.waiting.work.items ≡ []) }
+    ensures link { IfOk result (λ between. between.waiting.link ≡ new_stream FIRST_EPOCH) }
+    ensures handed { IfOk result (λ between. between.waiting.handed.items ≡ []) }
     ensures arrivals { IfOk result (λ between. (epoch : ℕ) → ArrivalsRefine epoch [] between.arrivals [] []) }
     ensures free_lines { IfOk result (λ between. (line : ℕ) → IsTrue (is_free_line between.room.heap line) ↔ ((first_extent_line lines.1 ≤ line) × (line < lines.1))) }
     ensures free_entries { IfOk result (λ between. (i : ℕ) → IsTrue (is_free_entry between.room.heap i) ↔ (i < entries_of_lines lines.1)) }
@@ -73,17 +71,35 @@ fn make_between<K: Keyspace + Drop>(
     ensures none_ended { IfOk result (λ between. between.room.ended.items ≡ []) }
     ensures cause { IfErr result (λ refusal. refusal ≡ Refusal.Memory) }
 {
-    let own = room_of(alloc, lines.0)?;
     let room = room_of(alloc, lines.1)?;
+    let waiting = Waiting::none(alloc, FIRST_EPOCH)?;
+    let sessions = Sessions::new(alloc, calls)?;
+    let sequencer = new_sequencer(alloc, keyspace, lines.0, hash_builder)?;
     Ok(Between {
-        sessions: Sessions::new(alloc, calls)?,
-        sequencer: Sequencer::new(alloc, keyspace, own, 0, FIRST_EPOCH, hash_builder)?,
-        work: LocalPipe::new(alloc)?,
-        handed: LocalPipe::new(alloc)?,
-        link: Link::new(alloc, FIRST_EPOCH)?,
+        sessions,
+        sequencer,
+        waiting,
         arrivals: Arrivals::new(alloc),
         room,
     })
+}
+
+/// A sequencer over a new image of `lines` lines, with this empty keyspace.
+fn new_sequencer<K: Keyspace + Drop>(
+    alloc: Global,
+    keyspace: K,
+    lines: u64,
+    hash_builder: RandomState,
+) -> Result<Sequencer<K>, Refusal>
+    requires { K.table keyspace ≡ [] }
+    ensures begins { IfOk result (λ sequencer. SequencerRefines [] 0 sequencer) }
+    ensures underlies { IfOk result (λ sequencer. (contents : Contents) → IsNew lines contents.current.role contents → IsAheadOf sequencer contents) }
+    ensures expects { IfOk result (λ sequencer. (contents : Contents) → IsNew lines contents.current.role contents → Expects sequencer contents [] []) }
+    ensures ended { IfOk result (λ sequencer. (sequencer.ended ≡ []) × (sequencer.newest ≡ 0)) }
+    ensures cause { IfErr result (λ refusal. refusal ≡ Refusal.Memory) }
+{
+    let own = room_of(alloc, lines)?;
+    Sequencer::new(alloc, keyspace, own, 0, FIRST_EPOCH, hash_builder)
 }
 
 /// The room of a new image of `lines` lines: all entries and extents are free, and no version has ended.
@@ -143,11 +159,11 @@ pub(crate) fn form<P: Crashing, K: Keyspace + Drop>(
             alloc,
             sessions: between.sessions,
             sequencer: between.sequencer,
-            work: between.work,
+            work: between.waiting.work,
             committer: Committer::new(alloc, engine),
             notices: VecDeque::new(alloc),
-            handed: between.handed,
-            link: between.link,
+            handed: between.waiting.handed,
+            link: between.waiting.link,
             opening: Opening::none(alloc),
             remote: 0,
             frames: Vec::new(alloc),

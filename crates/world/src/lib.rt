@@ -9,6 +9,7 @@ mod playing;
 mod queue;
 mod restarting;
 mod trace;
+mod waiting;
 mod wire;
 
 pub use machine::{Event, Mark};

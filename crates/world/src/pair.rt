@@ -443,16 +443,14 @@ impl<E: Restarting, K: Keyspace + Drop> Pair<E, K> {
         }
         let Serving {
             sequencer,
-            work,
-            handed,
-            link,
+            waiting,
             opening,
         } = restart_primary(self.alloc, &mut self.committer, self.hash_builder)?;
         self.sequencer = sequencer;
-        self.work = work;
+        self.work = waiting.work;
         self.notices.clear();
-        self.handed = handed;
-        self.link = link;
+        self.handed = waiting.handed;
+        self.link = waiting.link;
         self.opening = opening;
         self.remote = 0;
         self.primary_runs = true;

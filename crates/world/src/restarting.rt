@@ -18,14 +18,13 @@ ghost use Rattle.standby_stream.specs.Delta.{AreIdsEnded, IsOpening};
 ghost use Rattle.standby_stream.specs.Stream.{new_stream};
 ghost use Rattle.world.specs.Serving.{IsOver};
 
+use crate::waiting::Waiting;
 use group_commit::Committer;
 use kv_types::{RecordId, Refusal};
-use model::{Group, Work};
 use mv_keyspace::Keyspace;
-use pipes::LocalPipe;
 use placing::{Rebuilt, rebuild};
 use redis_core::Sequencer;
-use standby_stream::{Link, Opening, records_ended};
+use standby_stream::{Opening, records_ended};
 use std::alloc::Global;
 use std::hash::RandomState;
 use wbl_engine::{Restarting, Role};
@@ -34,9 +33,7 @@ use wbl_engine::{Restarting, Role};
 #[derive(Drop)]
 pub(crate) struct Serving<K: Keyspace> {
     pub(crate) sequencer: Sequencer<K>,
-    pub(crate) work: LocalPipe<Work>,
-    pub(crate) handed: LocalPipe<Group>,
-    pub(crate) link: Link,
+    pub(crate) waiting: Waiting,
     /// What a standby is told that is behind.
     pub(crate) opening: Opening,
 }
@@ -60,9 +57,9 @@ pub(crate) fn restart_primary<E: Restarting, K: Keyspace + Drop>(
     ensures sound { OnOk result (E.is_faulted committer.new.engine ≡ false) }
     ensures ready { OnOk result ((committer.new.stage ≡ Ready) × (committer.new.aside.items ≡ []) × (committer.new.local ≡ (E.contents committer.new.engine).current.position)) }
     ensures sequencer { IfOk result (λ serving. IsOver (E.contents committer.new.engine) serving.sequencer) }
-    ensures work { IfOk result (λ serving. serving.work.items ≡ []) }
-    ensures handed { IfOk result (λ serving. serving.handed.items ≡ []) }
-    ensures link { IfOk result (λ serving. serving.link ≡ new_stream (E.contents committer.new.engine).current.epoch) }
+    ensures work { IfOk result (λ serving. serving.waiting.work.items ≡ []) }
+    ensures handed { IfOk result (λ serving. serving.waiting.handed.items ≡ []) }
+    ensures link { IfOk result (λ serving. serving.waiting.link ≡ new_stream (E.contents committer.new.engine).current.epoch) }
     ensures opening { IfOk result (λ serving. (serving.opening.position ≡ (E.contents committer.new.engine).current.position)
         × IsOpening (E.contents committer.new.engine) serving.opening) }
     ensures failures { ¬ IsErrOf result Refusal.Fault → (E.device committer.new.engine).failures ≡ (E.device committer.old.engine).failures }
@@ -138,9 +135,9 @@ fn make_serving<K: Keyspace + Drop>(
     requires counted { at.0 < COUNTER_LIMIT }
     ensures sequencer { IfOk result (λ serving. (contents : Contents) → contents.current.position ≡ at.0 → contents.current.epoch ≡ at.1
         → IsRebuilt contents (K.table keyspace) room.heap → AreEndedOf contents (numbers_of room.ended.items) → IsOver contents serving.sequencer) }
-    ensures work { IfOk result (λ serving. serving.work.items ≡ []) }
-    ensures handed { IfOk result (λ serving. serving.handed.items ≡ []) }
-    ensures link { IfOk result (λ serving. serving.link ≡ new_stream at.1) }
+    ensures work { IfOk result (λ serving. serving.waiting.work.items ≡ []) }
+    ensures handed { IfOk result (λ serving. serving.waiting.handed.items ≡ []) }
+    ensures link { IfOk result (λ serving. serving.waiting.link ≡ new_stream at.1) }
     ensures opening { IfOk result (λ serving. (serving.opening.position ≡ at.0) × ((contents : Contents) → IsRebuilt contents (K.table keyspace) room.heap
         → AreIdsEnded contents ended.items → IsOpening contents serving.opening)) }
     ensures cause { IfErr result (λ refusal. refusal ≡ Refusal.Memory) }
@@ -148,9 +145,7 @@ fn make_serving<K: Keyspace + Drop>(
     let opening = Opening::new(alloc, &keyspace, ended, at.0)?;
     Ok(Serving {
         sequencer: Sequencer::new(alloc, keyspace, room, at.0, at.1, hash_builder)?,
-        work: LocalPipe::new(alloc)?,
-        handed: LocalPipe::new(alloc)?,
-        link: Link::new(alloc, at.1)?,
+        waiting: Waiting::none(alloc, at.1)?,
         opening,
     })
 }
