@@ -55,20 +55,40 @@ fn answer_lines<R: BufRead + Drop, W: Write>(
     writer: &mut W,
 ) -> Result<(), RunError> {
     let mut probe = Probe::default();
+    answer_each(rt, &mut probe, reader, writer)
+}
+
+fn answer_each<R: BufRead + Drop, W: Write>(
+    rt: &HostRuntime,
+    probe: &mut Probe,
+    reader: R,
+    writer: &mut W,
+) -> Result<(), RunError> {
     let mut number: u64 = 0;
     for line in reader.lines(rt.alloc()) {
         number = number.saturating_add(1);
-        let answer = match line {
-            Ok(line) => answer_line(rt, &mut probe, &line),
-            Err(error) if error.kind() == ErrorKind::InvalidData => Err(Cause::NotText),
-            Err(error) => return Err(RunError::Read(error)),
-        };
-        match answer {
-            Ok(answer) => write_line(writer, &answer).map_err(RunError::Write)?,
-            Err(cause) => return Err(RunError::Line(number, cause)),
-        }
+        answer_read(rt, probe, writer, number, line)?;
     }
     Ok(())
+}
+
+/// Answers a line with this number, as it was read.
+fn answer_read<W: Write>(
+    rt: &HostRuntime,
+    probe: &mut Probe,
+    writer: &mut W,
+    number: u64,
+    line: io::Result<String>,
+) -> Result<(), RunError> {
+    let answer = match line {
+        Ok(line) => answer_line(rt, probe, &line),
+        Err(error) if error.kind() == ErrorKind::InvalidData => Err(Cause::NotText),
+        Err(error) => return Err(RunError::Read(error)),
+    };
+    match answer {
+        Ok(answer) => write_line(writer, &answer).map_err(RunError::Write),
+        Err(cause) => Err(RunError::Line(number, cause)),
+    }
 }
 
 fn answer_line(rt: &HostRuntime, probe: &mut Probe, line: &str) -> Result<String, Cause> {
