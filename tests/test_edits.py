@@ -1,4 +1,5 @@
-"""What `bin/` knows of a whole check: which functions an edit changes, which crates the gate proved as they are, and when a program is built anew."""
+"""What `bin/` knows of a whole check: which functions an edit changes, which crates the gate proved as they are, what is large, and when a program is
+built anew."""
 
 import contextlib
 import os
@@ -104,6 +105,32 @@ class Proved(common.Cases):
                 self.assertIsNone(self.functions(root, crate))
         with self.case("toolchain"), repository() as root:
             self.assertIsNone(self.functions(root, "low", "another kit"))
+
+
+class Large(common.Cases):
+    """Functions whose proofs cost most are listed by what the prover kept of them."""
+
+    SIZES = {"shelf.put": 3_000_000, "shelf.take": 9_500_000, "shelf.is_full": 400_000}
+
+    def listed(self, root, name):
+        return subprocess.run([sys.executable, str(root / "bin" / "large-functions"), name], capture_output=True, text=True, check=False)
+
+    def test_the_largest_first(self):
+        with tempfile.TemporaryDirectory() as folder:
+            root = pathlib.Path(folder)
+            kept = root / "crates" / "store" / "out" / "incremental" / "checked"
+            for made in (root / "bin", kept):
+                made.mkdir(parents=True)
+            shutil.copy(common.ROOT / "bin" / "large-functions", root / "bin")
+            for name, size in self.SIZES.items():
+                file = kept / f"Rattle-store-proofs.{name}.Lts.oantt"
+                file.touch()
+                os.truncate(file, size)
+            with self.case("kept"):
+                self.assertEqual(self.listed(root, "store").stdout, "store: 3 functions, 13 MB\n   9.5 shelf.take\n   3.0 shelf.put\n")
+            with self.case("nothing kept"):
+                done = self.listed(root, "till")
+                self.assertEqual((done.returncode, done.stdout, done.stderr), (1, "", "till: nothing is kept: run rt check in crates/till\n"))
 
 
 class Programs(common.Cases):
