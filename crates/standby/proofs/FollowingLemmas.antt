@@ -1,5 +1,5 @@
 -- A standby that has taken a whole frame still follows, and the commit asked of its engine meets the engine's contract.
-use Rattle.std.proofs.Common.{◌≡◌, ℕ, ◌<◌, ◌≤◌, ◌||◌, ◌⊎◌, inl, inr, ⊎_elim, Bool, true, false, not, IsTrue, List, [], ◌∷◌, map, Option, Some, None, refl, sym, ap, subst, ◌∙◌, arith}
+use Rattle.std.proofs.Common.{◌≡◌, ℕ, ◌+◌, ◌<◌, ◌≤◌, ◌||◌, ◌⊎◌, inl, inr, ⊎_elim, Bool, true, false, not, IsTrue, List, [], ◌∷◌, length, map, Option, Some, None, refl, sym, ap, subst, ◌∙◌, arith}
 use Rattle.std.proofs.lemmas.Bool.{cases_Bool, cases_lt, or_left, or_right, true≢false}
 use Rattle.std.specs.List.{AllByRecursion}
 use Rattle.kv_types.specs.declared.place.EntryNo.{EntryNo}
@@ -11,6 +11,7 @@ use Rattle.pmem.proofs.Leaving.{LeavesOnly-weaken}
 use Rattle.model.specs.declared.group.Group.{Group}
 use Rattle.model.specs.declared.group.Part.{Part}
 use Rattle.model.specs.declared.group.Put.{Put}
+use Rattle.model.specs.declared.image.TheConstants.{COUNTER_LIMIT, STAMP_WINDOW}
 use Rattle.model.specs.declared.record.Record.{Record}
 use Rattle.model.specs.Image.{Image, IsMapOf, Version, entries_of_lines, first_extent_line}
 use Rattle.model.specs.Group.{AreEnded as AreEndedIn, Contents, Versions, IsConsistent, IsGroup, after_group, change_of, puts_of_part, part_versions, parts_versions, last_position, IsPlaced, IsUnused, AreAllApart, NamesEnded, is_ended_version, is_listed, is_live_version, is_put_at}
@@ -29,10 +30,12 @@ use Rattle.placing.proofs.BackLemmas.{comes-back-taken}
 use Rattle.placing.proofs.CountLemmas.{same_count}
 use Rattle.placing.proofs.MemberLemmas.{distinct_none}
 use Rattle.placing.proofs.PartsLemmas.{IsGroup-alone}
-use Rattle.wbl_engine.specs.Contents.{Keeps, Same}
+use Rattle.wbl_engine.specs.Contents.{Exhausts, Keeps, Same}
+use Rattle.wbl_engine.specs.Lawful.{AreLawful}
 use Rattle.wbl_engine.proofs.ApartLemmas.{group_apart}
+use Rattle.wbl_engine.proofs.LawfulLemmas.{group_lawful}
 use Rattle.standby.specs.declared.frame.Frame.{Frame}
-use Rattle.standby.specs.Following.{Follows, HasTaken, IsWhole, IsBeforeOrWhole}
+use Rattle.standby.specs.Following.{Follows, HasTaken, IsWhole, IsBeforeOrWhole, WouldExhaust}
 use Rattle.standby.proofs.EndedLemmas.{AreEnded-from_members, AreEnded-same, KeepsWithoutSome-none, listed-from_member}
 
 -- ---- the frame as a group of one part
@@ -205,7 +208,15 @@ module _ (contents : Contents) (table : Table) (frame : Frame) (part : Part) (sa
     epoch = ap (λ (r : Record). r.epoch) stays.current ∙ own;
   }
 
-  module _ (room : Room) (ended : List EntryNo) (follows : Follows (after_group contents group) (place_all part.position table part.changes.items) room ended) where
+  -- the commit brings no counter to its limit
+  pub not_exhausted : ¬ WouldExhaust contents.current frame.after → ¬ Exhausts contents group
+  not_exhausted fits (inl cd) = fits (inl (subst (λ (n : ℕ). COUNTER_LIMIT ≤ contents.current.cp + n + 1 + STAMP_WINDOW) (ap length one) cd))
+  not_exhausted fits (inr (inl position)) = fits (inr (inl (subst (λ (n : ℕ). COUNTER_LIMIT ≤ n) position_after position)))
+  not_exhausted fits (inr (inr (inl number))) = fits (inr (inr number))
+  not_exhausted fits (inr (inr (inr epoch))) = let same = own in let rises = epoch.0 in omega (arith, same, rises)
+
+  module _ (room : Room) (ended : List EntryNo) (follows : Follows (after_group contents group) (place_all part.position table part.changes.items) room ended)
+      (is : IsGroup contents group) (fits : ¬ WouldExhaust contents.current frame.after) where
     pub IsWhole-group : IsWhole frame contents table (after_group contents group)
     IsWhole-group = record {
       position = position_after;
@@ -215,6 +226,7 @@ module _ (contents : Contents) (table : Table) (frame : Frame) (part : Part) (sa
       consistent = follows.consistent;
       map = subst (IsMapOf (after_group contents group).versions (entries_of_lines contents.lines)) keyspace_after
           (map-from_table (after_group contents group).versions (entries_of_lines contents.lines) (place_all part.position table part.changes.items) follows.consistent.beyond follows.table_is);
+      lawful = λ are. group_lawful contents group are is (not_exhausted fits);
     }
 
     -- at each moment of the commit
@@ -229,8 +241,8 @@ module _ (contents : Contents) (table : Table) (frame : Frame) (part : Part) (sa
 -- ---- a frame that was taken
 
 pub IsWhole-taken : (frame : Frame) (before after : Contents) (old new : Table) (room : Room) (ended : List EntryNo) → HasTaken frame before after old new → Follows after new room ended
-    → IsWhole frame before old after
-IsWhole-taken frame before after old new room ended taken follows = record {
+    → (AreLawful before → AreLawful after) → IsWhole frame before old after
+IsWhole-taken frame before after old new room ended taken follows lawful = record {
   position = taken.position;
   line_count = taken.lines;
   role = taken.role;
@@ -238,4 +250,5 @@ IsWhole-taken frame before after old new room ended taken follows = record {
   consistent = follows.consistent;
   map = subst (IsMapOf after.versions (entries_of_lines after.lines)) taken.keyspace
       (map-from_table after.versions (entries_of_lines after.lines) new follows.consistent.beyond follows.table_is);
+  lawful = lawful;
 }

@@ -184,6 +184,12 @@ HasFreed-none [] contents room none = record {
 }
 HasFreed-none (entry ∷ ended) contents room none = cc
 
+-- contents that obey the rules do so once what has ended is freed
+pub lawful_freed : (contents new : Contents) (ended : List EntryNo) → AreEnded contents ended → Same (after_free ended contents) new → AreLawful contents → AreLawful new
+lawful_freed contents new ended are same lawful =
+    same_lawful (after_free ended contents) new same
+    (lawful_without contents (λ i. is_listed i ended) (λ i listed. (ended_within contents ended i are listed).1) lawful)
+
 -- ---- a frame between two freeings
 
 -- an image that holds contents holds others with the same record, size and versions
@@ -195,7 +201,7 @@ keeps_along old new image current lines versions keeps = record {
   entries = λ i lt. subst₂ (λ r n. IsUnder r n image i) (sym current) (sym lines) (keeps.entries i (subst (λ n. i < entries_of_lines n) lines lt));
 }
 
-module _ (frame : Frame) (ended : List EntryNo) (before between : Contents) (table table' : Table) (freed : Same (after_free ended before) between) (same : table' ≡ table) where
+module _ (frame : Frame) (ended : List EntryNo) (before between : Contents) (table table' : Table) (are : AreEnded before ended) (freed : Same (after_free ended before) between) (same : table' ≡ table) where
   pub IsWhole-since : (after : Contents) → IsWhole frame between table' after → IsWhole frame before table after
   IsWhole-since after whole = record {
     position = whole.position;
@@ -204,6 +210,7 @@ module _ (frame : Frame) (ended : List EntryNo) (before between : Contents) (tab
     epoch = whole.epoch ∙ ap (λ (r : Record). r.epoch) freed.current;
     consistent = whole.consistent;
     map = subst (λ rows. IsMapOf after.versions (entries_of_lines after.lines) (play_all (records rows) frame.changes.items)) same whole.map;
+    lawful = λ lawful. whole.lawful (lawful_freed before between ended are freed lawful);
   }
 
   keeps_since : (image : Image) → KeepsWithoutSome [] between image → Keeps (after_free ended before) image
@@ -233,6 +240,7 @@ IsWhole-without frame before old table after room ended gone some follows whole 
   consistent = consistent_without after gone whole.consistent;
   map = IsMapOf-contents_without after gone (play_all (records old) frame.changes.items)
       (λ i is. (ended_within after ended i follows.listed (some i is)).1) whole.map;
+  lawful = λ lawful. lawful_without after gone (λ i is. (ended_within after ended i follows.listed (some i is)).1) (whole.lawful lawful);
 }
 
 -- contents that say the same are those of the whole frame too
@@ -248,6 +256,7 @@ IsWhole-same frame before old after new same whole = record {
   };
   map = subst (λ lines. IsMapOf new.versions (entries_of_lines lines) (play_all (records old) frame.changes.items)) (sym same.lines)
       (IsMapOf-same after.versions new.versions (entries_of_lines after.lines) (play_all (records old) frame.changes.items) (λ i within. sym (same.versions i)) whole.map);
+  lawful = λ lawful. same_lawful after new same (whole.lawful lawful);
 }
 
 -- what the frame ended is freed after it
@@ -258,12 +267,6 @@ moments-after frame before after old table room ended listed follows whole first
     LeavesOnly-then taking
     (LeavesOnly-weaken (IsBeforeOrWhole frame listed before old)
     (λ image some. inr (without some.0 after, IsWhole-without frame before old table after room ended some.0 some.1 follows whole, some.2)) freeing)
-
--- contents that obey the rules do so once what has ended is freed
-pub lawful_freed : (contents new : Contents) (ended : List EntryNo) → AreEnded contents ended → Same (after_free ended contents) new → AreLawful contents → AreLawful new
-lawful_freed contents new ended are same lawful =
-    same_lawful (after_free ended contents) new same
-    (lawful_without contents (λ i. is_listed i ended) (λ i listed. (ended_within contents ended i are listed).1) lawful)
 
 pub Follows-moved : (contents contents' : Contents) (table table' : Table) (room room' : Room) (ended ended' : List EntryNo) → contents' ≡ contents → table' ≡ table → room' ≡ room → ended' ≡ ended
     → Follows contents table room ended → Follows contents' table' room' ended'

@@ -12,6 +12,7 @@ use Rattle.placing.specs.Back.{GivesAll, HasOut}
 use Rattle.placing.specs.Left.{IsLeftOf}
 use Rattle.wbl_engine.specs.Contents.{Keeps, Same}
 use Rattle.wbl_engine.specs.Freeing.{AreEnded, KeepsWithoutSome, after_free, extents_of, is_listed}
+use Rattle.wbl_engine.specs.Lawful.{AreLawful}
 use Rattle.standby.specs.declared.frame.Frame.{Frame}
 
 -- ---- the invariant
@@ -66,7 +67,7 @@ WouldExhaust current position =
     ⊎ (COUNTER_LIMIT ≤ position)
     ⊎ (COUNTER_LIMIT ≤ current.number + 1)
 
--- the contents of a node that has taken the frame whole
+-- The contents of a node that has taken the frame whole. They obey the rules of an image if those before did.
 pub record IsWhole (frame : Frame) (before : Contents) (table : Table) (after : Contents) : Type 0 where
   pub position : after.current.position ≡ frame.after
   pub line_count : after.lines ≡ before.lines
@@ -74,6 +75,7 @@ pub record IsWhole (frame : Frame) (before : Contents) (table : Table) (after : 
   pub epoch : after.current.epoch ≡ before.current.epoch
   pub consistent : IsConsistent after
   pub map : IsMapOf after.versions (entries_of_lines after.lines) (play_all (records table) frame.changes.items)
+  pub lawful : AreLawful before → AreLawful after
 
 -- The image holds what it held before the frame, perhaps without some of what had ended, or all of the frame.
 abbrev pub IsBeforeOrWhole : Frame → List EntryNo → Contents → Table → Image → Type 0

@@ -48,14 +48,14 @@ pub returns-in_err-commit-clause-moments : goal.returns-in_err-commit-clause-mom
 returns-in_err-commit-clause-moments g c =
     let prefix = (goal.at.returns-in_err-commit-clause-moments g c).After-push_reserved in
     LeavesOnly-group (g.E.Durable.contents c.args.self.now.engine) (g.K.Keyspace.table c.args.self.now.keyspace) c.args.frame.now c.in_ok-part.part c.in_ok-part.ensures.ok.changes_are c.in_ok-part.ensures.ok.position_is
-    (the_group g prefix) (one g prefix) c.requires.epoch c.make_part.new.heap c.in_ok-part.part.ended.items (follows_after g prefix)
+    (the_group g prefix) (one g prefix) c.requires.epoch c.make_part.new.heap c.in_ok-part.part.ended.items (follows_after g prefix) (is_group g prefix) c.requires.counters
     (g.E.Durable.device c.args.self.now.engine) (g.E.Durable.device c.commit.new.self) (c.commit.ensures.moments c.requires.sound)
 
 pub returns-clause-moments : goal.returns-clause-moments
 returns-clause-moments g c =
     let prefix = (goal.at.returns-clause-moments g c).After-push_reserved in
     LeavesOnly-group (g.E.Durable.contents c.args.self.now.engine) (g.K.Keyspace.table c.args.self.now.keyspace) c.args.frame.now c.in_ok-part.part c.in_ok-part.ensures.ok.changes_are c.in_ok-part.ensures.ok.position_is
-    (the_group g prefix) (one g prefix) c.requires.epoch c.make_part.new.heap c.in_ok-part.part.ended.items (follows_after g prefix)
+    (the_group g prefix) (one g prefix) c.requires.epoch c.make_part.new.heap c.in_ok-part.part.ended.items (follows_after g prefix) (is_group g prefix) c.requires.counters
     (g.E.Durable.device c.args.self.now.engine) (g.E.Durable.device c.commit.new.self) (c.commit.ensures.moments c.requires.sound)
 
 pub returns-clause-taken : goal.returns-clause-taken

@@ -30,7 +30,8 @@ committed : (g : Over) (c : After-commit_frame g)
     (IsBeforeOrWhole c.args.frame.now c.args.self.now.ended.items (g.E.Durable.contents c.args.self.now.engine) (g.K.Keyspace.table c.args.self.now.keyspace))
 committed g c =
     moments-committed c.args.frame.now c.args.self.now.ended.items (g.E.Durable.contents c.args.self.now.engine) (g.E.Durable.contents c.free_ended.new.self.engine)
-    (g.K.Keyspace.table c.args.self.now.keyspace) (g.K.Keyspace.table c.free_ended.new.self.keyspace) c.in_ok-free_ended.ensures.freed.contents_are (ap g.K.Keyspace.table c.free_ended.ensures.keyspace)
+    (g.K.Keyspace.table c.args.self.now.keyspace) (g.K.Keyspace.table c.free_ended.new.self.keyspace) c.requires.follows.listed c.in_ok-free_ended.ensures.freed.contents_are
+    (ap g.K.Keyspace.table c.free_ended.ensures.keyspace)
     (g.E.Durable.device c.args.self.now.engine) (g.E.Durable.device c.free_ended.new.self.engine) (g.E.Durable.device c.commit_frame.new.self.engine)
     c.free_ended.ensures.moments c.commit_frame.ensures.moments
 
@@ -74,10 +75,11 @@ whole : (g : Over) (c : After-only_fault g)
     → IsWhole c.args.frame.now (g.E.Durable.contents c.args.self.now.engine) (g.K.Keyspace.table c.args.self.now.keyspace) (g.E.Durable.contents c.commit_frame.new.self.engine)
 whole g c =
     IsWhole-since c.args.frame.now c.args.self.now.ended.items (g.E.Durable.contents c.args.self.now.engine) (g.E.Durable.contents c.free_ended.new.self.engine)
-    (g.K.Keyspace.table c.args.self.now.keyspace) (g.K.Keyspace.table c.free_ended.new.self.keyspace) c.in_ok-free_ended.ensures.freed.contents_are (ap g.K.Keyspace.table c.free_ended.ensures.keyspace)
-    (g.E.Durable.contents c.commit_frame.new.self.engine)
+    (g.K.Keyspace.table c.args.self.now.keyspace) (g.K.Keyspace.table c.free_ended.new.self.keyspace) c.requires.follows.listed c.in_ok-free_ended.ensures.freed.contents_are
+    (ap g.K.Keyspace.table c.free_ended.ensures.keyspace) (g.E.Durable.contents c.commit_frame.new.self.engine)
     (IsWhole-taken c.args.frame.now (g.E.Durable.contents c.free_ended.new.self.engine) (g.E.Durable.contents c.commit_frame.new.self.engine) (g.K.Keyspace.table c.free_ended.new.self.keyspace)
-    (g.K.Keyspace.table c.commit_frame.new.self.keyspace) c.commit_frame.new.self.heap c.commit_frame.new.self.ended.items c.in_ok-commit_frame.ensures.taken c.in_ok-commit_frame.ensures.still)
+    (g.K.Keyspace.table c.commit_frame.new.self.keyspace) c.commit_frame.new.self.heap c.commit_frame.new.self.ended.items c.in_ok-commit_frame.ensures.taken c.in_ok-commit_frame.ensures.still
+    (λ lawful. c.in_ok-commit_frame.ensures.lawful lawful (λ is. cc)))
 
 freed : (g : Over) (c : After-only_fault g)
     → LeavesOnly (g.E.Durable.device c.args.self.now.engine) (g.E.Durable.device c.commit_frame.new.self.engine)
