@@ -141,6 +141,7 @@ fn call_laws_of_machine() {
     machine::connections_stay_over();
     machine::positions_are_in_order();
     machine::frames_are_committed_groups();
+    machine::who_is_behind_gets_a_delta();
     machine::nothing_comes_of_nothing();
     machine::first_case_is_a_run();
 }
