@@ -38,12 +38,12 @@ impl FilePmem {
     }
 
     /// Opens the device of `lines` lines in a file, which stays locked until the device is dropped. Where there is no file it makes one of
-    /// zeros.
+    /// zeros. Either way the file and its name in its folder are synced before it is read.
     ///
     /// # Errors
     ///
     /// `WrongSize` where `lines` is not 4,096 to 2^31, and then no file was touched, or where a file that is there has another size;
-    /// `Fault` where the file cannot be made, opened, locked or read; `Memory` where memory for its words was refused. A file that was
+    /// `Fault` where the file cannot be made, opened, locked, synced or read; `Memory` where memory for its words was refused. A file that was
     /// being made may stay in part; another one is as it was.
     pub fn create(rt: &HostRuntime, path: &str, lines: u64) -> Result<FilePmem, Refusal>
         ensures fresh { IfOk result (λ device. IsFresh device) }
@@ -94,21 +94,31 @@ fn make_or_open(rt: &HostRuntime, path: &str, lines: u64) -> Result<File, Refusa
     {
         Ok(file) => {
             let file = locked(file)?;
-            match fill(rt, path, &file, lines) {
-                Ok(()) => Ok(file),
+            match file.set_len(LINE_BYTES * lines) {
+                Ok(()) => settled(rt, path, file),
                 Err(_) => Err(Refusal::Fault),
             }
         }
-        Err(error) if error.kind() == ErrorKind::AlreadyExists => open_locked(rt, path),
+        // (whoever made it may have ended before it was durable)
+        Err(error) if error.kind() == ErrorKind::AlreadyExists => {
+            settled(rt, path, open_locked(rt, path)?)
+        }
         Err(_) => Err(Refusal::Fault),
     }
 }
 
-/// Makes a new file of `lines` lines of zeros durable, and its name in its folder.
-fn fill(rt: &HostRuntime, path: &str, file: &File, lines: u64) -> io::Result<()>
-    requires { lines ≤ MAX_LINES }
+/// The file, once its length and its name in its folder are durable.
+fn settled(rt: &HostRuntime, path: &str, file: File) -> Result<File, Refusal>
+    ensures { IfErr result (λ refusal. refusal ≡ Refusal.Fault) }
 {
-    file.set_len(LINE_BYTES * lines)?;
+    match settle(rt, path, &file) {
+        Ok(()) => Ok(file),
+        Err(_) => Err(Refusal::Fault),
+    }
+}
+
+/// Makes a file durable, and its name in its folder.
+fn settle(rt: &HostRuntime, path: &str, file: &File) -> io::Result<()> {
     file.sync_all()?;
     let mut folder = fs::canonicalize(rt, path)?;
     folder.pop();
