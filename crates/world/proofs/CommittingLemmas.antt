@@ -37,11 +37,11 @@ use Rattle.machine.specs.Event.{Committer as Machine, Commits, Frees, Stage as M
 use Rattle.machine.specs.World as machine_stage
 use Rattle.machine.specs.Sound.{HasRoomFor, Sound}
 use Rattle.world.specs.Cause.{IsAtLimit, EndsBy}
-use Rattle.world.specs.Committing.{AreContentsAt, AreOfEpoch, Committing, CommittingRefines, EngineStands, Leads, StageRefines, StandsAtEither, NearOnly, entries_told, extents_told, next_primary}
+use Rattle.world.specs.Committing.{AreContentsAt, AreOfEpoch, Committing, CommittingRefines, EngineStands, Leads, StageRefines, OpensAtEither, NearOnly, entries_told, extents_told, next_primary}
 use Rattle.connections.specs.Going.{Goes}
 use Rattle.world.specs.GroupSpan.{AreGroupsOf, AreWorkOf, IsGroupOf, positions_of_lists}
 use Rattle.world.specs.Recalling.{Remembers}
-use Rattle.world.proofs.EngineLemmas.{AreContentsAt-after_group, Stands-engine, keeps-stands, rests-same}
+use Rattle.world.proofs.EngineLemmas.{AreContentsAt-after_group, Opens-engine, keeps-opens, rests-same}
 use Rattle.world.proofs.GroupSpanLemmas.{IsGroupOf-grows, length-groups}
 use Rattle.world.proofs.QueueLemmas.{AreWorkOf-grows, ended-reached}
 use Rattle.world.proofs.RecallGroups.{remembers-committed}
@@ -227,11 +227,12 @@ Remembers-committed holder w old lists group new contents contents' s takes move
 
 -- at any moment of the engine's call, a crash leaves what was before it or what is after it
 pub commit-moments : (holder : Holder) (w : World) (old : Committing) (lists : List FreeList) (group : Group) (new : Committing) (device device' : State) (contents : Contents) (is_faulted : Bool)
-    → TakesGroup contents old lists group new → (is_faulted ≡ false → LeavesOnly device device' (λ image. Keeps contents image ⊎ Keeps (after_group contents group) image))
+    → TakesGroup contents old lists group new → (is_faulted ≡ false → ¬ Exhausts contents group)
+    → (is_faulted ≡ false → LeavesOnly device device' (λ image. Keeps contents image ⊎ Keeps (after_group contents group) image))
     → CommittingRefines w.primary.calls old w.primary.committer → EngineStands holder w.primary.calls w.primary.committer.position device contents is_faulted
     → NearOnly holder w.primary.calls w.primary.committer.position (next_primary w) device device'
-commit-moments holder w old lists group new device device' contents is_faulted takes moments stands engine =
-    LeavesOnly-weaken (StandsAtEither holder w.primary.calls w.primary.committer.position (next_primary w)) (λ image. either image) (moments engine.sound)
+commit-moments holder w old lists group new device device' contents is_faulted takes fits moments stands engine =
+    LeavesOnly-weaken (OpensAtEither holder w.primary.calls w.primary.committer.position (next_primary w)) (λ image. either image) (moments engine.sound)
   where
     next : NextGroup holder w.primary.calls w.primary.committer.position contents lists group new.waiting.items w.primary.committer.waiting
     next = next-group holder w.primary.calls w.primary.committer.position contents old lists group new w.primary.committer engine.contents_at takes stands
@@ -239,10 +240,11 @@ commit-moments holder w old lists group new device device' contents is_faulted t
     ends : next_primary w ≡ next.firsts.first.after
     ends = ap (λ works. (committed_first works w.primary.committer).position) next.firsts.from
 
-    either : (image : Image) → Keeps contents image ⊎ Keeps (after_group contents group) image → StandsAtEither holder w.primary.calls w.primary.committer.position (next_primary w) image
-    either image (inl keeps) = inl (keeps-stands holder w.primary.calls w.primary.committer.position contents image engine.contents_at keeps)
+    either : (image : Image) → Keeps contents image ⊎ Keeps (after_group contents group) image → OpensAtEither holder w.primary.calls w.primary.committer.position (next_primary w) image
+    either image (inl keeps) = inl (keeps-opens holder w.primary.calls w.primary.committer.position contents image engine.contents_at engine.lawful keeps)
     either image (inr keeps) =
-        inr (keeps-stands holder w.primary.calls (next_primary w) (after_group contents group) image (subst (λ p. AreContentsAt holder w.primary.calls p (after_group contents group)) (sym ends) next.after) keeps)
+        inr (keeps-opens holder w.primary.calls (next_primary w) (after_group contents group) image (subst (λ p. AreContentsAt holder w.primary.calls p (after_group contents group)) (sym ends) next.after)
+        (group_lawful contents group engine.lawful takes.lawful (fits engine.sound)) keeps)
 
 -- positions rise by at least one per part
 parts-rise : (before : ℕ) (versions : Versions) (parts : List Part) → AreParts before versions parts → before + length parts ≤ last_position before parts
@@ -280,10 +282,11 @@ pub commit-ends : (holder : Holder) (w : World) (old : Committing) (lists : List
     (result : Result Done Refusal) (refusal : Refusal) → result ≡ Err refusal
     → TakesGroup contents old lists group new → IfErr result (λ r. (r ≡ Fault) ⊎ (r ≡ Exhausted))
     → (IsErrOf result Fault → (is_faulted ≡ true) ⊎ (device.failures < device'.failures)) → (IsErrOf result Exhausted → Exhausts contents group × (device' ≡ device))
+    → (is_faulted ≡ false → Exhausts contents group → result ≡ Err Exhausted)
     → (is_faulted ≡ false → LeavesOnly device device' (λ image. Keeps contents image ⊎ Keeps (after_group contents group) image))
     → CommittingRefines w.primary.calls old w.primary.committer → EngineStands holder w.primary.calls w.primary.committer.position device contents is_faulted
     → EndsBy refusal Commit (λ last _. last holder w.primary.calls w.primary.committer.position (next_primary w) device device')
-commit-ends holder w old lists group new device device' contents is_faulted result refusal is takes causes fault exhausted moments stands engine =
+commit-ends holder w old lists group new device device' contents is_faulted result refusal is takes causes fault exhausted exhausts moments stands engine =
     by (subst (λ (r : Result Done Refusal). IfErr r (λ e. (e ≡ Fault) ⊎ (e ≡ Exhausted))) is causes)
   where
     rose : (is_faulted ≡ true) ⊎ (device.failures < device'.failures) → device.failures < device'.failures
@@ -293,12 +296,15 @@ commit-ends holder w old lists group new device device' contents is_faulted resu
     by : (refusal ≡ Fault) ⊎ (refusal ≡ Exhausted) → EndsBy refusal Commit (λ last _. last holder w.primary.calls w.primary.committer.position (next_primary w) device device')
     by (inl cause) =
         subst (λ (r : Refusal). EndsBy r Commit (λ last _. last holder w.primary.calls w.primary.committer.position (next_primary w) device device')) (sym cause)
-        (record { leaves = commit-moments holder w old lists group new device device' contents is_faulted takes moments stands engine; failures = rose (fault (is ∙ ap Err cause)) })
+        (record {
+          leaves = commit-moments holder w old lists group new device device' contents is_faulted takes (λ sound would. let told = exhausts sound would in cc) moments stands engine;
+          failures = rose (fault (is ∙ ap Err cause));
+        })
     by (inr cause) =
         let told = exhausted (is ∙ ap Err cause) in
         subst (λ (r : Refusal). EndsBy r Commit (λ last _. last holder w.primary.calls w.primary.committer.position (next_primary w) device device')) (sym cause)
         (record {
-          rests = rests-same holder w.primary.calls w.primary.committer.position device device' told.1 (Stands-engine holder w.primary.calls w.primary.committer.position device contents is_faulted engine);
+          rests = rests-same holder w.primary.calls w.primary.committer.position device device' told.1 (Opens-engine holder w.primary.calls w.primary.committer.position device contents is_faulted engine);
           limit = subst (λ (d : State). (image : Image) → IsImage d.words image → IsAtLimit (next_primary w - w.primary.committer.position) image) (sym told.1)
               (commit-limit holder w old lists group new device contents is_faulted takes told.0 stands engine);
         })

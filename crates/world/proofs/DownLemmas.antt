@@ -17,7 +17,7 @@ use Rattle.model.specs.declared.record.TheConstants.{MAX_GAPS}
 use Rattle.model.specs.Call.{keyspace_after, cut_at, position_of}
 use Rattle.model.specs.Image.{Image, IsMapOf, HasRecord, Holds, entries_of_lines}
 use Rattle.model.specs.Group.{Contents}
-use Rattle.model.specs.Standing.{Holder, StandsAt}
+use Rattle.model.specs.Standing.{Holder}
 use Rattle.model.proofs.MapLemmas.{IsMapOf-same}
 use Rattle.model.proofs.StandingLemmas.{Holds-versions}
 use Rattle.wbl_engine.specs.Contents.{Keeps, IsDurable}
@@ -27,8 +27,8 @@ use Rattle.wbl_engine.proofs.LawfulLemmas.{lawful_undamaged}
 use Rattle.wbl_engine.proofs.ReopeningLaws.{keeps_through, lawful_refusal, reopening_lawful}
 use Rattle.wbl_engine.proofs.RoomLemmas.{room_cases}
 use Rattle.machine.specs.Event.{gaps_reopened}
-use Rattle.world.specs.Committing.{AreContentsAt, EngineStands, IsDown, Moves, Stands, StandsAtEither}
-use Rattle.world.proofs.EngineLemmas.{AreContentsAt-grows, Stands-engine, keeps-stands}
+use Rattle.world.specs.Committing.{AreContentsAt, EngineStands, IsDown, Moves, Opens, OpensAt, OpensAtEither}
+use Rattle.world.proofs.EngineLemmas.{AreContentsAt-grows, Opens-engine, keeps-opens}
 
 -- ---- words with one candidate
 
@@ -68,15 +68,15 @@ pub crash-moves : (holder : Holder) (calls : List Call) (p : ℕ) (device device
     → LeavesOnly device device' (IsImage device.words) → device'.failures ≡ device.failures → Moves holder calls p p device device'
 crash-moves holder calls p device device' contents is_faulted stands moments failures =
     record {
-      leaves = LeavesOnly-weaken (StandsAtEither holder calls p p) (λ image is. inl (Stands-engine holder calls p device contents is_faulted stands image is)) moments;
+      leaves = LeavesOnly-weaken (OpensAtEither holder calls p p) (λ image is. inl (Opens-engine holder calls p device contents is_faulted stands image is)) moments;
       failures = failures;
     }
 
 -- while the node is crashed, its image stands where it stood
-pub Stands-down : (holder : Holder) (calls : List Call) (p : ℕ) (device : State) → IsDown holder calls p device → Stands holder calls p device
-Stands-down holder calls p device down = λ image is.
-    subst (StandsAt holder calls p) (sym (settled-image device.words image down.settled is))
-    (keeps-stands holder calls p down.contents (image_of device.words) down.contents_at down.keeps)
+pub Opens-down : (holder : Holder) (calls : List Call) (p : ℕ) (device : State) → IsDown holder calls p device → Opens holder calls p device
+Opens-down holder calls p device down = λ image is.
+    subst (OpensAt holder calls p) (sym (settled-image device.words image down.settled is))
+    (keeps-opens holder calls p down.contents (image_of device.words) down.contents_at down.lawful down.keeps)
 
 -- while it is, the list may grow
 pub IsDown-grows : (holder : Holder) (calls more : List Call) (p : ℕ) (device : State) → p ≤ position_of calls → IsDown holder calls p device → IsDown holder (calls ++ more) p device
@@ -174,30 +174,33 @@ down-versions holder calls p device contents' counted gapped down reopens i =
       | inr past ↦ through.consistent.beyond i (subst (λ n. entries_of_lines n ≤ i) (sym through.lines_are) past) ∙ sym (down.contents_at.consistent.beyond i past)
     ]
 
--- an image that reopening may leave stands where the first one stood
-readable-stands : (holder : Holder) (calls : List Call) (p : ℕ) (contents : Contents) (image image' : Image) → AreContentsAt holder calls p contents → Keeps contents image
-    → StaysReadable contents.lines contents.current image image' → StandsAt holder calls p image'
-readable-stands holder calls p contents image image' are keeps stays =
+-- an image that reopening may leave opens where the first one opened
+readable-opens : (holder : Holder) (calls : List Call) (p : ℕ) (contents : Contents) (image image' : Image) → AreContentsAt holder calls p contents → Keeps contents image
+    → StaysReadable contents.lines contents.current image image' → OpensAt holder calls p image'
+readable-opens holder calls p contents image image' are keeps stays =
     let s = keyspace_after (cut_at calls p) in
     record {
-      current = stays.current;
-      position = stays.position ∙ are.at;
-      role = stays.role ∙ are.role_is;
-      epoch = stays.epoch ∙ are.epoch_is;
-      holds = subst (λ n. Holds n stays.current s image') are.lines_are
-          (Holds-versions contents.lines stays.current contents.versions s image' stays.undamaged.superblock stays.undamaged.current.has_record
-          (λ i within. stays.versions i within ∙ keeps.versions i within) are.map);
+      stands = record {
+        current = stays.current;
+        position = stays.position ∙ are.at;
+        role = stays.role ∙ are.role_is;
+        epoch = stays.epoch ∙ are.epoch_is;
+        holds = subst (λ n. Holds n stays.current s image') are.lines_are
+            (Holds-versions contents.lines stays.current contents.versions s image' stays.undamaged.superblock stays.undamaged.current.has_record
+            (λ i within. stays.versions i within ∙ keeps.versions i within) are.map);
+      };
+      undamaged = subst (λ n. IsUndamaged n stays.current image') are.lines_are stays.undamaged;
     }
 
--- at any moment of a reopening, a crash leaves an image that stands where the first one stood
+-- at any moment of a reopening, a crash leaves an image that opens where the first one opened
 pub restart-moments : (holder : Holder) (calls : List Call) (p : ℕ) (device device' : State) → IsDown holder calls p device
     → ((r : Record) → IsUndamaged device.lines r (image_of device.words) → LeavesOnly device device' (StaysReadable device.lines r (image_of device.words)))
-    → LeavesOnly device device' (StandsAt holder calls p)
+    → LeavesOnly device device' (OpensAt holder calls p)
 restart-moments holder calls p device device' down moments =
     let image = image_of device.words in
     let contents = down.contents in
-    LeavesOnly-weaken (StandsAt holder calls p)
-    (λ image' stays. readable-stands holder calls p contents image image' down.contents_at down.keeps (subst (λ n. StaysReadable n contents.current image image') (sym down.sized) stays))
+    LeavesOnly-weaken (OpensAt holder calls p)
+    (λ image' stays. readable-opens holder calls p contents image image' down.contents_at down.keeps (subst (λ n. StaysReadable n contents.current image image') (sym down.sized) stays))
     (moments contents.current (subst (λ n. IsUndamaged n contents.current image) down.sized (lawful_undamaged contents image down.lawful down.keeps)))
 
 -- the image is reopened in its role, unless memory is refused or a counter of its record is at its limit

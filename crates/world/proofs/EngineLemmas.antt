@@ -8,47 +8,53 @@ use Rattle.model.specs.declared.group.Group.{Group}
 use Rattle.model.specs.Call.{keyspace_after, cut_at, position_of}
 use Rattle.model.specs.Image.{Image, IsMapOf, Holds, entries_of_lines}
 use Rattle.model.specs.Group.{Contents, IsGroup, after_group, changes_of_group, last_position}
-use Rattle.model.specs.Standing.{Holder, StandsAt}
+use Rattle.model.specs.Standing.{Holder}
 use Rattle.model.proofs.CallsLemmas.{keyspace_after-cut_at-append}
 use Rattle.model.proofs.GroupsLemmas.{IsMapOf-after_group, IsConsistent-after_group}
 use Rattle.model.proofs.PositionsLemmas.{keyspace_after-cut_at-since}
 use Rattle.model.proofs.StandingLemmas.{Holds-versions}
 use Rattle.wbl_engine.specs.Contents.{Keeps}
+use Rattle.wbl_engine.specs.Lawful.{AreLawful, IsUndamaged}
+use Rattle.wbl_engine.proofs.LawfulLemmas.{lawful_undamaged}
 use Rattle.machine.specs.Event.{Span}
 use Rattle.world.specs.GroupSpan.{IsGroupOf}
-use Rattle.world.specs.Committing.{AreContentsAt, EngineStands, Moves, Rests, Stands, StandsAtEither, NearOnly}
+use Rattle.world.specs.Committing.{AreContentsAt, EngineStands, Moves, Rests, Opens, OpensAt, OpensAtEither, NearOnly}
 
 -- ---- what a crash leaves
 
--- an image that holds contents at a position stands at it
-pub keeps-stands : (holder : Holder) (calls : List Call) (p : ℕ) (contents : Contents) (image : Image) → AreContentsAt holder calls p contents → Keeps contents image → StandsAt holder calls p image
-keeps-stands holder calls p contents image are keeps =
+-- an image that holds contents at a position, which obey the rules, opens at it
+pub keeps-opens : (holder : Holder) (calls : List Call) (p : ℕ) (contents : Contents) (image : Image) → AreContentsAt holder calls p contents → AreLawful contents → Keeps contents image
+    → OpensAt holder calls p image
+keeps-opens holder calls p contents image are lawful keeps =
     let s = keyspace_after (cut_at calls p) in
     record {
-      current = contents.current;
-      position = are.at;
-      role = are.role_is;
-      epoch = are.epoch_is;
-      holds = subst (λ n. Holds n contents.current s image) are.lines_are
-          (Holds-versions contents.lines contents.current contents.versions s image keeps.superblock keeps.has_record keeps.versions are.map);
+      stands = record {
+        current = contents.current;
+        position = are.at;
+        role = are.role_is;
+        epoch = are.epoch_is;
+        holds = subst (λ n. Holds n contents.current s image) are.lines_are
+            (Holds-versions contents.lines contents.current contents.versions s image keeps.superblock keeps.has_record keeps.versions are.map);
+      };
+      undamaged = subst (λ n. IsUndamaged n contents.current image) are.lines_are (lawful_undamaged contents image lawful keeps);
     }
 
-pub Stands-engine : (holder : Holder) (calls : List Call) (p : ℕ) (device : State) (contents : Contents) (is_faulted : Bool) → EngineStands holder calls p device contents is_faulted → Stands holder calls p device
-Stands-engine holder calls p device contents is_faulted stands = λ image is. keeps-stands holder calls p contents image stands.contents_at (stands.durable image is)
+pub Opens-engine : (holder : Holder) (calls : List Call) (p : ℕ) (device : State) (contents : Contents) (is_faulted : Bool) → EngineStands holder calls p device contents is_faulted → Opens holder calls p device
+Opens-engine holder calls p device contents is_faulted stands = λ image is. keeps-opens holder calls p contents image stands.contents_at stands.lawful (stands.durable image is)
 
 -- nothing happened to the device
 pub near-still : (holder : Holder) (calls : List Call) (p q : ℕ) (device : State) (contents : Contents) (is_faulted : Bool) → EngineStands holder calls p device contents is_faulted → NearOnly holder calls p q device device
 near-still holder calls p q device contents is_faulted stands =
-    none_leaves device (StandsAtEither holder calls p q) (λ image is. inl (Stands-engine holder calls p device contents is_faulted stands image is))
+    none_leaves device (OpensAtEither holder calls p q) (λ image is. inl (Opens-engine holder calls p device contents is_faulted stands image is))
 
-pub rests-same : (holder : Holder) (calls : List Call) (p : ℕ) (old new : State) → new ≡ old → Stands holder calls p old → Rests holder calls p old new
+pub rests-same : (holder : Holder) (calls : List Call) (p : ℕ) (old new : State) → new ≡ old → Opens holder calls p old → Rests holder calls p old new
 rests-same holder calls p old new same stands =
-    subst (Rests holder calls p old) (sym same) (record { leaves = none_leaves old (StandsAt holder calls p) stands; failures = refl })
+    subst (Rests holder calls p old) (sym same) (record { leaves = none_leaves old (OpensAt holder calls p) stands; failures = refl })
 
 -- nothing happened to the device, wherever its node was said to stand before
-pub moves-same : (holder : Holder) (calls : List Call) (p q : ℕ) (old new : State) → new ≡ old → Stands holder calls q new → Moves holder calls p q old new
+pub moves-same : (holder : Holder) (calls : List Call) (p q : ℕ) (old new : State) → new ≡ old → Opens holder calls q new → Moves holder calls p q old new
 moves-same holder calls p q old new same stands = subst (λ (d : State). Moves holder calls p q d new) same
-    (record { leaves = none_leaves new (StandsAtEither holder calls p q) (λ image is. inr (stands image is)); failures = refl })
+    (record { leaves = none_leaves new (OpensAtEither holder calls p q) (λ image is. inr (stands image is)); failures = refl })
 
 -- ---- while the list grows
 

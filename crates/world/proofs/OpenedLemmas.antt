@@ -23,7 +23,7 @@ use Rattle.wbl_engine.specs.Lawful.{IsUndamaged}
 use Rattle.wbl_engine.specs.Reopening.{ExhaustsReopening, RefusesReopening, StaysReadable}
 use Rattle.machine.specs.Event.{gaps_reopened}
 use Rattle.world.specs.Cause.{Breaks, RestsBeforeReopening}
-use Rattle.world.specs.Committing.{AreContentsAt, EngineStands, IsDown, Moves, Rests, StandsAtEither}
+use Rattle.world.specs.Committing.{AreContentsAt, EngineStands, IsDown, Moves, Rests, OpensAtEither}
 use Rattle.world.proofs.DownLemmas.{down-gaps, down-reopened, down-versions, restart-moments, settled-image}
 
 -- ---- the image
@@ -65,14 +65,14 @@ opened-versions holder calls p old new contents is_faulted down opened = down-ve
 
 pub opened-moves : (holder : Holder) (calls : List Call) (p : ℕ) (old new : State) → IsDown holder calls p old → StaysSo old new → new.failures ≡ old.failures → Moves holder calls p p old new
 opened-moves holder calls p old new down stays failures =
-    record { leaves = LeavesOnly-weaken (StandsAtEither holder calls p p) (λ image stands. inl stands) (restart-moments holder calls p old new down stays); failures = failures }
+    record { leaves = LeavesOnly-weaken (OpensAtEither holder calls p p) (λ image stands. inl stands) (restart-moments holder calls p old new down stays); failures = failures }
 
 pub opened-rests : (holder : Holder) (calls : List Call) (p : ℕ) (old new : State) → IsDown holder calls p old → StaysSo old new → new.failures ≡ old.failures → Rests holder calls p old new
 opened-rests holder calls p old new down stays failures = record { leaves = restart-moments holder calls p old new down stays; failures = failures }
 
 pub opened-breaks : (holder : Holder) (calls : List Call) (p next : ℕ) (old new : State) → IsDown holder calls p old → StaysSo old new → old.failures < new.failures → Breaks holder calls p next old new
 opened-breaks holder calls p next old new down stays failures =
-    record { leaves = LeavesOnly-weaken (StandsAtEither holder calls p next) (λ image stands. inl stands) (restart-moments holder calls p old new down stays); failures = failures }
+    record { leaves = LeavesOnly-weaken (OpensAtEither holder calls p next) (λ image stands. inl stands) (restart-moments holder calls p old new down stays); failures = failures }
 
 pub opened-limit : (holder : Holder) (calls : List Call) (p next : ℕ) (old new : State) (r : Record) → IsDown holder calls p old → StaysSo old new → new ≡ old → HasRecord r (image_of old.words) → ExhaustsReopening r
     → RestsBeforeReopening holder calls p next old new

@@ -22,7 +22,7 @@ use Rattle.world.specs.Recalling.{Remembers}
 use Rattle.connections.specs.Session.{SequencerRefines}
 use Rattle.world.specs.Pair.{Pair, PartsRefine, PairRefines, Steps, Does}
 use Rattle.world.proofs.EngineLemmas.{moves-same}
-use Rattle.world.proofs.PairLemmas.{Stands-standby, goes-map, goes-steps, none-added, untouched}
+use Rattle.world.proofs.PairLemmas.{Opens-standby, goes-map, goes-steps, none-added, untouched}
 
 -- ---- an event that is not enabled
 
@@ -64,7 +64,7 @@ commit-steps first second w old new device' sound runs serves failures only done
       moves = record {
         primary = record { leaves = only; failures = failures };
         standby = moves-same second w.primary.calls w.standby.position w.standby.position old.standby.device new.standby.device device'
-            (Stands-standby second new.link.epoch w.primary.calls w.standby.position new.standby new.standby_runs parts.standby);
+            (Opens-standby second new.link.epoch w.primary.calls w.standby.position new.standby new.standby_runs parts.standby);
       };
     }
 

@@ -1,7 +1,8 @@
 -- What freeing, clearing a gap and telling the sequencer of it do to the pair, of what they do to its parts.
 use mathlib.Core.Path.{fun_ext}
-use Rattle.std.proofs.Common.{◌≡◌, ◌⊎◌, ◌+◌, ◌-◌, ◌<◌, ◌≤◌, ℕ, inl, inr, Bool, true, false, not, ◌&&◌, cond, nat_lt, List, [], ◌∷◌, ◌++◌, length, map, drop, Result, Ok, Err, Vec, Global, refl, sym, ap, ap₂, subst, ◌∙◌, arith, append-nil, le_refl, length-append, true≢false}
+use Rattle.std.proofs.Common.{◌≡◌, ◌⊎◌, ◌+◌, ◌-◌, ◌<◌, ◌≤◌, ℕ, inl, inr, Bool, true, false, not, ◌&&◌, ◌||◌, cond, nat_lt, List, [], ◌∷◌, ◌++◌, length, map, drop, Result, Ok, Err, Vec, Global, refl, sym, ap, ap₂, subst, ◌∙◌, arith, append-nil, le_refl, length-append, true≢false}
 use Rattle.std.specs.Coded.{le_prop}
+use Rattle.std.specs.List.{IsDistinct}
 use Rattle.std.proofs.lemmas.Bool.{cases_lt, le-ltb, lt-ltb, leb-true, ltb-true}
 use Rattle.kv_types.specs.declared.place.EntryNo.{EntryNo}
 use Rattle.kv_types.specs.declared.place.Extent.{Extent}
@@ -10,7 +11,7 @@ use Rattle.kv_types.specs.declared.refusal.Refusal.TheVariants.{Memory, Fault, E
 use Rattle.pmem.specs.Device.{State}
 use Rattle.pmem.specs.Crash.{IsImage}
 use Rattle.pmem.specs.Runs.{LeavesOnly}
-use Rattle.pmem.proofs.Leaving.{LeavesOnly-weaken}
+use Rattle.pmem.proofs.Leaving.{LeavesOnly-weaken, none_leaves}
 use Rattle.model.specs.declared.call.Call.{Call}
 use Rattle.model.specs.declared.group.Group.{Group}
 use Rattle.model.specs.declared.image.TheConstants.{COUNTER_LIMIT}
@@ -21,7 +22,7 @@ use Rattle.model.specs.declared.work.Work.TheVariants as work
 use Rattle.model.specs.Call.{cut_at, is_nonempty, keyspace_after}
 use Rattle.model.specs.Group.{AreEnded, Contents, Versions, after_free, extents_of, without}
 use Rattle.model.specs.Image.{Image, IsMapOf, entries_of_lines}
-use Rattle.model.specs.Standing.{Holder, StandsAt}
+use Rattle.model.specs.Standing.{Holder}
 use Rattle.wbl_engine.specs.declared.freeing.Freed.{Freed}
 use Rattle.wbl_engine.specs.Contents.{IsDurable, Keeps, Same}
 use Rattle.wbl_engine.specs.Freeing.{Clears, KeepsWithoutSome, cleared_contents}
@@ -49,7 +50,7 @@ use Rattle.machine.specs.Event.{Work as MachineWork, World, Happens, Step, has_r
 use Rattle.machine.specs.Event as machine
 use Rattle.machine.proofs.SoundEvents.{sound-step}
 use Rattle.world.specs.Cause.{EndsBy, asks_memory, IsAtLimit, RestsAtLimit}
-use Rattle.world.specs.Committing.{AreContentsAt, EngineStands, Leads, NearOnly, StageRefines, StandsAtEither, entries_told, extents_told, next_primary}
+use Rattle.world.specs.Committing.{AreContentsAt, EngineStands, Leads, NearOnly, OpensAt, OpensAtEither, StageRefines, entries_told, extents_told, next_primary}
 use Rattle.world.specs.GroupSpan.{AreWorkOf, positions_of_lists}
 use Rattle.world.specs.Pair.{Does, IsCut, Pair, PairRefines, PartsRefine, Steps}
 use Rattle.world.specs.Queue.{has_group, is_first_within, is_ready_now, link_has_room, may_clear_now, may_commit_now, may_free_now, reached_now}
@@ -59,10 +60,10 @@ use Rattle.world.specs.Standby.{Node}
 use Rattle.world.specs.declared.arrivals.Arrivals.{Arrivals}
 use Rattle.connections.specs.declared.sessions.Sessions.{Sessions}
 use Rattle.world.proofs.AheadLemmas.{AreLaid, laid-engine}
-use Rattle.world.proofs.EngineLemmas.{keeps-stands, moves-same}
+use Rattle.world.proofs.EngineLemmas.{Opens-engine, keeps-opens, moves-same}
 use Rattle.world.proofs.FreedQueue.{Leads-accepted, Leads-aside, Leads-cleared, Leads-freed}
 use Rattle.world.proofs.LivesLemmas.{Runs, enabled-is, is_own, lives-step, nodes-refine, own-runs}
-use Rattle.world.proofs.PairLemmas.{Led, Stands-standby, cut-for, cut-same, goes-steps, none-added, rests-primary, rests-standby, tells, untouched}
+use Rattle.world.proofs.PairLemmas.{Led, Opens-standby, cut-for, cut-same, goes-steps, none-added, rests-primary, rests-standby, tells, untouched}
 use Rattle.world.proofs.QueueLemmas.{clear-enabled, free-enabled, reached-positions, room-link}
 use Rattle.world.proofs.RecallLemmas.{remembers-aside, remembers-freed, remembers-on, remembers-same}
 
@@ -94,12 +95,13 @@ engine-freed holder calls p device device' contents contents' is_faulted is_faul
     }
 
 -- at any moment of it the image stands where it stood
-freed-moments : (holder : Holder) (calls : List Call) (p : ℕ) (device device' : State) (contents : Contents) (entries : List EntryNo) → AreEnded contents entries → AreContentsAt holder calls p contents
-    → LeavesOnly device device' (KeepsWithoutSome entries contents) → LeavesOnly device device' (StandsAt holder calls p)
-freed-moments holder calls p device device' contents entries ended are moments =
-    LeavesOnly-weaken (StandsAt holder calls p)
-    (λ image keeps. keeps-stands holder calls p (without keeps.0 contents) image
-    (contents-without holder calls p contents keeps.0 (λ i gone. AllEnded-listed contents entries ended i (keeps.1 i gone)) are) keeps.2) moments
+freed-moments : (holder : Holder) (calls : List Call) (p : ℕ) (device device' : State) (contents : Contents) (entries : List EntryNo) → AreEnded contents entries → AreContentsAt holder calls p contents → AreLawful contents
+    → LeavesOnly device device' (KeepsWithoutSome entries contents) → LeavesOnly device device' (OpensAt holder calls p)
+freed-moments holder calls p device device' contents entries ended are lawful moments =
+    LeavesOnly-weaken (OpensAt holder calls p)
+    (λ image keeps.
+    let gone : AllEnded keeps.0 contents.versions = λ i is. AllEnded-listed contents entries ended i (keeps.1 i is) in
+    keeps-opens holder calls p (without keeps.0 contents) image (contents-without holder calls p contents keeps.0 gone are) (lawful_without contents keeps.0 gone lawful) keeps.2) moments
 
 -- and under a record with one gap less
 contents-under : (holder : Holder) (calls : List Call) (p : ℕ) (contents : Contents) → AreContentsAt holder calls p contents → AreContentsAt holder calls p (cleared_contents contents)
@@ -132,17 +134,36 @@ engine-cleared holder calls p device device' contents contents' is_faulted is_fa
       durable = durable;
     }
 
-cleared-moments : (holder : Holder) (calls : List Call) (p : ℕ) (device device' : State) (contents : Contents) → AreContentsAt holder calls p contents
-    → LeavesOnly device device' (λ image. Keeps contents image ⊎ Keeps (cleared_contents contents) image) → LeavesOnly device device' (StandsAt holder calls p)
-cleared-moments holder calls p device device' contents are moments =
-    LeavesOnly-weaken (StandsAt holder calls p)
+or_false : (b : Bool) → (b || false) ≡ b
+or_false true = refl
+or_false false = refl
+
+-- nothing is listed where only the record is another
+clears-none : (contents : Contents) → Clears contents [] (cleared_contents contents)
+unfolding IsDistinct
+clears-none contents = record {
+  current = refl;
+  lines_are = refl;
+  versions = λ i. refl;
+  is_free = λ i. sym (or_false (contents.is_free i));
+  within = λ i listed. absurd (true≢false (sym listed));
+  were_not_free = λ i listed. absurd (true≢false (sym listed));
+  held_none = λ i listed. absurd (true≢false (sym listed));
+  once = tt;
+}
+
+cleared-moments : (holder : Holder) (calls : List Call) (p : ℕ) (device device' : State) (contents : Contents) → AreContentsAt holder calls p contents → AreLawful contents
+    → contents.current.number + 1 < COUNTER_LIMIT → LeavesOnly device device' (λ image. Keeps contents image ⊎ Keeps (cleared_contents contents) image) → LeavesOnly device device' (OpensAt holder calls p)
+cleared-moments holder calls p device device' contents are lawful room moments =
+    LeavesOnly-weaken (OpensAt holder calls p)
     (λ image either. elim either [
-      | inl keeps ↦ keeps-stands holder calls p contents image are keeps
-      | inr keeps ↦ keeps-stands holder calls p (cleared_contents contents) image (contents-under holder calls p contents are) keeps
+      | inl keeps ↦ keeps-opens holder calls p contents image are lawful keeps
+      | inr keeps ↦ keeps-opens holder calls p (cleared_contents contents) image (contents-under holder calls p contents are)
+          (lawful_cleared contents (cleared_contents contents) [] (clears-none contents) room lawful) keeps
     ]) moments
 
-near : (holder : Holder) (calls : List Call) (p next : ℕ) (device device' : State) → LeavesOnly device device' (StandsAt holder calls p) → NearOnly holder calls p next device device'
-near holder calls p next device device' moments = LeavesOnly-weaken (StandsAtEither holder calls p next) (λ image stands. inl stands) moments
+near : (holder : Holder) (calls : List Call) (p next : ℕ) (device device' : State) → LeavesOnly device device' (OpensAt holder calls p) → NearOnly holder calls p next device device'
+near holder calls p next device device' moments = LeavesOnly-weaken (OpensAtEither holder calls p next) (λ image stands. inl stands) moments
 
 failed : (is_faulted : Bool) (before after : ℕ) → is_faulted ≡ false → (is_faulted ≡ true) ⊎ (before < after) → before < after
 failed is_faulted before after sound (inl was) = absurd (true≢false (sym was ∙ sound))
@@ -153,7 +174,7 @@ failed is_faulted before after sound (inr now) = now
 -- its image stands where it stood
 primary-steps : (event : Event) (first second : Holder) (w w' : World) (old new : Pair) → is_own event ≡ true → PairRefines first second old w → new.primary_runs ≡ old.primary_runs
     → new.standby_runs ≡ old.standby_runs → new.standby.device ≡ old.standby.device → new.device.failures ≡ old.device.failures → Happens w event w' → true ≡ may_happen w event
-    → LeavesOnly old.device new.device (StandsAt first w'.primary.calls w'.primary.committer.position) → PartsRefine first second new w' → Steps first second w event true old new
+    → LeavesOnly old.device new.device (OpensAt first w'.primary.calls w'.primary.committer.position) → PartsRefine first second new w' → Steps first second w event true old new
 primary-steps event first second w w' old new own stands runs follows device' failures happens may moments parts =
     let lives : Runs first second new.primary_runs new.standby_runs w event =
     subst (λ serves. Runs first second serves new.standby_runs w event) (sym runs) (subst (λ follows. Runs first second old.primary_runs follows w event) (sym follows) (own-runs stands event own)) in
@@ -164,11 +185,11 @@ primary-steps event first second w w' old new own stands runs follows device' fa
       stands = record { sound = sound-step w event true w' step stands.sound; lives = lives-step lives happens; parts = inl (runs ∙ stands.serves, parts) };
       moves = record {
         primary = record {
-          leaves = LeavesOnly-weaken (StandsAtEither first w'.primary.calls w.primary.committer.position w'.primary.committer.position) (λ image at. inr at) moments;
+          leaves = LeavesOnly-weaken (OpensAtEither first w'.primary.calls w.primary.committer.position w'.primary.committer.position) (λ image at. inr at) moments;
           failures = failures;
         };
         standby = moves-same second w'.primary.calls w.standby.position w'.standby.position old.standby.device new.standby.device device'
-            (Stands-standby second new.link.epoch w'.primary.calls w'.standby.position new.standby new.standby_runs parts.standby);
+            (Opens-standby second new.link.epoch w'.primary.calls w'.standby.position new.standby new.standby_runs parts.standby);
       };
     }
 
@@ -520,10 +541,10 @@ module _ {E : Type 0} (device : E → State) (contents : E → Contents) (is_fau
           omega (arith, due, stands.parts.link.remote_is, stands.sound.link.remote, stands.sound.standby.known)
 
       moments-then : (result : Result Done Refusal) (frees : Frees after waiting' result) (first second : Holder) (w : World) → PartsRefine first second old w
-          → LeavesOnly (device before.engine) (device after.engine) (StandsAt first w.primary.calls w.primary.committer.position)
+          → LeavesOnly (device before.engine) (device after.engine) (OpensAt first w.primary.calls w.primary.committer.position)
       moments-then result frees first second w parts =
           freed-moments first w.primary.calls w.primary.committer.position (device before.engine) (device after.engine) old.contents frees.list.entries.items
-          (ended-then result frees first second w parts) parts.engine.contents_at (frees.frees.moments parts.engine.sound)
+          (ended-then result frees first second w parts) parts.engine.contents_at parts.engine.lawful (frees.frees.moments parts.engine.sound)
 
       free-parts : (places : Freed) (frees : Frees after waiting' (Ok (done.Freed places))) (first second : Holder) (w : World) → PairRefines first second old w
           → PartsRefine first second (pair_with after waiting' (notices ++ places ∷ []) handed) (machine.freed w)
@@ -723,9 +744,18 @@ module _ {E : Type 0} (device : E → State) (contents : E → Contents) (is_fau
       ]
 
       cleared-then : (result : Result Done Refusal) → ClearsOne after waiting' result → (first second : Holder) (w : World) → PartsRefine first second from w
-          → LeavesOnly (device before.engine) (device after.engine) (StandsAt first w.primary.calls w.primary.committer.position)
+          → LeavesOnly (device before.engine) (device after.engine) (OpensAt first w.primary.calls w.primary.committer.position)
       cleared-then result one first second w parts =
-          cleared-moments first w.primary.calls w.primary.committer.position (device before.engine) (device after.engine) from.contents parts.engine.contents_at (one.clears.moments parts.engine.sound)
+          let calls = w.primary.calls in
+          let p = w.primary.committer.position in
+          elim (cases_lt (from.contents.current.number + 1) COUNTER_LIMIT) [
+            | inl below ↦ cleared-moments first calls p (device before.engine) (device after.engine) from.contents parts.engine.contents_at parts.engine.lawful below
+                (one.clears.moments parts.engine.sound)
+            | inr over ↦ subst (λ (e : E). LeavesOnly (device before.engine) (device e) (OpensAt first calls p))
+                (sym (one.clears.exhausted (one.clears.exhausts parts.engine.sound over)).1)
+                (none_leaves (device before.engine) (OpensAt first calls p)
+                (Opens-engine first calls p (device before.engine) from.contents (is_faulted before.engine) parts.engine))
+          ]
 
       clear-parts : (places : Freed) → ClearsOne after waiting' (Ok (done.Cleared places)) → (first second : Holder) (w : World) → PairRefines first second from w
           → PartsRefine first second (pair_with after waiting' (notices ++ places ∷ []) handed) (machine.cleared w)

@@ -18,7 +18,7 @@ use Rattle.machine.proofs.GroupLemmas.{chain-le}
 use Rattle.machine.proofs.SoundEvents.{sound-step}
 use Rattle.connections.specs.Going.{Goes}
 use Rattle.world.specs.Cause.{Stretch, EndsBy, asks_memory}
-use Rattle.world.specs.Committing.{Rests, Stands, next_primary, next_standby}
+use Rattle.world.specs.Committing.{Rests, Opens, next_primary, next_standby}
 use Rattle.connections.specs.Session.{IsListOf, SessionsRefine, SequencerRefines, SeatsFollow, KeepsSeats, AddsOne, StandsStill, TakesTurn, TellsTheSame, bytes_of, seats_of}
 use Rattle.world.specs.Pair.{Pair, EitherRefines, NodesRefine, PartsRefine, PairRefines, IsCut, MovesBoth, Steps, Does}
 use Rattle.world.specs.Standby.{Node, StandbyRefines}
@@ -30,12 +30,12 @@ use Rattle.connections.proofs.SequencerLemmas.{still-same}
 use Rattle.world.proofs.StillLemmas.{freeing-still, leads-still}
 use Rattle.world.proofs.RecallLemmas.{remembers-on, remembers-still}
 use Rattle.world.proofs.OpeningLemmas.{opening-still}
-use Rattle.world.proofs.EngineLemmas.{Stands-engine, moves-same, rests-same, EngineStands-grows}
+use Rattle.world.proofs.EngineLemmas.{Opens-engine, moves-same, rests-same, EngineStands-grows}
 use Rattle.world.proofs.CommittingLemmas.{CommittingRefines-grows}
 use Rattle.world.proofs.FrameLemmas.{AreFramesSent-grows}
 use Rattle.world.proofs.LinkLemmas.{LinkRefines-grows}
 use Rattle.world.proofs.StandbyLemmas.{StandbyStands-grows}
-use Rattle.world.proofs.DownLemmas.{IsDown-grows, Stands-down}
+use Rattle.world.proofs.DownLemmas.{IsDown-grows, Opens-down}
 use Rattle.world.proofs.ArrivalLemmas.{ArrivalsRefine-grows}
 
 -- ---- what stands
@@ -43,21 +43,21 @@ use Rattle.world.proofs.ArrivalLemmas.{ArrivalsRefine-grows}
 pub goes-map : {A B C D : Type 0} {enabled did : Bool} → Goes enabled did A B → (A → C) → (B → D) → Goes enabled did C D
 goes-map goes moved stayed = record { done = goes.done; goes = λ did. moved (goes.goes did); stays = λ did. stayed (goes.stays did) }
 
-pub Stands-standby : (holder : Holder) (epoch : ℕ) (calls : List Call) (position : ℕ) (node : Node) (runs : Bool) → StandbyRefines holder epoch calls position node runs → Stands holder calls position node.device
-Stands-standby holder epoch calls position node true refines = Stands-engine _ _ _ _ _ _ (refines.stands refl).engine
-Stands-standby holder epoch calls position node false refines = Stands-down holder calls position node.device (refines.down refl)
+pub Opens-standby : (holder : Holder) (epoch : ℕ) (calls : List Call) (position : ℕ) (node : Node) (runs : Bool) → StandbyRefines holder epoch calls position node runs → Opens holder calls position node.device
+Opens-standby holder epoch calls position node true refines = Opens-engine _ _ _ _ _ _ (refines.stands refl).engine
+Opens-standby holder epoch calls position node false refines = Opens-down holder calls position node.device (refines.down refl)
 
 -- the standby's image, whether the primary runs or not
-pub standby-stands : (first second : Holder) (pair : Pair) (w : World) → EitherRefines first second pair w → Stands second w.primary.calls w.standby.position pair.standby.device
+pub standby-stands : (first second : Holder) (pair : Pair) (w : World) → EitherRefines first second pair w → Opens second w.primary.calls w.standby.position pair.standby.device
 standby-stands first second pair w parts = elim parts [
-  | inl up ↦ Stands-standby second pair.link.epoch w.primary.calls w.standby.position pair.standby pair.standby_runs up.1.standby
-  | inr down ↦ Stands-standby second pair.link.epoch w.primary.calls w.standby.position pair.standby pair.standby_runs down.1.standby
+  | inl up ↦ Opens-standby second pair.link.epoch w.primary.calls w.standby.position pair.standby pair.standby_runs up.1.standby
+  | inr down ↦ Opens-standby second pair.link.epoch w.primary.calls w.standby.position pair.standby pair.standby_runs down.1.standby
 ]
 
-pub primary-stands : (first second : Holder) (pair : Pair) (w : World) → EitherRefines first second pair w → Stands first w.primary.calls w.primary.committer.position pair.device
+pub primary-stands : (first second : Holder) (pair : Pair) (w : World) → EitherRefines first second pair w → Opens first w.primary.calls w.primary.committer.position pair.device
 primary-stands first second pair w parts = elim parts [
-  | inl up ↦ Stands-engine _ _ _ _ _ _ up.1.engine
-  | inr down ↦ Stands-down first w.primary.calls w.primary.committer.position pair.device down.1.image
+  | inl up ↦ Opens-engine _ _ _ _ _ _ up.1.engine
+  | inr down ↦ Opens-down first w.primary.calls w.primary.committer.position pair.device down.1.image
 ]
 
 pub sessions-stand : {first second : Holder} {pair : Pair} {w : World} → EitherRefines first second pair w → SessionsRefine pair.sessions w.primary.connections w.primary.calls

@@ -181,7 +181,8 @@ module _ {E : Type 0} (device : E → State) (contents : E → Contents) (is_fau
           takes commits.in_hand commits.local (λ sound would. committed_not_refused (commits.exhausts sound would))
           commits.moved commits.durable commits.sound.0 parts.committing parts.engine in
           commit-steps first second w old new refl stands.sound (own-runs stands events.Commit refl) stands.serves commits.sound.1
-          (commit-moments first w old.committing lists group new.committing old.device new.device old.contents old.is_faulted takes commits.moments parts.committing parts.engine)
+          (commit-moments first w old.committing lists group new.committing old.device new.device old.contents old.is_faulted takes
+          (λ sound would. committed_not_refused (commits.exhausts sound would)) commits.moments parts.committing parts.engine)
           (may ∙ commit-enabled w old.committing handed.items parts.committing parts.link.waiting)
           (parts-after first second w (committed_first (from_group w.primary.committer.waiting) w.primary.committer) parts takes stand (same_closed (from_group w.primary.committer.waiting) w)
           (Remembers-committed first w old.committing lists group new.committing old.contents new.contents sequencer takes commits.moved parts.committing parts.engine.contents_at parts.remembers))
@@ -203,7 +204,7 @@ module _ {E : Type 0} (device : E → State) (contents : E → Contents) (is_fau
             (λ last broken. (broken, rests-standby first second old w (nodes-refine stands)))
             (commit-ends first w old.committing lists group new.committing old.device new.device old.contents old.is_faulted (Err refusal) refusal refl takes
             commits.causes commits.fault (λ cause. let told = commits.exhausted cause in (told.0, ap (λ (e : E). device e) told.1))
-            commits.moments parts.committing parts.engine));
+            commits.exhausts commits.moments parts.committing parts.engine));
         calls = none-added _ _ refl;
       }
 

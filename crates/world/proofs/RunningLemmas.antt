@@ -8,7 +8,7 @@ use Rattle.model.specs.declared.call.Call.{Call}
 use Rattle.model.specs.declared.record.Role.TheVariants.{Primary, Standby}
 use Rattle.model.specs.Call.{cut_at, keyspace_after, position_of}
 use Rattle.model.specs.Image.{Image}
-use Rattle.model.specs.Standing.{Holder, new_holder, StandsAt}
+use Rattle.model.specs.Standing.{Holder, new_holder}
 use Rattle.machine.specs.declared.event.Event.{Event}
 use Rattle.machine.specs.declared.event.Event.TheVariants.{Commit, Free, ClearGap, Apply, Reopen}
 use Rattle.machine.specs.declared.event.Node.TheVariants as node_of
@@ -27,7 +27,7 @@ use Rattle.machine.proofs.EveryRun.{promised-told}
 use Rattle.machine.proofs.RunLemmas.{run-push, last_world-push, sound-start}
 use Rattle.machine.proofs.SoundEvents.{sound-step}
 use Rattle.world.specs.Cause.{Stretch, UnformedBy, Breaks, RestsAtLimit, RestsBeforeReopening, EndsBy, Resting}
-use Rattle.world.specs.Committing.{StandsAtEither, NearOnly, FromOnly, Moves, Rests, FormattingOnly, next_primary, next_from, next_standby}
+use Rattle.world.specs.Committing.{FormattingOnly, FromOnly, Moves, NearOnly, OpensAt, OpensAtEither, Rests, next_primary, next_from, next_standby}
 use Rattle.world.specs.declared.trace.EarlyEnd.{EarlyEnd}
 use Rattle.world.specs.declared.trace.EarlyEnd.TheVariants.{AtFormatting, AtEvent}
 use Rattle.world.specs.Headline.{AnyWorld, Enables, start, primary_position, standby_position, AreMoments, IsKept, KeepsItsWord, PlaysOn, AreMoves, Reaches, StandsAfter, IsCutAfter, Plays}
@@ -147,14 +147,14 @@ of_standby =
 -- ---- the moments of a run
 
 moves-from : (holder : Holder) (calls : List Call) (p q : ℕ) (old new : State) → p ≤ q → Moves holder calls p q old new → FromOnly holder calls p old new
-moves-from holder calls p q old new le moves = LeavesOnly-weaken (λ image. (n : ℕ) × (p ≤ n) × StandsAt holder calls n image) either moves.leaves
+moves-from holder calls p q old new le moves = LeavesOnly-weaken (λ image. (n : ℕ) × (p ≤ n) × OpensAt holder calls n image) either moves.leaves
   where
-    either : (image : Image) → StandsAt holder calls p image ⊎ StandsAt holder calls q image → (n : ℕ) × (p ≤ n) × StandsAt holder calls n image
+    either : (image : Image) → OpensAt holder calls p image ⊎ OpensAt holder calls q image → (n : ℕ) × (p ≤ n) × OpensAt holder calls n image
     either image (inl before) = (p, le_refl p, before)
     either image (inr after) = (q, le, after)
 
 rests-from : (holder : Holder) (calls : List Call) (p : ℕ) (old new : State) → Rests holder calls p old new → FromOnly holder calls p old new
-rests-from holder calls p old new rests = LeavesOnly-weaken (λ image. (n : ℕ) × (p ≤ n) × StandsAt holder calls n image) (λ image stands. (p, le_refl p, stands)) rests.leaves
+rests-from holder calls p old new rests = LeavesOnly-weaken (λ image. (n : ℕ) × (p ≤ n) × OpensAt holder calls n image) (λ image stands. (p, le_refl p, stands)) rests.leaves
 
 -- no crash of a last stretch leaves an image below the position
 abbrev IsLast : Stretch → Type 0
@@ -164,14 +164,14 @@ resting-from : IsLast Resting
 resting-from holder calls p q old new le rests = rests-from holder calls p old new rests
 
 near-from : (holder : Holder) (calls : List Call) (p q : ℕ) (old new : State) → p ≤ q → NearOnly holder calls p q old new → FromOnly holder calls p old new
-near-from holder calls p q old new le near = LeavesOnly-weaken (λ image. (n : ℕ) × (p ≤ n) × StandsAt holder calls n image) either near
+near-from holder calls p q old new le near = LeavesOnly-weaken (λ image. (n : ℕ) × (p ≤ n) × OpensAt holder calls n image) either near
   where
-    either : (image : Image) → StandsAtEither holder calls p q image → (n : ℕ) × (p ≤ n) × StandsAt holder calls n image
+    either : (image : Image) → OpensAtEither holder calls p q image → (n : ℕ) × (p ≤ n) × OpensAt holder calls n image
     either image (inl here) = (p, le_refl p, here)
     either image (inr next) = (q, le, next)
 
 from-lower : (holder : Holder) (calls : List Call) (p q : ℕ) (old new : State) → p ≤ q → FromOnly holder calls q old new → FromOnly holder calls p old new
-from-lower holder calls p q old new le only = LeavesOnly-weaken (λ image. (n : ℕ) × (p ≤ n) × StandsAt holder calls n image) (λ image from. (from.0, omega (arith, le, from.1), from.2)) only
+from-lower holder calls p q old new le only = LeavesOnly-weaken (λ image. (n : ℕ) × (p ≤ n) × OpensAt holder calls n image) (λ image from. (from.0, omega (arith, le, from.1), from.2)) only
 
 -- the moments from a world on, and that no crash leaves an image below where the node stands in it
 record MomentsFrom (last : Stretch) (position next : World → ℕ) (holder : Holder) (calls : List Call) (w : World) (worlds : List World) (old new : State) : Type 0 where

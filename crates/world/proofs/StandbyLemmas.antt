@@ -15,7 +15,7 @@ use Rattle.model.specs.Call.{keyspace_after, cut_at, position_of}
 use Rattle.model.specs.Image.{Image, IsMapOf, entries_of_lines}
 use Rattle.kv_types.specs.declared.place.EntryNo.{EntryNo}
 use Rattle.model.specs.Group.{Contents, is_ended_version}
-use Rattle.model.specs.Standing.{Holder, StandsAt}
+use Rattle.model.specs.Standing.{Holder}
 use Rattle.model.proofs.CallsLemmas.{keyspace_after-cut_at-append}
 use Rattle.mv_keyspace.specs.Table.{records}
 use Rattle.mv_keyspace.proofs.PartTables.{map-from_table}
@@ -23,17 +23,17 @@ use Rattle.wbl_engine.specs.Contents.{IsDurable, Keeps}
 use Rattle.wbl_engine.specs.Freeing.{AreEnded, KeepsWithoutSome, without}
 use Rattle.wbl_engine.specs.Lawful.{AreLawful}
 use Rattle.wbl_engine.proofs.FreeingLemmas.{ended_within}
-use Rattle.wbl_engine.proofs.WithoutLemmas.{IsMapOf-contents_without, consistent_without}
+use Rattle.wbl_engine.proofs.WithoutLemmas.{IsMapOf-contents_without, consistent_without, lawful_without}
 use Rattle.machine.specs.declared.event.Event.TheVariants.{Apply}
 use Rattle.machine.specs.Event.{Standby as Machine, Span, Frame as Sent, Acknowledgement, Takes, acknowledgement_of, moved_to}
 use Rattle.standby.specs.declared.frame.Ack.{Ack}
 use Rattle.standby.specs.declared.frame.Frame.{Frame}
 use Rattle.standby.specs.Following.{Follows, HasFreed, IsNext, HasTaken, IsWhole, IsBeforeOrWhole, WouldExhaust}
 use Rattle.world.specs.Cause.{IsAtLimit, EndsBy}
-use Rattle.world.specs.Committing.{AreContentsAt, Moves, Rests, StandsAtEither, NearOnly, next_from}
+use Rattle.world.specs.Committing.{AreContentsAt, Moves, NearOnly, OpensAt, OpensAtEither, Rests, next_from}
 use Rattle.world.specs.Link.{IsFrameOf}
 use Rattle.world.specs.Standby.{Node, StandbyStands, told_by}
-use Rattle.world.proofs.EngineLemmas.{Stands-engine, keeps-stands, moves-same, near-still, rests-same, EngineStands-grows}
+use Rattle.world.proofs.EngineLemmas.{Opens-engine, keeps-opens, moves-same, near-still, rests-same, EngineStands-grows}
 
 -- nothing happened to the standby
 pub StandbyStands-still : (holder : Holder) (epoch : ℕ) (calls : List Call) (p q : ℕ) (node : Node) → StandbyStands holder epoch calls p node → NearOnly holder calls p q node.device node.device
@@ -54,12 +54,13 @@ AreContentsAt-without holder calls p contents gone ended are =
       map = IsMapOf-contents_without contents gone (keyspace_after (cut_at calls p)) ended are.map;
     }
 
-pub without-stands : (holder : Holder) (calls : List Call) (p : ℕ) (contents : Contents) (entries : List EntryNo) (image : Image) → AreEnded contents entries → AreContentsAt holder calls p contents
-    → KeepsWithoutSome entries contents image → StandsAt holder calls p image
-without-stands holder calls p contents entries image ended are keeps =
+pub without-opens : (holder : Holder) (calls : List Call) (p : ℕ) (contents : Contents) (entries : List EntryNo) (image : Image) → AreEnded contents entries → AreContentsAt holder calls p contents
+    → AreLawful contents → KeepsWithoutSome entries contents image → OpensAt holder calls p image
+without-opens holder calls p contents entries image ended are lawful keeps =
     let gone = keeps.0 in
-    keeps-stands holder calls p (without gone contents) image
-    (AreContentsAt-without holder calls p contents gone (λ i is. (ended_within contents entries i ended (keeps.1 i is)).1) are) keeps.2
+    let had_ended : (i : ℕ) → IsTrue (gone i) → IsTrue (is_ended_version (contents.versions i)) = λ i is. (ended_within contents entries i ended (keeps.1 i is)).1 in
+    keeps-opens holder calls p (without gone contents) image
+    (AreContentsAt-without holder calls p contents gone had_ended are) (lawful_without contents gone had_ended lawful) keeps.2
 
 -- ---- what a standby answers to a frame
 
@@ -221,28 +222,28 @@ module _ (holder : Holder) (epoch : ℕ) (calls : List Call) (machine : Machine)
       }
 
   -- an image without some of what had ended stands where the standby stood
-  before_stands : (image : Image) → KeepsWithoutSome old.ended old.contents image → StandsAt holder calls machine.position image
-  before_stands image = without-stands holder calls machine.position old.contents old.ended image stands.follows.listed stands.engine.contents_at
+  before_opens : (image : Image) → KeepsWithoutSome old.ended old.contents image → OpensAt holder calls machine.position image
+  before_opens image = without-opens holder calls machine.position old.contents old.ended image stands.follows.listed stands.engine.contents_at stands.engine.lawful
 
   -- a frame was refused, and no fence failed
   refused_rests : LeavesOnly old.device new.device (KeepsWithoutSome old.ended old.contents) → new.device.failures ≡ old.device.failures → Rests holder calls machine.position old.device new.device
-  refused_rests only failures = record { leaves = LeavesOnly-weaken (StandsAt holder calls machine.position) before_stands only; failures = failures }
+  refused_rests only failures = record { leaves = LeavesOnly-weaken (OpensAt holder calls machine.position) before_opens only; failures = failures }
 
   refused_moves : LeavesOnly old.device new.device (KeepsWithoutSome old.ended old.contents) → new.device.failures ≡ old.device.failures
       → Moves holder calls machine.position machine.position old.device new.device
   refused_moves only failures =
-      record { leaves = LeavesOnly-weaken (StandsAtEither holder calls machine.position machine.position) (λ image held. inl (before_stands image held)) only; failures = failures }
+      record { leaves = LeavesOnly-weaken (OpensAtEither holder calls machine.position machine.position) (λ image held. inl (before_opens image held)) only; failures = failures }
 
   same_stands : new ≡ old → StandbyStands holder epoch calls machine.position new
   same_stands same = subst (StandbyStands holder epoch calls machine.position) (sym same) stands
 
   -- the device was not touched
   rests : (p : ℕ) → new.device ≡ old.device → StandbyStands holder epoch calls p new → Moves holder calls machine.position p old.device new.device
-  rests p same now = moves-same holder calls machine.position p old.device new.device same (Stands-engine _ _ _ _ _ _ now.engine)
+  rests p same now = moves-same holder calls machine.position p old.device new.device same (Opens-engine _ _ _ _ _ _ now.engine)
 
   -- an image that holds the whole frame stands at its end
-  whole_stands : (image : Image) → span.before ≡ machine.position → (after : Contents) × IsWhole frame old.contents old.table after × Keeps after image → StandsAt holder calls span.after image
-  whole_stands image e held =
+  whole_opens : (image : Image) → span.before ≡ machine.position → (after : Contents) × IsWhole frame old.contents old.table after × Keeps after image → OpensAt holder calls span.after image
+  whole_opens image e held =
       let after = held.0 in
       let contents_at : AreContentsAt holder calls span.after after = record {
         at = held.1.position ∙ is.after;
@@ -252,20 +253,20 @@ module _ (holder : Holder) (epoch : ℕ) (calls : List Call) (machine : Machine)
         consistent = held.1.consistent;
         map = subst (IsMapOf after.versions (entries_of_lines after.lines)) (keyspace_next e) held.1.map;
       } in
-      keeps-stands holder calls span.after after image contents_at held.2
+      keeps-opens holder calls span.after after image contents_at (held.1.lawful stands.engine.lawful) held.2
 
   -- the whole frame was taken: at any moment a crash leaves what was before it or all of it
   taken_moves : span.before ≡ machine.position → LeavesOnly old.device new.device (IsBeforeOrWhole frame old.ended old.contents old.table) → new.device.failures ≡ old.device.failures
       → Moves holder calls machine.position span.after old.device new.device
   taken_moves e only failures =
       record {
-        leaves = LeavesOnly-weaken (λ image. StandsAt holder calls machine.position image ⊎ StandsAt holder calls span.after image) either only;
+        leaves = LeavesOnly-weaken (λ image. OpensAt holder calls machine.position image ⊎ OpensAt holder calls span.after image) either only;
         failures = failures;
       }
     where
-      either : (image : Image) → IsBeforeOrWhole frame old.ended old.contents old.table image → StandsAt holder calls machine.position image ⊎ StandsAt holder calls span.after image
-      either image (inl before) = inl (before_stands image before)
-      either image (inr held) = inr (whole_stands image e held)
+      either : (image : Image) → IsBeforeOrWhole frame old.ended old.contents old.table image → OpensAt holder calls machine.position image ⊎ OpensAt holder calls span.after image
+      either image (inl before) = inl (before_opens image before)
+      either image (inr held) = inr (whole_opens image e held)
 
   -- what is told, where the node's epoch and this position are
   told_as : (ack : Ack) → ack.epoch ≡ old.epoch → ack.position ≡ machine.position → told_by ack ≡ acknowledgement_of machine
@@ -359,12 +360,12 @@ module _ (holder : Holder) (epoch : ℕ) (calls : List Call) (machine : Machine)
       below : span.after ≤ machine.position → NearOnly holder calls machine.position next old.device new.device
       below le = still (answers.again epoch_same (is_below le)).1
 
-      either : span.before ≡ machine.position → (image : Image) → IsBeforeOrWhole frame old.ended old.contents old.table image → StandsAtEither holder calls machine.position next image
-      either e image (inl before) = inl (before_stands image before)
-      either e image (inr held) = inr (subst (λ p. StandsAt holder calls p image) (sym (next-joined e)) (whole_stands image e held))
+      either : span.before ≡ machine.position → (image : Image) → IsBeforeOrWhole frame old.ended old.contents old.table image → OpensAtEither holder calls machine.position next image
+      either e image (inl before) = inl (before_opens image before)
+      either e image (inr held) = inr (subst (λ p. OpensAt holder calls p image) (sym (next-joined e)) (whole_opens image e held))
 
       joins : machine.position < span.after → span.before ≡ machine.position → NearOnly holder calls machine.position next old.device new.device
-      joins lt e = LeavesOnly-weaken (StandsAtEither holder calls machine.position next) (λ image. either e image) (answers.moments epoch_same (is_next lt e))
+      joins lt e = LeavesOnly-weaken (OpensAtEither holder calls machine.position next) (λ image. either e image) (answers.moments epoch_same (is_next lt e))
 
       above : machine.position < span.after → NearOnly holder calls machine.position next old.device new.device
       above lt = ⊎_elim (joins lt) (λ (ne : span.before ≢ machine.position). still (answers.gap epoch_same (is_above lt) (is_apart ne)).1) (cases_eq span.before machine.position)
@@ -389,7 +390,7 @@ module _ (holder : Holder) (epoch : ℕ) (calls : List Call) (machine : Machine)
       Ends r = EndsBy r Apply (λ _ last. last holder calls machine.position next old.device new.device)
 
       rests_now : new.device ≡ old.device → Rests holder calls machine.position old.device new.device
-      rests_now same = rests-same holder calls machine.position old.device new.device same (Stands-engine _ _ _ _ _ _ stands.engine)
+      rests_now same = rests-same holder calls machine.position old.device new.device same (Opens-engine _ _ _ _ _ _ stands.engine)
 
       below : span.after ≤ machine.position → Ends refusal
       below le = absurd (not_both (answers.again epoch_same (is_below le)).0 refl)

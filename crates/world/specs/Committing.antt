@@ -18,7 +18,7 @@ use Rattle.model.specs.declared.record.Role.{Role}
 use Rattle.wbl_engine.specs.declared.freeing.Freed.{Freed}
 use Rattle.wbl_engine.specs.Contents.{IsDurable, Keeps}
 use Rattle.wbl_engine.specs.Formatting.{IsFormatting}
-use Rattle.wbl_engine.specs.Lawful.{AreLawful}
+use Rattle.wbl_engine.specs.Lawful.{AreLawful, IsUndamaged}
 use Rattle.redis_core.specs.Sequencing.{Expects, IsAheadOf, Sequencing}
 use Rattle.pipes.specs.Waiting.{Waiting}
 use Rattle.group_commit.specs.Group.{AreWork, after_work, groups_of, lists_of}
@@ -79,30 +79,36 @@ pub record IsDown (holder : Holder) (calls : List Call) (position : ℕ) (device
   pub settled : IsSettled device.words
   pub sized : contents.lines ≡ device.lines
 
--- each crash now leaves an image that stands at this position of the list, as its holder's
-abbrev pub Stands : Holder → List Call → ℕ → State → Type 0
-Stands holder calls position device = (image : Image) → IsImage device.words image → StandsAt holder calls position image
+-- The image opens at this position of the list: it stands there as its holder's, and breaks no rule of the format. So its node, when it opens it again, is
+-- not refused it as damaged, nor as one of the other role.
+pub record OpensAt (holder : Holder) (calls : List Call) (position : ℕ) (image : Image) : Type 0 where
+  pub stands : StandsAt holder calls position image
+  pub undamaged : IsUndamaged holder.lines stands.current image
 
--- the image stands at one of these two positions of the list
-abbrev pub StandsAtEither : Holder → List Call → ℕ → ℕ → Image → Type 0
-StandsAtEither holder calls position next image = StandsAt holder calls position image ⊎ StandsAt holder calls next image
+-- each crash now leaves an image that opens at this position of the list, as its holder's
+abbrev pub Opens : Holder → List Call → ℕ → State → Type 0
+Opens holder calls position device = (image : Image) → IsImage device.words image → OpensAt holder calls position image
 
--- each crash between these two states of a device leaves an image that stands at one of these two positions of the list
+-- the image opens at one of these two positions of the list
+abbrev pub OpensAtEither : Holder → List Call → ℕ → ℕ → Image → Type 0
+OpensAtEither holder calls position next image = OpensAt holder calls position image ⊎ OpensAt holder calls next image
+
+-- each crash between these two states of a device leaves an image that opens at one of these two positions of the list
 abbrev pub NearOnly : Holder → List Call → ℕ → ℕ → State → State → Type 0
-NearOnly holder calls position next old new = LeavesOnly old new (StandsAtEither holder calls position next)
+NearOnly holder calls position next old new = LeavesOnly old new (OpensAtEither holder calls position next)
 
--- each crash between these two states of a device leaves an image that stands at this position of the list, or at a later one
+-- each crash between these two states of a device leaves an image that opens at this position of the list, or at a later one
 abbrev pub FromOnly : Holder → List Call → ℕ → State → State → Type 0
-FromOnly holder calls position old new = LeavesOnly old new (λ image. (p : ℕ) × (position ≤ p) × StandsAt holder calls p image)
+FromOnly holder calls position old new = LeavesOnly old new (λ image. (p : ℕ) × (position ≤ p) × OpensAt holder calls p image)
 
--- each crash between these two states of a device leaves an image that stands at one of these two positions of the list, and no fence failed
+-- each crash between these two states of a device leaves an image that opens at one of these two positions of the list, and no fence failed
 pub record Moves (holder : Holder) (calls : List Call) (from to : ℕ) (old new : State) : Type 0 where
   pub leaves : NearOnly holder calls from to old new
   pub failures : new.failures ≡ old.failures
 
--- each crash between these two states of a device leaves an image that stands at this position of the list, and no fence failed
+-- each crash between these two states of a device leaves an image that opens at this position of the list, and no fence failed
 pub record Rests (holder : Holder) (calls : List Call) (position : ℕ) (old new : State) : Type 0 where
-  pub leaves : LeavesOnly old new (StandsAt holder calls position)
+  pub leaves : LeavesOnly old new (OpensAt holder calls position)
   pub failures : new.failures ≡ old.failures
 
 -- each crash between these two states of a device leaves what is there while it is formatted for this role

@@ -26,12 +26,12 @@ primary_position w = w.primary.committer.position
 abbrev pub standby_position : World → ℕ
 standby_position w = w.standby.position
 
--- each crash between these two states of a device leaves an image in which no call is missing that was released in this world
+-- each crash between these two states of a device leaves an image that opens, and in which no call is missing that was released in this world
 abbrev pub KeepsReleased : Holder → List Call → World → State → State → Type 0
 KeepsReleased holder calls w old new =
     (prefix : List Call) (call : Call) → IsReleased w.primary.calls (released_in w) prefix call → FromOnly holder calls (position_of (prefix ++ call ∷ [])) old new
 
--- The moments of a device, cut by the events of a run from this world on. A crash during an event leaves an image that stands where the node stood before
+-- The moments of a device, cut by the events of a run from this world on. A crash during an event leaves an image that opens where the node stood before
 -- it or where it stood after it. What comes after the last event is a stretch of its own. And from each cut on, up to the end, each crash keeps what was
 -- released by then.
 abbrev pub AreMoments : Stretch → (World → ℕ) → (World → ℕ) → Holder → List Call → World → List World → State → State → Type 0

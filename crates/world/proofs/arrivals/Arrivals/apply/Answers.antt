@@ -15,7 +15,7 @@ use Rattle.world.specs.Cause.{EndsBy}
 use Rattle.world.specs.Committing.{NearOnly, next_from, next_standby}
 use Rattle.world.specs.Standby.{Node, ArrivalsRefine, StandbyStands, told_by}
 use Rattle.world.proofs.StandbyLemmas.{Answers, IsKept, IsKept-freed, IsKept-same, OnErr-weaken, takes_ok, takes_refused, frame-ends, frame-moments, StandbyStands-still}
-use Rattle.world.proofs.EngineLemmas.{Stands-engine, rests-same}
+use Rattle.world.proofs.EngineLemmas.{Opens-engine, rests-same}
 use Rattle.world.specs.Link.{AreAcksSent}
 use Rattle.world.proofs.FrameLemmas.{AreAcksSent-push}
 use Rattle.world.proofs.ArrivalLemmas.{FirstFrame, first-frame, applies}
@@ -132,7 +132,7 @@ returns-in_err-room-clause-cut g c =
     rw exit.1 (λ holder w sound epochs arrives stands. (
       ap is_nonempty (first-frame (g.E.Durable.contents c.args.standby.now.engine).current.epoch w c.args.self.now c.in-Some.frame.now c.in-Some.ensures.item.3.0 c.in-Some.ensures.lookup arrives).all,
       subst (λ (r : Refusal). EndsBy r Apply (λ _ last. last holder w.primary.calls w.standby.position (next_standby w) device device)) (sym memory)
-          (refl, rests-same holder w.primary.calls w.standby.position device device refl (Stands-engine _ _ _ _ _ _ stands.engine)),
+          (refl, rests-same holder w.primary.calls w.standby.position device device refl (Opens-engine _ _ _ _ _ _ stands.engine)),
     ))
 
 pub returns-in_err-reserve-clause-cut : goal.returns-in_err-reserve-clause-cut
@@ -143,7 +143,7 @@ returns-in_err-reserve-clause-cut g c =
     rw exit.1 (λ holder w sound epochs arrives stands. (
       ap is_nonempty (first-frame (g.E.Durable.contents c.args.standby.now.engine).current.epoch w c.args.self.now c.in-Some.frame.now c.in-Some.ensures.item.3.0 c.in-Some.ensures.lookup arrives).all,
       subst (λ (r : Refusal). EndsBy r Apply (λ _ last. last holder w.primary.calls w.standby.position (next_standby w) device device)) (sym memory)
-          (refl, rests-same holder w.primary.calls w.standby.position device device refl (Stands-engine _ _ _ _ _ _ stands.engine)),
+          (refl, rests-same holder w.primary.calls w.standby.position device device refl (Opens-engine _ _ _ _ _ _ stands.engine)),
     ))
 
 pub returns-in-Err-2-clause-cut : goal.returns-in-Err-2-clause-cut
