@@ -26,8 +26,8 @@ class Measured(common.Cases):
             "stream: 100000 frames, 10000000 bytes",
             *(f"stream: pieces of {piece}: position 100000" for piece in (1, 7, 4096)),
         ],
-        "ring": ["ring: 1000000 items in order: true"],
-        "marks": ["marks: 1000000 raises, no reading fell: true"],
+        "ring": ["ring: 1000000 items in order: true, left: 0"],
+        "marks": ["marks: 1000000 raises, no reading fell: true, local: 1, remote: 1000000"],
         "arrivals": ["arrivals: 100000 in order: true"],
     }
 

@@ -1,2 +1,3 @@
 mod LinesLemmas
 mod ReopenedLemmas
+mod RingLemmas

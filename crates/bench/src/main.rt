@@ -9,6 +9,7 @@ mod counting;
 mod device;
 mod engine;
 mod fences;
+mod first_commit;
 mod heap;
 mod marks_of_threads;
 mod rate;
