@@ -61,22 +61,26 @@ def run_program(crate, words=(), stdin=b"", seconds=SECONDS, **options):
 def run_in_pieces(crate, pieces, seconds=SECONDS):
     """Runs a program that is fed each piece by itself: the next one is written once the one before it was read."""
     source, sink = os.pipe()
+    # (or a write of more than the pipe has room for would wait for a program that reads nothing)
+    os.set_blocking(sink, False)
     child = subprocess.Popen([program(crate)], stdin=source, stdout=subprocess.PIPE, stderr=subprocess.PIPE)
+    end = time.monotonic() + seconds
+    is_reading = lambda: child.poll() is None and time.monotonic() < end
     try:
-        end = time.monotonic() + seconds
         for piece in pieces:
-            os.write(sink, piece)
-            while bytes_unread(source) and child.poll() is None and time.monotonic() < end:
-                time.sleep(0.00005)
+            while piece and is_reading():
+                piece = piece[os.write(sink, piece):]
+                while bytes_unread(source) and is_reading():
+                    time.sleep(0.00005)
     finally:
         os.close(sink)
         os.close(source)
     try:
-        output, errors = child.communicate(timeout=seconds)
+        output, errors = child.communicate(timeout=max(0, end - time.monotonic()))
     except subprocess.TimeoutExpired:
         child.kill()
         child.communicate()
-        raise
+        raise subprocess.TimeoutExpired(child.args, seconds) from None
     return Finished(child.returncode, output, errors)
 
 

@@ -1,7 +1,9 @@
-"""What `bin/` knows of a whole check: which functions an edit changes, which crates the gate proved as they are, what is large, how fast the machine
-was, and when a program is built anew."""
+"""What `bin/` knows of a whole check: which functions an edit changes, which crates the gate proved as they are, what cannot be tried, what is large,
+how fast the machine was, and when a program is built anew."""
 
 import contextlib
+import errno
+import io
 import os
 import pathlib
 import runpy
@@ -9,6 +11,8 @@ import shutil
 import subprocess
 import sys
 import tempfile
+import threading
+import types
 
 import common
 
@@ -108,6 +112,34 @@ class Proved(common.Cases):
             self.assertIsNone(self.functions(root, "low", "another kit"))
 
 
+class Untried(common.Cases):
+    """A crate whose edits cannot be tried fails, and holds up no other."""
+
+    EDIT = "file: src/lib.rt\nold: fn f\nnew: fn g\n"
+
+    def full(self, *_):
+        raise OSError(errno.ENOSPC, "the disk is full")
+
+    def test_a_crate_that_cannot_be_copied(self):
+        with repository() as root, contextlib.redirect_stdout(io.StringIO()) as said:
+            for crate in ("low", "top"):
+                (root / "crates" / crate / "wrong-bodies").mkdir()
+                (root / "crates" / crate / "wrong-bodies" / "renamed.edit").write_text(self.EDIT, encoding="utf-8")
+            base = types.SimpleNamespace(
+                crates=wrong_bodies.Crates(root), top=root, all=["low", "top"], warm=set(), by_gate=None, toolchain=TOOLCHAIN,
+                above=["top", "low"].index, need=lambda _: 0, room=self.full,
+            )
+            work = runpy.run_path(str(common.ROOT / "bin" / "try-edits"))["Work"](base, base.all, root)
+            workers = [threading.Thread(target=work.work, daemon=True) for _ in range(2)]
+            for it in workers:
+                it.start()
+            for it in workers:
+                it.join(5)
+        self.assertFalse(any(it.is_alive() for it in workers))
+        self.assertEqual([[*trial.found.values()] for trial in work.trials], 2 * [["bad"]])
+        self.assertIn("low/renamed: BAD: it cannot be tried: OSError(28, 'the disk is full')", said.getvalue())
+
+
 class Large(common.Cases):
     """Functions whose proofs cost most are listed by what the prover kept of them."""
 
@@ -182,6 +214,53 @@ class Programs(common.Cases):
     def write(file, text, time):
         file.write_text(text, encoding="utf-8")
         os.utime(file, (time, time))
+
+    # A toolchain that takes its time, and meanwhile sees a source edited in its first builds, so many as EDITS says.
+    SLOW = """\
+#!/bin/sh
+echo built >> ../../count
+sleep 0.2
+printf '#!/bin/sh\\necho "ran $*"\\n' > out/new.$$
+chmod +x out/new.$$
+mv out/new.$$ out/top
+[ $(wc -l < ../../count) -gt "$EDITS" ] || echo '// edited' >> src/main.rt
+"""
+
+    @contextlib.contextmanager
+    def slowly_built(self, edits):
+        """A repository whose program is not built yet, and the environment to start it in."""
+        with tempfile.TemporaryDirectory() as folder:
+            root = pathlib.Path(folder)
+            for name in ("bin", "tools", "crates/top/src", "crates/top/specs", "crates/top/proofs"):
+                (root / name).mkdir(parents=True)
+            shutil.copy(common.ROOT / "bin" / "run-program", root / "bin" / "run-program")
+            for name, text in (("crates.txt", "top:\n"), ("crates/top/src/main.rt", "fn main() {}\n"), ("tools/rt", self.SLOW)):
+                self.write(root / name, text, 1_000)
+            (root / "tools" / "rt").chmod(0o755)
+            yield root, {**os.environ, "PATH": f"{root / 'tools'}:{os.environ['PATH']}", "EDITS": str(edits)}
+
+    def start(self, root, path):
+        words = [root / "bin" / "run-program", "top", "wbl-top", "a", "b"]
+        return subprocess.Popen(words, env=path, stdout=subprocess.PIPE, stderr=subprocess.PIPE, text=True)
+
+    def test_two_first_starts_at_once(self):
+        with self.slowly_built(edits=0) as (root, path):
+            for started in [self.start(root, path) for _ in range(2)]:
+                said, told = started.communicate()
+                self.assertEqual((started.returncode, said), (0, "ran a b\n"), told)
+            self.assertEqual({it.name for it in (root / "crates" / "top" / "out").iterdir()}, {"top", "wbl-top.built"})
+
+    def test_a_source_that_is_edited_while_it_is_built(self):
+        with self.slowly_built(edits=1) as (root, path):
+            for builds in (1, 2, 2):
+                self.assertEqual(self.start(root, path).communicate()[0], "ran a b\n")
+                self.assertEqual((root / "count").read_text(encoding="ascii").count("\n"), builds)
+
+    def test_a_build_that_fails_leaves_no_mark(self):
+        with self.slowly_built(edits=0) as (root, path):
+            self.write(root / "tools" / "rt", "#!/bin/sh\nexit 1\n", 1_000)
+            self.assertEqual(self.start(root, path).communicate()[0], "")
+            self.assertEqual([*(root / "crates" / "top" / "out").iterdir()], [])
 
     def test_programs_that_are_run_as_they_are(self):
         for marks in ({"wbl-top.built": 2_000}, {"proved.txt": 2_000}, {"wbl-top.built": 1_000, "proved.txt": 2_000}):

@@ -84,7 +84,7 @@ class Requests(Parsed):
         self.assertEqual([call.words for call in self.play(schedule).calls], [SET, GET, (b"PING",)])
 
     def test_the_greatest_count_and_length(self):
-        # cut where a count, a length, a word or a line end begins, and in single pieces of 1, 63 and 65,536 bytes
+        # cut where a count, a length, a word or a line end begins, and in pieces of 63 and of 65,536 bytes
         many, long = spelling.spell(*(1_024 * [b"w"])), spelling.spell(b"ECHO", LONGEST)
         for name, text, words in [("words", many, 1_024 * (b"w",)), ("bytes", long, (b"ECHO", LONGEST))]:
             cuts = [*range(24), *range(len(text) - 4, len(text) + 1)]

@@ -1,5 +1,6 @@
 """A device over a file (docs/image.md: word w is the 8 bytes at 8w, lowest first), on a disk and in memory."""
 
+import contextlib
 import os
 import pathlib
 import random
@@ -8,6 +9,7 @@ import signal
 import struct
 import subprocess
 import tempfile
+import threading
 
 import common
 
@@ -23,25 +25,51 @@ PLACES = {"disk": common.ROOT / "crates" / "probe" / "out", "memory": pathlib.Pa
 
 
 class Probe:
-    """A probe that runs until it is closed: a call of its device over a file in, its answer out."""
+    """A probe that runs until it is closed or killed: a call of its device over a file in, its answer out. One that takes longer than
+    a program may is ended, and the test fails, as where its status is not 0."""
 
-    def __init__(self, words=(), **options):
+    def __init__(self, words=(), seconds=common.SECONDS, **options):
         self.child = subprocess.Popen(
             [*words, common.program("probe")], stdin=subprocess.PIPE, stdout=subprocess.PIPE, text=True, **options
         )
+        self.wanted_status, self.is_late = 0, False
+        self.limit = threading.Timer(seconds, self.end_late)
+        self.limit.daemon = True
+        self.limit.start()
+
+    def end_late(self):
+        self.is_late = True
+        self.child.kill()
+
+    def kill(self):
+        self.wanted_status = -signal.SIGKILL
+        self.child.kill()
 
     def ask(self, line):
-        self.child.stdin.write(f"file {line}\n")
-        self.child.stdin.flush()
-        return self.child.stdout.readline().rstrip("\n")
+        with contextlib.suppress(BrokenPipeError):
+            self.child.stdin.write(f"file {line}\n")
+            self.child.stdin.flush()
+        answer = self.child.stdout.readline()
+        if not answer:
+            raise AssertionError(f"no answer to {line!r}: {self.ending()}")
+        return answer.rstrip("\n")
+
+    def ending(self):
+        """How the probe ended, for which this waits."""
+        status = self.child.wait()
+        return f"the probe took longer than {self.limit.interval} seconds" if self.is_late else f"the probe ended with status {status}"
 
     def __enter__(self):
         return self
 
-    def __exit__(self, *_):
-        self.child.stdin.close()
-        self.child.wait(common.SECONDS)
+    def __exit__(self, kind, *_):
+        with contextlib.suppress(BrokenPipeError):
+            self.child.stdin.close()
+        ending = self.ending()
+        self.limit.cancel()
         self.child.stdout.close()
+        if kind is None and (self.is_late or self.child.returncode != self.wanted_status):
+            raise AssertionError(ending)
 
 
 def limited(size):
@@ -118,7 +146,7 @@ class FileDevices(common.Cases):
                 self.made(probe, path)
                 self.ask_all(probe, [("store 32767 18446744073709551615", "done"), ("flush 4095", "done"), ("fence", "done")])
                 self.ask_all(probe, [("store 0 5", "done"), ("flush 0", "done")])
-                probe.child.kill()
+                probe.kill()
             with Probe() as probe:
                 self.ask_all(probe, [(f"open {path}", f"lines {LINES}"), ("load 32767", "18446744073709551615"), ("load 0", "0"), ("failures", "0")])
                 self.ask_all(probe, [("close", "done"), (f"create {path} {LINES}", f"lines {LINES}"), ("load 32767", "18446744073709551615")])

@@ -78,7 +78,7 @@ class Gaps(Images):
         self.show_image(store(NEW), store(SET_A), store(REOPENED), store({ENTRY_0: 4097}), read(3, 1, 4098, 8195, gaps=1))
 
     def test_stamps_that_count(self):
-        # The record of "reopening after three SETs" (docs/worked-cases.md): the gap 4 to 4099, cp 4100.
+        # The record of "stamps after a reopening" (docs/worked-cases.md): the gap 4 to 4099, cp 4100.
         record = {4: 3} | slot(SLOT_1, 3, 3, 4100, 8197, gaps=[(4, 4099)], role=2)
         stamps = [0, 1, 2, 3, 4, 2000, 4099, 4100, 4101, 2**64 - 1]
         counts = [stamp in (1, 2, 3, 4100) for stamp in stamps]

@@ -30,12 +30,8 @@ class Served(Cases):
         """The server answers as the plain Redis does to what the plain reader reads."""
         self.assert_served(data, plain_redis.served(data, plain_image.Room(LINES)))
 
-
-@worked.one_test_for_each(worked.FIRST_PATH, "check_row")
-class FirstPath(Served):
-    """Rows of "The first path" in docs/worked-cases.md."""
-
-    def check_row(self, data, output):
+    def check_pieces(self, data, output):
+        """The server answers so however the bytes come."""
         with self.case("in one piece"):
             self.assert_served(data, output)
         with self.case("in single bytes"):
@@ -43,9 +39,20 @@ class FirstPath(Served):
         for cut in range(1, len(data)):
             with self.case("cut in two", cut=cut):
                 self.assert_written(run_in_pieces("server", [data[:cut], data[cut:]]), output)
+
+    def check_prefixes(self, data):
         for length in range(len(data)):
             with self.case("prefix", length=length):
                 self.assert_plainly_served(data[:length])
+
+
+@worked.one_test_for_each(worked.FIRST_PATH, "check_row")
+class FirstPath(Served):
+    """Rows of "The first path" in docs/worked-cases.md."""
+
+    def check_row(self, data, output):
+        self.check_pieces(data, output)
+        self.check_prefixes(data)
 
     def test_no_input(self):
         self.assert_served(b"", b"")
@@ -61,14 +68,14 @@ class Faults(Served):
     it."""
 
     def check_row(self, data, output):
-        for name, text, wanted in [
-            ("without the last byte", data[:-1], b""),
-            ("whole", data, output),
-            ("with a request after it", data + SET_A, output),
-            ("behind two requests", SET_A + GET_A + data + GET_A, OK + ONE + output),
-        ]:
-            with self.case(name):
-                self.assert_served(text, wanted)
+        self.check_pieces(data, output)
+        for length in range(len(data)):
+            with self.case("prefix", length=length):
+                self.assert_served(data[:length], b"")
+        with self.case("with a request after it"):
+            self.assert_served(data + SET_A, output)
+        with self.case("behind two requests"):
+            self.assert_served(SET_A + GET_A + data + GET_A, OK + ONE + output)
 
     def test_each_byte_in_place_of_each(self):
         for at in range(len(worked.PING)):
@@ -99,16 +106,8 @@ class Transactions(Served):
 
     def check_row(self, *row):
         session = worked.Session(*row)
-        data, output = session.input(), session.output()
-        with self.case("in one piece"):
-            self.assert_served(data, output)
-        with self.case("in single bytes"):
-            self.assert_written(run_in_pieces("server", [data[at:at + 1] for at in range(len(data))]), output)
-        for cut in range(1, len(data)):
-            with self.case("cut in two", cut=cut):
-                self.assert_written(run_in_pieces("server", [data[:cut], data[cut:]]), output)
-        with self.case("breaking off"):
-            self.assert_plainly_served(data[:-1])
+        self.check_pieces(session.input(), session.output())
+        self.check_prefixes(session.input())
 
 
 class Limits(Served):
