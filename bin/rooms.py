@@ -5,7 +5,7 @@ import fcntl
 import os
 import shutil
 
-from wrong_bodies import EDITS, ROOT, SOURCES, files_of, proved_functions, version
+from wrong_bodies import EDITS, ROOT, SOURCES, files_of, logic, proved_functions
 
 
 def link_tree(source, to):
@@ -40,7 +40,7 @@ class Base:
     """A copy of the crates to try and of those below them, with what was kept of each."""
 
     def __init__(self, crates, names, room):
-        self.crates, self.top, self.toolchain = crates, room / "base", version()
+        self.crates, self.top, self.toolchain = crates, room / "base", logic()
         self.all = [it for it in crates.rows if it in names or any(it in crates.below(name) for name in names)]
         # the names of each crate's functions, where the gate proved all of them
         found = {it: proved_functions(ROOT, crates, it, self.toolchain) for it in self.all}

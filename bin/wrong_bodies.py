@@ -14,7 +14,7 @@ RECORD = ROOT / "crates" / "wrong-bodies.txt"
 RECORD_HEAD = """\
 # The crates whose edits of wrong-bodies/ and must-fail/ were all refused, as bin/try-edits wrote it: the crate, how many edits,
 # how many were refused, and the SHA-256 of the crate's sources, specs, proofs and edits, of the sources and specs of the
-# crates below it, and of the toolchain's line `rt version`.
+# crates below it, and of the toolchain's logic, as `rt version` names it.
 """
 SOURCES = ("src", "specs", "proofs")
 EDITS = ("must-fail", "wrong-bodies")
@@ -57,8 +57,10 @@ def edits_in(folder):
     return sorted((it for part in EDITS for it in (folder / part).glob("*.edit")), key=lambda it: it.name)
 
 
-def version():
-    return subprocess.run(["rt", "version"], capture_output=True, text=True, check=True).stdout.strip()
+def logic():
+    """Returns what `rt version` says of the toolchain's logic. The name of its kit, which stands before that, may differ from machine to machine."""
+    said = subprocess.run(["rt", "version"], capture_output=True, text=True, check=True).stdout.strip()
+    return said[max(said.find("logic "), 0) :]
 
 
 def sum_of_sources(root, crates, name, toolchain):
@@ -99,7 +101,7 @@ def record(row, crates):
 
 
 def stale_crates(crates):
-    toolchain, rows = version(), recorded()
+    toolchain, rows = logic(), recorded()
     with_edits = [it for it in crates.rows if edits_in(ROOT / "crates" / it)]
     return [it for it in with_edits if rows.get(it, "").split()[-1:] != [digest(ROOT, crates, it, toolchain)]]
 
@@ -112,7 +114,7 @@ def proved_file(root, name):
 
 def sums_of_sources(root):
     """Returns of each crate the checksum of all that decides whether it is proved."""
-    crates, toolchain = Crates(root), version()
+    crates, toolchain = Crates(root), logic()
     return {it: sum_of_sources(root, crates, it, toolchain).hexdigest() for it in crates.rows}
 
 

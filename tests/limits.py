@@ -21,7 +21,7 @@ LIMITS = [
     ("README.md", rf"changing commands in a group \| {N}; as many may wait", OPEN),
     ("README.md", rf"\| connections \| {N} \(", SEATS),
     ("README.md", rf"\| image \| {N} to {N} lines of 64 bytes", LEAST_LINES, MOST_LINES),
-    ("README.md", f"and the server, which frees none, takes {N} SETs", IMAGE_VERSIONS),
+    ("README.md", f"it frees no version, so it takes {N} SETs", IMAGE_VERSIONS),
     ("README.md", rf"stamps, positions, epochs, record numbers \| below {N} \|", COUNTER),
     ("docs/protocol.md", rf"the name among them \| {N} \|", WORDS),
     ("docs/protocol.md", rf"bytes in a word \| {N} \|", WORD),

@@ -27,13 +27,13 @@ class Messages(Cases):
         self.assertEqual(finished.status, FAILED, finished)
         self.assertRegex(finished.errors, rb"\A[^\n]+\n\Z")
 
-    def test_any_word_on_the_command_line(self):
+    def test_words_that_are_no_subcommand(self):
         some = [["x"], [""], [b"\xff\xfe"], ["--help"], ["-"], ["--"], ["", ""], ["serve", "now"], ["x" * 100_000]]
         for words in some:
             with self.case("words", words=[word[:20] for word in words]):
                 finished = run_program("server", words, SET_A)
                 self.assertEqual((finished.status, finished.output), (MISUSED, b""))
-                self.assertRegex(finished.errors, rb"\Ausage: wbl-server[^\n]*\n\Z")
+                self.assertIn(b"Usage: wbl-server", finished.errors)
 
     def test_directory_as_standard_input(self):
         directory = os.open("/", os.O_RDONLY)

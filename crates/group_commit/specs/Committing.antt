@@ -17,7 +17,7 @@ module _ {E : Type 0} (device : E → State) (contents : E → Contents) (is_fau
   -- A group was taken, and its commit came to this. It is in hand only where it committed: a refused one is lost to the committer, whose engine goes on
   -- holding what it held. A crash at any moment of the commit leaves an image that holds what was there before, or the whole group beside it.
   pub record Commits (old : Committer E) (group : Group) (result : Result Done Refusal) (new : Committer E) : Type 0 where
-    pub answer : IfOk result (λ done. done ≡ Committed)
+    pub answer : IfOk result (λ done. done ≡ Committed (contents new.engine).current.position)
     pub in_hand : OnOk result (new.stage ≡ Durable group)
     pub moved : OnOk result (Same (after_group (contents old.engine) group) (contents new.engine))
     pub durable : OnOk result (IsDurable (device new.engine) (contents new.engine))

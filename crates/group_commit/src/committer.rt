@@ -139,7 +139,8 @@ impl<E: Durable> Committer<E> {
         link: &mut O,
         remote: u64,
     ) -> Result<Done, Refusal>
-        requires { self.old.stage ≡ Stage.Ready → GivesWork I.take_gives work.old self.old.aside.items (E.contents self.old.engine) }
+        requires lawful { self.old.stage ≡ Stage.Ready → GivesWork I.take_gives work.old self.old.aside.items (E.contents self.old.engine) }
+        requires shown { (group : Group) → self.old.stage ≡ Stage.Shown group → O.may_offer link.old group }
         ensures ready { self.old.stage ≡ Stage.Ready → (O.offered link.new ≡ O.offered link.old) × (O.known_room link.old ≤ O.known_room link.new)
             × TurnsReady E.device E.contents E.is_faulted I.take_gives self.old work.old (O.known_room link.new) remote result self.new work.new }
         ensures durable { (group : Group) → self.old.stage ≡ Stage.Durable group
@@ -192,9 +193,9 @@ impl<E: Durable> Committer<E> {
         ensures commits { Commits E.device E.contents E.is_faulted self.old group result self.new }
         ensures aside { self.new.aside ≡ self.old.aside }
     {
-        self.engine.commit(&group)?;
+        let committed = self.engine.commit(&group)?;
         self.stage = Stage::Durable(group);
-        Ok(Done::Committed)
+        Ok(Done::Committed(committed))
     }
 
     /// Frees the oldest list aside, if the standby has passed it, or clears the oldest gap where no list stands aside.
@@ -252,7 +253,8 @@ impl<E: Durable> Committer<E> {
 
     /// Hands the group on to the link. Where that has no room the group stays in hand.
     fn hand<O: Outlet<Item = Group>>(&mut self, group: Group, link: &mut O) -> Done
-        requires { self.old.stage ≡ Stage.Ready }
+        requires ready { self.old.stage ≡ Stage.Ready }
+        requires may { O.may_offer link.old group }
         ensures handed { ((result ≡ Done.Handed) × (self.new ≡ self.old) × (O.offered link.new ≡ O.offered link.old ++ group ∷ []))
             ⊎ ((result ≡ Done.Idle) × (self.new ≡ record self.old { stage = Stage.Shown group }) × (O.known_room link.old ≡ 0) × (O.offered link.new ≡ O.offered link.old)) }
         ensures same { O.is_same link.old link.new }

@@ -1,6 +1,6 @@
 //! How far a committer is with a group, and what a turn of it came to.
 use model::Group;
-use wbl_engine::Freed;
+use wbl_engine::{Committed, Freed};
 
 /// How far the committer is with a group.
 #[derive(Debug, Drop)]
@@ -16,8 +16,8 @@ pub enum Stage {
 /// What a turn came to.
 #[derive(Debug, Drop)]
 pub enum Done {
-    /// A group was taken and committed.
-    Committed,
+    /// A group was taken and committed: the engine says up to which position everything is durable now.
+    Committed(Committed),
     /// The local mark was raised to the engine's position.
     Raised,
     /// The group was handed on.

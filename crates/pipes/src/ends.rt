@@ -14,6 +14,9 @@ pub trait Outlet {
     /// How many more items this end knows that the pipe has room for.
     ghost known_room: { Self → ℕ };
 
+    /// Which item may be offered next. The other end may rely on it.
+    ghost may_offer: { Self → Self.Item → Type 0 };
+
     /// The second value is the same end of the same pipe as the first.
     ghost is_same: { Self → Self → Type 0 };
 
@@ -26,6 +29,7 @@ pub trait Outlet {
 
     /// Puts an item last. An `Err` gives it back, and comes only if this end neither knew of room nor found any.
     fn offer(&mut self, item: Self::Item) -> Result<(), Self::Item>
+        requires { may_offer self.old item }
         ensures last { OnOk result (offered self.new ≡ offered self.old ++ item ∷ []) }
         ensures room { OnOk result (known_room self.old ≤ known_room self.new + 1) }
         ensures full { OnErr result ((known_room self.old ≡ 0) × (known_room self.new ≡ 0)) }
@@ -37,6 +41,9 @@ pub trait Outlet {
     ghost same_refl: { (end : Self) → is_same end end };
 
     ghost same_trans: { (first middle last : Self) → is_same first middle → is_same middle last → is_same first last };
+
+    /// Where nothing was offered in between, the same items may be offered.
+    ghost may_still: { (before after : Self) (item : Self.Item) → is_same before after → offered after ≡ offered before → may_offer before item → may_offer after item };
 }
 
 /// The end of a pipe at which items come out. An item that this end knows of is taken first.

@@ -5,44 +5,45 @@ ghost use Rattle.pipes.specs.Ring.{AreEndsOfOne, offered_at, taken_at};
 
 use crate::ends::Inlet;
 use crate::ring_pipe::{RingInlet, RingOutlet};
-use rtrb::Consumer;
+use rtrb::{AnyItems, Consumer, Protocol};
+use std::alloc::Global;
 use std::marker::Model;
 
 /// An outlet that offers nothing more. A clause sees the outlet that it was.
 #[derive(Drop)]
-pub struct FinishedOutlet<T> {
-    pub(crate) outlet: RingOutlet<T>,
+pub struct FinishedOutlet<T, P: Protocol<T> = AnyItems> {
+    pub(crate) outlet: RingOutlet<T, P>,
 }
 
-impl<T> Model for FinishedOutlet<T> {
+impl<T, P: Protocol<T>> Model for FinishedOutlet<T, P> {
     ghost use Rattle.pipes.specs.declared.ring_pipe.RingOutlet.{RingOutlet};
 
-    ghost Value = { RingOutlet T };
+    ghost Value = { RingOutlet T P };
 
     ghost view = { λ finished. finished.outlet };
 }
 
 /// An inlet that takes nothing more. A clause sees the inlet that it was.
 #[derive(Drop)]
-pub struct FinishedInlet<T> {
-    pub(crate) inlet: RingInlet<T>,
+pub struct FinishedInlet<T, P: Protocol<T> = AnyItems> {
+    pub(crate) inlet: RingInlet<T, P>,
 }
 
-impl<T> Model for FinishedInlet<T> {
+impl<T, P: Protocol<T>> Model for FinishedInlet<T, P> {
     ghost use Rattle.pipes.specs.declared.ring_pipe.RingInlet.{RingInlet};
 
-    ghost Value = { RingInlet T };
+    ghost Value = { RingInlet T P };
 
     ghost view = { λ finished. finished.inlet };
 }
 
 /// What is left in a pipe whose ends have both finished. A clause sees the items, oldest first.
 #[derive(Drop)]
-pub struct LeftItems<T> {
-    consumer: Consumer<T>,
+pub struct LeftItems<T, P: Protocol<T> = AnyItems> {
+    consumer: Consumer<T, Global, P>,
 }
 
-impl<T> Model for LeftItems<T> {
+impl<T, P: Protocol<T>> Model for LeftItems<T, P> {
     ghost use Rattle.std.specs.Prelude.{List};
     ghost use Rattle.rtrb.specs.Ring.{known_items};
 
@@ -53,7 +54,10 @@ impl<T> Model for LeftItems<T> {
 
 /// Joins the two ends of one pipe. What was taken, followed by what is left, is what was offered: in order, and each item once. So what
 /// had been taken at any earlier moment was a prefix of what was offered.
-pub fn join<T: Drop>(outlet: FinishedOutlet<T>, inlet: FinishedInlet<T>) -> LeftItems<T>
+pub fn join<T: Drop, P: Protocol<T>>(
+    outlet: FinishedOutlet<T, P>,
+    inlet: FinishedInlet<T, P>,
+) -> LeftItems<T, P>
     requires { AreEndsOfOne outlet inlet }
     ensures each_once { taken_at inlet ++ result ≡ offered_at outlet }
     ensures prefix { (earlier : List T) → IsPrefix earlier (taken_at inlet) → IsPrefix earlier (offered_at outlet) }
@@ -65,7 +69,7 @@ pub fn join<T: Drop>(outlet: FinishedOutlet<T>, inlet: FinishedInlet<T>) -> Left
     LeftItems { consumer }
 }
 
-impl<T> LeftItems<T> {
+impl<T, P: Protocol<T>> LeftItems<T, P> {
     /// How many items are left.
     pub fn len(&self) -> usize
         ensures { result ≡ length self.now }
@@ -81,7 +85,7 @@ impl<T> LeftItems<T> {
     }
 }
 
-impl<T> Inlet for LeftItems<T> {
+impl<T, P: Protocol<T>> Inlet for LeftItems<T, P> {
     ghost use Rattle.pipes.specs.Ring.{LeftTakes, LeftTakes-known};
 
     type Item = T;

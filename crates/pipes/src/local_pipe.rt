@@ -75,6 +75,9 @@ impl<T> Outlet for LocalPipe<T> {
 
     ghost known_room = { λ pipe. PIPE_ITEMS - length pipe.items };
 
+    // whoever holds the pipe sees what waits in it
+    ghost may_offer = { λ _ _. Unit {0} };
+
     ghost is_same = { λ _ _. Unit {0} };
 
     fn room(&mut self) -> usize {
@@ -92,6 +95,8 @@ impl<T> Outlet for LocalPipe<T> {
     ghost same_refl = { λ _. tt };
 
     ghost same_trans = { λ _ _ _ _ _. tt };
+
+    ghost may_still = { λ _ _ _ _ _ _. tt };
 }
 
 impl<T> Inlet for LocalPipe<T> {

@@ -1,10 +1,10 @@
 -- What a crash at any moment of a run leaves.
-use Rattle.std.proofs.Common.{◌≡◌, ◌⊎◌, ℕ, ◌≤◌, Bool, true, false, cond, nat_le, List, [], ◌∷◌, length, Option, Some, None, refl, inl, inr, ap, subst, arith}
+use Rattle.std.proofs.Common.{◌≡◌, ◌⊎◌, ℕ, ◌≤◌, Bool, true, false, cond, nat_le, List, [], ◌∷◌, ◌++◌, length, Option, Some, None, refl, inl, inr, sym, ap, subst, ◌∙◌, arith, append_assoc, length-append}
 use Rattle.std.proofs.lemmas.Bool.{leb-true}
 use Rattle.std.specs.Option.{ForSome}
 use Rattle.pmem.specs.Device.{Word, State, moment}
 use Rattle.pmem.specs.Crash.{IsImage, HadImage, MayLeave, words_at, words_to_crash}
-use Rattle.pmem.specs.Runs.{LeavesOnly}
+use Rattle.pmem.specs.Runs.{HasPassed, LeavesOnly, words_gone_through}
 
 -- no past words are of the present moment or later
 HadImage-none : (past : List (ℕ → Word)) (t : ℕ) (image : ℕ → ℕ) → length past ≤ t → HadImage past t image → ⊥
@@ -17,70 +17,92 @@ pub MayLeave-now : (d : State) (image : ℕ → ℕ) → MayLeave d (moment d) i
 MayLeave-now d image (inl now) = now
 MayLeave-now d image (inr had) = absurd (HadImage-none d.past (moment d) image (omega arith) had)
 
--- one more call in the past
-MayLeave-step : (old : State) (now : ℕ → Word) (past : List (ℕ → Word)) (t : ℕ) (image : ℕ → ℕ) → past ≡ old.words ∷ old.past
-    → IsImage now image ⊎ HadImage past t image → MayLeave old t image ⊎ IsImage now image
-MayLeave-step old now past t image e (inl is) = inr is
-MayLeave-step old now past t image e (inr had) =
-    elim (subst (λ (p : List (ℕ → Word)). HadImage p t image) e had) [
-      | inl here ↦ inl (inl here.1)
-      | inr there ↦ inl (inr there)
+-- ---- a state that was passed
+
+pub HasPassed-none : (d : State) → HasPassed d d
+HasPassed-none d = record { more = []; goes_on = refl }
+
+-- one call leads from old to new
+pub HasPassed-step : (old new : State) → new.past ≡ old.words ∷ old.past → HasPassed old new
+HasPassed-step old new e = record { more = new.words ∷ []; goes_on = ap (λ (past : List (ℕ → Word)). new.words ∷ past) e }
+
+pub HasPassed-then : {a b c : State} → HasPassed a b → HasPassed b c → HasPassed a c
+HasPassed-then {a} {b} {c} first second =
+    record {
+      more = second.more ++ first.more;
+      goes_on = second.goes_on ∙ ap (λ (gone : List (ℕ → Word)). second.more ++ gone) first.goes_on ∙ sym (append_assoc second.more first.more (words_gone_through a));
+    }
+
+-- what a crash at some moment since t leaves, of all that a device has gone through
+abbrev Left : List (ℕ → Word) → ℕ → (ℕ → ℕ) → Type 0
+Left [] t image = ⊥
+Left (now ∷ past) t image = IsImage now image ⊎ HadImage past t image
+
+HadImage-older : (more past : List (ℕ → Word)) (words : ℕ → Word) (t : ℕ) (image : ℕ → ℕ) → HadImage (more ++ words ∷ past) t image
+    → Left (words ∷ past) t image ⊎ HadImage (more ++ words ∷ past) (length past) image
+HadImage-older [] past words t image (inl here) = inl (inl here.1)
+HadImage-older [] past words t image (inr had) = inl (inr had)
+HadImage-older (newer ∷ more) past words t image (inl here) = inr (inl (omega (arith, length-append more (words ∷ past)), here.1))
+HadImage-older (newer ∷ more) past words t image (inr had) =
+    elim (HadImage-older more past words t image had) [
+      | inl was ↦ inl was
+      | inr since ↦ inr (inr since)
     ]
+
+Left-older : (more past : List (ℕ → Word)) (words : ℕ → Word) (t : ℕ) (image : ℕ → ℕ) → Left (more ++ words ∷ past) t image
+    → Left (words ∷ past) t image ⊎ Left (more ++ words ∷ past) (length past) image
+Left-older [] past words t image left = inl left
+Left-older (newer ∷ more) past words t image (inl now) = inr (inl now)
+Left-older (newer ∷ more) past words t image (inr had) =
+    elim (HadImage-older more past words t image had) [
+      | inl was ↦ inl was
+      | inr since ↦ inr (inr since)
+    ]
+
+-- what a crash leaves: what it could leave at the state that was passed, or what it leaves since then
+pub MayLeave-passed : {old new : State} → HasPassed old new → (t : ℕ) (image : ℕ → ℕ) → MayLeave new t image → MayLeave old t image ⊎ MayLeave new (moment old) image
+MayLeave-passed {old} {new} passed t image may =
+    elim (Left-older passed.more old.past old.words t image (subst (λ (gone : List (ℕ → Word)). Left gone t image) passed.goes_on may)) [
+      | inl was ↦ inl was
+      | inr since ↦ inr (subst (λ (gone : List (ℕ → Word)). Left gone (moment old) image) (sym passed.goes_on) since)
+    ]
+
+-- ---- a run of calls
 
 -- A call: a crash leaves an image of the words before it or after it.
 pub step_leaves : (old new : State) (P : (ℕ → ℕ) → Type 0) → new.past ≡ old.words ∷ old.past
     → ((image : ℕ → ℕ) → IsImage old.words image → P image)
     → ((image : ℕ → ℕ) → IsImage new.words image → P image) → LeavesOnly old new P
-step_leaves old new P e from_old from_new =
-    record {
-      later = omega (arith, ap length e);
-      each = λ image may.
-          elim (MayLeave-step old new.words new.past (moment old) image e may) [
-            | inl was ↦ from_old image (MayLeave-now old image was)
-            | inr is ↦ from_new image is
-          ];
-      before = λ t image le may.
-          elim (MayLeave-step old new.words new.past t image e may) [
-            | inl was ↦ inl was
-            | inr is ↦ inr (from_new image is)
-          ];
-    }
+step_leaves old new P e from_old from_new = record { passed = HasPassed-step old new e; each = each }
+  where
+    each : (image : ℕ → ℕ) → MayLeave new (moment old) image → P image
+    each image (inl is) = from_new image is
+    each image (inr had) =
+        elim (subst (λ (past : List (ℕ → Word)). HadImage past (moment old) image) e had) [
+          | inl here ↦ from_old image here.1
+          | inr there ↦ from_old image (MayLeave-now old image (inr there))
+        ]
 
 -- no call at all
 pub none_leaves : (d : State) (P : (ℕ → ℕ) → Type 0) → ((image : ℕ → ℕ) → IsImage d.words image → P image) → LeavesOnly d d P
-none_leaves d P from_now =
-    record {
-      later = omega arith;
-      each = λ image may. from_now image (MayLeave-now d image may);
-      before = λ t image le may. inl may;
-    }
+none_leaves d P from_now = record { passed = HasPassed-none d; each = λ image may. from_now image (MayLeave-now d image may) }
 
 -- One run after another.
 pub LeavesOnly-then : {a b c : State} {P : (ℕ → ℕ) → Type 0} → LeavesOnly a b P → LeavesOnly b c P → LeavesOnly a c P
 LeavesOnly-then {a} {b} {c} {P} first second =
     record {
-      later = omega (arith, first.later, second.later);
+      passed = HasPassed-then first.passed second.passed;
       each = λ image may.
-          elim (second.before (moment a) image first.later may) [
+          elim (MayLeave-passed second.passed (moment a) image may) [
             | inl was ↦ first.each image was
-            | inr is ↦ is
-          ];
-      before = λ t image le may.
-          elim (second.before t image (omega (arith, first.later)) may) [
-            | inl was ↦ first.before t image le was
-            | inr is ↦ inr is
+            | inr is ↦ second.each image is
           ];
     }
 
 -- What satisfies P also satisfies Q.
 pub LeavesOnly-weaken : {a b : State} {P : (ℕ → ℕ) → Type 0} (Q : (ℕ → ℕ) → Type 0) → ((image : ℕ → ℕ) → P image → Q image)
     → LeavesOnly a b P → LeavesOnly a b Q
-LeavesOnly-weaken {a} {b} {P} Q so run =
-    record {
-      later = run.later;
-      each = λ image may. so image (run.each image may);
-      before = λ t image le may. elim (run.before t image le may) [ inl was ↦ inl was | inr is ↦ inr (so image is) ];
-    }
+LeavesOnly-weaken {a} {b} {P} Q so run = record { passed = run.passed; each = λ image may. so image (run.each image may) }
 
 -- A crash picks from the words of a moment since t, if the requested moment is since t.
 words_at-MayLeave : (now : ℕ → Word) (past : List (ℕ → Word)) (moment' t : ℕ) (image : ℕ → ℕ) → t ≤ moment' → IsImage (words_at now past moment') image

@@ -1,5 +1,5 @@
 -- What runs of calls do, for the layers above.
-use Rattle.std.specs.Prelude.{◌≡◌, ◌⊎◌, ℕ, zero, suc, ◌+◌, ◌/◌, ◌≤◌, true, ◌==◌, if◌then◌else◌, List, [], ◌∷◌}
+use Rattle.std.specs.Prelude.{◌≡◌, ◌⊎◌, ℕ, zero, suc, ◌+◌, ◌/◌, ◌≤◌, true, ◌==◌, if◌then◌else◌, List, [], ◌∷◌, ◌++◌}
 use Rattle.pmem.specs.Device.{Older, Word, State, Fences, MayBe, Only, store_at, flush_at, moment, fences_after, is_asked, is_unsure}
 use Rattle.pmem.specs.Crash.{IsImage, MayLeave, image_of}
 
@@ -64,12 +64,19 @@ pub record Stays (old new : State) : Type 0 where
   pub kept : new.kept ≡ old.kept
   pub starved : old.starved ≡ true → new.starved ≡ true
 
--- A crash at any moment since `old` leaves an image that satisfies P.
+-- the words of each moment that a device has gone through, the present ones first
+abbrev pub words_gone_through : State → List (ℕ → Word)
+words_gone_through d = d.words ∷ d.past
+
+-- The new state comes after the old one: it has gone through all that the old one had gone through, its words then among it, and then perhaps more.
+pub record HasPassed (old new : State) : Type 0 where
+  pub more : List (ℕ → Word)
+  pub goes_on : words_gone_through new ≡ more ++ words_gone_through old
+
+-- The device passed `old` and came to `new`, and a crash at any moment since `old` leaves an image that satisfies P.
 pub record LeavesOnly (old new : State) (P : (ℕ → ℕ) → Type 0) : Type 0 where
-  pub later : moment old ≤ moment new
+  pub passed : HasPassed old new
   pub each : (image : ℕ → ℕ) → MayLeave new (moment old) image → P image
-  -- for a run that began earlier
-  pub before : (t : ℕ) (image : ℕ → ℕ) → t ≤ moment old → MayLeave new t image → MayLeave old t image ⊎ P image
 
 -- A fence that failed had a cause: the device is starved, or the fence was asked to fail, or any fence may fail.
 abbrev pub HasCause : Fences → State → Type 0

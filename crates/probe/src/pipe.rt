@@ -57,24 +57,24 @@ fn count(alloc: Global, pipe: &mut LocalPipe<u64>, words: &[&str]) -> Result<Str
     }
 }
 
-fn offer<O: Outlet<Item = u64>>(alloc: Global, outlet: &mut O, item: u64) -> Result<String, Cause> {
-    match outlet.offer(item) {
+fn offer(alloc: Global, pipe: &mut LocalPipe<u64>, item: u64) -> Result<String, Cause> {
+    match pipe.offer(item) {
         Ok(()) => done(alloc),
         Err(item) => Ok(format!(in alloc; "back {item}")?),
     }
 }
 
-fn take<I: Inlet<Item = u64>>(alloc: Global, inlet: &mut I) -> Result<String, Cause> {
-    match inlet.take() {
+fn take(alloc: Global, pipe: &mut LocalPipe<u64>) -> Result<String, Cause> {
+    match pipe.take() {
         Some(item) => Ok(item.to_string(alloc)?),
         None => none(alloc),
     }
 }
 
 /// Moves the oldest item of one pipe to another, if there is one and room for it.
-fn pass<I: Inlet<Item = u64>, O: Outlet<Item = u64>>(inlet: &mut I, outlet: &mut O) -> bool {
-    if outlet.room() == 0 {
+fn pass(from: &mut LocalPipe<u64>, to: &mut LocalPipe<u64>) -> bool {
+    if to.room() == 0 {
         return false;
     }
-    inlet.take().is_some_and(|item| outlet.offer(item).is_ok())
+    from.take().is_some_and(|item| to.offer(item).is_ok())
 }

@@ -5,7 +5,7 @@ ghost use Rattle.kv_types.specs.declared.place.Extent.{Extent};
 ghost use Rattle.model.specs.declared.group.Group.{Group};
 ghost use Rattle.model.specs.declared.work.FreeList.{FreeList};
 ghost use Rattle.model.specs.Group.{Contents};
-ghost use Rattle.redis_core.specs.Sequencing.{Expects, HandsList, HandsOut, IsAheadOf, LeadsOn};
+ghost use Rattle.redis_core.specs.Sequencing.{Expects, HandsList, HandsOut, IsAheadOf, LeadsOn, Sequencing};
 
 use crate::listing::list_ended;
 use crate::sequencer::Sequencer;
@@ -26,7 +26,8 @@ impl<K: Keyspace> Sequencer<K> {
         alloc: Global,
         outlet: &mut G,
     ) -> Result<(), Refusal>
-        requires { (self.old).waiting ≢ [] }
+        requires some { (self.old).waiting ≢ [] }
+        requires may { (group : Group) (new : Sequencing) → HandsOut self.old group new → LeadsOn self.old group new → G.may_offer outlet.old (Work.Commit group) }
         ensures ok { OnOk result ((group : Group) × (G.offered outlet.new ≡ G.offered outlet.old ++ Work.Commit group ∷ [])
             × HandsOut self.old group self.new × LeadsOn self.old group self.new) }
         ensures err { OnErr result ((self.new ≡ self.old) × (G.offered outlet.new ≡ G.offered outlet.old)) }
@@ -69,7 +70,8 @@ impl<K: Keyspace> Sequencer<K> {
         alloc: Global,
         outlet: &mut W,
     ) -> Result<(), Refusal>
-        requires { (self.old).ended ≢ [] }
+        requires some { (self.old).ended ≢ [] }
+        requires may { (list : FreeList) (new : Sequencing) → HandsList self.old list new → W.may_offer outlet.old (Work.Free list) }
         ensures ok { OnOk result ((list : FreeList) × (W.offered outlet.new ≡ W.offered outlet.old ++ Work.Free list ∷ []) × HandsList self.old list self.new) }
         ensures err { OnErr result ((self.new ≡ self.old) × (W.offered outlet.new ≡ W.offered outlet.old)) }
         ensures cause { IfErr result (λ refusal. refusal ≡ Refusal.PipeFull) }

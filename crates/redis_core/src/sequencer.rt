@@ -1,6 +1,7 @@
 //! The sequencer: one list of calls for all seats, and the groups of what they changed.
 ghost use Rattle.std.specs.Prelude.{◌≡◌, ◌≢◌, ◌+◌, ◌<◌, ◌≤◌, ◌↔◌, ◌⊎◌, ◌++◌, ◌∷◌, [], List, true, false, length, vec_capacity, replicate, Some, None, IsTrue, IfOk, IfErr, IsErrOf, OnOk, OnErr};
 ghost use Rattle.kv_types.specs.declared.item.Item.{Item};
+ghost use Rattle.kv_types.specs.declared.reply.Held.{Held};
 ghost use Rattle.kv_types.specs.declared.place.EntryNo.{EntryNo};
 ghost use Rattle.kv_types.specs.declared.place.Extent.{Extent};
 ghost use Rattle.kv_types.specs.declared.reply.Reply.{Reply, Array};
@@ -121,6 +122,13 @@ impl<K: Keyspace> Sequencer<K> {
         !self.waiting.is_empty()
     }
 
+    /// The position of the list of calls: how many of them changed something.
+    pub fn position(&self) -> u64
+        ensures { result ≡ (self.now).position }
+    {
+        self.position
+    }
+
     /// Opens a seat for the connection that was given it, with an idle session, whatever the connection before left there.
     ///
     /// # Errors
@@ -158,6 +166,7 @@ impl<K: Keyspace> Sequencer<K> {
         inlet: &mut I,
         outlet: &mut O,
     ) -> Turn
+        requires { (held : Held) → O.may_offer outlet.old held }
         ensures served { OnServed result ((item : Item) × (reply : Reply) × I.take_gives inlet.old (Some item) inlet.new
             × (O.offered outlet.new ≡ O.offered outlet.old ++ record { reply = reply; position = (self.new).position } ∷ [])
             × Answers self.old seat.now item reply self.new) }

@@ -2,3 +2,4 @@ pub mod FeedingLemmas
 pub mod ScheduleLemmas
 pub mod AnswerLemmas
 pub mod ServingLemmas
+pub mod PrintedLemmas

@@ -1,2 +1,4 @@
 pub mod Schedule
 pub mod Answer
+pub mod Printed
+pub mod Told

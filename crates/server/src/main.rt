@@ -1,50 +1,51 @@
-//! The key-value server over standard input and output: one connection's requests in, its released replies out.
+//! The key-value server: a connection over standard input and output, and the subcommands over images.
 #![tactic(auto)]
 
 mod answer;
+mod command;
+mod failure;
+mod formatting;
+mod images;
+mod inspecting;
+mod opening;
+mod options;
 mod schedule;
 mod serve;
+mod serving_clients;
+mod standing_by;
 
-use crate::serve::{ServeError, serve};
+use crate::command::{command, tell};
+use crate::failure::Failure;
+use crate::images::Files;
+use crate::options::not_text;
 use kv_types::Refusal;
+use std::alloc::Global;
 use std::env;
-use std::hash::RandomState;
 use std::io::ErrorKind;
 use std::process::ExitCode;
 use std::rt::Env;
 
-const USAGE: &str = "usage: wbl-server < REQUESTS > REPLIES";
-
-/// The exit status if the command line is not understood.
-const MISUSED: u8 = 2;
-
 fn main(rt: HostRuntime) -> ExitCode {
-    match run(&rt) {
-        Ok(code) => code,
-        Err(error) => {
-            let _ = rt.eprintln(error);
-            ExitCode::FAILURE
-        }
-    }
+    let status = match words(&rt) {
+        Ok(words) => command(
+            &rt,
+            rt.alloc(),
+            &words,
+            &Files::of(&rt),
+            &mut rt.stdin(),
+            &mut rt.stdout(),
+            &mut rt.stderr(),
+        ),
+        Err(failure) => tell(&failure, &mut rt.stderr()),
+    };
+    ExitCode::from(status)
 }
 
-fn run(rt: &HostRuntime) -> Result<ExitCode, ServeError> {
-    if has_words(rt)? {
-        let _ = rt.eprintln(USAGE);
-        return Ok(ExitCode::from(MISUSED));
-    }
-    let hash_builder = RandomState::new(rt).map_err(ServeError::Random)?;
-    serve(rt.alloc(), &mut rt.stdin(), &mut rt.stdout(), hash_builder)?;
-    Ok(ExitCode::SUCCESS)
-}
-
-/// Whether anything follows the program's name on the command line, whether or not it is text.
-fn has_words(rt: &(impl Env + Alloc)) -> Result<bool, ServeError> {
+/// The words of the command line, the first of which is the program's name.
+fn words<R: Env + Alloc<A = Global>>(rt: &R) -> Result<Vec<String>, Failure> {
     match env::args(rt) {
-        Ok(words) => Ok(words.skip(1).next().is_some()),
-        Err(error) if error.kind() == ErrorKind::OutOfMemory => {
-            Err(ServeError::Refused(Refusal::Memory))
-        }
-        Err(_) => Ok(true),
+        Ok(words) => Ok(words.collect(rt.alloc())?),
+        Err(error) if error.kind() == ErrorKind::OutOfMemory => Err(Failure::from(Refusal::Memory)),
+        Err(_) => Err(Failure::from(not_text(rt.alloc()))),
     }
 }

@@ -19,6 +19,7 @@ use pmem::{Crashing, Fault, Pmem};
 use std::alloc::Global;
 
 /// An engine over a device. It keeps the current record but no list.
+#[derive(Drop)]
 pub struct WblEngine<P: Pmem> {
     device: P,
     /// The current record. After a fault, the record before the commit that faulted.

@@ -26,7 +26,7 @@ use Rattle.machine.specs.declared.event.TheConstants.{PIPE_ITEMS}
 use Rattle.machine.specs.Event.{Closes, Work as MachineWork, World, closed_group, has_room, listed, may_happen, open_changes, with_committer, with_ended}
 use Rattle.machine.proofs.SoundConnection.{both}
 use Rattle.pipes.specs.Waiting.{Waiting}
-use Rattle.world.specs.Closing.{ClosesGroup, ClosesList, MayClose}
+use Rattle.primary.specs.Closing.{ClosesGroup, ClosesList, MayClose}
 use Rattle.world.specs.Committing.{AreOfEpoch, Leads, entries_told, extents_told}
 use Rattle.world.specs.GroupSpan.{AreWorkOf, IsGroupOf, IsWorkOf}
 use Rattle.connections.specs.Session.{AreOpen, SeatsFollow, SequencerRefines}
@@ -146,73 +146,6 @@ length-queue calls [] [] are = refl
 length-queue calls [] (w ∷ works) are = absurd are
 length-queue calls (item ∷ items) [] are = absurd are
 length-queue calls (item ∷ items) (w ∷ works) are = ap suc (length-queue calls items works are.1)
-
--- ---- what is to be committed still leads to the sequencer
-
--- groups of the record's epoch leave it as it is
-epoch-after_work : (contents : Contents) (items : List Work) → AreOfEpoch contents.current.epoch (groups_of items) → (after_work contents items).current.epoch ≡ contents.current.epoch
-epoch-after_work contents [] are = refl
-epoch-after_work contents (work.Commit group ∷ items) are =
-    epoch-after_work (after_group contents group) items (subst (λ epoch. AreOfEpoch epoch (groups_of items)) (sym are.0) are.1) ∙ are.0
-epoch-after_work contents (work.Free list ∷ items) are = epoch-after_work contents items are
-
-AreOfEpoch-push : (epoch : ℕ) (groups : List Group) (group : Group) → AreOfEpoch epoch groups → group.epoch ≡ epoch → AreOfEpoch epoch (groups ++ group ∷ [])
-AreOfEpoch-push epoch [] group are is = (is, tt)
-AreOfEpoch-push epoch (first ∷ groups) group are is = (are.0, AreOfEpoch-push epoch groups group are.1 is)
-
--- behind one group more
-pub Leads-group : (contents : Contents) (before after : Waiting Work) (aside : List FreeList) (old new : Sequencing) (notices : List Freed) → IsConsistent contents
-    → Leads contents before.items aside old notices → ClosesGroup old before new after → Leads contents after.items aside new notices
-Leads-group contents before after aside old new notices consistent leads closes =
-    let items = before.items in
-    let group = closes.group in
-    let all = after_work contents items in
-    let sound = IsConsistent-after_groups contents (groups_of items) consistent (AreGroups-of-work contents items leads.work_is) in
-    let stands = closes.leads.stands all leads.stands in
-    let moved = after_work-push-group contents items group in
-    let lists : lists_of (items ++ work.Commit group ∷ []) ≡ lists_of items = lists_of-append items (work.Commit group ∷ []) ∙ append-nil (lists_of items) in
-    let groups = groups_of-append items (work.Commit group ∷ []) in
-    subst (λ (xs : List Work). Leads contents xs aside new notices) (sym closes.last) (record {
-      work_is = AreWork-push-group contents items group leads.work_is stands.0;
-      epochs = subst (AreOfEpoch contents.current.epoch) (sym groups)
-          (AreOfEpoch-push contents.current.epoch (groups_of items) group leads.epochs (closes.hands.epoch ∙ leads.stands.epoch ∙ epoch-after_work contents items leads.epochs));
-      stands = subst (IsAheadOf new) (sym moved) stands.1;
-      expects = subst (λ (c : Contents). Expects new c (entries_told notices) (extents_told notices)) (sym moved)
-          (closes.leads.expects all (entries_told notices) (extents_told notices) leads.stands leads.expects);
-      aside_ended = leads.aside_ended;
-      listed = subst (λ (c : Contents). AreEnded c (entries_of_lists (aside ++ lists_of (items ++ work.Commit group ∷ [])) ++ new.ended)) (sym moved)
-          (subst (λ (xs : List FreeList). AreEnded (after_group all group) (entries_of_lists (aside ++ xs) ++ new.ended)) (sym lists)
-          (closes.leads.lists all (entries_of_lists (aside ++ lists_of items)) leads.stands sound leads.listed));
-    })
-
--- behind one free list more
-pub Leads-list : (contents : Contents) (before after : Waiting Work) (aside : List FreeList) (old new : Sequencing) (notices : List Freed)
-    → Leads contents before.items aside old notices → ClosesList old before new after → Leads contents after.items aside new notices
-Leads-list contents before after aside old new notices leads closes =
-    let items = before.items in
-    let list = closes.list in
-    let all = after_work contents items in
-    let moved = after_work-push-list contents items list in
-    let groups : groups_of (items ++ work.Free list ∷ []) ≡ groups_of items = groups_of-append items (work.Free list ∷ []) ∙ append-nil (groups_of items) in
-    let entries : List FreeList → List EntryNo = entries_of_lists in
-    let lists : aside ++ lists_of (items ++ work.Free list ∷ []) ≡ (aside ++ lists_of items) ++ list ∷ [] =
-    ap (λ (xs : List FreeList). aside ++ xs) (lists_of-append items (work.Free list ∷ [])) ∙ sym (append_assoc aside (lists_of items) (list ∷ [])) in
-    let ended : new.ended ≡ [] = ap (λ (s : Sequencing). s.ended) closes.hands.after in
-    let same : entries_of_lists (aside ++ lists_of (items ++ work.Free list ∷ [])) ++ new.ended ≡ entries_of_lists (aside ++ lists_of items) ++ old.ended =
-    ap₂ (λ (xs ys : List EntryNo). xs ++ ys) (ap entries lists ∙ flat_map-append (λ (one : FreeList). one.entries.items) (aside ++ lists_of items) (list ∷ [])) ended
-    ∙ append-nil (entries_of_lists (aside ++ lists_of items) ++ (list.entries.items ++ []))
-    ∙ ap (λ (xs : List EntryNo). entries_of_lists (aside ++ lists_of items) ++ xs) (append-nil list.entries.items ∙ closes.hands.entries) in
-    subst (λ (xs : List Work). Leads contents xs aside new notices) (sym closes.last) (record {
-      work_is = AreWork-push-list contents items list leads.work_is
-          (subst (AreEnded all) (sym closes.hands.entries) (AreEnded-rest all (entries_of_lists (aside ++ lists_of items)) old.ended leads.listed));
-      epochs = subst (AreOfEpoch contents.current.epoch) (sym groups) leads.epochs;
-      stands = subst (IsAheadOf new) (sym moved) (closes.stands all leads.stands);
-      expects = subst (λ (c : Contents). Expects new c (entries_told notices) (extents_told notices)) (sym moved)
-          (closes.expects all (entries_told notices) (extents_told notices) leads.expects);
-      aside_ended = leads.aside_ended;
-      listed = subst (λ (c : Contents). AreEnded c (entries_of_lists (aside ++ lists_of (items ++ work.Free list ∷ [])) ++ new.ended)) (sym moved)
-          (subst (AreEnded all) (sym same) leads.listed);
-    })
 
 -- ---- where one of the two may be closed
 

@@ -43,7 +43,8 @@ use Rattle.world.specs.GroupSpan.{AreGroupsOf, AreWorkOf, IsGroupOf, positions_o
 use Rattle.world.specs.Recalling.{Remembers}
 use Rattle.world.proofs.EngineLemmas.{AreContentsAt-after_group, Opens-engine, keeps-opens, rests-same}
 use Rattle.world.proofs.GroupSpanLemmas.{IsGroupOf-grows, length-groups}
-use Rattle.world.proofs.QueueLemmas.{AreWorkOf-grows, ended-reached}
+use Rattle.primary.proofs.LeadsLemmas.{leads-after}
+use Rattle.world.proofs.QueueLemmas.{AreWorkOf-grows}
 use Rattle.world.proofs.RecallGroups.{remembers-committed}
 
 -- ---- while the list grows
@@ -118,34 +119,6 @@ takes-group contents old lists group new s notices taken set_aside leads =
     }
 
 -- ---- what is left leads to the sequencer
-
-leads-after : (contents : Contents) (lists : List FreeList) (group : Group) (rest : List Work) (aside : List FreeList) (s : Sequencing) (notices : List Freed) → IsConsistent contents
-    → Leads contents (map work.Free lists ++ work.Commit group ∷ rest) aside s notices → Leads (after_group contents group) rest (aside ++ lists) s notices
-leads-after contents lists group rest aside s notices consistent leads =
-    record {
-      work_is = behind.1;
-      epochs = subst (λ epoch. AreOfEpoch epoch (groups_of rest)) (sym epochs.0) epochs.1;
-      stands = subst (IsAheadOf s) same leads.stands;
-      expects = subst (λ (c : Contents). Expects s c (entries_told notices) (extents_told notices)) same leads.expects;
-      aside_ended = AreEnded-after_group contents group (entries_of_lists (aside ++ lists)) consistent behind.0
-          (subst (λ (xs : List FreeList). AreEnded contents (entries_of_lists (aside ++ xs))) (lists_before-lists lists items ∙ append-nil lists)
-          (ended-reached contents (map work.Free lists ++ items) aside s notices leads));
-      listed = subst (λ (c : Contents). AreEnded c (entries_of_lists ((aside ++ lists) ++ lists_of rest) ++ s.ended)) same
-          (subst (λ (xs : List FreeList). AreEnded (after_work contents (map work.Free lists ++ items)) (entries_of_lists xs ++ s.ended))
-          (ap (λ (xs : List FreeList). aside ++ xs) (lists_of-lists lists items) ∙ sym (append_assoc aside lists (lists_of rest))) leads.listed);
-    }
-  where
-    items : List Work
-    items = work.Commit group ∷ rest
-
-    behind : AreWork contents items
-    behind = AreWork-behind contents lists items leads.work_is
-
-    epochs : AreOfEpoch contents.current.epoch (groups_of items)
-    epochs = subst (AreOfEpoch contents.current.epoch) (groups_of-lists lists items) leads.epochs
-
-    same : after_work contents (map work.Free lists ++ items) ≡ after_work (after_group contents group) rest
-    same = ap (after_groups contents) (groups_of-lists lists items)
 
 -- once the group has committed
 pub Leads-committed : (contents contents' : Contents) (old : Committing) (lists : List FreeList) (group : Group) (new : Committing) (s : Sequencing) (notices : List Freed) → IsConsistent contents

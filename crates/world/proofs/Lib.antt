@@ -6,8 +6,6 @@ pub mod CutLemmas
 pub mod MovesLemmas
 pub mod StillLemmas
 pub mod ClosingLemmas
-pub mod AheadLemmas
-pub mod FreedQueue
 pub mod CommittingLemmas
 pub mod WireLemmas
 pub mod FrameLemmas

@@ -17,14 +17,15 @@ use Rattle.redis_core.specs.Sequencing.{Sequencing, ended_by_parts}
 use Rattle.machine.specs.declared.event.Event.TheVariants as events
 use Rattle.machine.specs.Event.{Commits, Frees, Work as MachineWork, World, Closes, closed_group, closed_list, listed, may_happen, spans_of}
 use Rattle.machine.specs.Sound.{IsChain}
-use Rattle.world.specs.Closing.{ClosesGroup, ClosesList, ClosesOne, MayClose}
+use Rattle.primary.specs.Closing.{ClosesGroup, ClosesList, ClosesOne, MayClose}
 use Rattle.world.specs.Committing.{CommittingRefines, Leads}
 use Rattle.world.specs.GroupSpan.{AreWorkOf}
 use Rattle.world.specs.Recalling.{Remembers}
 use Rattle.connections.specs.Session.{SequencerRefines, seats_of}
 use Rattle.world.specs.Pair.{Pair, PartsRefine, PairRefines, Steps, Does}
 use Rattle.world.proofs.LivesLemmas.{enabled-is, nodes-refine, own-runs}
-use Rattle.world.proofs.ClosingLemmas.{AreWorkOf-push, IsGroupOf-handed, Leads-group, Leads-list, closes-group, closes-list, follow-handed, follow-listed, grouped, may-close, may-not-close, sequencer-handed, sequencer-listed}
+use Rattle.primary.proofs.LeadsLemmas.{Leads-group, Leads-list}
+use Rattle.world.proofs.ClosingLemmas.{AreWorkOf-push, IsGroupOf-handed, closes-group, closes-list, follow-handed, follow-listed, grouped, may-close, may-not-close, sequencer-handed, sequencer-listed}
 use Rattle.world.proofs.RecallGroups.{remembers-grouped}
 use Rattle.world.proofs.RecallLemmas.{remembers-listed}
 use Rattle.world.proofs.PairLemmas.{cut-same, goes-steps, none-added, tells, untouched}

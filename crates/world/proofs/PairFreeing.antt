@@ -59,9 +59,10 @@ use Rattle.connections.specs.Session.{SeatsFollow, SequencerRefines, seats_of}
 use Rattle.world.specs.Standby.{Node}
 use Rattle.world.specs.declared.arrivals.Arrivals.{Arrivals}
 use Rattle.connections.specs.declared.sessions.Sessions.{Sessions}
-use Rattle.world.proofs.AheadLemmas.{AreLaid, laid-engine}
+use Rattle.primary.specs.Leading.{AreLaid}
+use Rattle.primary.proofs.AheadLemmas.{laid-engine}
 use Rattle.world.proofs.EngineLemmas.{Opens-engine, keeps-opens, moves-same}
-use Rattle.world.proofs.FreedQueue.{Leads-accepted, Leads-aside, Leads-cleared, Leads-freed}
+use Rattle.primary.proofs.FreedQueue.{Leads-accepted, Leads-aside, Leads-cleared, Leads-freed}
 use Rattle.world.proofs.LivesLemmas.{Runs, enabled-is, is_own, lives-step, nodes-refine, own-runs}
 use Rattle.world.proofs.PairLemmas.{Led, Opens-standby, cut-for, cut-same, goes-steps, none-added, rests-primary, rests-standby, tells, untouched}
 use Rattle.world.proofs.QueueLemmas.{clear-enabled, free-enabled, reached-positions, room-link}

@@ -37,7 +37,7 @@ use Rattle.world.specs.Committing.{Committing, CommittingRefines, IsDown, next_p
 use Rattle.world.specs.GroupSpan.{AreGroupsOf}
 use Rattle.world.specs.Link.{AreFramesSent, LinkRefines}
 use Rattle.world.specs.Recalling.{OpeningLeads, RecallsEach, Remembers}
-use Rattle.world.specs.Serving.{IsOver}
+use Rattle.primary.specs.Resuming.{IsOver}
 use Rattle.connections.specs.Session.{SequencerRefines}
 use Rattle.world.specs.Standby.{ArrivalsRefine, Node, StandbyRefines, StandbyStands}
 use Rattle.world.specs.Pair.{Acts, AreLives, DownRefine, EitherRefines, IsCut, NodesRefine, Pair, PartsRefine, Steps, life_if}

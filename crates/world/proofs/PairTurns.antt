@@ -22,7 +22,7 @@ use Rattle.group_commit.specs.Committing.{Commits, raised, ready_again}
 use Rattle.group_commit.specs.Working.{IsDrained, RefusesAside, TakesLists, TurnsReady}
 use Rattle.group_commit.specs.declared.committer.Committer.{Committer}
 use Rattle.group_commit.specs.declared.stage.Done.{Done}
-use Rattle.group_commit.specs.declared.stage.Done.TheVariants.{Committed, Raised, Handed, Idle}
+use Rattle.group_commit.specs.declared.stage.Done.TheVariants.{Raised, Handed, Idle}
 use Rattle.group_commit.specs.declared.stage.Stage.{Stage}
 use Rattle.group_commit.specs.declared.stage.Stage.TheVariants.{Ready, Durable, Shown}
 use Rattle.group_commit.proofs.WorkLemmas.{EndsLists-none, TakesLists-items}
@@ -134,10 +134,10 @@ module _ {E : Type 0} (device : E → State) (contents : E → Contents) (is_fau
   takes-first before after works works' handed lists group takes first second w parts =
       takes-group (contents before.engine) (pair_of before works handed).committing lists group (pair_of after works' handed).committing sequencer notices takes.taken takes.set_aside parts.leads
 
-  committed : (before after : Committer E) (works works' : Waiting Work) (handed : Waiting Group) (lists : List FreeList) (group : Group) → TakesFirst before after works works' lists group
-      → true ≡ may_commit_now before.stage works.items handed.items → Commits device contents is_faulted before group (Ok Committed) after
+  committed : (before after : Committer E) (works works' : Waiting Work) (handed : Waiting Group) (lists : List FreeList) (group : Group) (done : Done) → TakesFirst before after works works' lists group
+      → true ≡ may_commit_now before.stage works.items handed.items → Commits device contents is_faulted before group (Ok done) after
       → Does (pair_of before works handed) events.Commit (Ok true) (pair_of after works' handed)
-  committed before after works works' handed lists group takes may commits =
+  committed before after works works' handed lists group done takes may commits =
       record { steps = steps; cut = tt; calls = none-added _ _ refl }
     where
       old : Pair
@@ -250,15 +250,9 @@ module _ {E : Type 0} (device : E → State) (contents : E → Contents) (is_fau
         set_aside = set_aside;
       }
 
-      committed-by : (done : Done) (group : Group) → TakesFirst before after works works' turned.lists group → Commits device contents is_faulted before group (Ok done) after
-          → Does (pair_of before works handed) events.Commit (Ok true) (pair_of after works' handed)
-      committed-by done group took commits =
-          committed before after works works' handed turned.lists group took may
-          (subst (λ (d : Done). Commits device contents is_faulted before group (Ok d) after) commits.answer commits)
-
       by : {group : Group} (result : Result Done Refusal) → TakesFirst before after works works' turned.lists group → Commits device contents is_faulted before group result after
           → Does (pair_of before works handed) events.Commit (went result) (pair_of after works' handed)
-      by {group} (Ok done) took commits = committed-by done group took commits
+      by {group} (Ok done) took commits = committed before after works works' handed turned.lists group done took may commits
       by {group} (Err refusal) took commits = refused before after works works' handed turned.lists group refusal took may commits
 
   -- the committer may not commit

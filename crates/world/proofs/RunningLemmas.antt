@@ -1,12 +1,14 @@
 -- A run from event to event, and what is reported of it at its end.
-use Rattle.std.proofs.Common.{◌≡◌, ◌⊎◌, ℕ, ◌≤◌, Bool, List, [], ◌∷◌, ◌++◌, length, take, slice_index_or, Option, Some, None, refl, sym, ap, subst, ◌∙◌, arith, le_refl, length-take, inl, inr, true, cond, nat_eq, eqb-true, All, false}
+use Rattle.std.proofs.Common.{◌≡◌, ◌⊎◌, ℕ, ◌≤◌, Bool, List, [], ◌∷◌, ◌++◌, length, take, slice_index_or, Option, Some, None, refl, sym, ap, ap₂, subst, ◌∙◌, arith, le_refl, length-take, inl, inr, true, cond, nat_eq, eqb-true, All, false}
 use Rattle.pmem.specs.Device.{State}
+use Rattle.pmem.specs.Runs.{LeavesOnly}
 use Rattle.kv_types.specs.declared.refusal.Refusal.{Refusal}
 use Rattle.kv_types.specs.declared.refusal.Refusal.TheVariants.{Memory, Fault, Exhausted}
 use Rattle.pmem.proofs.Leaving.{LeavesOnly-then, LeavesOnly-weaken}
 use Rattle.model.specs.declared.call.Call.{Call}
+use Rattle.model.specs.declared.record.Role.{Role}
 use Rattle.model.specs.declared.record.Role.TheVariants.{Primary, Standby}
-use Rattle.model.specs.Call.{cut_at, keyspace_after, position_of}
+use Rattle.model.specs.Call.{position_of}
 use Rattle.model.specs.Image.{Image}
 use Rattle.model.specs.Standing.{Holder, new_holder}
 use Rattle.machine.specs.declared.event.Event.{Event}
@@ -17,8 +19,7 @@ use Rattle.machine.specs.Law.{Grows}
 use Rattle.machine.specs.Promise.{IsPromised, IsReleased, Tells, released_in}
 use Rattle.machine.specs.Sound.{IsChain, IsFrameWithin, Sound}
 use Rattle.std.proofs.lemmas.List.Elements.{All-head}
-use Rattle.machine.proofs.GrowLemmas.{grows-from, grows-step, image-stays}
-use Rattle.machine.proofs.GroupLemmas.{chain-le}
+use Rattle.machine.proofs.GrowLemmas.{grows-step}
 use Rattle.machine.proofs.WorkLemmas.{spans_of-from_group}
 use Rattle.machine.proofs.CoverLemmas.{covered-run}
 use Rattle.machine.proofs.CountLemmas.{few-connections}
@@ -30,20 +31,33 @@ use Rattle.world.specs.Cause.{Stretch, UnformedBy, Breaks, RestsAtLimit, RestsBe
 use Rattle.world.specs.Committing.{FormattingOnly, FromOnly, Moves, NearOnly, OpensAt, OpensAtEither, Rests, next_primary, next_from, next_standby}
 use Rattle.world.specs.declared.trace.EarlyEnd.{EarlyEnd}
 use Rattle.world.specs.declared.trace.EarlyEnd.TheVariants.{AtFormatting, AtEvent}
-use Rattle.world.specs.Headline.{AnyWorld, Enables, start, primary_position, standby_position, AreMoments, IsKept, KeepsItsWord, PlaysOn, AreMoves, Reaches, StandsAfter, IsCutAfter, Plays}
+use Rattle.world.specs.Headline.{AnyWorld, Enables, start, primary_position, standby_position, AreMoments, IsKept, KeepsItsWord, PlaysOn, AreMoves, OpensFrom, OpensIn, Reaches, StandsAfter, IsCutAfter, Plays, primary_holder, standby_holder}
 use Rattle.world.specs.Pair.{Pair, NodesRefine, HasWorld, IsCut, Steps}
 use Rattle.connections.specs.Session.{released_of}
 use Rattle.world.proofs.EngineLemmas.{rests-same}
-use Rattle.world.proofs.MovesLemmas.{moves-over}
-use Rattle.world.proofs.PairLemmas.{primary-stands, primary-within, sessions-stand, standby-stands, standby-within}
+use Rattle.world.proofs.PairLemmas.{primary-stands, sessions-stand, standby-stands}
 use Rattle.connections.proofs.SessionLemmas.{length-connections, released-told}
+
+-- ---- whose images they are
+
+abbrev holder_of : ℕ → Role → ℕ → Holder
+holder_of lines role epoch = record { lines = lines; role = role; epoch = epoch }
+
+-- the holders of a pair are those of each world that it refines
+primary-holds : {first second : Holder} {pair : Pair} {w : World} → NodesRefine first second pair w → first ≡ primary_holder first.lines w
+primary-holds {first} {second} {pair} {w} stands =
+    ap₂ (holder_of first.lines) stands.lives.first_role stands.lives.first_epoch
+
+standby-holds : {first second : Holder} {pair : Pair} {w : World} → NodesRefine first second pair w → second ≡ standby_holder second.lines w
+standby-holds {first} {second} {pair} {w} stands =
+    ap₂ (holder_of second.lines) stands.lives.second_role (stands.lives.second_epoch ∙ sym stands.sound.standby.epoch_is)
 
 -- ---- from event to event
 
 -- one more event
-moves-push : (position : World → ℕ) (holder : Holder) (w : World) (worlds : List World) (w' : World) (old new new' : State) → AreMoves position holder w worlds old new
-    → Moves holder w'.primary.calls (position (last_world w worlds)) (position w') new new' → AreMoves position holder w (worlds ++ w' ∷ []) old new'
-moves-push position holder w [] w' old new new' are moves = (new', subst (λ (d : State). Moves holder w'.primary.calls (position w) (position w') d new') (sym are) moves, refl)
+moves-push : (position : World → ℕ) (holder : World → Holder) (w : World) (worlds : List World) (w' : World) (old new new' : State) → AreMoves position holder w worlds old new
+    → Moves (holder w') w'.primary.calls (position (last_world w worlds)) (position w') new new' → AreMoves position holder w (worlds ++ w' ∷ []) old new'
+moves-push position holder w [] w' old new new' are moves = (new', subst (λ (d : State). Moves (holder w') w'.primary.calls (position w) (position w') d new') (sym are) moves, refl)
 moves-push position holder w (next ∷ worlds) w' old new new' are moves = (are.0, are.1, moves-push position holder next worlds w' are.0 new new' are.2 moves)
 
 pub reaches-world : (first second : Holder) (began : Pair) (events : List Event) (done : List Bool) (pair : Pair) → StandsAfter first second began events done pair → HasWorld pair
@@ -68,8 +82,10 @@ reaches-next first second began events done done' pair pair' event did more step
         worlds = reaches.worlds ++ next.world ∷ [];
         run = subst (λ (d : List Bool). Run start (events ++ event ∷ []) d (reaches.worlds ++ next.world ∷ [])) (sym more)
             (run-push start events done reaches.worlds event did next.world reaches.run next.step);
-        primary_moves = moves-push primary_position first start reaches.worlds next.world began.device pair.device pair'.device reaches.primary_moves next.moves.primary;
-        standby_moves = moves-push standby_position second start reaches.worlds next.world began.standby.device pair.standby.device pair'.standby.device reaches.standby_moves next.moves.standby;
+        primary_moves = moves-push primary_position (primary_holder first.lines) start reaches.worlds next.world began.device pair.device pair'.device reaches.primary_moves
+            (subst (λ (h : Holder). Moves h next.world.primary.calls (primary_position w) (primary_position next.world) pair.device pair'.device) (primary-holds next.stands) next.moves.primary);
+        standby_moves = moves-push standby_position (standby_holder second.lines) start reaches.worlds next.world began.standby.device pair.standby.device pair'.standby.device reaches.standby_moves
+            (subst (λ (h : Holder). Moves h next.world.primary.calls (standby_position w) (standby_position next.world) pair.standby.device pair'.standby.device) (standby-holds next.stands) next.moves.standby);
       };
       stands = subst (NodesRefine first second pair') (sym (last_world-push start reaches.worlds next.world)) next.stands;
     }
@@ -78,7 +94,7 @@ pub reaches-cut : (first second : Holder) (began : Pair) (events : List Event) (
     → ((first second : Holder) (w : World) → NodesRefine first second pair w → IsCut first second event refusal pair pair' w)
     → StandsAfter first second began events done pair → IsCutAfter first second began events event refusal done pair'
 reaches-cut first second began events event refusal done pair pair' cuts after =
-    record { before = pair; reaches = after.reaches; cut = cuts first second (last_world start after.reaches.worlds) after.stands }
+    record { before = pair; reaches = after.reaches; stands = after.stands; cut = cuts first second (last_world start after.reaches.worlds) after.stands }
 
 -- ---- the connections are few
 
@@ -99,13 +115,11 @@ few-played first second began events (Some (AtEvent index refusal)) done pair pl
 
 -- ---- the position of a node
 
--- it never falls, it is a position of the list, what was released is within it, and the next position is no lower
+-- it never falls, what was released is within it, and the next position is no lower
 record IsOfNode (position next : World → ℕ) : Type 0 where
   rises : (old new : World) → Grows old new → position old ≤ position new
-  within : (w : World) → Sound w → position w ≤ position_of w.primary.calls
   holds : (w : World) → Sound w → (prefix : List Call) (call : Call) → IsReleased w.primary.calls (released_in w) prefix call → position_of (prefix ++ call ∷ []) ≤ position w
   onward : (w : World) → Sound w → position w ≤ next w
-  held : (w : World) → Sound w → position w ≤ w.primary.committer.position
 
 next_of_groups : (from to : ℕ) (works : List Work) (committer : Committer) → IsChain from (spans_of works) to → committer.position ≡ from → from ≤ (committed_first works committer).position
 next_of_groups from to [] committer chain same = omega (arith, same)
@@ -125,23 +139,19 @@ of_primary : IsOfNode primary_position next_primary
 of_primary =
     record {
       rises = λ old new grows. grows.primary_position;
-      within = primary-within;
       holds = λ w s prefix call released. (released-held w s prefix call released).0;
       onward = λ w s.
           let committer = w.primary.committer in
           next_of_groups committer.position committer.closed (from_group committer.waiting) committer
           (subst (λ groups. IsChain committer.position groups committer.closed) (sym (spans_of-from_group committer.waiting)) s.committer.waiting) refl;
-      held = λ w s. le_refl w.primary.committer.position;
     }
 
 of_standby : IsOfNode standby_position next_standby
 of_standby =
     record {
       rises = λ old new grows. grows.standby_position;
-      within = standby-within;
       holds = λ w s prefix call released. (released-held w s prefix call released).1;
       onward = λ w s. next_of_frames w.primary.epoch s.sent w.standby.position w.standby.waiting s.standby.frames;
-      held = λ w s. omega (arith, s.standby.behind, chain-le _ _ _ s.link.waiting);
     }
 
 -- ---- the moments of a run
@@ -170,36 +180,48 @@ near-from holder calls p q old new le near = LeavesOnly-weaken (λ image. (n : �
     either image (inl here) = (p, le_refl p, here)
     either image (inr next) = (q, le, next)
 
-from-lower : (holder : Holder) (calls : List Call) (p q : ℕ) (old new : State) → p ≤ q → FromOnly holder calls q old new → FromOnly holder calls p old new
-from-lower holder calls p q old new le only = LeavesOnly-weaken (λ image. (n : ℕ) × (p ≤ n) × OpensAt holder calls n image) (λ image from. (from.0, omega (arith, le, from.1), from.2)) only
+OpensFrom-lower : (holder : Holder) (calls : List Call) (p q : ℕ) (image : Image) → p ≤ q → OpensFrom holder calls q image → OpensFrom holder calls p image
+OpensFrom-lower holder calls p q image le opens = (opens.0, omega (arith, le, opens.1), opens.2)
+
+OpensIn-lower : (holder : World → Holder) (p q : ℕ) (w : World) (worlds : List World) (image : Image) → p ≤ q → OpensIn holder q w worlds image → OpensIn holder p w worlds image
+OpensIn-lower holder p q w [] image le opens = OpensFrom-lower (holder w) w.primary.calls p q image le opens
+OpensIn-lower holder p q w (w' ∷ worlds) image le (inl here) = inl (OpensFrom-lower (holder w) w.primary.calls p q image le here)
+OpensIn-lower holder p q w (w' ∷ worlds) image le (inr later) = inr (OpensIn-lower holder p q w' worlds image le later)
+
+OpensIn-first : (holder : World → Holder) (p : ℕ) (w : World) (worlds : List World) (image : Image) → OpensFrom (holder w) w.primary.calls p image → OpensIn holder p w worlds image
+OpensIn-first holder p w [] image opens = opens
+OpensIn-first holder p w (w' ∷ worlds) image opens = inl opens
+
+in-lower : (holder : World → Holder) (p q : ℕ) (w : World) (worlds : List World) (old new : State) → p ≤ q → LeavesOnly old new (OpensIn holder q w worlds) → LeavesOnly old new (OpensIn holder p w worlds)
+in-lower holder p q w worlds old new le only = LeavesOnly-weaken (OpensIn holder p w worlds) (λ image opens. OpensIn-lower holder p q w worlds image le opens) only
 
 -- the moments from a world on, and that no crash leaves an image below where the node stands in it
-record MomentsFrom (last : Stretch) (position next : World → ℕ) (holder : Holder) (calls : List Call) (w : World) (worlds : List World) (old new : State) : Type 0 where
-  from : FromOnly holder calls (position w) old new
-  moments : AreMoments last position next holder calls w worlds old new
+record MomentsFrom (last : Stretch) (position next : World → ℕ) (holder : World → Holder) (w : World) (worlds : List World) (old new : State) : Type 0 where
+  from : LeavesOnly old new (OpensIn holder (position w) w worlds)
+  moments : AreMoments last position next holder w worlds old new
 
-moments-from : (last : Stretch) (position next : World → ℕ) (holder : Holder) (calls : List Call) → IsOfNode position next → ((p q : ℕ) (old new : State) → p ≤ q → last holder calls p q old new → FromOnly holder calls p old new)
-    → (w : World) (events : List Event) (done : List Bool) (worlds : List World) (old reached new : State) → Run w events done worlds → Sound w → (last_world w worlds).primary.calls ≡ calls
-    → AreMoves position holder w worlds old reached → last holder calls (position (last_world w worlds)) (next (last_world w worlds)) reached new → MomentsFrom last position next holder calls w worlds old new
-moments-from last position next holder calls node from w [] [] [] old reached new run sound told are ends =
-    let all : last holder calls (position w) (next w) old new = subst (λ (d : State). last holder calls (position w) (next w) d new) (sym are) ends in
-    let onward = from (position w) (next w) old new (node.onward w sound) all in
-    record { from = onward; moments = (λ prefix call released. from-lower holder calls _ (position w) old new (node.holds w sound prefix call released) onward, all) }
-moments-from last position next holder calls node from w (event ∷ events) (did ∷ done) (w' ∷ worlds) old reached new run sound told are ends =
+moments-from : (last : Stretch) (position next : World → ℕ) (holder : World → Holder) → IsOfNode position next → IsLast last
+    → (w : World) (events : List Event) (done : List Bool) (worlds : List World) (old reached new : State) → Run w events done worlds → Sound w
+    → AreMoves position holder w worlds old reached
+    → last (holder (last_world w worlds)) (last_world w worlds).primary.calls (position (last_world w worlds)) (next (last_world w worlds)) reached new → MomentsFrom last position next holder w worlds old new
+moments-from last position next holder node from w [] [] [] old reached new run sound are ends =
+    let all : last (holder w) w.primary.calls (position w) (next w) old new = subst (λ (d : State). last (holder w) w.primary.calls (position w) (next w) d new) (sym are) ends in
+    let onward : LeavesOnly old new (OpensIn holder (position w) w []) = from (holder w) w.primary.calls (position w) (next w) old new (node.onward w sound) all in
+    record { from = onward; moments = (λ prefix call released. in-lower holder _ (position w) w [] old new (node.holds w sound prefix call released) onward, all) }
+moments-from last position next holder node from w (event ∷ events) (did ∷ done) (w' ∷ worlds) old reached new run sound are ends =
     let sound' = sound-step w event did w' run.0 sound in
     let rises = node.rises w w' (grows-step w event did w' run.0 sound) in
-    let held = node.held w' sound' in
-    let stays : (p : ℕ) → p ≤ w'.primary.committer.position → keyspace_after (cut_at calls p) ≡ keyspace_after (cut_at w'.primary.calls p) =
-    λ p le. ap (λ (list : List Call). keyspace_after (cut_at list p)) (sym told) ∙ image-stays w' (last_world w' worlds) p sound' (grows-from w' events done worlds run.1 sound') le in
-    let rest = moments-from last position next holder calls node from w' events done worlds are.0 reached new run.1 sound' told are.2 ends in
-    let moves = moves-over holder w'.primary.calls calls (position w) (position w') old are.0 (stays (position w) (omega (arith, rises, held))) (stays (position w') held) are.1 in
-    let onward : FromOnly holder calls (position w) old new =
-    LeavesOnly-then (moves-from holder calls (position w) (position w') old are.0 rises moves) (from-lower holder calls (position w) (position w') are.0 new rises rest.from) in
+    let rest = moments-from last position next holder node from w' events done worlds are.0 reached new run.1 sound' are.2 ends in
+    let onward : LeavesOnly old new (OpensIn holder (position w) w (w' ∷ worlds)) =
+    LeavesOnly-then
+    (LeavesOnly-weaken (OpensIn holder (position w) w (w' ∷ worlds)) (λ image opens. inr (OpensIn-first holder (position w) w' worlds image opens))
+    (moves-from (holder w') w'.primary.calls (position w) (position w') old are.0 rises are.1))
+    (LeavesOnly-weaken (OpensIn holder (position w) w (w' ∷ worlds)) (λ image opens. inr (OpensIn-lower holder (position w) (position w') w' worlds image rises opens)) rest.from) in
     record {
       from = onward;
-      moments = (are.0, λ prefix call released. from-lower holder calls _ (position w) old new (node.holds w sound prefix call released) onward, moves, rest.moments);
+      moments = (are.0, λ prefix call released. in-lower holder _ (position w) w (w' ∷ worlds) old new (node.holds w sound prefix call released) onward, are.1, rest.moments);
     }
-moments-from last position next holder calls node from w events done worlds old reached new run sound told are ends = absurd run
+moments-from last position next holder node from w events done worlds old reached new run sound are ends = absurd run
 
 -- ---- what is told at the end
 
@@ -228,40 +250,41 @@ promised-by events done worlds calls released primary standby run tells =
     )
 
 kept : (Last : World → Type 0) (first_last second_last : Stretch) (first second : Holder) (began : Pair) (events : List Event) (done : List Bool) (calls : List Call) (released : List (List ℕ)) (primary standby primary' standby' : State)
-    → ((p q : ℕ) (old new : State) → p ≤ q → first_last first calls p q old new → FromOnly first calls p old new)
-    → ((p q : ℕ) (old new : State) → p ≤ q → second_last second calls p q old new → FromOnly second calls p old new)
+    → IsLast first_last → IsLast second_last
     → (reaches : Reaches first second began events done primary standby)
     → Tells (last_world start reaches.worlds) calls (λ c. slice_index_or released c []) (primary_position (last_world start reaches.worlds)) (standby_position (last_world start reaches.worlds))
     → Last (last_world start reaches.worlds)
-    → first_last first calls (primary_position (last_world start reaches.worlds)) (next_primary (last_world start reaches.worlds)) primary primary'
-    → second_last second calls (standby_position (last_world start reaches.worlds)) (next_standby (last_world start reaches.worlds)) standby standby'
-    → IsKept Last first_last second_last first second events done calls released began.device began.standby.device primary' standby'
+    → first_last (primary_holder first.lines (last_world start reaches.worlds)) (last_world start reaches.worlds).primary.calls
+    (primary_position (last_world start reaches.worlds)) (next_primary (last_world start reaches.worlds)) primary primary'
+    → second_last (standby_holder second.lines (last_world start reaches.worlds)) (last_world start reaches.worlds).primary.calls
+    (standby_position (last_world start reaches.worlds)) (next_standby (last_world start reaches.worlds)) standby standby'
+    → IsKept Last first_last second_last first.lines second.lines events done calls released began.device began.standby.device primary' standby'
 kept Last first_last second_last first second began events done calls released primary standby primary' standby' first_from second_from reaches tells last primary_ends standby_ends =
     let w = last_world start reaches.worlds in
     let promised = promised-by events done reaches.worlds calls (λ c. slice_index_or released c []) (primary_position w) (standby_position w) reaches.run tells in
-    let primary_moments = moments-from first_last primary_position next_primary first calls of_primary first_from start events done reaches.worlds began.device primary primary' reaches.run (sound-start true) (sym tells.list)
+    let primary_moments = moments-from first_last primary_position next_primary (primary_holder first.lines) of_primary first_from start events done reaches.worlds began.device primary primary' reaches.run (sound-start true)
     reaches.primary_moves primary_ends in
-    let standby_moments = moments-from second_last standby_position next_standby second calls of_standby second_from start events done reaches.worlds began.standby.device standby standby' reaches.run (sound-start true) (sym tells.list)
+    let standby_moments = moments-from second_last standby_position next_standby (standby_holder second.lines) of_standby second_from start events done reaches.worlds began.standby.device standby standby' reaches.run (sound-start true)
     reaches.standby_moves standby_ends in
     record {
       primary_at = primary_position w;
       standby_at = standby_position w;
       promised = promised.0;
       last = subst (λ (worlds : List World). Last (last_world start worlds)) (sym promised.1) last;
-      primary_moments = subst (λ (worlds : List World). AreMoments first_last primary_position next_primary first calls start worlds began.device primary') (sym promised.1) primary_moments.moments;
-      standby_moments = subst (λ (worlds : List World). AreMoments second_last standby_position next_standby second calls start worlds began.standby.device standby') (sym promised.1) standby_moments.moments;
+      primary_moments = subst (λ (worlds : List World). AreMoments first_last primary_position next_primary (primary_holder first.lines) start worlds began.device primary') (sym promised.1) primary_moments.moments;
+      standby_moments = subst (λ (worlds : List World). AreMoments second_last standby_position next_standby (standby_holder second.lines) start worlds began.standby.device standby') (sym promised.1) standby_moments.moments;
     }
 
 played-whole : (first second : Holder) (began : Pair) (events : List Event) (done : List Bool) (pair : Pair) (released : List (List ℕ)) → released ≡ released_of pair.sessions.connections.items
     → StandsAfter first second began events done pair
-    → IsKept AnyWorld Resting Resting first second events done pair.sessions.calls.items released began.device began.standby.device pair.device pair.standby.device
+    → IsKept AnyWorld Resting Resting first.lines second.lines events done pair.sessions.calls.items released began.device began.standby.device pair.device pair.standby.device
 played-whole first second began events done pair released same after =
     let w = last_world start after.reaches.worlds in
     let parts = after.stands.parts in
     let sessions = sessions-stand parts in
     let told = sessions.calls_are in
     kept AnyWorld Resting Resting first second began events done pair.sessions.calls.items released pair.device pair.standby.device pair.device pair.standby.device
-    (resting-from first pair.sessions.calls.items) (resting-from second pair.sessions.calls.items) after.reaches
+    resting-from resting-from after.reaches
     (record {
       list = told;
       bytes = λ c. ap (λ (all : List (List ℕ)). slice_index_or all c []) same ∙ released-told w.primary.calls pair.sessions.connections.items w.primary.connections sessions.connections_stand c;
@@ -269,9 +292,9 @@ played-whole first second began events done pair released same after =
       standby_position = refl;
     })
     tt
-    (subst (λ (calls : List Call). Rests first calls w.primary.committer.position pair.device pair.device) (sym told)
+    (subst (λ (h : Holder). Rests h w.primary.calls w.primary.committer.position pair.device pair.device) (primary-holds after.stands)
     (rests-same first w.primary.calls w.primary.committer.position pair.device pair.device refl (primary-stands first second pair w parts)))
-    (subst (λ (calls : List Call). Rests second calls w.standby.position pair.standby.device pair.standby.device) (sym told)
+    (subst (λ (h : Holder). Rests h w.primary.calls w.standby.position pair.standby.device pair.standby.device) (standby-holds after.stands)
     (rests-same second w.primary.calls w.standby.position pair.standby.device pair.standby.device refl (standby-stands first second pair w parts)))
 
 -- ---- a run that ended in an event
@@ -304,7 +327,7 @@ ends-as refusal event P Q so ends = absurd ends
 played-cut : (first second : Holder) (began : Pair) (events : List Event) (event : Event) (refusal : Refusal) (done : List Bool) (pair : Pair) (released : List (List ℕ))
     → released ≡ released_of pair.sessions.connections.items → IsCutAfter first second began events event refusal done pair
     → EndsBy refusal event (λ first_last second_last.
-    IsKept (Enables event) first_last second_last first second events done pair.sessions.calls.items released began.device began.standby.device pair.device pair.standby.device)
+    IsKept (Enables event) first_last second_last first.lines second.lines events done pair.sessions.calls.items released began.device began.standby.device pair.device pair.standby.device)
 played-cut first second began events event refusal done pair released same after =
     let w = last_world start after.reaches.worlds in
     let before = after.before in
@@ -312,7 +335,7 @@ played-cut first second began events event refusal done pair released same after
     ends-as refusal event _ _
     (λ first_last second_last first_from second_from led.
     kept (Enables event) first_last second_last first second began events done pair.sessions.calls.items released before.device before.standby.device pair.device pair.standby.device
-    (first_from first pair.sessions.calls.items) (second_from second pair.sessions.calls.items) after.reaches
+    first_from second_from after.reaches
     (record {
       list = cut.calls;
       bytes = λ c. ap (λ (all : List (List ℕ)). slice_index_or all c []) same ∙ cut.released c;
@@ -320,8 +343,8 @@ played-cut first second began events event refusal done pair released same after
       standby_position = refl;
     })
     cut.enabled
-    (subst (λ (calls : List Call). first_last first calls w.primary.committer.position (next_primary w) before.device pair.device) (sym cut.calls) led.0)
-    (subst (λ (calls : List Call). second_last second calls w.standby.position (next_standby w) before.standby.device pair.standby.device) (sym cut.calls) led.1))
+    (subst (λ (h : Holder). first_last h w.primary.calls w.primary.committer.position (next_primary w) before.device pair.device) (primary-holds after.stands) led.0)
+    (subst (λ (h : Holder). second_last h w.primary.calls w.standby.position (next_standby w) before.standby.device pair.standby.device) (standby-holds after.stands) led.1))
     cut.cause
 
 pub plays-on : (first second : Holder) (began : Pair) (events : List Event) (ended : Option EarlyEnd) (done : List Bool) (pair : Pair) (calls : List Call) (released : List (List ℕ)) (primary standby : State)

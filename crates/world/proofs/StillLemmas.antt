@@ -12,18 +12,11 @@ use Rattle.connections.specs.Session.{StandsStill}
 use Rattle.machine.specs.Event.{Primary}
 use Rattle.world.specs.Committing.{Leads}
 use Rattle.world.specs.Pair.{FreeingRefines}
+use Rattle.primary.proofs.LeadsLemmas.{Leads-still}
 
 pub leads-still : (contents : Contents) (items : List Work) (aside : List FreeList) (old new : Sequencing) (notices : List Freed) → StandsStill old new
     → Leads contents items aside old notices → Leads contents items aside new notices
-leads-still contents items aside old new notices still leads =
-    record {
-      work_is = leads.work_is;
-      epochs = leads.epochs;
-      stands = still.stands _ leads.stands;
-      expects = still.expects _ _ _ leads.stands leads.expects;
-      aside_ended = leads.aside_ended;
-      listed = subst (λ (xs : List EntryNo). AreEnded (after_work contents items) (entries_of_lists (aside ++ lists_of items) ++ xs)) (sym still.ended) leads.listed;
-    }
+leads-still contents items aside old new notices still leads = Leads-still contents items aside old new notices still.stands still.expects still.ended leads
 
 pub freeing-still : (old new : Sequencing) (notices : List Freed) (contents : Contents) (before after : Primary) → StandsStill old new
     → before.ended ≡ after.ended → before.newest ≡ after.newest → before.notices ≡ after.notices → before.gaps ≡ after.gaps

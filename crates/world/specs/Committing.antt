@@ -28,29 +28,7 @@ use Rattle.group_commit.specs.declared.stage.Stage.TheVariants.{Ready, Durable, 
 use Rattle.machine.specs.Event.{Committer as Machine, Stage as MachineStage, Frame as Sent, World, committed_first, from_group}
 use Rattle.machine.specs.World as machine_stage
 use Rattle.world.specs.GroupSpan.{AreWorkOf, IsGroupOf, positions_of_lists}
-
--- ---- the queue
-
--- each of the groups is of this epoch
-abbrev pub AreOfEpoch : ℕ → List Group → Type 0
-AreOfEpoch epoch = AllByRecursion (λ group. group.epoch ≡ epoch)
-
--- what was freed and told in notices that the sequencer has not taken
-abbrev pub entries_told : List Freed → List EntryNo
-entries_told = flat_map (λ notice. notice.entries.items)
-
-abbrev pub extents_told : List Freed → List Extent
-extents_told = flat_map (λ notice. notice.extents.items)
-
--- Doing this work, whose groups are of the record's epoch, an engine with these contents reaches contents that the sequencer is ahead of. No entry is in
--- two free lists, and what the notices tell comes back to the sequencer's heap.
-pub record Leads (contents : Contents) (waiting : List Work) (aside : List FreeList) (s : Sequencing) (notices : List Freed) : Type 0 where
-  pub work_is : AreWork contents waiting
-  pub epochs : AreOfEpoch contents.current.epoch (groups_of waiting)
-  pub stands : IsAheadOf s (after_work contents waiting)
-  pub expects : Expects s (after_work contents waiting) (entries_told notices) (extents_told notices)
-  pub aside_ended : AreEnded contents (entries_of_lists aside)
-  pub listed : AreEnded (after_work contents waiting) (entries_of_lists (aside ++ lists_of waiting) ++ s.ended)
+pub use Rattle.primary.specs.Leading.{AreOfEpoch, Leads, entries_told, extents_told}
 
 -- ---- the engine
 

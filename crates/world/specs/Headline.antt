@@ -1,15 +1,17 @@
 -- The word that a run keeps: the promise, between any two events, and what a crash leaves of both images at any moment of the run.
-use Rattle.std.specs.Prelude.{◌≡◌, ℕ, Bool, true, List, [], ◌∷◌, ◌++◌, take, slice_get, slice_index_or, Option, Some, None}
+use Rattle.std.specs.Prelude.{◌≡◌, ◌⊎◌, ℕ, ◌≤◌, Bool, true, List, [], ◌∷◌, ◌++◌, take, slice_get, slice_index_or, Option, Some, None}
 use Rattle.pmem.specs.Device.{State}
+use Rattle.pmem.specs.Runs.{LeavesOnly}
 use Rattle.kv_types.specs.declared.refusal.Refusal.{Refusal}
 use Rattle.model.specs.declared.call.Call.{Call}
 use Rattle.model.specs.declared.record.Role.TheVariants.{Primary, Standby}
 use Rattle.model.specs.Call.{position_of}
-use Rattle.model.specs.Standing.{Holder, new_holder}
+use Rattle.model.specs.Image.{Image}
+use Rattle.model.specs.Standing.{Holder}
 use Rattle.machine.specs.declared.event.Event.{Event}
 use Rattle.machine.specs.Event.{Run, World, is_enabled, start_with, last_world}
 use Rattle.machine.specs.Promise.{IsPromised, IsReleased, released_in}
-use Rattle.world.specs.Committing.{FromOnly, Moves, FormattingOnly, next_primary, next_standby}
+use Rattle.world.specs.Committing.{Moves, OpensAt, FormattingOnly, next_primary, next_standby}
 use Rattle.world.specs.Cause.{Stretch, Resting, UnformedBy, EndsBy}
 use Rattle.world.specs.Pair.{Pair, NodesRefine, IsCut}
 use Rattle.world.specs.declared.trace.EarlyEnd.{EarlyEnd}
@@ -26,18 +28,35 @@ primary_position w = w.primary.committer.position
 abbrev pub standby_position : World → ℕ
 standby_position w = w.standby.position
 
--- each crash between these two states of a device leaves an image that opens, and in which no call is missing that was released in this world
-abbrev pub KeepsReleased : Holder → List Call → World → State → State → Type 0
-KeepsReleased holder calls w old new =
-    (prefix : List Call) (call : Call) → IsReleased w.primary.calls (released_in w) prefix call → FromOnly holder calls (position_of (prefix ++ call ∷ [])) old new
+-- whose image a node keeps in a world, on a device of this many lines
+abbrev pub primary_holder : ℕ → World → Holder
+primary_holder lines w = record { lines = lines; role = Primary; epoch = w.primary.epoch }
 
--- The moments of a device, cut by the events of a run from this world on. A crash during an event leaves an image that opens where the node stood before
--- it or where it stood after it. What comes after the last event is a stretch of its own. And from each cut on, up to the end, each crash keeps what was
--- released by then.
-abbrev pub AreMoments : Stretch → (World → ℕ) → (World → ℕ) → Holder → List Call → World → List World → State → State → Type 0
-AreMoments last position next holder calls w [] old new = KeepsReleased holder calls w old new × last holder calls (position w) (next w) old new
-AreMoments last position next holder calls w (w' ∷ worlds) old new =
-    (between : State) × KeepsReleased holder calls w old new × Moves holder calls (position w) (position w') old between × AreMoments last position next holder calls w' worlds between new
+abbrev pub standby_holder : ℕ → World → Holder
+standby_holder lines w = record { lines = lines; role = Standby; epoch = w.standby.epoch }
+
+-- the image opens at this position of the list or at a later one
+abbrev pub OpensFrom : Holder → List Call → ℕ → Image → Type 0
+OpensFrom holder calls position image = (p : ℕ) × (position ≤ p) × OpensAt holder calls p image
+
+-- the image opens in one of these worlds, as its holder's, at this position of its list or at a later one
+abbrev pub OpensIn : (World → Holder) → ℕ → World → List World → Image → Type 0
+OpensIn holder position w [] image = OpensFrom (holder w) w.primary.calls position image
+OpensIn holder position w (w' ∷ worlds) image = OpensFrom (holder w) w.primary.calls position image ⊎ OpensIn holder position w' worlds image
+
+-- Each crash between these two states of a device leaves an image that opens in this world or a later one, and in which no call is missing that was released in
+-- this world.
+abbrev pub KeepsReleased : (World → Holder) → World → List World → State → State → Type 0
+KeepsReleased holder w worlds old new =
+    (prefix : List Call) (call : Call) → IsReleased w.primary.calls (released_in w) prefix call → LeavesOnly old new (OpensIn holder (position_of (prefix ++ call ∷ [])) w worlds)
+
+-- The moments of a device, cut by the events of a run from this world on, at states that the device passed in this order. A crash during an event leaves an image
+-- that opens, over the list of the world after it, where the node stood before it or where it stood after it. What comes after the last event is a stretch of its
+-- own. And from each cut on, up to the end, each crash keeps what was released by then.
+abbrev pub AreMoments : Stretch → (World → ℕ) → (World → ℕ) → (World → Holder) → World → List World → State → State → Type 0
+AreMoments last position next holder w [] old new = KeepsReleased holder w [] old new × last (holder w) w.primary.calls (position w) (next w) old new
+AreMoments last position next holder w (w' ∷ worlds) old new =
+    (between : State) × KeepsReleased holder w (w' ∷ worlds) old new × Moves (holder w') w'.primary.calls (position w) (position w') old between × AreMoments last position next holder w' worlds between new
 
 -- nothing is required of the last world of a run
 abbrev pub AnyWorld : World → Type 0
@@ -49,15 +68,15 @@ Enables event w = is_enabled w event ≡ true
 
 -- All or some of these events did their step, and moved the two devices on from where they were formatted. The list of calls and the released bytes, by
 -- connection, are as promised. `Last` holds of the last world.
-pub record IsKept (Last : World → Type 0) (first_last second_last : Stretch) (first second : Holder) (events : List Event) (done : List Bool) (calls : List Call) (released : List (List ℕ)) (primary standby primary' standby' : State) : Type 0 where
+pub record IsKept (Last : World → Type 0) (first_last second_last : Stretch) (first_lines second_lines : ℕ) (events : List Event) (done : List Bool) (calls : List Call) (released : List (List ℕ)) (primary standby primary' standby' : State) : Type 0 where
   -- the positions of the two nodes at the end
   pub primary_at : ℕ
   pub standby_at : ℕ
   pub promised : IsPromised true events done calls (λ c. slice_index_or released c []) primary_at standby_at
   pub last : Last (last_world start promised.worlds)
   -- the moments of either device, cut by the same events
-  pub primary_moments : AreMoments first_last primary_position next_primary first calls start promised.worlds primary primary'
-  pub standby_moments : AreMoments second_last standby_position next_standby second calls start promised.worlds standby standby'
+  pub primary_moments : AreMoments first_last primary_position next_primary (primary_holder first_lines) start promised.worlds primary primary'
+  pub standby_moments : AreMoments second_last standby_position next_standby (standby_holder second_lines) start promised.worlds standby standby'
 
 -- The first device was formatted as primary and the second as standby, and then the events happened.
 pub record IsPlayed (Last : World → Type 0) (first_last second_last : Stretch) (events : List Event) (done : List Bool) (calls : List Call) (released : List (List ℕ)) (primary standby primary' standby' : State) : Type 0 where
@@ -66,7 +85,7 @@ pub record IsPlayed (Last : World → Type 0) (first_last second_last : Stretch)
   -- a crash leaves an image from before, the new one, or one without the magic
   pub primary_formatting : FormattingOnly Primary primary primary_formatted
   pub standby_formatting : FormattingOnly Standby standby standby_formatted
-  pub kept : IsKept Last first_last second_last (new_holder primary.lines Primary) (new_holder standby.lines Standby) events done calls released primary_formatted standby_formatted primary' standby'
+  pub kept : IsKept Last first_last second_last primary.lines standby.lines events done calls released primary_formatted standby_formatted primary' standby'
 
 -- Nothing was called: all that was done to the devices was done by their formatting, which ended for this cause.
 pub record IsUnplayed (refusal : Refusal) (done : List Bool) (calls : List Call) (released : List (List ℕ)) (primary standby primary' standby' : State) : Type 0 where
@@ -90,23 +109,23 @@ KeepsItsWord events (Some (AtEvent index refusal)) done calls released primary s
 
 -- the same, of a run over a pair of new nodes
 abbrev pub PlaysOn : Holder → Holder → List Event → Option EarlyEnd → List Bool → List Call → List (List ℕ) → State → State → State → State → Type 0
-PlaysOn first second events None done calls released primary standby primary' standby' = IsKept AnyWorld Resting Resting first second events done calls released primary standby primary' standby'
+PlaysOn first second events None done calls released primary standby primary' standby' = IsKept AnyWorld Resting Resting first.lines second.lines events done calls released primary standby primary' standby'
 PlaysOn first second events (Some (AtFormatting refusal)) done calls released primary standby primary' standby' = ⊥
 PlaysOn first second events (Some (AtEvent index refusal)) done calls released primary standby primary' standby' =
     (event : Event) × (slice_get events index ≡ Some event)
-    × EndsBy refusal event (λ first_last second_last. IsKept (Enables event) first_last second_last first second (take index events) done calls released primary standby primary' standby')
+    × EndsBy refusal event (λ first_last second_last. IsKept (Enables event) first_last second_last first.lines second.lines (take index events) done calls released primary standby primary' standby')
 
--- the events of a run from this world on, each over its own list of calls, moved a device on
-abbrev pub AreMoves : (World → ℕ) → Holder → World → List World → State → State → Type 0
+-- the events of a run from this world on, each over its own list of calls, moved a device of these holders on
+abbrev pub AreMoves : (World → ℕ) → (World → Holder) → World → List World → State → State → Type 0
 AreMoves position holder w [] old new = old ≡ new
-AreMoves position holder w (w' ∷ worlds) old new = (next : State) × Moves holder w'.primary.calls (position w) (position w') old next × AreMoves position holder w' worlds next new
+AreMoves position holder w (w' ∷ worlds) old new = (next : State) × Moves (holder w') w'.primary.calls (position w) (position w') old next × AreMoves position holder w' worlds next new
 
 -- the machine's run over these events moved both devices to these states from where they were in the pair `began`
 pub record Reaches (first second : Holder) (began : Pair) (events : List Event) (done : List Bool) (primary standby : State) : Type 0 where
   pub worlds : List World
   pub run : Run start events done worlds
-  pub primary_moves : AreMoves primary_position first start worlds began.device primary
-  pub standby_moves : AreMoves standby_position second start worlds began.standby.device standby
+  pub primary_moves : AreMoves primary_position (primary_holder first.lines) start worlds began.device primary
+  pub standby_moves : AreMoves standby_position (standby_holder second.lines) start worlds began.standby.device standby
 
 -- and the pair refines the last world
 pub record StandsAfter (first second : Holder) (began : Pair) (events : List Event) (done : List Bool) (pair : Pair) : Type 0 where
@@ -117,6 +136,7 @@ pub record StandsAfter (first second : Holder) (began : Pair) (events : List Eve
 pub record IsCutAfter (first second : Holder) (began : Pair) (events : List Event) (event : Event) (refusal : Refusal) (done : List Bool) (pair : Pair) : Type 0 where
   pub before : Pair
   pub reaches : Reaches first second began events done before.device before.standby.device
+  pub stands : NodesRefine first second before (last_world start reaches.worlds)
   pub cut : IsCut first second event refusal before pair (last_world start reaches.worlds)
 
 abbrev pub Plays : Holder → Holder → Pair → List Event → Option EarlyEnd → List Bool → Pair → Type 0

@@ -51,7 +51,7 @@ may_clear_now stage aside items handed gaps =
 
 -- the committer did something
 abbrev pub is_done : Done → Bool
-is_done Committed = true
+is_done (Committed position) = true
 is_done Raised = true
 is_done Handed = true
 is_done (Freed places) = true

@@ -2,7 +2,6 @@
 #![tactic(auto)]
 
 mod arrivals;
-mod closing;
 mod form;
 mod pair;
 mod playing;

@@ -9,7 +9,6 @@ ghost use Rattle.world.specs.Pair as specs;
 ghost use Rattle.world.specs.Standby.{node_at};
 
 use crate::arrivals::Arrivals;
-use crate::closing::close_next;
 use crate::queue::{is_step, may_clear, may_commit, may_free};
 use crate::restarting::{Serving, restart_primary};
 use crate::wire::{decode, pass};
@@ -21,6 +20,7 @@ use machine::{Event, Mark, Node};
 use model::{Group, Work};
 use mv_keyspace::Keyspace;
 use pipes::LocalPipe;
+use primary::close_next;
 use redis_core::Sequencer;
 use reply_gate::Seen;
 use standby::{Frame, Standby};

@@ -113,7 +113,8 @@ pub(crate) fn is_step(done: &Done) -> bool
     ensures { result ≡ is_done done.now }
 {
     match done {
-        Done::Committed | Done::Raised | Done::Handed | Done::Freed(_) | Done::Cleared(_) => true,
+        Done::Committed(_) | Done::Raised | Done::Handed | Done::Freed(_) | Done::Cleared(_) =>
+            true,
         Done::Idle => false,
     }
 }

@@ -16,13 +16,14 @@ ghost use Rattle.wbl_engine.specs.Reopening.{RefusesReopening, StaysReadable};
 ghost use Rattle.standby.specs.Restarting.{IsReopened};
 ghost use Rattle.standby_stream.specs.Delta.{AreIdsEnded, IsOpening};
 ghost use Rattle.standby_stream.specs.Stream.{new_stream};
-ghost use Rattle.world.specs.Serving.{IsOver};
+ghost use Rattle.primary.specs.Resuming.{IsOver};
 
 use crate::waiting::Waiting;
 use group_commit::Committer;
 use kv_types::{RecordId, Refusal};
 use mv_keyspace::Keyspace;
 use placing::{Rebuilt, rebuild};
+use primary::{Resumed, resume};
 use redis_core::Sequencer;
 use standby_stream::{Opening, records_ended};
 use std::alloc::Global;
@@ -142,9 +143,9 @@ fn make_serving<K: Keyspace + Drop>(
         → AreIdsEnded contents ended.items → IsOpening contents serving.opening)) }
     ensures cause { IfErr result (λ refusal. refusal ≡ Refusal.Memory) }
 {
-    let opening = Opening::new(alloc, &keyspace, ended, at.0)?;
+    let Resumed { sequencer, opening } = resume(alloc, keyspace, room, ended, at, hash_builder)?;
     Ok(Serving {
-        sequencer: Sequencer::new(alloc, keyspace, room, at.0, at.1, hash_builder)?,
+        sequencer,
         waiting: Waiting::none(alloc, at.1)?,
         opening,
     })

@@ -1,11 +1,12 @@
 use Rattle.std.proofs.Common.{Err, refl, ap, ◌∙◌}
 use Rattle.std.proofs.lemmas.Result.{err_from_is_err_and}
+use Rattle.group_commit.specs.declared.stage.Done.TheVariants.{Committed}
 use Rattle.group_commit.proofs.committer.Committer.commit.Goals as goal
 
-pub returns-in_err-commit-clause-commits : goal.returns-in_err-commit-clause-commits
-returns-in_err-commit-clause-commits g c =
+pub returns-in_err-committed-clause-commits : goal.returns-in_err-committed-clause-commits
+returns-in_err-committed-clause-commits g c =
     let exit = err_from_is_err_and c.from_residual.result c.from_residual.ensures.1 in
-    let engine = c.in_err-commit.ensures in
+    let engine = c.in_err-committed.ensures in
     rw (exit.1 ∙ ap Err exit.2) record {
       answer = tt;
       in_hand = tt;
@@ -26,9 +27,9 @@ returns-in_err-commit-clause-commits g c =
 
 pub returns-clause-commits : goal.returns-clause-commits
 returns-clause-commits g c =
-    let engine = c.in_ok-commit.ensures in
+    let engine = c.in_ok-committed.ensures in
     record {
-      answer = refl;
+      answer = ap Committed engine.ok;
       in_hand = refl;
       moved = engine.moved;
       durable = engine.durable;

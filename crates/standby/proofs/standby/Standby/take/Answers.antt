@@ -44,6 +44,13 @@ returns-in_err-commit_frame-clause-still g c = λ no_fault.
     c.free_ended.new.self.ended.items c.commit_frame.new.self.ended.items (ap g.E.Durable.contents same.0) same.1 same.2 (same.3 ∙ sym c.in_ok-free_ended.ensures.freed.none)
     (c.in_ok-free_ended.ensures.still (λ is. cc))
 
+pub returns-in_err-commit_frame-clause-sound : goal.returns-in_err-commit_frame-clause-sound
+returns-in_err-commit_frame-clause-sound g c = λ no_fault.
+    let exit = err_from_is_err_and c.from_residual-in_err-commit_frame.result c.from_residual-in_err-commit_frame.ensures.1 in
+    let committing = c.in_err-commit_frame.ensures.sound (λ is. no_fault (exit.1 ∙ ap Err (exit.2 ∙ error _ _ is))) in
+    let freeing = c.in_ok-free_ended.ensures.sound (λ is. cc) in
+    (committing.0, committing.1 ∙ freeing.1)
+
 pub returns-in_err-commit_frame-clause-durable : goal.returns-in_err-commit_frame-clause-durable
 returns-in_err-commit_frame-clause-durable g c = λ no_fault.
     let exit = err_from_is_err_and c.from_residual-in_err-commit_frame.result c.from_residual-in_err-commit_frame.ensures.1 in

@@ -3,7 +3,7 @@ use Rattle.std.proofs.lemmas.Result.{err_from_is_err_and}
 use Rattle.world.specs.Standby.{node_at}
 use Rattle.world.proofs.LivesLemmas.{serves-as}
 use Rattle.world.proofs.PairFreeing.{clear-does, clear-ends, clear-idle, clear-ready, clear-roomless, clear-told}
-use Rattle.world.proofs.QueueLemmas.{gives-work}
+use Rattle.primary.proofs.LeadsLemmas.{gives-work}
 use Rattle.world.proofs.pair.Pair.clear_gap.Goals as goal
 use Rattle.world.proofs.pair.Pair.clear_gap.Goals.{in-Cleared, in_default}
 
@@ -22,8 +22,8 @@ returns-in_err-reserve g c =
     (clear-roomless E.device E.contents E.is_faulted _ _ pair.link pair.opening pair.remote _ _ _ _ _ pair.committer pair.work pair.notices.items c.reserve.new.self.items pair.handed exit.0 exit.2
     (sym c.may_clear.ensures ∙ c.if-not-may_clear.false))
 
-pub turn-requires : goal.turn-requires
-turn-requires g c = λ ready. gives-work _ c.args.self.now.work c.args.self.now.committer.aside.items _ _ (serves-as c.requires.serves c.requires.world.stands).parts.leads
+pub turn-requires-clause-lawful : goal.turn-requires-clause-lawful
+turn-requires-clause-lawful g c = λ ready. gives-work _ c.args.self.now.work c.args.self.now.committer.aside.items _ _ (serves-as c.requires.serves c.requires.world.stands).parts.leads
 
 pub returns-in_err-done : goal.returns-in_err-done
 returns-in_err-done g c =

@@ -2,11 +2,11 @@ use Rattle.std.proofs.Common.{Err, ap, sym, ◌∙◌}
 use Rattle.std.proofs.lemmas.Result.{err_from_is_err_and}
 use Rattle.world.proofs.LivesLemmas.{serves-as}
 use Rattle.world.proofs.PairTurns.{commit-does, commit-stays, ready-now, told-so, went}
-use Rattle.world.proofs.QueueLemmas.{gives-work}
+use Rattle.primary.proofs.LeadsLemmas.{gives-work}
 use Rattle.world.proofs.pair.Pair.commit.Goals as goal
 
-pub turn-requires : goal.turn-requires
-turn-requires g c = λ ready. gives-work _ c.args.self.now.work _ _ _ (serves-as c.requires.serves c.requires.world.stands).parts.leads
+pub turn-requires-clause-lawful : goal.turn-requires-clause-lawful
+turn-requires-clause-lawful g c = λ ready. gives-work _ c.args.self.now.work _ _ _ (serves-as c.requires.serves c.requires.world.stands).parts.leads
 
 pub returns-then-not-may_commit : goal.returns-then-not-may_commit
 returns-then-not-may_commit g c =

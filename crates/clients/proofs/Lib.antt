@@ -1,0 +1,4 @@
+pub mod CarriesLemmas
+pub mod OutboxLemmas
+pub mod ParserLemmas
+pub mod ReadingLemmas

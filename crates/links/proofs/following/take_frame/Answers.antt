@@ -1,0 +1,31 @@
+use Rattle.std.proofs.Common.{Ok, refl, ap}
+use Rattle.standby.specs.declared.standby.Standby.{Standby}
+use Rattle.links.specs.Serving.{Held, held}
+use Rattle.links.proofs.Serving.{acknowledges, not_fault, not_refused-ok}
+use Rattle.links.proofs.following.take_frame.Given.{Over}
+use Rattle.links.proofs.following.take_frame.Goals as goal
+
+abbrev holds : (g : Over) → Standby g.row.E.Denot g.row.K.Denot g.row.E-Device.Denot → Held
+holds g standby = held (g.E.Durable.contents standby.engine) (g.K.Keyspace.table standby.keyspace)
+
+pub returns-in-Ok-clause-stands : goal.returns-in-Ok-clause-stands
+returns-in-Ok-clause-stands g c = λ _.
+    let sound = not_refused-ok c.in-Ok.ack in
+    record { follows = c.in-Ok.ensures.still sound; sound = (c.in-Ok.ensures.sound sound).0; durable = c.in-Ok.ensures.durable sound }
+
+pub returns-in-Ok-clause-acknowledges : goal.returns-in-Ok-clause-acknowledges
+returns-in-Ok-clause-acknowledges g c =
+    acknowledges (holds g c.args.node.now) c.args.frame.now c.in-Ok.ack (Ok c.in-Ok.ack) (holds g c.on_frame.new.self) (record {
+      is = refl;
+      wrong = λ ne. (c.in-Ok.ensures.epoch ne).0;
+      again = λ own le. ap (holds g) (c.in-Ok.ensures.again own le).1;
+      gap = λ own lt ne. (c.in-Ok.ensures.gap own lt ne).0;
+      taken = c.in-Ok.ensures.taken;
+      ack_epoch = c.in-Ok.ensures.one_epoch.0;
+      ack_position = c.in-Ok.ensures.one_epoch.2;
+    })
+
+pub returns-in-Err-clause-stands : goal.returns-in-Err-clause-stands
+returns-in-Err-clause-stands g c = λ not_stops.
+    let sound = not_fault c.in-Err.refusal c.ends_by.result c.ends_by.ensures not_stops in
+    record { follows = c.in-Err.ensures.still sound; sound = (c.in-Err.ensures.sound sound).0; durable = c.in-Err.ensures.durable sound }

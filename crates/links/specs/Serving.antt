@@ -1,0 +1,91 @@
+-- How a standby serves a link: which frames it answered, and what it holds then.
+use Rattle.std.specs.Prelude.{◌≡◌, ◌⊎◌, ℕ, ◌≤◌, Bool, false, List, [], ◌∷◌, ◌++◌, Option}
+use Rattle.std.specs.List.{flat_map}
+use Rattle.std.specs.Io.KnownBytes.{Appends, Consumes}
+use Rattle.stream_codec.specs.Stream.{Reaches}
+use Rattle.kv_types.specs.declared.place.EntryNo.{EntryNo}
+use Rattle.kv_types.specs.declared.refusal.Refusal.{Refusal}
+use Rattle.kv_types.specs.declared.refusal.Refusal.TheVariants.{Fault, Exhausted}
+use Rattle.extent_heap.specs.Room.{Room}
+use Rattle.pmem.specs.Device.{State}
+use Rattle.model.specs.Group.{Contents}
+use Rattle.mv_keyspace.specs.Table.{Table}
+use Rattle.wbl_engine.specs.Contents.{IsDurable}
+use Rattle.standby.specs.declared.frame.Frame.{Frame}
+use Rattle.standby.specs.declared.frame.Ack.{Ack}
+use Rattle.standby.specs.Following.{Follows, IsNext, HasTaken}
+use Rattle.stream_codec.specs.Message.{Sent, sent_of_frame, sent_of_ack, sent_text}
+use Rattle.links.specs.declared.link_end.LinkEnd.{LinkEnd}
+use Rattle.links.specs.declared.link_end.LinkEnd.TheVariants.{Refused, Stops}
+
+-- A standby that may take frames: its keyspace and its heap are those of its engine, no fence has failed, and what the engine holds is durable.
+pub record Stands (is_faulted : Bool) (device : State) (contents : Contents) (table : Table) (room : Room) (ended : List EntryNo) : Type 0 where
+  pub follows : Follows contents table room ended
+  pub sound : is_faulted ≡ false
+  pub durable : IsDurable device contents
+
+-- what frames move of a standby
+pub record Held : Type 0 where
+  pub contents : Contents
+  pub table : Table
+
+abbrev pub held : Contents → Table → Held
+held contents table = record { contents = contents; table = table }
+
+-- the node answered the frame: it held it already, or has taken it whole; and the acknowledgement is of where it is then
+pub record Acknowledges (before : Held) (frame : Frame) (ack : Ack) (after : Held) : Type 0 where
+  pub epoch : frame.epoch ≡ before.contents.current.epoch
+  pub epoch_is : ack.epoch ≡ frame.epoch
+  pub position_is : ack.position ≡ after.contents.current.position
+  pub moves : ((frame.after ≤ before.contents.current.position) × (after ≡ before))
+      ⊎ (IsNext before.contents.current.position frame × HasTaken frame before.contents after.contents before.table after.table)
+
+-- the same of what came on the link, which is a frame
+pub record Answers (before : Held) (message : Sent) (ack : Ack) (after : Held) : Type 0 where
+  pub frame : Frame
+  pub is_frame : message ≡ sent_of_frame frame
+  pub acknowledges : Acknowledges before frame ack after
+
+-- The node answered these messages, in order, with these acknowledgements, and nothing else moved it.
+pub data Run : Held → List Sent → List Ack → Held → Type 0 where
+  none : (node : Held) → Run node [] [] node
+  more : (first middle last : Held) (messages : List Sent) (acks : List Ack) (message : Sent) (ack : Ack)
+      → Run first messages acks middle → Answers middle message ack last → Run first (messages ++ message ∷ []) (acks ++ ack ∷ []) last
+
+-- acknowledgements as bytes
+unfoldable pub ack_text : Ack → List ℕ
+ack_text ack = sent_text (sent_of_ack ack)
+
+abbrev pub acks_text : List Ack → List ℕ
+acks_text = flat_map ack_text
+
+-- The bytes were put last, and they are the acknowledgements of a run that answered some messages.
+pub record Puts (first : Held) (old new : List ℕ) : Type 0 where
+  pub messages : List Sent
+  pub acks : List Ack
+  pub middle : Held
+  pub run : Run first messages acks middle
+  pub put : new ≡ old ++ acks_text acks
+
+-- The bytes were put last, and they are the acknowledgements of a run that answered just these messages.
+pub record HasRun (first : Held) (messages : List Sent) (old : List ℕ) (last : Held) (new : List ℕ) : Type 0 where
+  pub acks : List Ack
+  pub run : Run first messages acks last
+  pub put : new ≡ old ++ acks_text acks
+
+-- What was read since the link began, from what a reader had then to what it has left: the node answered the whole frames in it, in order, and what was written is the acknowledgements.
+-- `unread` is what follows the last whole frame.
+pub record Served (first : Held) (bytes before : Option (List ℕ)) (last : Held) (left after unread : Option (List ℕ)) : Type 0 where
+  pub text : List ℕ
+  pub messages : List Sent
+  pub acks : List Ack
+  pub consumed : Consumes bytes left text
+  pub read : Reaches text messages unread
+  pub run : Run first messages acks last
+  pub written : Appends before after (acks_text acks)
+
+-- how a link ends whose frame was refused
+abbrev pub ends_by : Refusal → LinkEnd
+ends_by Fault = Stops Fault
+ends_by Exhausted = Stops Exhausted
+ends_by refusal = Refused refusal

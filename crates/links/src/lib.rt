@@ -1,0 +1,20 @@
+//! The link between the two nodes: the threads that serve it.
+#![tactic(auto)]
+
+mod following;
+mod link_end;
+mod opening;
+mod outgoing;
+mod reading;
+mod receiver;
+mod remote_mark;
+mod sender;
+mod watch;
+
+pub use following::{follow, serve_link};
+pub use link_end::LinkEnd;
+pub use outgoing::Outgoing;
+pub use receiver::AckReceiver;
+pub use remote_mark::RemoteMark;
+pub use sender::LinkSender;
+pub use watch::Watch;

@@ -1,0 +1,263 @@
+//! The thread that opens the link to the standby and sends on it.
+use crate::opening::read_opening;
+use crate::outgoing::Outgoing;
+use crate::receiver::AckReceiver;
+use crate::watch::Watch;
+use model::Group;
+use pipes::RingInlet;
+use std::alloc::Global;
+use std::io::Write;
+use std::net::{Net, Shutdown, TcpStream};
+use std::sync::{Arc, Wait};
+use std::thread::Threads;
+use std::time::{Clock, Duration};
+use std::{io, thread};
+use stream_codec::Decoder;
+use wakes::{Bell, Flag, Idle, Sleeper};
+
+/// How long the link waits at least and at most before it is opened again, in pauses of 100 milliseconds: doubled each time that nothing came of it.
+const FIRST_PAUSES: u32 = 1;
+
+const MOST_PAUSES: u32 = 20;
+
+const PAUSE_MILLISECONDS: u64 = 100;
+
+/// How long the standby may take to say where it is, and to take some of what is written, in seconds.
+const PATIENCE_SECONDS: u64 = 5;
+
+/// What the link's sender owns.
+#[derive(Drop)]
+pub struct LinkSender {
+    /// The standby's address, as HOST:PORT.
+    pub address: String,
+    /// What is to be sent.
+    pub outgoing: Outgoing,
+    /// The groups that were committed.
+    pub groups: RingInlet<Group>,
+    /// Where this thread sleeps.
+    pub sleeper: Sleeper,
+    /// The bell of the node's thread, which waits for room in the ring of groups.
+    pub node: Bell,
+    /// Set by the receiver once the connection brings nothing more.
+    pub is_broken: Arc<Flag>,
+    /// The marks, of which it reads the remote one and whether to stop.
+    pub watch: Watch,
+    /// How often it gives way before it sleeps.
+    pub spin: u32,
+}
+
+/// A connection whose standby said where it is.
+#[derive(Drop)]
+struct Opened {
+    stream: Arc<TcpStream>,
+    theirs: Arc<TcpStream>,
+    decoder: Decoder,
+}
+
+impl LinkSender {
+    /// Keeps the link open until somebody asks to stop: opens it, sends on it while it lasts, and opens it again after a pause.
+    pub fn run<R: Threads + Wait + Clock + Net<Stream = TcpStream> + Copy + Send + 'static>(
+        self,
+        rt: R,
+        alloc: Global,
+        receiver: AckReceiver,
+    ) {
+        let mut own = self;
+        let mut receiver = receiver;
+        let mut pauses = FIRST_PAUSES;
+        for _ in rt.forever() {
+            let (next, has_stopped) = own.has_stopped();
+            own = next;
+            if has_stopped {
+                return;
+            }
+            let (next, next_receiver, got_on) = own.serve_link(&rt, alloc, receiver);
+            own = next;
+            receiver = next_receiver;
+            if got_on {
+                pauses = FIRST_PAUSES;
+            }
+            own = own.pause(&rt, pauses);
+            pauses = pauses.saturating_mul(2).min(MOST_PAUSES);
+        }
+    }
+
+    /// Serves one link. Answers whether the standby acknowledged more than before.
+    fn serve_link<R: Threads + Wait + Clock + Net<Stream = TcpStream>>(
+        self,
+        rt: &R,
+        alloc: Global,
+        receiver: AckReceiver,
+    ) -> (LinkSender, AckReceiver, bool) {
+        let mut own = self;
+        let known = own.outgoing.known();
+        let (receiver, opened) = own.open(rt, alloc, receiver);
+        let Some(
+            Opened {
+                stream,
+                theirs,
+                decoder,
+            },
+        ) = opened
+        else {
+            return (own, receiver, false);
+        };
+        own.is_broken.take();
+        match thread::spawn(rt, move || receiver.run(alloc, theirs, decoder)) {
+            Ok(child) => {
+                let own = own.send_all(rt, alloc, &mut &*stream);
+                let _ = stream.shutdown(Shutdown::Both);
+                let got_on = own.outgoing.known() > known;
+                (own, child.join(rt), got_on)
+            }
+            Err(error) => {
+                // where the connection has ended, the receiver comes back at once
+                let _ = stream.shutdown(Shutdown::Both);
+                (own, (error.value)(), false)
+            }
+        }
+    }
+
+    /// Opens a link: the standby says first where it is, which counts as any other acknowledgement.
+    fn open<R: Net<Stream = TcpStream>>(
+        &mut self,
+        rt: &R,
+        alloc: Global,
+        receiver: AckReceiver,
+    ) -> (AckReceiver, Option<Opened>) {
+        let Ok(stream) = dial(rt, &self.address) else {
+            return (receiver, None);
+        };
+        let Some((ack, decoder)) = read_opening(alloc, &mut &stream) else {
+            return (receiver, None);
+        };
+        let (receiver, heard) = receiver.hear(ack);
+        if heard.is_err() || self.outgoing.open_at(alloc, ack.position).is_err() {
+            return (receiver, None);
+        }
+        (receiver, share(alloc, stream, decoder).ok())
+    }
+
+    /// Sends what is due until the link breaks or somebody asks to stop.
+    fn send_all<R: Wait + Clock, O: Write>(self, rt: &R, alloc: Global, to: &mut O) -> LinkSender {
+        let mut own = self;
+        let mut idle = Idle::new(own.spin);
+        let mut out = Vec::new(alloc);
+        if own.outgoing.put_delta(&mut out).is_err() {
+            return own;
+        }
+        for _ in rt.forever() {
+            let (next, has_stopped) = own.has_stopped();
+            own = next;
+            if has_stopped || own.is_broken.is_set() {
+                return own;
+            }
+            own = own.note_acknowledged(alloc);
+            if own
+                .outgoing
+                .put_frames(alloc, &mut own.groups, &mut out)
+                .is_err()
+            {
+                return own;
+            }
+            if out.is_empty() {
+                idle.wait(rt, &own.sleeper);
+            } else {
+                if to.write_all(&out).is_err() {
+                    return own;
+                }
+                out.clear();
+                own.node.ring();
+                idle.busy();
+            }
+        }
+        own
+    }
+
+    /// Lets the frames go that the standby has acknowledged.
+    fn note_acknowledged(self, alloc: Global) -> LinkSender {
+        let LinkSender {
+            address,
+            mut outgoing,
+            groups,
+            sleeper,
+            node,
+            is_broken,
+            watch,
+            spin,
+        } = self;
+        let (watch, remote) = watch.remote();
+        outgoing.note(alloc, remote);
+        LinkSender {
+            address,
+            outgoing,
+            groups,
+            sleeper,
+            node,
+            is_broken,
+            watch,
+            spin,
+        }
+    }
+
+    /// Whether somebody has asked to stop.
+    fn has_stopped(self) -> (LinkSender, bool) {
+        let LinkSender {
+            address,
+            outgoing,
+            groups,
+            sleeper,
+            node,
+            is_broken,
+            watch,
+            spin,
+        } = self;
+        let (watch, has_stopped) = watch.has_stopped();
+        let own = LinkSender {
+            address,
+            outgoing,
+            groups,
+            sleeper,
+            node,
+            is_broken,
+            watch,
+            spin,
+        };
+        (own, has_stopped)
+    }
+
+    /// Lets so many pauses pass, or fewer where somebody asks to stop.
+    fn pause<R: Clock>(self, rt: &R, pauses: u32) -> LinkSender {
+        let mut own = self;
+        for _ in 0..pauses {
+            let (next, has_stopped) = own.has_stopped();
+            own = next;
+            if has_stopped {
+                return own;
+            }
+            thread::sleep(rt, Duration::from_millis(PAUSE_MILLISECONDS));
+        }
+        own
+    }
+}
+
+/// Connects to the standby. Neither side is waited for without end.
+fn dial<R: Net<Stream = TcpStream>>(rt: &R, address: &String) -> io::Result<TcpStream> {
+    let stream = TcpStream::connect(rt, address.as_str())?;
+    stream.set_nodelay(true)?;
+    stream.set_read_timeout(Some(Duration::from_secs(PATIENCE_SECONDS)))?;
+    stream.set_write_timeout(Some(Duration::from_secs(PATIENCE_SECONDS)))?;
+    Ok(stream)
+}
+
+/// The connection for two threads. An acknowledgement may come at any time from now on.
+fn share(alloc: Global, stream: TcpStream, decoder: Decoder) -> io::Result<Opened> {
+    stream.set_read_timeout(None)?;
+    let stream = Arc::new(alloc, stream)?;
+    let theirs = Arc::try_clone(&stream)?;
+    Ok(Opened {
+        stream,
+        theirs,
+        decoder,
+    })
+}

@@ -1,0 +1,5 @@
+pub mod AheadLemmas
+pub mod FreedQueue
+pub mod LeadsLemmas
+pub mod TurnedLemmas
+pub mod ClosedLemmas

@@ -1,0 +1,251 @@
+-- What a turn of the committer leaves of a primary.
+use Rattle.std.proofs.Common.{◌≡◌, ◌⊎◌, ℕ, ◌<◌, Bool, List, [], ◌∷◌, ◌++◌, map, Option, Some, None, Result, Ok, Err, IfOk, refl, sym, ap, subst, ◌∙◌, inl, inr, append-nil}
+use Rattle.pmem.specs.Device.{State}
+use Rattle.kv_types.specs.declared.place.EntryNo.{EntryNo}
+use Rattle.kv_types.specs.declared.refusal.Refusal.{Refusal}
+use Rattle.model.specs.declared.group.Group.{Group}
+use Rattle.model.specs.declared.work.FreeList.{FreeList}
+use Rattle.model.specs.declared.work.Work.{Work}
+use Rattle.model.specs.declared.work.Work.TheVariants as work
+use Rattle.model.specs.Group.{AreEnded, Contents, IsConsistent, IsGroup, after_free, after_group, extents_of, is_listed}
+use Rattle.model.specs.Image.{Version}
+use Rattle.model.proofs.GroupsLemmas.{IsConsistent-after_group}
+use Rattle.wbl_engine.specs.declared.freeing.Freed.{Freed as Places}
+use Rattle.wbl_engine.specs.Contents.{IsDurable, Same}
+use Rattle.wbl_engine.specs.Freeing.{Clears}
+use Rattle.wbl_engine.proofs.WithoutLemmas.{consistent_cleared, consistent_without, was_there}
+use Rattle.redis_core.specs.Sequencing.{Sequencing}
+use Rattle.group_commit.specs.Committing.{Commits, raised, ready_again}
+use Rattle.group_commit.specs.Group.{AreWork, groups_of, lists_of}
+use Rattle.group_commit.specs.Working.{ClearsGap, FreesFirst, IsDrained, StaysIdle, TakesLists, TurnsReady, entries_of_lists}
+use Rattle.group_commit.specs.declared.committer.Committer.{Committer}
+use Rattle.group_commit.specs.declared.stage.Done.{Done}
+use Rattle.group_commit.specs.declared.stage.Done.TheVariants as done
+use Rattle.group_commit.specs.declared.stage.Stage.{Stage}
+use Rattle.group_commit.specs.declared.stage.Stage.TheVariants as stage
+use Rattle.group_commit.proofs.FreedLemmas.{AreEnded-first}
+use Rattle.group_commit.proofs.GroupsLemmas.{Same-is}
+use Rattle.group_commit.proofs.WorkLemmas.{AreWork-behind, EndsLists-none, TakesLists-items, groups_of-lists, lists_of-lists}
+use Rattle.pipes.specs.Waiting.{Waiting, LocalTakes}
+use Rattle.primary.specs.Leading.{AreLaid, Leads}
+use Rattle.primary.specs.Standing.{StandsOver, notices_of}
+use Rattle.primary.proofs.AheadLemmas.{laid-group}
+use Rattle.primary.proofs.FreedQueue.{Leads-aside, Leads-cleared, Leads-freed}
+use Rattle.primary.proofs.LeadsLemmas.{leads-after}
+
+-- ---- versions that are left lie as they lay
+
+laid-freed : (contents : Contents) (entries : List EntryNo) → AreLaid contents → AreLaid (after_free entries contents)
+laid-freed contents entries laid = record {
+  inside = λ i version begun. laid.inside i version (was_there (is_listed i entries) (contents.versions i) version begun);
+  apart = λ i j v w differ begun begun'. laid.apart i j v w differ
+      (was_there (is_listed i entries) (contents.versions i) v begun) (was_there (is_listed j entries) (contents.versions j) w begun');
+}
+
+laid-cleared : (old new : Contents) (entries : List EntryNo) → Clears old entries new → AreLaid old → AreLaid new
+laid-cleared old new entries clears laid = record {
+  inside = λ i version begun. rw clears.lines_are (laid.inside i version (sym (clears.versions i) ∙ begun));
+  apart = λ i j v w differ begun begun'. laid.apart i j v w differ (sym (clears.versions i) ∙ begun) (sym (clears.versions j) ∙ begun');
+}
+
+-- ---- the free lists that a turn took stand aside
+
+-- what is left of the queue, and the lists aside, lead on
+drained : (room : ℕ) (before between after : Waiting Work) (lists aside : List FreeList) (contents : Contents) (s : Sequencing) (notices : List Places)
+    → TakesLists LocalTakes before lists between → IsDrained LocalTakes room before lists between after
+    → Leads contents before.items aside s notices → Leads contents after.items (aside ++ lists) s notices
+drained room before between after lists aside contents s notices takes (inl (some, ends)) leads =
+    let none = EndsLists-none before between after lists takes ends in
+    let items : before.items ≡ map work.Free lists ++ [] = TakesLists-items before between lists takes ∙ ap (λ (rest : List Work). map work.Free lists ++ rest) none.0 in
+    let lists_are : lists_of before.items ≡ lists = ap lists_of items ∙ lists_of-lists lists [] ∙ append-nil lists in
+    let groups : groups_of before.items ≡ [] = ap groups_of items ∙ groups_of-lists lists [] in
+    subst (λ (left : List Work). Leads contents left (aside ++ lists) s notices) (sym none.1)
+    (subst (λ (xs : List FreeList). Leads contents [] (aside ++ xs) s notices) lists_are (Leads-aside contents before.items aside s notices groups leads))
+drained room before between after lists aside contents s notices takes (inr (full, nothing, same)) leads =
+    subst (λ (xs : List FreeList). Leads contents after.items xs s notices) (sym (ap (λ (xs : List FreeList). aside ++ xs) nothing ∙ append-nil aside))
+    (subst (λ (items : List Work). Leads contents items aside s notices) (sym (ap (λ (pipe : Waiting Work). pipe.items) same)) leads)
+
+-- an answer
+abbrev the_ok : Done → Result Done Refusal
+the_ok came = Ok came
+
+ok_is : (a b : Done) → the_ok a ≡ the_ok b → a ≡ b
+ok_is a b e = cc
+
+ok_not_err : (a : Done) {refusal : Refusal} → the_ok a ≡ Err refusal → ⊥
+ok_not_err a e = cc
+
+position_is : (a b : ℕ) → done.Committed a ≡ done.Committed b → a ≡ b
+position_is a b e = cc
+
+module _ {E : Type 0} (device : E → State) (contents : E → Contents) (is_faulted : E → Bool) where
+  abbrev Over : Committer E → Waiting Work → Sequencing → List Places → Type 0
+  Over c waiting s notices = StandsOver (device c.engine) (contents c.engine) waiting.items c.aside.items s notices
+
+  -- ---- a group has committed
+
+  group-stands : (old new : Committer E) (before between after : Waiting Work) (lists : List FreeList) (group : Group) (done : Done) (s : Sequencing) → TakesLists LocalTakes before lists between
+      → LocalTakes between (Some (work.Commit group)) after → Commits device contents is_faulted old group (Ok done) new → new.aside.items ≡ old.aside.items ++ lists
+      → Over old before s [] → Over new after s []
+  group-stands old new before between after lists group done s takes gives commits aside over =
+      let items : before.items ≡ map work.Free lists ++ work.Commit group ∷ after.items =
+      TakesLists-items before between lists takes ∙ ap (λ (rest : List Work). map work.Free lists ++ rest) gives in
+      let leads = subst (λ (xs : List Work). Leads (contents old.engine) xs old.aside.items s []) items over.leads in
+      let group_is : IsGroup (contents old.engine) group = (AreWork-behind (contents old.engine) lists (work.Commit group ∷ after.items) leads.work_is).0 in
+      let is = Same-is (after_group (contents old.engine) group) (contents new.engine) commits.moved in
+      record {
+        leads = subst (λ (c : Contents). Leads c after.items new.aside.items s []) (sym is)
+            (subst (λ (xs : List FreeList). Leads (after_group (contents old.engine) group) after.items xs s []) (sym aside)
+            (leads-after (contents old.engine) lists group after.items old.aside.items s [] over.consistent leads));
+        consistent = subst IsConsistent (sym is) (IsConsistent-after_group (contents old.engine) group over.consistent group_is);
+        laid = subst AreLaid (sym is) (laid-group (contents old.engine) group over.laid group_is);
+        durable = commits.durable;
+      }
+
+  -- ---- a list was freed
+
+  freed-stands : (old new : Committer E) (before between after : Waiting Work) (room : ℕ) (lists : List FreeList) (list : FreeList) (rest : List FreeList) (done : Done) (s : Sequencing)
+      → TakesLists LocalTakes before lists between → IsDrained LocalTakes room before lists between after → old.aside.items ++ lists ≡ list ∷ rest
+      → FreesFirst device contents is_faulted old list rest (Ok done) new → Over old before s [] → Over new after s (notices_of done)
+  freed-stands old new before between after room lists list rest done s takes drains reached frees over =
+      let told = frees.answer in
+      let places = told.0 in
+      let leads = subst (λ (xs : List FreeList). Leads (contents old.engine) after.items xs s []) reached
+      (drained room before between after lists old.aside.items (contents old.engine) s [] takes drains over.leads) in
+      let is = Same-is (after_free list.entries.items (contents old.engine)) (contents new.engine) frees.moved in
+      subst (λ (d : Done). Over new after s (notices_of d)) (sym told.1) (record {
+        leads = subst (λ (c : Contents). Leads c after.items new.aside.items s (places ∷ [])) (sym is)
+            (subst (λ (xs : List FreeList). Leads (after_free list.entries.items (contents old.engine)) after.items xs s (places ∷ [])) (sym frees.aside)
+            (Leads-freed (contents old.engine) after.items list rest s [] places over.consistent over.laid leads told.2 told.3));
+        consistent = subst IsConsistent (sym is) (consistent_without (contents old.engine) (λ i. is_listed i list.entries.items) over.consistent);
+        laid = subst AreLaid (sym is) (laid-freed (contents old.engine) list.entries.items over.laid);
+        durable = frees.durable;
+      })
+
+  -- ---- a gap was cleared
+
+  no_lists : (aside lists : List FreeList) → aside ++ lists ≡ [] → aside ≡ []
+  no_lists [] lists none = refl
+  no_lists (list ∷ aside) lists none = cc
+
+  no_more : (aside lists : List FreeList) → aside ++ lists ≡ [] → lists ≡ []
+  no_more [] lists none = none
+  no_more (list ∷ aside) lists none = cc
+
+  cleared-stands : (old new : Committer E) (before between after : Waiting Work) (lists : List FreeList) (done : Done) (s : Sequencing)
+      → TakesLists LocalTakes before lists between → LocalTakes between None after → old.aside.items ++ lists ≡ []
+      → ClearsGap device contents is_faulted old (Ok done) new → Over old before s [] → Over new after s (notices_of done)
+  cleared-stands old new before between after lists done s takes gives none clears over =
+      let told = clears.answer in
+      let places = told.0 in
+      let items : before.items ≡ [] = TakesLists-items before between lists takes ∙ ap (λ (xs : List FreeList). map work.Free xs ++ between.items) (no_more old.aside.items lists none) ∙ gives.0 in
+      let leads = subst (λ (xs : List FreeList). Leads (contents old.engine) [] xs s []) (no_lists old.aside.items lists none)
+      (subst (λ (xs : List Work). Leads (contents old.engine) xs old.aside.items s []) items over.leads) in
+      let cleared : Clears (contents old.engine) places.entries.items (contents new.engine) = told.3 in
+      subst (λ (d : Done). Over new after s (notices_of d)) (sym told.1) (record {
+        leads = subst (λ (xs : List Work). Leads (contents new.engine) xs new.aside.items s (places ∷ [])) (sym gives.1)
+            (subst (λ (xs : List FreeList). Leads (contents new.engine) [] xs s (places ∷ [])) (sym clears.aside)
+            (Leads-cleared (contents old.engine) (contents new.engine) s [] places leads cleared told.2));
+        consistent = consistent_cleared (contents old.engine) (contents new.engine) places.entries.items cleared over.consistent;
+        laid = laid-cleared (contents old.engine) (contents new.engine) places.entries.items cleared over.laid;
+        durable = clears.durable;
+      })
+
+  -- ---- nothing was to be done
+
+  idle-stands : (old new : Committer E) (before between after : Waiting Work) (room remote : ℕ) (lists : List FreeList) (came : Done) (s : Sequencing)
+      → TakesLists LocalTakes before lists between → IsDrained LocalTakes room before lists between after
+      → StaysIdle device contents is_faulted old (old.aside.items ++ lists) room remote (Ok came) new → Over old before s [] → Over new after s (notices_of came)
+  idle-stands old new before between after room remote lists came s takes drains stays over =
+      let is : came ≡ done.Idle = ok_is came done.Idle stays.answer in
+      let leads = drained room before between after lists old.aside.items (contents old.engine) s [] takes drains over.leads in
+      subst (λ (d : Done). Over new after s (notices_of d)) (sym is)
+      (subst (λ (xs : List FreeList). StandsOver (device new.engine) (contents new.engine) after.items xs s []) (sym stays.aside_is)
+      (subst (λ (e : E). StandsOver (device e) (contents e) after.items (old.aside.items ++ lists) s []) (sym stays.engine)
+      (record { leads = leads; consistent = over.consistent; laid = over.laid; durable = over.durable })))
+
+  -- ---- a turn that may take a group
+
+  ready-stands : (old new : Committer E) (before after : Waiting Work) (room remote : ℕ) (came : Done) (s : Sequencing)
+      → TurnsReady device contents is_faulted LocalTakes old before room remote (Ok came) new after → Over old before s [] → Over new after s (notices_of came)
+  ready-stands old new before after room remote came s turned over =
+      elim turned.came [
+        | inl took ↦
+            let commits = took.3 in
+            let over' = group-stands old new before turned.between after turned.lists took.0 came s turned.takes took.2 commits took.4 over in
+            subst (λ (d : Done). Over new after s (notices_of d)) (sym commits.answer) over'
+        | inr (inl frees) ↦ freed-stands old new before turned.between after room turned.lists frees.1 frees.2 came s turned.takes frees.0 frees.3 frees.5 over
+        | inr (inr (inl clears)) ↦ cleared-stands old new before turned.between after turned.lists came s turned.takes clears.1 clears.2 clears.3 over
+        | inr (inr (inr (inl idle))) ↦ idle-stands old new before turned.between after room remote turned.lists came s turned.takes idle.0 idle.1 over
+        | inr (inr (inr (inr refuses))) ↦ absurd (ok_not_err came refuses.2.answer)
+      ]
+
+  -- ---- any turn
+
+  -- what the committer's clauses say of a turn that came to this
+  pub record Turned (old new : Committer E) (before after : Waiting Work) (room remote : ℕ) (result : Result Done Refusal) : Type 0 where
+    pub ready : old.stage ≡ stage.Ready → TurnsReady device contents is_faulted LocalTakes old before room remote result new after
+    pub durable : (group : Group) → old.stage ≡ stage.Durable group → (result ≡ Ok done.Raised) × (new ≡ raised device contents is_faulted group old) × (after ≡ before)
+    pub shown : (group : Group) → old.stage ≡ stage.Shown group
+        → (after ≡ before) × (((result ≡ Ok done.Handed) × (new ≡ ready_again old)) ⊎ ((result ≡ Ok done.Idle) × (new ≡ old)))
+
+  turn-stands : (old new : Committer E) (before after : Waiting Work) (room remote : ℕ) (came : Done) (s : Sequencing) → Turned old new before after room remote (Ok came)
+      → Over old before s [] → Over new after s (notices_of came)
+  turn-stands old new before after room remote came s turned over =
+      elim old.stage as (λ st. old.stage ≡ st → Over new after s (notices_of came)) [
+        | stage.Ready ↦ λ is. ready-stands old new before after room remote came s (turned.ready is) over
+        | stage.Durable group ↦ λ is.
+            let told = turned.durable group is in
+            subst (λ (d : Done). Over new after s (notices_of d)) (sym (ok_is came done.Raised told.0))
+            (subst (λ (c : Committer E). Over c after s []) (sym told.1)
+            (subst (λ (w : Waiting Work). Over (raised device contents is_faulted group old) w s []) (sym told.2)
+            (record { leads = over.leads; consistent = over.consistent; laid = over.laid; durable = over.durable })))
+        | stage.Shown group ↦ λ is.
+            let told = turned.shown group is in
+            subst (λ (w : Waiting Work). Over new w s (notices_of came)) (sym told.0)
+            (elim told.1 [
+              | inl handed ↦
+                  subst (λ (d : Done). Over new before s (notices_of d)) (sym (ok_is came done.Handed handed.0))
+                  (subst (λ (c : Committer E). Over c before s []) (sym handed.1)
+                  (record { leads = over.leads; consistent = over.consistent; laid = over.laid; durable = over.durable }))
+              | inr idle ↦
+                  subst (λ (d : Done). Over new before s (notices_of d)) (sym (ok_is came done.Idle idle.0))
+                  (subst (λ (c : Committer E). Over c before s []) (sym idle.1) over)
+            ])
+      ] refl
+
+  pub turn-told : (old new : Committer E) (before after : Waiting Work) (room remote : ℕ) (result : Result Done Refusal) (s : Sequencing) → Turned old new before after room remote result
+      → Over old before s [] → IfOk result (λ came. Over new after s (notices_of came))
+  turn-told old new before after room remote (Ok came) s turned over = turn-stands old new before after room remote came s turned over
+  turn-told old new before after room remote (Err refusal) s turned over = tt
+
+  -- ---- the position of a commit
+
+  committed-ready : (old new : Committer E) (before after : Waiting Work) (room remote : ℕ) (came : Done) (position : ℕ)
+      → TurnsReady device contents is_faulted LocalTakes old before room remote (Ok came) new after → came ≡ done.Committed position → position ≡ (contents new.engine).current.position
+  committed-ready old new before after room remote came position turned is =
+      elim turned.came [
+        | inl took ↦ let commits = took.3 in let answer = commits.answer in position_is position (contents new.engine).current.position (sym is ∙ answer)
+        | inr (inl frees) ↦ absurd (let answer = frees.5.answer.1 in cc)
+        | inr (inr (inl clears)) ↦ absurd (let answer = clears.3.answer.1 in cc)
+        | inr (inr (inr (inl idle))) ↦ absurd (let answer = ok_is came done.Idle idle.1.answer in cc)
+        | inr (inr (inr (inr refuses))) ↦ absurd (ok_not_err came refuses.2.answer)
+      ]
+
+  committed-turn : (old new : Committer E) (before after : Waiting Work) (room remote : ℕ) (came : Done) (position : ℕ) → Turned old new before after room remote (Ok came)
+      → came ≡ done.Committed position → position ≡ (contents new.engine).current.position
+  committed-turn old new before after room remote came position turned is =
+      elim old.stage as (λ st. old.stage ≡ st → position ≡ (contents new.engine).current.position) [
+        | stage.Ready ↦ λ at. committed-ready old new before after room remote came position (turned.ready at) is
+        | stage.Durable group ↦ λ at. absurd (let answer = ok_is came done.Raised (turned.durable group at).0 in cc)
+        | stage.Shown group ↦ λ at.
+            elim (turned.shown group at).1 [
+              | inl handed ↦ absurd (let answer = ok_is came done.Handed handed.0 in cc)
+              | inr idle ↦ absurd (let answer = ok_is came done.Idle idle.0 in cc)
+            ]
+      ] refl
+
+  pub turn-committed : (old new : Committer E) (before after : Waiting Work) (room remote : ℕ) (result : Result Done Refusal) → Turned old new before after room remote result
+      → IfOk result (λ came. (position : ℕ) → came ≡ done.Committed position → position ≡ (contents new.engine).current.position)
+  turn-committed old new before after room remote (Ok came) turned = λ position is. committed-turn old new before after room remote came position turned is
+  turn-committed old new before after room remote (Err refusal) turned = tt

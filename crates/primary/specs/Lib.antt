@@ -1,0 +1,4 @@
+pub mod Leading
+pub mod Closing
+pub mod Resuming
+pub mod Standing

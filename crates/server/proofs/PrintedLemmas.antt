@@ -1,0 +1,29 @@
+-- What is printed piece by piece.
+use Rattle.std.proofs.Common.{◌≡◌, ℕ, ◌+◌, ◌<◌, List, [], ◌∷◌, ◌++◌, Option, codes, append-nil, length, take, slice_index_or, sym, ap, subst, ◌∙◌}
+use Rattle.std.proofs.KnownBytes.{Appends-trans}
+use Rattle.std.proofs.lemmas.List.{flat_map_more, take_more}
+use Rattle.std.specs.Io.KnownBytes.{Appends}
+use Rattle.model.specs.declared.record.Gap.{Gap}
+use Rattle.model.specs.declared.record.Record.{Record}
+use Rattle.server.specs.Printed.{gap_line, gap_lines, image_text, number_line, role_line}
+
+-- one gap more
+pub gaps-more : (gaps : List Gap) (i : ℕ) (gap : Gap) → i < length gaps → gap_lines (take (i + 1) gaps) ≡ gap_lines (take i gaps) ++ gap_line (slice_index_or gaps i gap)
+gaps-more gaps i gap within = ap gap_lines (take_more gaps i gap within) ∙ sym (flat_map_more gap_line [] (take i gaps) (slice_index_or gaps i gap))
+
+-- all lines of a record, one after another
+pub image-whole : (current : Record) (live count : ℕ) (gaps : List Gap) (a b c d e f g h i j : Option (List ℕ)) → count ≡ length current.gaps.items → gaps ≡ current.gaps.items
+    → Appends a b (number_line (codes "record") current.number) → Appends b c (number_line (codes "position") current.position)
+    → Appends c d (number_line (codes "cp") current.cp) → Appends d e (number_line (codes "cd") current.cd)
+    → Appends e f (number_line (codes "epoch") current.epoch) → Appends f g (role_line current.role)
+    → Appends g h (number_line (codes "gaps") count) → Appends h i (gap_lines gaps)
+    → Appends i j (number_line (codes "live") live) → Appends a j (image_text current live)
+image-whole current live count gaps a b c d e f g h i j counted same number position cp cd epoch role many each last =
+    Appends-trans a b j _ _ number
+    (Appends-trans b c j _ _ position
+    (Appends-trans c d j _ _ cp
+    (Appends-trans d e j _ _ cd
+    (Appends-trans e f j _ _ epoch
+    (Appends-trans f g j _ _ role
+    (Appends-trans g h j _ _ (subst (λ (n : ℕ). Appends g h (number_line (codes "gaps") n)) counted many)
+    (Appends-trans h i j _ _ (subst (λ (gs : List Gap). Appends h i (gap_lines gs)) same each) (subst (Appends i j) (sym (append-nil (number_line (codes "live") live))) last))))))))

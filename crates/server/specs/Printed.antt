@@ -1,0 +1,53 @@
+-- What the subcommands print.
+use Rattle.std.specs.Prelude.{◌≡◌, ℕ, Option, List, [], ◌∷◌, ◌++◌, ◌/◌, length, codes}
+use Rattle.std.specs.List.{concat, flat_map}
+use Rattle.std.specs.Fmt.{decimal}
+use Rattle.std.specs.Io.KnownBytes.{Appends}
+use Rattle.model.specs.declared.record.Gap.{Gap}
+use Rattle.model.specs.declared.record.Role.{Role}
+use Rattle.model.specs.declared.record.Role.TheVariants.{Primary, Standby}
+use Rattle.model.specs.declared.record.Record.{Record}
+use Rattle.model.specs.Image.{Image, entries_of_lines}
+use Rattle.wbl_engine.specs.Inspecting.{live_below}
+use Rattle.wbl_engine.specs.Lawful.{IsUndamaged}
+use Rattle.server.specs.Told.{newline}
+
+-- after an image of so many lines was formatted
+abbrev pub formatted_text : ℕ → List ℕ
+formatted_text lines = codes "formatted " ++ decimal lines ++ codes " lines, " ++ decimal (entries_of_lines lines) ++ codes " entries" ++ newline
+
+-- a line of a word and a number
+abbrev pub number_line : List ℕ → ℕ → List ℕ
+number_line word number = word ++ codes " " ++ decimal number ++ newline
+
+abbrev pub role_line : Role → List ℕ
+role_line Primary = codes "role primary" ++ newline
+role_line Standby = codes "role standby" ++ newline
+
+abbrev pub gap_line : Gap → List ℕ
+gap_line gap = codes "gap " ++ decimal gap.first ++ codes " " ++ decimal gap.last ++ newline
+
+-- a line for each gap
+abbrev pub gap_lines : List Gap → List ℕ
+gap_lines gaps = flat_map gap_line gaps
+
+-- the record of an image, and how many of its entries are live
+abbrev pub image_text : Record → ℕ → List ℕ
+image_text r live =
+    concat
+    (number_line (codes "record") r.number
+    ∷ number_line (codes "position") r.position
+    ∷ number_line (codes "cp") r.cp
+    ∷ number_line (codes "cd") r.cd
+    ∷ number_line (codes "epoch") r.epoch
+    ∷ role_line r.role
+    ∷ number_line (codes "gaps") (length r.gaps.items)
+    ∷ gap_lines r.gaps.items
+    ∷ number_line (codes "live") live
+    ∷ [])
+
+-- An undamaged image of so many lines was told of: its record, and how many of its entries are live.
+pub record TellsImage (lines : ℕ) (image : Image) (before after : Option (List ℕ)) : Type 0 where
+  pub current : Record
+  pub undamaged : IsUndamaged lines current image
+  pub told : Appends before after (image_text current (live_below current image (entries_of_lines lines)))

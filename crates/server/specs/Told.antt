@@ -1,0 +1,46 @@
+-- What the program tells where it did not do what it was asked.
+use Rattle.std.specs.Prelude.{ℕ, List, [], ◌∷◌, ◌++◌, Option, Some, None, codes, ⊤}
+use Rattle.std.specs.Fmt.{decimal}
+use Rattle.std.specs.Io.KnownBytes.{Keeps}
+use Rattle.kv_types.specs.Refusal.{refusal_number, refusal_text}
+use Rattle.model.specs.Image.{Image}
+use Rattle.wbl_engine.specs.Reopening.{RefusesReading}
+use Rattle.server.specs.declared.serve.ServeError.{ServeError}
+use Rattle.server.specs.declared.serve.ServeError.TheVariants.{Random, Read, Refused, Write}
+use Rattle.server.specs.declared.failure.Failure.{Failure}
+use Rattle.server.specs.declared.failure.Failure.TheVariants.{Misused, CannotListen, Stopped}
+
+-- the end of a line
+abbrev pub newline : List ℕ
+newline = 10 ∷ []
+
+-- the exit status
+abbrev pub status_after : Failure → ℕ
+status_after (Misused error) = 2
+status_after CannotListen = 1
+status_after (Stopped error) = 1
+
+-- The text of a refusal, with its number. Those of the other errors come from the system.
+abbrev pub stop_text : ServeError → Option (List ℕ)
+stop_text (Refused refusal) = Some (codes "refusal " ++ decimal (refusal_number refusal) ++ codes ": " ++ refusal_text refusal ++ newline)
+stop_text (Read error) = None
+stop_text (Random error) = None
+stop_text (Write error) = None
+
+-- what is written to standard error, where it is known
+abbrev pub text_of : Failure → Option (List ℕ)
+text_of (Misused error) = None
+text_of CannotListen = Some (codes "cannot listen" ++ newline)
+text_of (Stopped error) = stop_text error
+
+-- If an image was refused, it was for what reading it refuses, and nothing was printed.
+abbrev pub IsReadingRefusal : ServeError → ℕ → Image → (before after : Option (List ℕ)) → Type 0
+IsReadingRefusal (Refused refusal) lines image before after = RefusesReading lines image refusal × Keeps before after
+IsReadingRefusal (Read error) lines image before after = ⊥
+IsReadingRefusal (Random error) lines image before after = ⊥
+IsReadingRefusal (Write error) lines image before after = ⊤
+
+abbrev pub IsRefusalOf : (lines : ℕ) (image : Image) (before after : Option (List ℕ)) → Failure → Type 0
+IsRefusalOf lines image before after (Misused error) = ⊥
+IsRefusalOf lines image before after CannotListen = ⊥
+IsRefusalOf lines image before after (Stopped error) = IsReadingRefusal error lines image before after

@@ -1,0 +1,126 @@
+//! What the program does for the words of its command line.
+ghost use Rattle.std.specs.Prelude.{◌≡◌, ◌<◌, ◌≤◌, OnOk, length};
+ghost use Rattle.std.specs.Io.KnownBytes.{IsAtEnd};
+ghost use Rattle.server.specs.Answer.{IsServed};
+ghost use Rattle.server.specs.Told.{status_after};
+
+use crate::failure::Failure;
+use crate::formatting::format;
+use crate::images::Images;
+use crate::inspecting::inspect;
+use crate::options::{Task, options};
+use crate::serve::{ServeError, serve};
+use crate::serving_clients::serve_clients;
+use crate::standing_by::stand_by;
+use std::alloc::Global;
+use std::hash::RandomState;
+use std::io::{Read, Write};
+use std::net::{Net, TcpListener, TcpStream};
+use std::random::RandomSource;
+use std::sync::Wait;
+use std::thread::Threads;
+use std::time::Clock;
+
+/// The status where all was done.
+const DONE: u8 = 0;
+
+/// Does what the words ask for, the first of which is the program's name, and returns the exit status. Without any further word, serves one
+/// connection over the reader and the writer. What went wrong is told to `errors`.
+pub fn command<
+    S: RandomSource
+        + Threads
+        + Wait
+        + Clock
+        + Net<Listener = TcpListener, Stream = TcpStream>
+        + Copy
+        + Send
+        + 'static,
+    I: Images,
+    R: Read,
+    W: Write,
+    E: Write,
+>(
+    rt: &S,
+    alloc: Global,
+    words: &[String],
+    images: &I,
+    reader: &mut R,
+    writer: &mut W,
+    errors: &mut E,
+) -> u8
+    ensures status { result ≤ 2 }
+    ensures served { length words.now ≤ 1 → result ≡ 0
+        → IsServed (R.remaining reader.old) (W.contents writer.old) (W.contents writer.new) }
+{
+    match run(rt, alloc, words, images, reader, writer) {
+        Ok(()) => DONE,
+        Err(failure) => tell(&failure, errors),
+    }
+}
+
+/// Tells what went wrong, and returns the exit status. Where even that cannot be written, the status has to do.
+pub fn tell<E: Write>(failure: &Failure, errors: &mut E) -> u8
+    ensures status { result ≡ status_after failure.now }
+    ensures failed { 0 < result }
+    ensures known { result ≤ 2 }
+{
+    let _ = failure.tell(errors);
+    failure.status()
+}
+
+/// Does what the words ask for.
+fn run<
+    S: RandomSource
+        + Threads
+        + Wait
+        + Clock
+        + Net<Listener = TcpListener, Stream = TcpStream>
+        + Copy
+        + Send
+        + 'static,
+    I: Images,
+    R: Read,
+    W: Write,
+>(
+    rt: &S,
+    alloc: Global,
+    words: &[String],
+    images: &I,
+    reader: &mut R,
+    writer: &mut W,
+) -> Result<(), Failure>
+    ensures { length words.now ≤ 1 → OnOk result (IsServed (R.remaining reader.old) (W.contents writer.old) (W.contents writer.new)) }
+{
+    if words.len() <= 1 {
+        return connection(rt, alloc, reader, writer);
+    }
+    match options(alloc, words)? {
+        Task::Format { image, lines, role } => format(images, image, lines, role, writer),
+        Task::Inspect { image } => inspect(alloc, images, image, writer),
+        Task::Standby { image, listen } => stand_by(rt, alloc, images, image, listen),
+        Task::Primary {
+            image,
+            listen,
+            link,
+        } => serve_clients(rt, alloc, images, image, listen, link),
+    }
+}
+
+/// Serves one connection over a reader and a writer with a pair of new nodes.
+fn connection<S: RandomSource, R: Read, W: Write>(
+    rt: &S,
+    alloc: Global,
+    reader: &mut R,
+    writer: &mut W,
+) -> Result<(), Failure>
+    ensures whole { OnOk result (IsAtEnd (R.remaining reader.new)) }
+    ensures served { OnOk result (IsServed (R.remaining reader.old) (W.contents writer.old) (W.contents writer.new)) }
+{
+    match RandomState::new(rt) {
+        Ok(hash_builder) => {
+            serve(alloc, reader, writer, hash_builder)?;
+            Ok(())
+        }
+        Err(error) => Err(Failure::Stopped(ServeError::Random(error))),
+    }
+}

@@ -1,0 +1,116 @@
+//! Why the program did not do what it was asked, and what it tells of that.
+ghost use Rattle.std.specs.Prelude.{IfSome, OnOk};
+ghost use Rattle.std.specs.Io.KnownBytes.{Appends};
+ghost use Rattle.server.specs.Told.{stop_text};
+
+use crate::serve::ServeError;
+use clap::error::ErrorKind;
+use kv_types::Refusal;
+use std::alloc::AllocError;
+use std::io::{self, Write};
+
+/// The status where what was asked was not done, or not all of it.
+const FAILED: u8 = 1;
+
+/// The status if the command line is not understood, or asks for help.
+const MISUSED: u8 = 2;
+
+/// Why the program did not do what it was asked.
+#[derive(Debug, Drop)]
+pub enum Failure {
+    /// The command line is none of this program's, or asks for help. Nothing was done.
+    Misused(clap::Error),
+    /// Nobody can connect at the address that the program was to listen at.
+    CannotListen,
+    /// A call was refused, or standard input or output failed.
+    Stopped(ServeError),
+}
+
+impl From<ServeError> for Failure {
+    ghost use Rattle.std.specs.Prelude.{◌≡◌};
+    ghost use Rattle.server.specs.declared.failure.Failure.TheVariants.{Stopped};
+
+    ghost from_gives = { λ error failure. failure ≡ Stopped error };
+
+    fn from(error: ServeError) -> Failure {
+        Failure::Stopped(error)
+    }
+}
+
+impl From<Refusal> for Failure {
+    ghost use Rattle.std.specs.Prelude.{◌≡◌};
+    ghost use Rattle.server.specs.declared.serve.ServeError.TheVariants.{Refused};
+    ghost use Rattle.server.specs.declared.failure.Failure.TheVariants.{Stopped};
+
+    ghost from_gives = { λ refusal failure. failure ≡ Stopped (Refused refusal) };
+
+    fn from(refusal: Refusal) -> Failure {
+        Failure::Stopped(ServeError::Refused(refusal))
+    }
+}
+
+impl From<AllocError> for Failure {
+    ghost use Rattle.std.specs.Prelude.{◌≡◌};
+    ghost use Rattle.kv_types.specs.declared.refusal.Refusal.TheVariants.{Memory};
+    ghost use Rattle.server.specs.declared.serve.ServeError.TheVariants.{Refused};
+    ghost use Rattle.server.specs.declared.failure.Failure.TheVariants.{Stopped};
+
+    ghost from_gives = { λ _ failure. failure ≡ Stopped (Refused Memory) };
+
+    fn from(error: AllocError) -> Failure {
+        Failure::from(Refusal::from(error))
+    }
+}
+
+impl From<clap::Error> for Failure {
+    fn from(error: clap::Error) -> Failure {
+        if error.kind() == ErrorKind::OutOfMemory {
+            Failure::Stopped(ServeError::Refused(Refusal::Memory))
+        } else {
+            Failure::Misused(error)
+        }
+    }
+}
+
+impl Failure {
+    ghost use Rattle.std.specs.Prelude.{◌≡◌, ◌<◌, ◌≤◌, IfSome, OnOk};
+    ghost use Rattle.std.specs.Io.KnownBytes.{Appends};
+    ghost use Rattle.server.specs.Told.{status_after, text_of};
+
+    /// The status that the program ends with.
+    pub fn status(&self) -> u8
+        ensures status { result ≡ status_after self.now }
+        ensures failed { 0 < result }
+        ensures known { result ≤ 2 }
+    {
+        match self {
+            Failure::Misused(_) => MISUSED,
+            Failure::CannotListen | Failure::Stopped(_) => FAILED,
+        }
+    }
+
+    /// Tells whoever started the program.
+    pub fn tell<W: Write>(&self, errors: &mut W) -> io::Result<()>
+        ensures { OnOk result (IfSome (text_of self.now) (Appends (W.contents errors.old) (W.contents errors.new))) }
+    {
+        match self {
+            // (its text ends its last line itself)
+            Failure::Misused(error) => write!(errors, "{error}"),
+            Failure::CannotListen => writeln!(errors, "cannot listen"),
+            Failure::Stopped(error) => tell_stop(error, errors),
+        }
+    }
+}
+
+/// Tells why a call ended early.
+fn tell_stop<W: Write>(error: &ServeError, errors: &mut W) -> io::Result<()>
+    ensures { OnOk result (IfSome (stop_text error.now) (Appends (W.contents errors.old) (W.contents errors.new))) }
+{
+    match error {
+        ServeError::Refused(refusal) => {
+            let number = refusal.number();
+            writeln!(errors, "refusal {number}: {refusal}")
+        }
+        _ => writeln!(errors, "{error}"),
+    }
+}

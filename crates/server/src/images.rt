@@ -1,0 +1,57 @@
+//! Where images are found by name.
+ghost use Rattle.std.specs.Prelude.{◌≡◌, ◌⊎◌, ℕ, ◌<◌, ◌≤◌, Err, IfOk};
+ghost use Rattle.kv_types.specs.declared.refusal.Refusal.TheVariants.{WrongSize};
+ghost use Rattle.model.specs.declared.image.TheConstants.{MIN_LINES, MAX_LINES};
+ghost use Rattle.pmem.specs.Device.{Only};
+ghost use Rattle.pmem.specs.Crash.{image_of};
+
+use kv_types::Refusal;
+use pmem::Pmem;
+use pmem_file::FilePmem;
+
+/// Devices that hold images, each by its name.
+pub trait Images {
+    type Device: Pmem + Drop;
+
+    /// The device of `lines` lines of this name, which is made where there is none.
+    ///
+    /// `WrongSize` where `lines` is not 4,096 to 2^31, with nothing touched, or where the one that is there has another size; `Fault` where it
+    /// cannot be made or read; `Memory`.
+    fn create(&self, name: &str, lines: u64) -> Result<Self::Device, Refusal>
+        ensures lines { IfOk result (λ device. (Self.Device.state device).lines ≡ lines) }
+        ensures unlawful { (lines < MIN_LINES) ⊎ (MAX_LINES < lines) → result ≡ Err WrongSize };
+
+    /// The device of this name as it was left: a crash leaves what is read from it.
+    ///
+    /// `WrongSize` where it has not 4,096 to 2^31 lines; `Fault` where there is none or it cannot be read; `Memory`. It is as it was.
+    fn open(&self, name: &str) -> Result<Self::Device, Refusal>
+        ensures many { IfOk result (λ device. MIN_LINES ≤ (Self.Device.state device).lines) }
+        ensures few { IfOk result (λ device. (Self.Device.state device).lines ≤ MAX_LINES) }
+        ensures settled { IfOk result (λ device. (word : ℕ)
+            → Only ((Self.Device.state device).words word) (image_of (Self.Device.state device).words word)) };
+}
+
+/// Images in the files of the system, by their paths.
+#[derive(Clone, Copy)]
+pub struct Files<'a> {
+    rt: &'a HostRuntime,
+}
+
+impl<'a> Files<'a> {
+    /// The files that this runtime reaches.
+    pub fn of(rt: &'a HostRuntime) -> Files<'a> {
+        Files { rt }
+    }
+}
+
+impl<'a> Images for Files<'a> {
+    type Device = FilePmem;
+
+    fn create(&self, name: &str, lines: u64) -> Result<FilePmem, Refusal> {
+        FilePmem::create(self.rt, name, lines)
+    }
+
+    fn open(&self, name: &str) -> Result<FilePmem, Refusal> {
+        FilePmem::open(self.rt, name)
+    }
+}

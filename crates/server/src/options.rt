@@ -1,0 +1,172 @@
+//! What the words of the command line ask for.
+use clap::builder::{Arg, ArgAction, Command};
+use clap::error::ErrorKind;
+use clap::{ArgMatches, Error, value_parser};
+use std::alloc::Global;
+use wbl_engine::Role;
+
+/// The program's name in its own texts.
+const PROGRAM: &str = "wbl-server";
+
+const PRIMARY: &str = "primary";
+
+/// The roles that an image is formatted for.
+static ROLES: [&str; 2] = [PRIMARY, "standby"];
+
+/// What the program is asked to do. Names of images and addresses are as they were written.
+#[derive(Clone, Copy)]
+pub enum Task<'a> {
+    /// To write a new image of so many lines for this role.
+    Format {
+        image: &'a str,
+        lines: u64,
+        role: Role,
+    },
+    /// To serve clients at one address, and send to the standby at the other.
+    Primary {
+        image: &'a str,
+        listen: &'a str,
+        link: &'a str,
+    },
+    /// To follow a primary that dials this address.
+    Standby {
+        image: &'a str,
+        listen: &'a str,
+    },
+    /// To print what an image holds.
+    Inspect {
+        image: &'a str,
+    },
+}
+
+/// What the words ask for, the first of which is the program's name.
+///
+/// # Errors
+///
+/// The text for whoever wrote the command line: what is wrong with it, or the help that was asked for. `OutOfMemory` where memory was refused.
+pub fn options<'a>(alloc: Global, words: &'a [String]) -> Result<Task<'a>, Error> {
+    let mut command = grammar(alloc)?;
+    let matches = command.try_get_matches_from_mut(words)?;
+    match asked(&matches) {
+        Some(task) => Ok(task),
+        None => Err(command.error(ErrorKind::MissingSubcommand, "a subcommand is missing")?),
+    }
+}
+
+/// The text for a command line of which some word is no text.
+pub fn not_text(alloc: Global) -> Error {
+    match grammar(alloc) {
+        Ok(mut command) => {
+            let message = "invalid UTF-8 was detected in one or more arguments";
+            match command.error(ErrorKind::ValueValidation, message) {
+                Ok(error) => error,
+                Err(error) => Error::from(error),
+            }
+        }
+        Err(error) => error,
+    }
+}
+
+/// The subcommands and the options of each.
+fn grammar<'a>(alloc: Global) -> Result<Command<'a>, Error> {
+    let command = Command::new(alloc, PROGRAM)
+        .bin_name(PROGRAM)?
+        .about("A durable key-value server; without arguments it serves standard input")
+        .subcommand_required(true)
+        .subcommand(format_command(alloc)?)?
+        .subcommand(primary_command(alloc)?)?
+        .subcommand(standby_command(alloc)?)?
+        .subcommand(inspect_command(alloc)?)?;
+    Ok(command)
+}
+
+fn format_command<'a>(alloc: Global) -> Result<Command<'a>, Error> {
+    let lines = option(
+        alloc,
+        "lines",
+        "N",
+        "How many lines of 64 bytes the image has",
+    )
+    .value_parser(value_parser!(u64));
+    let role = option(alloc, "role", "ROLE", "Which node the image is for").value_parser(
+        ROLES.as_slice(),
+    );
+    let command = Command::new(alloc, "format")
+        .about("Writes a new image")
+        .arg(image(alloc))?
+        .arg(lines)?
+        .arg(role)?;
+    Ok(command)
+}
+
+fn primary_command<'a>(alloc: Global) -> Result<Command<'a>, Error> {
+    let command = Command::new(alloc, PRIMARY)
+        .about("Serves clients, and sends to the standby")
+        .arg(image(alloc))?
+        .arg(option(alloc, "listen", "ADDRESS", "Where clients connect"))?
+        .arg(option(alloc, "link", "ADDRESS", "Where the standby listens"))?;
+    Ok(command)
+}
+
+fn standby_command<'a>(alloc: Global) -> Result<Command<'a>, Error> {
+    let command = Command::new(alloc, "standby")
+        .about("Follows a primary")
+        .arg(image(alloc))?
+        .arg(option(alloc, "listen", "ADDRESS", "Where the primary connects"))?;
+    Ok(command)
+}
+
+fn inspect_command<'a>(alloc: Global) -> Result<Command<'a>, Error> {
+    let command = Command::new(alloc, "inspect")
+        .about("Prints what an image holds")
+        .arg(image(alloc))?;
+    Ok(command)
+}
+
+/// The option that names the image.
+fn image<'a>(alloc: Global) -> Arg<'a> {
+    option(alloc, "image", "FILE", "The file of the image")
+}
+
+/// An option with one value, which may not be left out.
+fn option<'a>(alloc: Global, name: &'a str, value: &'a str, help: &'a str) -> Arg<'a> {
+    Arg::new(alloc, name)
+        .long(name)
+        .value_name(value)
+        .help(help)
+        .required(true)
+        .action(ArgAction::Set)
+}
+
+/// What was asked for, if each option of the subcommand has its value.
+fn asked<'a>(matches: &ArgMatches<'a>) -> Option<Task<'a>> {
+    let (name, found) = matches.subcommand()?;
+    let image = found.get_str("image")?;
+    match name {
+        "format" => Some(Task::Format {
+            image,
+            lines: found.get_one("lines")?,
+            role: role_named(found.get_str("role")?),
+        }),
+        PRIMARY => Some(Task::Primary {
+            image,
+            listen: found.get_str("listen")?,
+            link: found.get_str("link")?,
+        }),
+        "standby" => Some(Task::Standby {
+            image,
+            listen: found.get_str("listen")?,
+        }),
+        "inspect" => Some(Task::Inspect { image }),
+        _ => None,
+    }
+}
+
+/// The role of this name, which is one of the two.
+fn role_named(name: &str) -> Role {
+    if name == PRIMARY {
+        Role::Primary
+    } else {
+        Role::Standby
+    }
+}

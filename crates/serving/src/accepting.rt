@@ -1,0 +1,302 @@
+//! The acceptor's thread: it gives each connection a seat and its two threads, and joins those that have ended.
+ghost use Rattle.std.specs.Prelude.{◌≡◌};
+ghost use Rattle.std.specs.Arc.{arc_value};
+
+use clients::{Asks, Cards, Connection, ReplyWriter, RequestReader, Tells, new_connection};
+use lobby::Entrance;
+use marks::{MarkSeat, Marks, Reader};
+use pipes::Seat;
+use slab::Slab;
+use std::alloc::Global;
+use std::io::Write;
+use std::net::{TcpListener, TcpStream};
+use std::sync::{Arc, Mutex, Wait};
+use std::thread;
+use std::thread::{JoinHandle, Threads};
+use std::time::Clock;
+use wakes::{Bell, ReadyList, Sleeper};
+
+/// Where connections get their seats, and wait until the node's thread takes them in.
+pub type Door = Mutex<Entrance<Asks, Tells>>;
+
+/// What a client is told that finds all seats taken.
+const NO_SEAT: &[u8] = b"-ERR max number of clients reached\r\n";
+
+/// A thread of a connection that has ended, by the connection's place.
+#[derive(Clone, Copy, Debug)]
+enum Exit {
+    Reader(usize),
+    Writer(usize),
+}
+
+/// The threads of a connection that were not joined yet.
+#[derive(Drop)]
+struct Running {
+    reader: Option<JoinHandle<()>>,
+    writer: Option<JoinHandle<()>>,
+}
+
+/// The marks, with a seat from which each writer gets one of its own.
+#[derive(Drop)]
+struct Root {
+    marks: Arc<Marks>,
+    seat: MarkSeat,
+    ghost of_these: { seat.marks ≡ arc_value marks },
+}
+
+impl Root {
+    fn reader(&mut self) -> MarkSeat
+        ensures of { result.marks ≡ arc_value self.new.marks }
+    {
+        self.marks.split_seat::<Reader>(&mut self.seat)
+    }
+}
+
+/// What the acceptor owns.
+#[derive(Drop)]
+pub struct Acceptor {
+    root: Root,
+    ready: Arc<ReadyList>,
+    cards: Arc<Cards>,
+    /// Wakes the node's thread.
+    node: Bell,
+    /// Where it rests when there are no more descriptors.
+    sleeper: Sleeper,
+    /// How often a writer gives way before it sleeps.
+    spin: u32,
+}
+
+impl Acceptor {
+    /// An acceptor, with a seat of these marks from which each writer gets one.
+    pub fn new(
+        marks: Arc<Marks>,
+        seat: MarkSeat,
+        ready: Arc<ReadyList>,
+        cards: Arc<Cards>,
+        node: Bell,
+        sleeper: Sleeper,
+        spin: u32,
+    ) -> Acceptor
+        requires { seat.marks ≡ arc_value marks }
+    {
+        Acceptor {
+            root: Root { marks, seat },
+            ready,
+            cards,
+            node,
+            sleeper,
+            spin,
+        }
+    }
+
+    /// Accepts connections until the listener ends. A connection for which there is no seat is told so and closed; one for which memory or a thread
+    /// is refused is closed.
+    pub fn run<R: Threads + Wait + Clock + Copy + Send + 'static>(
+        self,
+        rt: R,
+        alloc: Global,
+        listener: &TcpListener,
+        door: &Arc<Door>,
+    ) {
+        let mut acceptor = self;
+        let Ok(exits) = Arc::new(alloc, Mutex::new(Vec::new(alloc))) else {
+            return;
+        };
+        let mut running = Slab::new(alloc);
+        for stream in listener.incoming() {
+            reap(&rt, &exits, &mut running);
+            match stream {
+                Ok(stream) => acceptor.admit(rt, alloc, stream, door, &exits, &mut running),
+                Err(_) => acceptor.sleeper.sleep(&rt),
+            }
+        }
+    }
+
+    /// Gives a connection a seat, if there is one.
+    fn admit<R: Threads + Wait + Clock + Copy + Send + 'static>(
+        &mut self,
+        rt: R,
+        alloc: Global,
+        stream: TcpStream,
+        door: &Arc<Door>,
+        exits: &Arc<Mutex<Vec<Exit>>>,
+        running: &mut Slab<Running>,
+    ) {
+        let entered = door.lock(&rt).enter();
+        match entered {
+            Ok(seat) => self.connect(rt, alloc, stream, seat, door, exits, running),
+            Err(_) => {
+                let _ = (&mut &stream).write_all(NO_SEAT);
+            }
+        }
+    }
+
+    /// Makes what the connection's threads need.
+    fn connect<R: Threads + Wait + Clock + Copy + Send + 'static>(
+        &mut self,
+        rt: R,
+        alloc: Global,
+        stream: TcpStream,
+        seat: Seat,
+        door: &Arc<Door>,
+        exits: &Arc<Mutex<Vec<Exit>>>,
+        running: &mut Slab<Running>,
+    ) {
+        let mark = self.root.reader();
+        let made = new_connection(
+            alloc,
+            stream,
+            seat,
+            &self.ready,
+            &self.cards,
+            &self.root.marks,
+            mark,
+            self.spin,
+        );
+        match made {
+            Ok(connection) => self.start(rt, alloc, connection, door, exits, running),
+            Err(seat) => door.lock(&rt).leave(seat),
+        }
+    }
+
+    /// Starts the connection's threads, and lets it wait at the door.
+    fn start<R: Threads + Wait + Clock + Copy + Send + 'static>(
+        &self,
+        rt: R,
+        alloc: Global,
+        connection: Connection,
+        door: &Arc<Door>,
+        exits: &Arc<Mutex<Vec<Exit>>>,
+        running: &mut Slab<Running>,
+    ) {
+        let Connection {
+            arrival,
+            reader,
+            writer,
+            ..
+        } = connection;
+        let place = running.vacant_key();
+        let Some(writing) = start_writer(rt, alloc, writer, exits, place) else {
+            door.lock(&rt).leave(arrival.seat);
+            return;
+        };
+        let reading = start_reader(rt, alloc, reader, exits, place);
+        if reading.is_none() {
+            // nothing will be asked, so the connection is over as soon as it is served
+            arrival.requests.line.is_read.set();
+        }
+        let _ = running.insert(Running {
+            reader: reading,
+            writer: Some(writing),
+        });
+        let _ = door.lock(&rt).arrive(arrival);
+        self.node.ring();
+    }
+}
+
+fn start_writer<R: Threads + Wait + Clock + Copy + Send + 'static>(
+    rt: R,
+    alloc: Global,
+    writer: ReplyWriter,
+    exits: &Arc<Mutex<Vec<Exit>>>,
+    place: usize,
+) -> Option<JoinHandle<()>> {
+    spawn(rt, alloc, writer, exits, Exit::Writer(place))
+}
+
+fn start_reader<R: Threads + Wait + Clock + Copy + Send + 'static>(
+    rt: R,
+    alloc: Global,
+    reader: RequestReader,
+    exits: &Arc<Mutex<Vec<Exit>>>,
+    place: usize,
+) -> Option<JoinHandle<()>> {
+    spawn(rt, alloc, reader, exits, Exit::Reader(place))
+}
+
+/// What a thread of its own does.
+pub(crate) trait Task {
+    fn run<R: Wait + Clock>(self, rt: &R, alloc: Global);
+}
+
+impl Task for RequestReader {
+    fn run<R: Wait + Clock>(self, rt: &R, alloc: Global) {
+        RequestReader::run(self, rt, alloc);
+    }
+}
+
+impl Task for ReplyWriter {
+    fn run<R: Wait + Clock>(self, rt: &R, _alloc: Global) {
+        ReplyWriter::run(self, rt);
+    }
+}
+
+/// Starts a thread that does this and then tells that it has ended. `None` where memory or the thread is refused.
+fn spawn<R: Threads + Wait + Clock + Copy + Send + 'static, T: Task + Send + Drop + 'static>(
+    rt: R,
+    alloc: Global,
+    task: T,
+    exits: &Arc<Mutex<Vec<Exit>>>,
+    exit: Exit,
+) -> Option<JoinHandle<()>> {
+    let exits = Arc::try_clone(exits).ok()?;
+    let spawned = thread::spawn(&rt, move || {
+        task.run(&rt, alloc);
+        tell(&rt, &exits, exit);
+    });
+    spawned.ok()
+}
+
+// Tells the acceptor that a thread has ended. (where memory for that is refused, the thread is joined by nobody)
+fn tell<R: Wait>(rt: &R, exits: &Arc<Mutex<Vec<Exit>>>, exit: Exit) {
+    let _ = exits.lock(rt).push(exit);
+}
+
+// Joins the threads that have ended.
+fn reap<R: Threads + Wait>(rt: &R, exits: &Arc<Mutex<Vec<Exit>>>, running: &mut Slab<Running>) {
+    for _ in 0..u64::MAX {
+        let Some(exit) = exits.lock(rt).pop() else {
+            return;
+        };
+        let place = join(rt, running, exit);
+        let is_over = match running.get(place) {
+            Some(threads) => threads.reader.is_none() && threads.writer.is_none(),
+            None => false,
+        };
+        if is_over {
+            let _ = running.try_remove(place);
+        }
+    }
+}
+
+// Joins a thread that has ended, and answers the place of its connection.
+fn join<R: Threads + Wait>(rt: &R, running: &mut Slab<Running>, exit: Exit) -> usize {
+    match exit {
+        Exit::Reader(place) => {
+            if let Some(thread) = reader_at(running, place) {
+                thread.join(rt);
+            }
+            place
+        }
+        Exit::Writer(place) => {
+            if let Some(thread) = writer_at(running, place) {
+                thread.join(rt);
+            }
+            place
+        }
+    }
+}
+
+fn reader_at(running: &mut Slab<Running>, place: usize) -> Option<JoinHandle<()>> {
+    match running.get_mut(place) {
+        Some(threads) => threads.reader.take(),
+        None => None,
+    }
+}
+
+fn writer_at(running: &mut Slab<Running>, place: usize) -> Option<JoinHandle<()>> {
+    match running.get_mut(place) {
+        Some(threads) => threads.writer.take(),
+        None => None,
+    }
+}

@@ -1,0 +1,15 @@
+//! The threads of a primary that many connections share: the node's own, and the acceptor.
+#![tactic(auto)]
+
+mod accepting;
+mod floor;
+mod local_mark;
+mod node;
+mod starting;
+mod turns;
+
+pub use accepting::{Acceptor, Door};
+pub use floor::Floor;
+pub use local_mark::LocalMark;
+pub use node::{Node, serve};
+pub use starting::run;

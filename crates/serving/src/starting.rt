@@ -1,0 +1,229 @@
+//! A primary's threads are made, and started.
+ghost use Rattle.std.specs.Prelude.{◌≡◌};
+ghost use Rattle.std.specs.Arc.{arc_value};
+ghost use Rattle.primary.specs.Standing.{Stands};
+
+use crate::accepting::{Acceptor, Door};
+use crate::floor::Floor;
+use crate::local_mark::LocalMark;
+use crate::node::{Node, serve};
+use clients::Cards;
+use kv_types::Refusal;
+use links::{AckReceiver, LinkSender, Outgoing, RemoteMark, Watch};
+use lobby::Entrance;
+use marks::{Committer, MarkSeat, Marks, Reader};
+use model::Group;
+use mv_keyspace::Keyspace;
+use pipes::RingPipe;
+use primary::{Opened, Primary};
+use standby_stream::{Link, Opening};
+use std::alloc::Global;
+use std::net::{Net, TcpListener, TcpStream};
+use std::sync::{Arc, Mutex, Wait};
+use std::thread;
+use std::thread::Threads;
+use std::time::Clock;
+use wakes::{Bell, DueOut, Flag, Idle, ReadyList, bell, due_list};
+use wbl_engine::Durable;
+
+/// How often a thread gives way to others before it sleeps.
+const SPIN: u32 = 30;
+
+/// What the threads of a primary own, each its own.
+#[derive(Drop)]
+struct Threading {
+    node: Node,
+    sender: LinkSender,
+    receiver: AckReceiver,
+    acceptor: Acceptor,
+    door: Arc<Door>,
+}
+
+/// The marks, as each thread has them.
+#[derive(Drop)]
+struct Seats {
+    marks: Arc<Marks>,
+    root: MarkSeat,
+    local: LocalMark,
+    remote: RemoteMark,
+    watch: Watch,
+    ghost of_these: { root.marks ≡ arc_value marks },
+}
+
+/// Serves clients at this listener, and sends to the standby at this address, until the engine refuses a step. The threads that it started end with
+/// the program.
+///
+/// The answer is why: `Fault` or `Exhausted` of the engine, or `Memory` where there was none to begin with, for a thread, or for a step of the committer.
+pub fn run<
+    R: Threads
+        + Wait
+        + Clock
+        + Net<Listener = TcpListener, Stream = TcpStream>
+        + Copy
+        + Send
+        + 'static,
+    E: Durable + Drop,
+    K: Keyspace + Drop,
+>(rt: R, alloc: Global, opened: Opened<E, K>, listener: TcpListener, address: String) -> Refusal
+    requires { Stands E.device E.contents opened.primary }
+{
+    let Opened {
+        primary,
+        opening,
+        epoch,
+    } = opened;
+    let position = primary.durable_position();
+    match new_threading(alloc, position, opening, epoch, address) {
+        Ok(threading) => start(rt, alloc, threading, listener, primary),
+        Err(refusal) => refusal,
+    }
+}
+
+/// Starts the threads beside the node's own, which is this one.
+fn start<
+    R: Threads
+        + Wait
+        + Clock
+        + Net<Listener = TcpListener, Stream = TcpStream>
+        + Copy
+        + Send
+        + 'static,
+    E: Durable + Drop,
+    K: Keyspace + Drop,
+>(
+    rt: R,
+    alloc: Global,
+    threading: Threading,
+    listener: TcpListener,
+    primary: Primary<E, K>,
+) -> Refusal
+    requires { Stands E.device E.contents primary }
+{
+    let Threading {
+        node,
+        sender,
+        receiver,
+        acceptor,
+        door,
+    } = threading;
+    let sending = thread::spawn(&rt, move || sender.run(rt, alloc, receiver));
+    let is_accepting = start_acceptor(rt, alloc, acceptor, listener, door);
+    if sending.is_err() || !is_accepting {
+        return Refusal::Memory;
+    }
+    serve(&rt, alloc, node, primary)
+}
+
+/// Starts the acceptor's thread. Answers whether it did.
+fn start_acceptor<R: Threads + Wait + Clock + Copy + Send + 'static>(
+    rt: R,
+    alloc: Global,
+    acceptor: Acceptor,
+    listener: TcpListener,
+    door: Arc<Door>,
+) -> bool {
+    thread::spawn(&rt, move || acceptor.run(rt, alloc, &listener, &door)).is_ok()
+}
+
+fn new_threading(
+    alloc: Global,
+    position: u64,
+    opening: Opening,
+    epoch: u64,
+    address: String,
+) -> Result<Threading, Refusal> {
+    let Seats {
+        marks,
+        root,
+        local,
+        remote,
+        watch,
+    } = new_seats(alloc, position)?;
+    let (node_sleeper, node_bell) = bell(alloc)?;
+    let (link_sleeper, link_bell) = bell(alloc)?;
+    let (due_in, due_out) = due_list(alloc)?;
+    let groups = RingPipe::<Group>::new(alloc)?;
+    let door: Arc<Door> = Arc::new(alloc, Mutex::new(Entrance::new(alloc)?))?;
+    let ready = Arc::new(alloc, ReadyList::new(alloc, node_bell.another()?)?)?;
+    let is_broken = Arc::new(alloc, Flag::new())?;
+    let acceptor = new_acceptor(alloc, marks, root, &ready, node_bell.another()?)?;
+    let receiver = new_receiver(remote, due_out, epoch, &link_bell, &node_bell, &is_broken)?;
+    let sender = LinkSender {
+        address,
+        outgoing: Outgoing::new(Link::new(alloc, epoch)?, opening),
+        groups: groups.inlet,
+        sleeper: link_sleeper,
+        node: node_bell,
+        is_broken,
+        watch,
+        spin: SPIN,
+    };
+    let node = Node {
+        floor: Floor::new(alloc, Arc::try_clone(&door)?, ready, due_in)?,
+        mark: local,
+        groups: groups.outlet,
+        link: link_bell,
+        sleeper: node_sleeper,
+        idle: Idle::new(SPIN),
+    };
+    Ok(Threading {
+        node,
+        sender,
+        receiver,
+        acceptor,
+        door,
+    })
+}
+
+/// Marks that begin at this position, with a seat for each thread.
+fn new_seats(alloc: Global, position: u64) -> Result<Seats, Refusal> {
+    let (marks, root) = Marks::new(alloc, position)?;
+    let mut root = root;
+    let local = marks.split_seat::<Committer>(&mut root);
+    let remote = marks.split_seat::<marks::Link>(&mut root);
+    let watch = marks.split_seat::<Reader>(&mut root);
+    let marks = Arc::new(alloc, marks)?;
+    let local = LocalMark::new(Arc::try_clone(&marks)?, local);
+    let remote = RemoteMark::new(Arc::try_clone(&marks)?, remote);
+    let watch = Watch::new(Arc::try_clone(&marks)?, watch);
+    Ok(Seats {
+        marks,
+        root,
+        local,
+        remote,
+        watch,
+    })
+}
+
+fn new_acceptor(
+    alloc: Global,
+    marks: Arc<Marks>,
+    root: MarkSeat,
+    ready: &Arc<ReadyList>,
+    node: Bell,
+) -> Result<Acceptor, Refusal>
+    requires { root.marks ≡ arc_value marks }
+{
+    let (sleeper, _) = bell(alloc)?;
+    let cards = Arc::new(alloc, Cards::new(alloc)?)?;
+    let ready = Arc::try_clone(ready)?;
+    Ok(Acceptor::new(marks, root, ready, cards, node, sleeper, SPIN))
+}
+
+fn new_receiver(
+    mark: RemoteMark,
+    due: DueOut,
+    epoch: u64,
+    link: &Bell,
+    node: &Bell,
+    is_broken: &Arc<Flag>,
+) -> Result<AckReceiver, Refusal> {
+    Ok(AckReceiver {
+        mark,
+        due,
+        epoch,
+        link: link.another()?,
+        node: node.another()?,
+        is_broken: Arc::try_clone(is_broken)?,
+    })
+}

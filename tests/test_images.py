@@ -1,0 +1,341 @@
+"""The server's subcommands over image files (docs/server.md): what `format` writes, what `inspect` prints, every refusal of an image, and
+command lines that are none."""
+
+import contextlib
+import fcntl
+import os
+import pathlib
+import struct
+import tempfile
+
+import plain_image
+from common import Cases, run_program
+from plain_image import PRIMARY, STANDBY, Words, Writer
+from plain_keyspace import DropKey, Put
+from test_probe_damage import BASE, ENTRIES_ALONE, ENTRIES_TOGETHER, RECORDS, SLOT, STRANGE, SUPERBLOCKS
+
+PROGRAMS = ["server"]
+
+LINE_BYTES = 64
+LINES = 4_096
+ROLES = {PRIMARY: "primary", STANDBY: "standby"}
+DONE, FAILED, MISUSED = 0, 1, 2
+
+# "Refusals" of docs/replication.md, those of images and their files.
+TEXTS = {1: "device fault", 2: "bad magic", 3: "bad version", 4: "wrong size", 7: "damaged image", 16: "wrong role"}
+
+
+def refusal(number):
+    """What the program tells of a refusal."""
+    return f"refusal {number}: {TEXTS[number]}\n".encode()
+
+
+def image_bytes(lines, words):
+    """A file of so many lines with these words, and zeros elsewhere."""
+    count = lines * plain_image.WORDS_OF_LINE
+    return struct.pack(f"<{count}Q", *(words.get(word, 0) for word in range(count)))
+
+
+def words_of(data):
+    """The words of a file that are not zero."""
+    found = struct.unpack(f"<{len(data) // 8}Q", data)
+    return {word: value for word, value in enumerate(found) if value}
+
+
+def told(record, live):
+    """What `inspect` prints of a record with so many live entries."""
+    lines = [f"record {record.number}", f"position {record.position}", f"cp {record.cp}", f"cd {record.cd}"]
+    lines += [f"epoch {record.epoch}", f"role {ROLES[record.role]}", f"gaps {len(record.gaps)}"]
+    lines += [f"gap {first} {last}" for first, last in record.gaps]
+    return "".join(f"{line}\n" for line in [*lines, f"live {live}"]).encode()
+
+
+def format_words(path, lines=LINES, role="primary"):
+    return ["format", "--image", str(path), "--lines", str(lines), "--role", role]
+
+
+class Images(Cases):
+    """Tests over files in a folder of their own."""
+
+    @contextlib.contextmanager
+    def folder(self):
+        with tempfile.TemporaryDirectory() as name:
+            yield pathlib.Path(name)
+
+    def run_words(self, words, **options):
+        return run_program("server", words, **options)
+
+    def assert_refused(self, words, number):
+        finished = self.run_words(words)
+        self.assertEqual(finished, (FAILED, b"", refusal(number)))
+
+    def inspect(self, path):
+        return self.run_words(["inspect", "--image", str(path)])
+
+
+class Formatting(Images):
+    def test_a_new_image(self):
+        for lines, role in [(4_096, PRIMARY), (4_096, STANDBY), (4_103, PRIMARY), (5_000, STANDBY), (40_000, PRIMARY)]:
+            with self.case("image", lines=lines, role=role), self.folder() as folder:
+                path = folder / "p.img"
+                finished = self.run_words(format_words(path, lines, ROLES[role]))
+                self.assert_written(finished, b"formatted %d lines, %d entries\n" % (lines, lines // 8))
+                self.assert_bytes(path.read_bytes(), image_bytes(lines, Writer(lines, role).words))
+
+    def test_over_another_image(self):
+        """All but the extents is new."""
+        with self.folder() as folder:
+            path = folder / "p.img"
+            path.write_bytes(b"\xa5" * LINES * LINE_BYTES)
+            self.assert_written(self.run_words(format_words(path, role="standby")), b"formatted 4096 lines, 512 entries\n")
+            data, front = path.read_bytes(), plain_image.extents_begin(LINES) * LINE_BYTES
+            self.assert_bytes(data[:front], image_bytes(LINES, Writer(LINES, STANDBY).words)[:front])
+            self.assert_bytes(data[front:], b"\xa5" * (LINES * LINE_BYTES - front))
+
+    def test_numbers_of_lines_that_no_image_has(self):
+        with self.folder() as folder:
+            for lines in (0, 1, 4_095, 2**31 + 1, 2**62, 2**64 - 1):
+                with self.case("lines", lines=lines):
+                    self.assert_refused(format_words(folder / "p.img", lines), 4)
+                    self.assertEqual(os.listdir(folder), [])
+
+    def test_a_file_of_another_size(self):
+        with self.folder() as folder:
+            path = folder / "p.img"
+            for size in (0, 1, LINES * LINE_BYTES - 1, LINES * LINE_BYTES + 1, (LINES + 1) * LINE_BYTES):
+                with self.case("size", size=size):
+                    path.write_bytes(b"\1" * size)
+                    self.assert_refused(format_words(path), 4)
+                    self.assertEqual(path.read_bytes(), b"\1" * size)
+
+    def test_files_that_cannot_be_made(self):
+        with self.folder() as folder:
+            for path in (folder, folder / "none" / "p.img", ""):
+                with self.case("path", path=str(path)):
+                    self.assert_refused(format_words(path), 1)
+
+    def test_output_that_fails(self):
+        with self.folder() as folder, open("/dev/full", "wb") as full:
+            finished = self.run_words(format_words(folder / "p.img"), stdout=full)
+            self.assertEqual(finished.status, FAILED)
+            self.assertRegex(finished.errors, rb"\A[^\n]+\n\Z")
+            # the image is there all the same
+            self.assert_written(self.inspect(folder / "p.img"), told(Writer(LINES, PRIMARY).record, 0))
+
+
+class Inspecting(Images):
+    def assert_told(self, lines, words, text):
+        """So much is printed of an image of these words, and it is as it was."""
+        with self.folder() as folder:
+            path, data = folder / "p.img", image_bytes(lines, words)
+            path.write_bytes(data)
+            self.assert_written(self.inspect(path), text)
+            self.assert_bytes(path.read_bytes(), data)
+
+    def test_three_keys(self):
+        """Three SETs as one group, before a reopening and after it."""
+        writer = Writer(LINES, PRIMARY)
+        writer.commit([[Put((key,), b"1")] for key in (b"a", b"b", b"c")])
+        self.assert_told(LINES, writer.words, b"record 2\nposition 3\ncp 3\ncd 4100\nepoch 1\nrole primary\ngaps 0\nlive 3\n")
+        writer.reopen()
+        text = b"record 3\nposition 3\ncp 4100\ncd 8197\nepoch 1\nrole primary\ngaps 1\ngap 4 4099\nlive 3\n"
+        self.assert_told(LINES, writer.words, text)
+
+    def test_new_images(self):
+        for lines, role in [(4_096, PRIMARY), (4_103, STANDBY), (40_000, STANDBY)]:
+            with self.case("image", lines=lines, role=role):
+                name = ROLES[role].encode()
+                text = b"record 1\nposition 0\ncp 0\ncd 4097\nepoch 1\nrole %s\ngaps 0\nlive 0\n" % name
+                self.assert_told(lines, Writer(lines, role).words, text)
+
+    def test_versions_that_have_ended_are_not_live(self):
+        writer = Writer(LINES, PRIMARY)
+        writer.commit([[Put((b"a",), b"1")], [Put((b"a",), b"2")], [Put((b"h", b"f"), b"3")], [Put((b"h", b"g"), b"4")]])
+        self.assert_told(LINES, writer.words, told(writer.record, 3))
+        writer.commit([[DropKey(b"h")]])
+        self.assert_told(LINES, writer.words, told(writer.record, 1))
+
+    def test_eight_gaps(self):
+        writer = Writer(LINES, STANDBY)
+        for count in range(1, 11):
+            writer.reopen()
+            with self.case("reopenings", count=count):
+                self.assert_told(LINES, writer.words, told(writer.record, 0))
+
+    def test_a_full_image(self):
+        writer = Writer(LINES, PRIMARY)
+        for at in range(0, 512, 64):
+            writer.commit([[Put((b"k%d" % key,), b"v")] for key in range(at, at + 64)])
+        self.assert_told(LINES, writer.words, told(writer.record, 512))
+
+    def test_images_that_break_no_rule(self):
+        for name, changes in STRANGE:
+            with self.case(name):
+                words = BASE.words | changes
+                image = plain_image.read_image(Words(LINES, words))
+                self.assert_told(LINES, words, told(image.record, len(image.map)))
+
+    def test_large_numbers(self):
+        changes = dict(enumerate([2**62 - 2, 2**62 - 1], SLOT + 1))
+        changes |= {SLOT + 2: 2**62 - 4_098, SLOT + 3: 2**62 - 1, SLOT + 4: 2**62 - 1}
+        words = BASE.words | changes
+        record = plain_image.read_image(Words(LINES, words)).record
+        self.assert_told(LINES, words, told(record, len(plain_image.read_image(Words(LINES, words)).map)))
+
+
+class Refusals(Images):
+    """Files that are no image are refused with their cause, and stay as they were."""
+
+    def assert_no_image(self, path, number):
+        before = path.read_bytes()
+        self.assert_refused(["inspect", "--image", str(path)], number)
+        self.assertEqual(path.read_bytes(), before)
+
+    def check(self, table):
+        with self.folder() as folder:
+            path = folder / "p.img"
+            for name, number, changes in table:
+                with self.case(name):
+                    path.write_bytes(image_bytes(LINES, BASE.words | changes))
+                    self.assert_no_image(path, number)
+
+    def test_superblocks(self):
+        self.check(SUPERBLOCKS)
+
+    def test_records(self):
+        self.check(RECORDS)
+
+    def test_entries(self):
+        self.check(ENTRIES_ALONE + ENTRIES_TOGETHER)
+
+    def test_sizes(self):
+        whole = image_bytes(LINES, BASE.words)
+        with self.folder() as folder:
+            path = folder / "p.img"
+            for name, data in [("nothing", b""), ("a line less", whole[:-LINE_BYTES]), ("a byte less", whole[:-1]), ("a byte more", whole + b"\0")]:
+                with self.case(name):
+                    path.write_bytes(data)
+                    self.assert_no_image(path, 4)
+            # it has lines enough, and its superblock names another number
+            path.write_bytes(whole + bytes(LINE_BYTES))
+            self.assert_no_image(path, 4)
+
+    def test_no_file(self):
+        with self.folder() as folder:
+            for path in (folder / "none.img", folder, ""):
+                with self.case("path", path=str(path)):
+                    self.assert_refused(["inspect", "--image", str(path)], 1)
+            self.assertEqual(os.listdir(folder), [])
+
+    def test_an_image_that_is_open_elsewhere(self):
+        with self.folder() as folder:
+            path = folder / "p.img"
+            data = image_bytes(LINES, BASE.words)
+            path.write_bytes(data)
+            with open(path, "r+b") as held:
+                fcntl.flock(held, fcntl.LOCK_EX | fcntl.LOCK_NB)
+                self.assert_refused(["inspect", "--image", str(path)], 1)
+                self.assert_refused(format_words(path), 1)
+            self.assert_written(self.inspect(path), told(BASE.record, len(plain_image.read_image(Words(LINES, BASE.words)).map)))
+            self.assert_bytes(path.read_bytes(), data)
+
+
+class StandingBy(Images):
+    """A standby that cannot begin: its image is looked at before its address."""
+
+    NOWHERE = "127.0.0.1:99999"
+
+    def standby_words(self, path):
+        return ["standby", "--image", str(path), "--listen", self.NOWHERE]
+
+    def test_an_image_of_the_other_role(self):
+        with self.folder() as folder:
+            path = folder / "p.img"
+            data = image_bytes(LINES, Writer(LINES, PRIMARY).words)
+            path.write_bytes(data)
+            self.assert_refused(self.standby_words(path), 16)
+            self.assert_bytes(path.read_bytes(), data)
+
+    def test_images_that_are_none(self):
+        with self.folder() as folder:
+            path = folder / "s.img"
+            self.assert_refused(self.standby_words(path), 1)
+            for name, number, changes in SUPERBLOCKS:
+                with self.case(name):
+                    data = image_bytes(LINES, Writer(LINES, STANDBY).words | changes)
+                    path.write_bytes(data)
+                    self.assert_refused(self.standby_words(path), number)
+                    self.assert_bytes(path.read_bytes(), data)
+
+    def test_an_address_that_is_none(self):
+        with self.folder() as folder:
+            path, writer = folder / "s.img", Writer(LINES, STANDBY)
+            path.write_bytes(image_bytes(LINES, writer.words))
+            self.assertEqual(self.run_words(self.standby_words(path)), (FAILED, b"", b"cannot listen\n"))
+            # the image was opened again before
+            writer.reopen()
+            self.assert_written(self.inspect(path), told(writer.record, 0))
+
+
+class CommandLines(Images):
+    """A command line that is none, or asks for help, is answered on standard error with status 2, before any file is touched."""
+
+    def assert_misused(self, words, naming):
+        finished = self.run_words(words)
+        self.assertEqual((finished.status, finished.output), (MISUSED, b""))
+        self.assertIn(naming, finished.errors)
+        self.assertTrue(finished.errors.endswith(b"\n"))
+
+    def test_words_that_are_no_command_line(self):
+        with self.folder() as folder:
+            path = str(folder / "p.img")
+            good = format_words(path)
+            for name, words, naming in [
+                ("another subcommand", ["formats", *good[1:]], b"formats"),
+                ("a subcommand in capitals", ["FORMAT", *good[1:]], b"FORMAT"),
+                ("an option before the subcommand", [*good[1:3], *good[:1], *good[3:]], b"--image"),
+                ("no image", ["format", *good[3:]], b"--image"),
+                ("no lines", [*good[:3], *good[5:]], b"--lines"),
+                ("no role", good[:5], b"--role"),
+                ("no value", good[:-1], b"--role"),
+                ("another role", [*good[:-1], "newcomer"], b"newcomer"),
+                ("a role in capitals", [*good[:-1], "Primary"], b"Primary"),
+                ("no number", format_words(path, "many"), b"many"),
+                ("no digits", format_words(path, ""), b"--lines"),
+                ("a number below 0", [*good[:3], "--lines=-1", *good[5:]], b"-1"),
+                ("a fraction", format_words(path, "4096.0"), b"4096.0"),
+                ("more than 64 bits", format_words(path, 2**64), b"18446744073709551616"),
+                ("an option twice", [*good, "--lines", "4096"], b"--lines"),
+                ("an unknown option", [*good, "--force"], b"--force"),
+                ("a word more", [*good, "now"], b"now"),
+                ("inspect without an image", ["inspect"], b"--image"),
+                ("inspect of two words", ["inspect", "--image", path, path], path.encode()),
+                ("inspect with lines", ["inspect", "--image", path, "--lines", "4096"], b"--lines"),
+                ("no subcommand", ["--"], b"Usage: wbl-server"),
+                ("bytes that are no text", ["inspect", "--image", b"\xff\xfe"], b"UTF-8"),
+            ]:
+                with self.case(name):
+                    self.assert_misused(words, naming)
+                    self.assertEqual(os.listdir(folder), [])
+
+    def test_help(self):
+        for words in (["help"], ["--help"], ["-h"]):
+            with self.case("help", words=words):
+                for naming in (b"format", b"inspect", b"primary", b"standby"):
+                    self.assert_misused(words, naming)
+        for words in (["help", "format"], ["format", "--help"], ["format", "--lines", "4096", "-h"]):
+            with self.case("help of a subcommand", words=words):
+                for naming in (b"--image", b"--lines", b"--role", b"standby"):
+                    self.assert_misused(words, naming)
+
+    def test_faults_of_the_command_line_come_first(self):
+        with self.folder() as folder:
+            self.assert_misused(["inspect", "--image", str(folder / "none.img"), "--now"], b"--now")
+            self.assert_misused(format_words(folder / "none" / "p.img", "x"), b"--lines")
+
+    def test_a_value_behind_an_equals_sign(self):
+        with self.folder() as folder:
+            path = folder / "p.img"
+            words = ["format", f"--image={path}", "--role=standby", "--lines=4096"]
+            self.assert_written(self.run_words(words), b"formatted 4096 lines, 512 entries\n")
+            self.assert_written(self.run_words(["inspect", f"--image={path}"]), told(Writer(LINES, STANDBY).record, 0))
