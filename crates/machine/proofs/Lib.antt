@@ -20,4 +20,10 @@ pub mod GrowLemmas
 pub mod StayLemmas
 pub mod CountLemmas
 pub mod LawLemmas
+pub mod ItemLemmas
+pub mod TransactionLemmas
+pub mod OpenedLemmas
+pub mod WatchedLemmas
+pub mod ModifiedLemmas
+pub mod ExecLemmas
 pub mod WorkedRun

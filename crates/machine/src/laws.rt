@@ -24,6 +24,7 @@ ghost use Rattle.machine.specs.Law.{
   NothingIsReleasedUnacknowledged,
   OnlyWhatWasMadeIsDelivered,
 };
+ghost use Rattle.machine.specs.Transaction.{TransactionsAreReadOff, ExecRunsWhereItMay};
 ghost use Rattle.machine.specs.Worked.{FirstCaseIsARun};
 
 /// Whatever happens, and in whatever order: the bytes released to each connection begin the replies of one sequential Redis, which takes each
@@ -55,6 +56,14 @@ pub fn calls_take_requests_in_order()
     ensures legal { EveryListIsLegal }
     ensures serves { EveryListServes }
     ensures waiting { ItemsComeInOrder }
+{}
+
+/// A connection's transaction is open from the MULTI that was answered OK to the EXEC or DISCARD that ends it; what waits in it are the requests that were
+/// answered QUEUED since. EXEC runs them exactly where none since spoils the transaction and no watched key was modified since it was watched; otherwise
+/// it answers why not.
+pub fn transactions_are_read_off_the_list()
+    ensures read { TransactionsAreReadOff }
+    ensures exec { ExecRunsWhereItMay }
 {}
 
 /// The replies of an open connection's calls are what was released to it and what waits, in order, each with the position of the list after its call.
