@@ -119,16 +119,17 @@ def sums_of_sources(root):
 
 
 def note_proved(root, sums, began, lines):
-    """Notes of each crate what a gate proved that passed: the checksum when it began, and the names of its functions, which the gate's lines have
-    unless it took the proof from an earlier run. The file is as old as the gate's beginning."""
+    """Notes of each crate what a gate proved that passed: the checksum when it began, behind that of a program the SHA-256 of what it built, and the
+    names of its functions, which the gate's lines have unless it took the proof from an earlier run. The file is as old as the gate's beginning."""
     names = {}
     for found in (re.match(r"fn ((\w+)::\S+): proved$", line) for line in lines):
         if found:
             names.setdefault(found[2], set()).add(found[1])
     for name, sum_ in sums.items():
-        file = proved_file(root, name)
+        file, program = proved_file(root, name), root / "crates" / name / "out" / name
         file.parent.mkdir(exist_ok=True)
-        file.write_text("".join(f"{it}\n" for it in [sum_, *sorted(names.get(name, ()))]), encoding="ascii")
+        head = f"{sum_} {hashlib.sha256(program.read_bytes()).hexdigest()}" if program.is_file() else sum_
+        file.write_text("".join(f"{it}\n" for it in [head, *sorted(names.get(name, ()))]), encoding="ascii")
         os.utime(file, (began, began))
 
 
@@ -137,11 +138,11 @@ def proved_functions(root, crates, name, toolchain):
     file, library = proved_file(root, name), root / "crates" / name / "out" / "rlib"
     if not file.exists():
         return None
-    sum_, *names = file.read_text(encoding="ascii").splitlines()
+    head, *names = file.read_text(encoding="ascii").splitlines()
     # (one with a stamp was built by another command, and does not fit those of the gate)
     is_there = (library / f"{name}.rlib" / "format").exists() and not (library / "stamp").exists()
     is_library = (root / "crates" / name / "src" / "lib.rt").exists()
-    is_same = sum_ == sum_of_sources(root, crates, name, toolchain).hexdigest()
+    is_same = head.split()[0] == sum_of_sources(root, crates, name, toolchain).hexdigest()
     return names if is_same and (is_there or not is_library) else None
 
 
