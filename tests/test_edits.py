@@ -197,7 +197,8 @@ class Programs(common.Cases):
             root = pathlib.Path(folder)
             for name in ("bin", "tools", "crates/top/src", "crates/top/specs", "crates/top/proofs", "crates/top/out"):
                 (root / name).mkdir(parents=True)
-            shutil.copy(common.ROOT / "bin" / "run-program", root / "bin" / "run-program")
+            for name in ("run-program", "release", "wrong_bodies.py"):
+                shutil.copy(common.ROOT / "bin" / name, root / "bin")
             self.write(root / "crates.txt", "top:\n", 1_000)
             self.write(root / "crates" / "top" / "src" / "main.rt", "fn main() {}\n", source_time)
             for program, text in (("tools/rt", "exit 1"), ("crates/top/out/top", 'echo "ran $*"')):
@@ -233,7 +234,8 @@ mv out/new.$$ out/top
             root = pathlib.Path(folder)
             for name in ("bin", "tools", "crates/top/src", "crates/top/specs", "crates/top/proofs"):
                 (root / name).mkdir(parents=True)
-            shutil.copy(common.ROOT / "bin" / "run-program", root / "bin" / "run-program")
+            for name in ("run-program", "release", "wrong_bodies.py"):
+                shutil.copy(common.ROOT / "bin" / name, root / "bin")
             for name, text in (("crates.txt", "top:\n"), ("crates/top/src/main.rt", "fn main() {}\n"), ("tools/rt", self.SLOW)):
                 self.write(root / name, text, 1_000)
             (root / "tools" / "rt").chmod(0o755)
