@@ -19,7 +19,6 @@ ROOT = pathlib.Path(__file__).resolve().parent.parent
 PROGRAMS = {
     "server": ("WBL_SERVER", "bin/wbl-server < /dev/null"),
     "simulator": ("WBL_SIM", "bin/wbl-sim < /dev/null"),
-    "probe": ("WBL_PROBE", "bin/wbl-probe < /dev/null"),
     "bench": ("WBL_BENCH", "cd crates/bench && rt run"),
 }
 

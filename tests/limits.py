@@ -71,8 +71,6 @@ LIMITS = [
     ("docs/simulator.md", f"all changing calls that wait, 1 to {N}, become one group", PARTS),
     ("docs/simulator.md", f"fewer than {N} wait for their acknowledgement", KEPT),
     ("docs/simulator.md", f"At most {N} events are played", ("simulator", "MOST_EVENTS")),
-    ("docs/probe.md", f"a device of LINES lines of zeros, at most {N} ", ("probe", "MOST_LINES")),
-    ("docs/probe.md", f"`done`; at most {N} lines", ("probe", "MOST_LINES")),
     ("docs/worked-cases.md", rf"at keys of one byte: {N} bytes;", CHANGE_TEXT),
     ("docs/worked-cases.md", rf"images are new, of {N} lines \({N} entries", IMAGE_LINES, IMAGE_VERSIONS),
     ("crates/lobby/README.md", f"Gives out the {N} seats of a server", SEATS),

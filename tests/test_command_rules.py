@@ -1,6 +1,7 @@
 """The rules for all commands (docs/commands.md): what is refused before it runs, in which order; requests one after
 another; and requests drawn by a seed, against the plain Redis."""
 
+import itertools
 import re
 
 import common
@@ -18,7 +19,7 @@ from plain_replies import OK, array, bulk, error, integer, simple
 from simulation import Runs, Schedule
 from spelling import spell
 
-PROGRAMS = ["simulator"]
+PROGRAMS = ["server", "simulator"]
 
 PAGE = common.ROOT / "docs" / "commands.md"
 
@@ -202,6 +203,41 @@ class Served(Commands):
             ("HLEN hh", integer(0)),
             ("HKEYS h", array([bulk(b""), bulk(b"g")])),
         ], [((b"h", b""), b""), ((b"h", b"g"), b"2")])
+
+
+class Integers(common.Cases):
+    """Texts that are integers (rule 4): `0`, or an optional `-`, a digit 1 to 9 and digits, in 64 bits. Each is added to a key of its own."""
+
+    ALPHABET = b"019-+ "
+    AT_THE_BORDERS = [10**18, 2**63 - 2, 2**63 - 1, -(10**18), 1 - 2**63, -(2**63)]
+    PAST_THE_BORDERS = [2**63, 10**19 - 1, 10**19, 2**64 - 1, 2**64, 10**20 - 1, -(2**63) - 1, 1 - 10**19, -(10**19)]
+    OTHERS = [b"09223372036854775807", b"+9223372036854775807", b"-09223372036854775808"]
+    OTHERS += [b"1\n", b"\n1", b"1\0", b"0x1", b"1e1", b"1.0", b"1_0", b"\xff", b"\xd9\xa1", b"nan"]
+
+    def show(self, table):
+        """Texts, and of each its number or None."""
+        asked = b"".join(spell("INCRBY", f"k{number}", text) for number, (text, _) in enumerate(table))
+        finished = common.run_program("server", stdin=asked)
+        self.assertEqual((finished.status, finished.errors), (0, b""))
+        replies = finished.output.splitlines(keepends=True)
+        self.assertEqual(len(replies), len(table))
+        for (text, number), reply in zip(table, replies):
+            with self.case("text", text=text):
+                self.assertEqual(reply, NO_INTEGER if number is None else integer(number))
+
+    def test_every_text_of_at_most_four_characters(self):
+        integers = {str(number).encode(): number for number in range(-999, 10_000)}
+        texts = [bytes(text) for length in range(5) for text in itertools.product(self.ALPHABET, repeat=length)]
+        self.assertEqual(len(texts), 1 + 6 + 36 + 216 + 1_296)
+        # a zero; of 1 and 9 with 0, 1 and 9 behind them those of 1 to 4 digits; and those of 1 to 3 with a minus
+        self.assertEqual(sum(text in integers for text in texts), 1 + 2 * (1 + 3 + 9 + 27) + 2 * (1 + 3 + 9))
+        self.show([(text, integers.get(text)) for text in texts])
+
+    def test_at_the_borders(self):
+        self.show([(str(number).encode(), number) for number in self.AT_THE_BORDERS])
+
+    def test_past_the_borders(self):
+        self.show([(str(number).encode(), None) for number in self.PAST_THE_BORDERS] + [(text, None) for text in self.OTHERS])
 
 
 class Drawn(Runs):

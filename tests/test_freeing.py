@@ -247,7 +247,7 @@ class Drawn(Runs):
 
 class Gaps(Runs):
     """Gaps of a record. In a run no stamp lies in one, since no crash comes inside a commit: the entries that one leaves are those of
-    test_probe_engine.Gaps."""
+    test_standing_by.Following."""
 
     def opened(self, times):
         schedule = Schedule()

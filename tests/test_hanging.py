@@ -8,7 +8,6 @@ import tempfile
 from unittest import mock
 
 import common
-import test_pmem_file
 
 PROGRAMS = []
 
@@ -46,31 +45,3 @@ class InPieces(common.Cases):
             for name, pieces in [("much", [self.MORE_THAN_A_PIPE]), ("little", [b"x", b"x"]), ("nothing", [])]:
                 with self.case(name), self.assertRaisesRegex(subprocess.TimeoutExpired, f"timed out after {SHORT_SECONDS} seconds"):
                     common.run_in_pieces("server", pieces, SHORT_SECONDS)
-
-
-class Probes(common.Cases):
-    """A probe of a device over a file, which answers line by line."""
-
-    def ask(self, script, seconds=common.SECONDS, is_killed=False):
-        with program("WBL_PROBE", script), test_pmem_file.Probe(seconds=seconds) as probe:
-            self.assertEqual(probe.ask("fence"), "file fence")
-            if is_killed:
-                probe.kill()
-
-    def test_that_answers(self):
-        self.ask("exec cat")
-        self.ask("exec cat", is_killed=True)
-
-    def test_that_hangs(self):
-        for script in ("exec sleep 60", "read line; echo file fence; exec sleep 60"):
-            with self.case("script", script=script), self.assertRaisesRegex(AssertionError, r"the probe took longer than 0\.2 seconds"):
-                self.ask(script, SHORT_SECONDS)
-
-    def test_that_ends_otherwise(self):
-        for script, message in [
-            ("exit 2", "no answer to 'fence': the probe ended with status 2"),
-            ("read line; echo file fence; read line; exit 1", r"\Athe probe ended with status 1"),
-            ("read line; echo file fence; kill -9 $$", r"\Athe probe ended with status -9"),
-        ]:
-            with self.case("script", script=script), self.assertRaisesRegex(AssertionError, message):
-                self.ask(script)

@@ -1,18 +1,21 @@
-"""The server's subcommands over image files (docs/server.md): what `format` writes, what `inspect` prints, every refusal of an image, and
-command lines that are none."""
+"""The server's subcommands over image files (docs/server.md): what `format` writes, what `inspect` prints, every refusal of an image, files
+that cannot be written, and command lines that are none."""
 
 import contextlib
 import fcntl
 import os
 import pathlib
+import resource
+import signal
 import struct
+import subprocess
 import tempfile
 
 import plain_image
-from common import Cases, run_program
+from common import Cases, program, run_program
+from damaged_images import BASE, ENTRIES_ALONE, ENTRIES_TOGETHER, RECORDS, SLOT, STRANGE, SUPERBLOCKS
 from plain_image import PRIMARY, STANDBY, Words, Writer
 from plain_keyspace import DropKey, Put
-from test_probe_damage import BASE, ENTRIES_ALONE, ENTRIES_TOGETHER, RECORDS, SLOT, STRANGE, SUPERBLOCKS
 
 PROGRAMS = ["server"]
 
@@ -22,7 +25,9 @@ ROLES = {PRIMARY: "primary", STANDBY: "standby"}
 DONE, FAILED, MISUSED = 0, 1, 2
 
 # "Refusals" of docs/replication.md, those of images and their files.
-TEXTS = {1: "device fault", 2: "bad magic", 3: "bad version", 4: "wrong size", 7: "damaged image", 16: "wrong role"}
+TEXTS = {
+    1: "device fault", 2: "bad magic", 3: "bad version", 4: "wrong size", 6: "stamps exhausted", 7: "damaged image", 16: "wrong role",
+}
 
 
 def refusal(number):
@@ -54,6 +59,17 @@ def format_words(path, lines=LINES, role="primary"):
     return ["format", "--image", str(path), "--lines", str(lines), "--role", role]
 
 
+def limited(size):
+    """What a program does first, to be able to write no byte of a file past `size`."""
+
+    def limit():
+        # by default the signal would end it
+        signal.signal(signal.SIGXFSZ, signal.SIG_IGN)
+        resource.setrlimit(resource.RLIMIT_FSIZE, (size, size))
+
+    return limit
+
+
 class Images(Cases):
     """Tests over files in a folder of their own."""
 
@@ -65,8 +81,8 @@ class Images(Cases):
     def run_words(self, words, **options):
         return run_program("server", words, **options)
 
-    def assert_refused(self, words, number):
-        finished = self.run_words(words)
+    def assert_refused(self, words, number, **options):
+        finished = self.run_words(words, **options)
         self.assertEqual(finished, (FAILED, b"", refusal(number)))
 
     def inspect(self, path):
@@ -113,6 +129,27 @@ class Formatting(Images):
             for path in (folder, folder / "none" / "p.img", ""):
                 with self.case("path", path=str(path)):
                     self.assert_refused(format_words(path), 1)
+
+    def test_a_file_that_may_not_grow(self):
+        with self.folder() as folder:
+            for size in (0, 64, LINES * LINE_BYTES // 2, LINES * LINE_BYTES - 1):
+                with self.case("size", size=size):
+                    self.assert_refused(format_words(folder / f"{size}.img"), 1, preexec_fn=limited(size))
+
+    def test_a_full_disk(self):
+        """A file system of 16 pages, where one may be mounted."""
+        apart = ["unshare", "--mount", "--map-root-user", "sh", "-c"]
+        with self.folder() as folder:
+            mount = f'mount -t tmpfs -o size=64k none {folder} && exec "$0" "$@"'
+            if subprocess.run([*apart, mount, "true"], stderr=subprocess.DEVNULL, check=False).returncode:
+                return
+            for lines in (4_096, 40_000):
+                with self.case("lines", lines=lines):
+                    words = [*apart, mount, program("server"), *format_words(folder / "p.img", lines)]
+                    ran = subprocess.run(words, capture_output=True, check=False)
+                    # (a file of zeros takes no page, and an image of 4,096 lines writes less than 16)
+                    wanted = (DONE, b"formatted 4096 lines, 512 entries\n", b"") if lines == LINES else (FAILED, b"", refusal(1))
+                    self.assertEqual((ran.returncode, ran.stdout, ran.stderr), wanted)
 
     def test_output_that_fails(self):
         with self.folder() as folder, open("/dev/full", "wb") as full:
@@ -196,6 +233,9 @@ class Refusals(Images):
             path = folder / "p.img"
             for name, number, changes in table:
                 with self.case(name):
+                    with self.assertRaises(plain_image.BadImage) as refused:
+                        plain_image.read_image(Words(LINES, BASE.words | changes))
+                    self.assertEqual(refused.exception.number, number)
                     path.write_bytes(image_bytes(LINES, BASE.words | changes))
                     self.assert_no_image(path, number)
 
@@ -238,43 +278,6 @@ class Refusals(Images):
                 self.assert_refused(format_words(path), 1)
             self.assert_written(self.inspect(path), told(BASE.record, len(plain_image.read_image(Words(LINES, BASE.words)).map)))
             self.assert_bytes(path.read_bytes(), data)
-
-
-class StandingBy(Images):
-    """A standby that cannot begin: its image is looked at before its address."""
-
-    NOWHERE = "127.0.0.1:99999"
-
-    def standby_words(self, path):
-        return ["standby", "--image", str(path), "--listen", self.NOWHERE]
-
-    def test_an_image_of_the_other_role(self):
-        with self.folder() as folder:
-            path = folder / "p.img"
-            data = image_bytes(LINES, Writer(LINES, PRIMARY).words)
-            path.write_bytes(data)
-            self.assert_refused(self.standby_words(path), 16)
-            self.assert_bytes(path.read_bytes(), data)
-
-    def test_images_that_are_none(self):
-        with self.folder() as folder:
-            path = folder / "s.img"
-            self.assert_refused(self.standby_words(path), 1)
-            for name, number, changes in SUPERBLOCKS:
-                with self.case(name):
-                    data = image_bytes(LINES, Writer(LINES, STANDBY).words | changes)
-                    path.write_bytes(data)
-                    self.assert_refused(self.standby_words(path), number)
-                    self.assert_bytes(path.read_bytes(), data)
-
-    def test_an_address_that_is_none(self):
-        with self.folder() as folder:
-            path, writer = folder / "s.img", Writer(LINES, STANDBY)
-            path.write_bytes(image_bytes(LINES, writer.words))
-            self.assertEqual(self.run_words(self.standby_words(path)), (FAILED, b"", b"cannot listen\n"))
-            # the image was opened again before
-            writer.reopen()
-            self.assert_written(self.inspect(path), told(writer.record, 0))
 
 
 class CommandLines(Images):

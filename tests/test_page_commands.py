@@ -10,10 +10,10 @@ import common
 import pages
 import sources
 
-PROGRAMS = ["server", "simulator", "probe"]
+PROGRAMS = ["server", "simulator"]
 
 README = common.ROOT / "README.md"
-SIMULATOR, SESSIONS, PROBE = (common.ROOT / "docs" / f"{name}.md" for name in ("simulator", "sessions", "probe"))
+SIMULATOR, SESSIONS = (common.ROOT / "docs" / f"{name}.md" for name in ("simulator", "sessions"))
 
 
 def lines_of(block):
@@ -76,10 +76,6 @@ class Commands(common.Cases):
             found.append((above[-1], shown[1], below[0]))
         self.assertEqual(len(found), 5)
         return found
-
-    def test_the_answers_of_the_probe(self):
-        shown = re.search(r"\n\n    (.*bin/wbl-probe)\n\nprints ([^.]*)\.", pages.text_of(PROBE))
-        self.assertEqual(self.run_command(shown[1]).split("\n"), [*pages.CODE.findall(shown[2]), ""])
 
     def test_usage(self):
         usage = next(lines[0] for _, lines in pages.blocks(SIMULATOR) if lines[0].startswith("bin/wbl-sim ["))

@@ -1,18 +1,14 @@
-"""Whole images with one rule broken, which the engine refuses with nothing stored, and images that are strange and break none
-(docs/image.md, "Reading an arbitrary image")."""
+"""Whole images with one rule broken, which are refused with nothing stored, and images that are strange and break none
+(docs/image.md, "Reading an arbitrary image"): of each its name, the refusal, and the words that are others than those of BASE."""
 
 import plain_image
-from engine_client import CURRENT, INSPECT, LINES, LOAD, VERSIONS, Engine, made, reopen, words_of
-from plain_image import DIRECTORY_LINE, MAGIC, PRIMARY, RECORD_LINES, STANDBY, WORDS_OF_LINE, Words, extents_begin
+from plain_image import DIRECTORY_LINE, MAGIC, PRIMARY, RECORD_LINES, STANDBY, WORDS_OF_LINE, extents_begin
 from plain_keyspace import Put
-from probe_client import answers
 
-PROGRAMS = ["probe"]
-
+LINES = 4_096
 ENTRIES, FIRST_LINE = LINES // 8, extents_begin(LINES)
 LIMIT, MOST = 2**62, 2**64 - 1
 MAGIC_REFUSED, VERSION_REFUSED, SIZE_REFUSED, DAMAGED = 2, 3, 4, 7
-TEXTS = {2: "bad magic", 3: "bad version", 4: "wrong size", 7: "damaged image"}
 WORD = {name: number for number, name in enumerate(["begin", "end", "position", "line", "lines", "kind", "lengths", "value"])}
 FIELD_OF = {name: number for number, name in enumerate(["number", "position", "cp", "cd", "epoch", "count"])} | {"role": 22, "last": 23}
 
@@ -185,37 +181,3 @@ STRANGE = [
     ("a full line", entry(1, line=600, value=63) | text(600, 64 * b"v")),
 ]
 
-
-class Damage(Engine):
-    def show_refused(self, table, least):
-        self.assertGreaterEqual(len(table), least)
-        for name, refusal, changes in table:
-            words = BASE.words | changes
-            with self.case(name):
-                with self.assertRaises(plain_image.BadImage) as refused:
-                    plain_image.read_image(Words(LINES, words))
-                self.assertEqual(refused.exception.number, refusal)
-                found = answers([*made(words), LOAD, INSPECT, reopen(PRIMARY), reopen(STANDBY), LOAD])
-                self.assertEqual(found[5:8], 3 * [f"refusal {refusal}: {TEXTS[refusal]}"])
-                self.assertEqual(found[8], found[4])
-
-    def test_superblocks(self):
-        self.show_refused(SUPERBLOCKS, 11)
-
-    def test_records(self):
-        self.show_refused(RECORDS, 30)
-
-    def test_entries(self):
-        self.show_refused(ENTRIES_ALONE, 24)
-
-    def test_entries_beside_others(self):
-        self.show_refused(ENTRIES_TOGETHER, 9)
-
-    def test_images_that_break_no_rule(self):
-        for name, changes in STRANGE:
-            words = BASE.words | changes
-            role = words[SLOT + FIELD_OF["role"]]
-            with self.case(name):
-                found = answers([*made(words), INSPECT, CURRENT, VERSIONS, reopen(role), LOAD])
-                self.assert_read(Words(LINES, words), *found[4:7])
-                self.assert_opened(Words(LINES, words), found[7], Words(LINES, words | words_of(found[8]).words))
