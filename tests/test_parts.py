@@ -143,6 +143,40 @@ class Endings(common.Cases):
         ast.parse((BIN / "test").read_text(encoding="utf-8"), feature_version=(3, 6))
 
 
+class Whole(common.Cases):
+    """The parts come one after another, and each counts."""
+
+    # A gate that passes, over a repository of no crate.
+    PASSING = """\
+[ "$1" = version ] && exec echo a kit
+echo 1 passed, 0 failed
+"""
+
+    def check(self, *words, **scripts):
+        """Runs the whole check with these scripts as its parts."""
+        with repository(self.PASSING) as (root, path):
+            (root / "tests").mkdir()
+            parts = {"check-layout": "echo 1 passed, 0 failed", "release": "echo 3 passed, 0 failed", "try-edits": "echo 0 passed, 0 failed"}
+            for it, text in {**parts, **scripts}.items():
+                write_script(root / "bin" / it, text)
+            write_script(root / "tests" / "run", "echo 5 passed, 0 failed")
+            ran = subprocess.run([sys.executable, root / "bin" / "test", *words], env=path, capture_output=True, text=True, check=False)
+        said = ran.stdout.splitlines()
+        return ran.returncode, [it.removeprefix("== ") for it in said if it.startswith("== ") and ": " in it and "not run whole" not in it], said[-1]
+
+    def test_the_releases_are_checked_behind_the_gate(self):
+        parts = ["layout: bin/check-layout", "gate: rt ci", "releases: bin/release --check", "suite: tests/run", "edits: bin/try-edits --stale --try"]
+        self.assertEqual(self.check(), (0, parts, "10 passed, 0 failed"))
+        stale = "echo the release is not of these sources; echo 2 passed, 1 failed; exit 1"
+        self.assertEqual(self.check(release=stale), (1, parts, "9 passed, 1 failed"))
+
+    def test_they_are_written_at_the_end_of_a_green_run(self):
+        parts = ["layout: bin/check-layout", "gate: rt ci", "suite: tests/run", "edits: bin/try-edits --stale --try"]
+        self.assertEqual(self.check("--release"), (0, [*parts, "releases: bin/release"], "10 passed, 0 failed"))
+        edits = '[ "$2" ] || exit 0; echo 0 passed, 1 failed; exit 1'
+        self.assertEqual(self.check("--release", **{"try-edits": edits}), (1, parts, "7 passed, 1 failed"))
+
+
 class Layout(common.Cases):
     """Each source is compared with what the formatter makes of it, also where there is no git."""
 
