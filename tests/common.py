@@ -15,7 +15,7 @@ import unittest
 
 ROOT = pathlib.Path(__file__).resolve().parent.parent
 
-# By the name of a crate: the variable that names its program instead, and what builds it.
+# By the name of a crate: the variable that names its program instead, and what builds it or unpacks its release.
 PROGRAMS = {
     "server": ("WBL_SERVER", "bin/wbl-server < /dev/null"),
     "simulator": ("WBL_SIM", "bin/wbl-sim < /dev/null"),
@@ -31,10 +31,12 @@ class MissingProgram(Exception):
 
 
 def program(crate):
-    """The path of a crate's program."""
+    """The path of a crate's program: the one that is named, or that was built here, or that was released."""
     variable, build = PROGRAMS[crate]
-    named = os.environ.get(variable)
-    path = pathlib.Path(named) if named else ROOT / "crates" / crate / "out" / crate
+    named, out = os.environ.get(variable), ROOT / "crates" / crate / "out"
+    path = pathlib.Path(named) if named else out / crate
+    if not named and not path.exists():
+        path = next((out / "released").glob("wbl-*"), path)
     if not os.access(path, os.X_OK) or path.is_dir():
         raise MissingProgram(f"no program at {path}: build it with `{build}`, or name another by {variable}")
     return str(path)

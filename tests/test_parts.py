@@ -156,7 +156,7 @@ echo 1 passed, 0 failed
         """Runs the whole check with these scripts as its parts."""
         with repository(self.PASSING) as (root, path):
             (root / "tests").mkdir()
-            parts = {"check-layout": "echo 1 passed, 0 failed", "release": "echo 3 passed, 0 failed", "try-edits": "echo 0 passed, 0 failed"}
+            parts = {"check-layout": "echo 1 passed, 0 failed", "release": '[ "$1" = --stale ] || echo 3 passed, 0 failed', "try-edits": "echo 0 passed, 0 failed"}
             for it, text in {**parts, **scripts}.items():
                 write_script(root / "bin" / it, text)
             write_script(root / "tests" / "run", "echo 5 passed, 0 failed")
@@ -167,7 +167,12 @@ echo 1 passed, 0 failed
     def test_the_releases_are_checked_behind_the_gate(self):
         parts = ["layout: bin/check-layout", "gate: rt ci", "releases: bin/release --check", "suite: tests/run", "edits: bin/try-edits --stale --try"]
         self.assertEqual(self.check(), (0, parts, "10 passed, 0 failed"))
-        stale = "echo the release is not of these sources; echo 2 passed, 1 failed; exit 1"
+        with self.case("told at once"):
+            told = 'case $1 in --stale) echo wbl-server wbl-sim;; *) echo 1 passed, 2 failed; exit 1;; esac'
+            status, said, last = self.check(release=told)
+            self.assertEqual((status, last), (1, "8 passed, 2 failed"))
+            self.assertRegex(said[1], r"\Athe releases of wbl-server, wbl-sim are of other sources, so this run will fail: ")
+        stale = "[ $1 = --check ] || exit 0; echo the release is not of these sources; echo 2 passed, 1 failed; exit 1"
         self.assertEqual(self.check(release=stale), (1, parts, "9 passed, 1 failed"))
 
     def test_they_are_written_at_the_end_of_a_green_run(self):

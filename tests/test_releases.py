@@ -217,6 +217,13 @@ class Releases(common.Cases):
         self.it.gate()
         self.assert_wrong(NOT_OF_THESE)
 
+    def test_stale_ones_are_listed(self):
+        self.release()
+        for path, wanted in [("crates/low/proofs/why.antt", ""), ("crates/low/specs/What.antt", "wbl-server\n")]:
+            with self.case("edited", path=path):
+                self.it.edit(path)
+                self.assertEqual(self.it.run("bin/release", "--stale", has_toolchain=False), (0, wanted, ""))
+
     def test_a_program_of_no_crate(self):
         self.release()
         with open(self.it.root / "releases" / "LIST", "a", encoding="utf-8") as file:
