@@ -1,258 +1,21 @@
-"""A standby as a program over an image file and a socket (docs/server.md, docs/replication.md): the images that it opens again, the frames
-that it takes, and how its link and its run end."""
+"""What a standby takes of the frames that come to its socket, and how its links and its run end (docs/server.md, docs/replication.md)."""
 
 import contextlib
 import copy
 import os
 import random
 import signal
-import socket
-import subprocess
-import time
 
 import plain_image
-from common import SECONDS, program
-from damaged_images import BASE, ENTRIES_ALONE, ENTRIES_TOGETHER, FIELD_OF, RECORDS, SLOT, STRANGE, SUPERBLOCKS
-from damaged_frames import SET_A, damaged, written
-from plain_image import PRIMARY, STANDBY, WORDS_OF_LINE, Words, Writer
-from plain_keyspace import Clear, Drop, DropKey, Put
+from damaged_frames import SET_A
+from plain_image import STANDBY, Words, Writer
+from plain_keyspace import DropKey, Put
 from plain_wire import Acknowledgement, Group, read_stream, text
-from test_images import FAILED, LINE_BYTES, LINES, Images, image_bytes, limited, refusal, words_of
+from standby_node import ACK_BYTES, LIMIT, NOWHERE, Node, StandingBy, crashed, drawn_change, drawn_frames, take, with_record
+from test_images import FAILED, LINE_BYTES, LINES, limited, refusal, words_of
 from worked_cases import DELTA
 
 PROGRAMS = ["server"]
-
-LIMIT = 2**62
-NOWHERE = "127.0.0.1:99999"
-CANNOT_LISTEN = b"cannot listen\n"
-ACK_BYTES = 17
-KEYS, FIELDS = [b"a", b"b", b"c", b"ab"], [b"", b"f", b"g"]
-NAMES = [(key,) for key in KEYS] + [(key, field) for key in KEYS for field in FIELDS]
-
-
-def drawn_change(draws):
-    kind = draws.randrange(12)
-    if kind == 0:
-        return DropKey(draws.choice(KEYS))
-    if kind == 1:
-        return Clear() if draws.randrange(4) == 0 else Drop(draws.choice(NAMES))
-    return Put(draws.choice(NAMES), draws.choice([b"", b"1", 63 * b"v", 200 * b"w"]))
-
-
-def drawn_frames(draws, position, count):
-    """The frames of groups from this position on, each of one to three positions."""
-    for _ in range(count):
-        after = position + draws.randint(1, 3)
-        yield Group(1, position, after, tuple(drawn_change(draws) for _ in range(draws.randrange(5))))
-        position = after
-
-
-def take(writer, frame):
-    """The writer's image takes a frame, as a node does that frees first what an earlier life ended, and what the frame ended after it. It gives whether there
-    is room."""
-    writer.free_ended()
-    if not writer.room.take(frame.changes):
-        return False
-    writer.commit_parts([writer.part(frame.changes)], frame.after - frame.before)
-    writer.free_ended()
-    return True
-
-
-def acknowledged(epoch, position, data):
-    """What a standby at this position acknowledges of these bytes, none of whose frames it commits: those that end there or below, up to one that ends
-    the link."""
-    count = 1
-    for _, message in read_stream(data)[0]:
-        if isinstance(message, Acknowledgement) or message.epoch != epoch or message.after > position:
-            break
-        count += 1
-    return count * text(Acknowledgement(epoch, position))
-
-
-def with_record(words, record):
-    """These words with a record and its root."""
-    slot = plain_image.RECORD_LINES[record.number % 2] * WORDS_OF_LINE
-    return words | {4: record.number} | dict(enumerate(plain_image.record_words(record), slot))
-
-
-def crashed(writer, group, draws):
-    """The words that a crash in the commit of a group leaves before its root is stored: some of those that it stores."""
-    later = copy.deepcopy(writer)
-    later.commit([group])
-    changed = [at for at in sorted(later.words.keys() | writer.words.keys()) if later.words.get(at) != writer.words.get(at) and at != 4]
-    share = draws.choice([0.2, 0.5, 0.9, 1])
-    return writer.words | {at: later.words.get(at, 0) for at in changed if draws.random() < share}
-
-
-class Node:
-    """A standby that runs. One that takes longer than a program may is ended."""
-
-    def __init__(self, path, **options):
-        for _ in range(20):
-            with socket.socket() as free:
-                free.bind(("127.0.0.1", 0))
-                self.address = free.getsockname()
-            words = [program("server"), "standby", "--image", str(path), "--listen", "{}:{}".format(*self.address)]
-            self.child = subprocess.Popen(words, stdout=subprocess.PIPE, stderr=subprocess.PIPE, **options)
-            if self.is_there():
-                return
-            if self.child.communicate()[1] != CANNOT_LISTEN:
-                break
-        raise AssertionError(f"it does not stand by: status {self.child.returncode}")
-
-    def is_there(self):
-        end = time.monotonic() + SECONDS
-        while self.child.poll() is None and time.monotonic() < end:
-            with contextlib.suppress(ConnectionRefusedError), self.link():
-                return True
-            time.sleep(0.005)
-        return False
-
-    def link(self):
-        link = socket.create_connection(self.address, SECONDS)
-        link.setsockopt(socket.IPPROTO_TCP, socket.TCP_NODELAY, 1)
-        return link
-
-    def exchange(self, data=b"", piece=2**20):
-        """All that is answered to these bytes, in pieces, up to the link's end."""
-        answered = b""
-        with self.link() as link:
-            # (a link that was ended meanwhile takes no more)
-            with contextlib.suppress(OSError):
-                for at in range(0, len(data), piece):
-                    link.sendall(data[at:at + piece])
-                link.shutdown(socket.SHUT_WR)
-            with contextlib.suppress(ConnectionError):
-                while more := link.recv(2**16):
-                    answered += more
-        return answered
-
-    def ended(self):
-        """How it ended by itself."""
-        output, errors = self.child.communicate(timeout=SECONDS)
-        return self.child.returncode, output, errors
-
-    def __enter__(self):
-        return self
-
-    def __exit__(self, *_):
-        self.child.kill()
-        self.child.communicate()
-
-
-class StandingBy(Images):
-    def standby_words(self, path):
-        return ["standby", "--image", str(path), "--listen", NOWHERE]
-
-    def open_again(self, path, **options):
-        """The image is opened again, and no link is taken."""
-        self.assertEqual(self.run_words(self.standby_words(path), **options), (FAILED, b"", CANNOT_LISTEN))
-
-    def assert_opened(self, before, after):
-        """The second words are those of an image that was opened again with the first: docs/image.md, "Reopening"."""
-        image = plain_image.read_image(before)
-        wanted = plain_image.reopened(image.record)[-1]
-        versions = plain_image.read_versions(before, image.record)
-        left = plain_image.read_versions(after, wanted)
-        self.assertEqual(plain_image.read_image(after), plain_image.Image(wanted, image.map))
-        self.assertEqual(left.counted, versions.counted)
-        # (an entry of a gap that was cleared is free)
-        self.assertLessEqual(set(left.gapped), set(versions.gapped))
-        if len(image.record.gaps) < 8:
-            self.assertEqual(left.gapped, versions.gapped)
-
-    def words(self, path):
-        return Words(LINES, words_of(path.read_bytes()))
-
-    def made(self, folder, words):
-        path = folder / "s.img"
-        path.write_bytes(image_bytes(LINES, words))
-        return path
-
-
-class Opening(StandingBy):
-    """An image is looked at, and opened again, before the address is."""
-
-    def test_an_image_of_the_other_role(self):
-        with self.folder() as folder:
-            path = self.made(folder, Writer(LINES, PRIMARY).words)
-            data = path.read_bytes()
-            self.assert_refused(self.standby_words(path), 16)
-            self.assert_bytes(path.read_bytes(), data)
-
-    def test_images_that_are_none(self):
-        with self.folder() as folder:
-            self.assert_refused(self.standby_words(folder / "s.img"), 1)
-            for name, number, changes in SUPERBLOCKS + RECORDS + ENTRIES_ALONE + ENTRIES_TOGETHER:
-                with self.case(name):
-                    path = self.made(folder, BASE.words | {SLOT + FIELD_OF["role"]: STANDBY} | changes)
-                    data = path.read_bytes()
-                    self.assert_refused(self.standby_words(path), number)
-                    self.assert_bytes(path.read_bytes(), data)
-
-    def test_images_that_break_no_rule(self):
-        with self.folder() as folder:
-            for name, changes in STRANGE:
-                with self.case(name):
-                    path = self.made(folder, BASE.words | changes | {SLOT + FIELD_OF["role"]: STANDBY})
-                    before = self.words(path)
-                    self.open_again(path)
-                    self.assert_opened(before, self.words(path))
-
-    def test_twelve_reopenings(self):
-        """Each adds a gap. From the ninth on, the oldest goes first, under a record of its own."""
-        with self.folder() as folder:
-            writer = Writer(LINES, STANDBY)
-            writer.commit([[Put((b"a",), b"1")]])
-            path = self.made(folder, writer.words)
-            for count in range(1, 13):
-                writer.reopen()
-                with self.case("reopenings", count=count):
-                    self.open_again(path)
-                    self.assertEqual(words_of(path.read_bytes()), writer.words)
-            self.assertEqual((len(writer.record.gaps), writer.record.number), (8, 2 + 12 + 4))
-
-    def test_what_a_crash_in_a_commit_left(self):
-        """Twice in a row: map and position stay, and the entries that it left count for nothing."""
-        with self.folder() as folder:
-            for seed in range(40):
-                with self.case("seed", seed=seed):
-                    draws, writer = random.Random(f"crashed {seed}"), Writer(LINES, STANDBY)
-                    for frame in drawn_frames(draws, 0, 4):
-                        take(writer, frame)
-                    path = self.made(folder, crashed(writer, [drawn_change(draws) for _ in range(4)], draws))
-                    for _ in range(2):
-                        before = self.words(path)
-                        self.open_again(path)
-                        self.assert_opened(before, self.words(path))
-
-    def test_counters_at_their_end(self):
-        writer = Writer(LINES, STANDBY)
-        writer.commit([[Put((b"a",), b"1")]])
-        record, full = writer.record, LIMIT - 4_098
-        for name, current, is_opened in [
-            ("number", record._replace(number=LIMIT - 2), True),
-            ("number", record._replace(number=LIMIT - 1), False),
-            ("stamps", record._replace(cp=full, cd=full + 4_097), False),
-            ("stamps, but for one", record._replace(cp=full - 4_097, cd=full), True),
-            ("stamps reach the limit", record._replace(cp=full - 4_096, cd=full + 1), False),
-        ]:
-            with self.case(name, record=current), self.folder() as folder:
-                path = self.made(folder, with_record(writer.words, current))
-                before = self.words(path)
-                if is_opened:
-                    self.open_again(path)
-                    self.assert_opened(before, self.words(path))
-                else:
-                    self.assert_refused(self.standby_words(path), 6)
-                    self.assertEqual(words_of(path.read_bytes()), words_of(image_bytes(LINES, with_record(writer.words, current))))
-
-    def test_a_file_that_may_not_be_written(self):
-        with self.folder() as folder:
-            path = self.made(folder, Writer(LINES, STANDBY).words)
-            data = path.read_bytes()
-            self.assert_refused(self.standby_words(path), 1, preexec_fn=limited(0))
-            self.assert_bytes(path.read_bytes(), data)
 
 
 class Following(StandingBy):
@@ -469,63 +232,6 @@ class Following(StandingBy):
             self.assert_opened(before, self.words(path))
 
 
-class Damaged(StandingBy):
-    """Damaged frames, to a standby at the highest position, which acknowledges each frame again that it can read."""
-
-    def show(self, rows, pieces):
-        with self.folder() as folder:
-            record = Writer(LINES, STANDBY).record._replace(position=LIMIT - 1)
-            path = self.made(folder, with_record(Writer(LINES, STANDBY).words, record))
-            with Node(path) as node:
-                data = path.read_bytes()
-                for name, sent in rows:
-                    for piece in pieces:
-                        with self.case(name, piece=piece):
-                            self.assertEqual(node.exchange(sent, piece), acknowledged(1, LIMIT - 1, sent))
-                self.assert_bytes(path.read_bytes(), data)
-
-    def test_500_damaged_frames(self):
-        rows = [(seed, damaged(seed)[1]) for seed in range(500)]
-        self.show(rows, [7, 2**20])
-        # some are read all the same
-        read = {len(acknowledged(1, LIMIT - 1, data)) // ACK_BYTES for _, data in rows}
-        self.assertEqual(read, {1, 2, 3})
-
-    def test_the_worked_delta_with_another_byte_in_each_place(self):
-        self.show(
-            [
-                (f"byte {byte} at {at}", written(DELTA, at, byte, 1) + SET_A)
-                for at in range(len(DELTA)) for byte in sorted({0, 255, DELTA[at] ^ 1, DELTA[at] ^ 4} - {DELTA[at]})
-            ],
-            [5, 2**20],
-        )
-
-    def test_fronts_of_frames(self):
-        """No front is a fault: the rest comes later."""
-        with self.folder() as folder:
-            path = self.made(folder, with_record(Writer(LINES, STANDBY).words, Writer(LINES, STANDBY).record._replace(position=LIMIT - 1)))
-            with Node(path) as node:
-                for data in (SET_A, DELTA):
-                    for end in range(1, len(data)):
-                        with self.case("front", bytes=len(data), end=end), node.link() as link:
-                            link.sendall(data[:end])
-                            link.sendall(data[end:])
-                            link.shutdown(socket.SHUT_WR)
-                            found = b""
-                            while more := link.recv(2**16):
-                                found += more
-                            self.assertEqual(found, 2 * text(Acknowledgement(1, LIMIT - 1)))
-
-    def test_the_first_byte_that_no_frame_has(self):
-        """The page and the plain reader agree on where a fault is."""
-        for at, byte, fault in [
-            (0, 0, 1), (0, 3, 1), (24, 0, 25), (25, 1, 26), (27, 2, 28), (32, 1, 34), (33, 7, 34), (33, 6, 35), (33, 2, 36), (34, 1, 35),
-            (35, 3, 36), (37, 1, 38), (40, 2, 41), (41, 50, None),
-        ]:
-            with self.case(f"byte {byte} at {at}"):
-                self.assertEqual(read_stream(written(SET_A, at, byte, 1))[1], fault)
-
-
 class Killed(StandingBy):
     """It is killed while frames come: what was acknowledged is there, and nothing in part."""
 
@@ -539,8 +245,8 @@ class Killed(StandingBy):
                 with Node(path) as node, node.link() as link:
                     link.sendall(b"".join(map(text, frames)))
                     wanted, found = ACK_BYTES * draws.randint(1, 250), b""
-                    while len(found) < wanted:
-                        found += link.recv(2**16)
+                    while len(found) < wanted and (more := link.recv(2**16)):
+                        found += more
                     node.child.send_signal(signal.SIGKILL)
                     node.child.wait()
                     # (what it sent before)

@@ -1,0 +1,152 @@
+"""A standby as a program over an image file and a socket (docs/server.md, docs/replication.md), frames drawn by seed, and what they leave of a plain
+image."""
+
+import contextlib
+import copy
+import socket
+import subprocess
+import time
+
+import plain_image
+from common import SECONDS, program
+from plain_image import WORDS_OF_LINE, Words
+from plain_keyspace import Clear, Drop, DropKey, Put
+from plain_wire import Group
+from test_images import FAILED, LINES, Images, image_bytes, words_of
+
+LIMIT = 2**62
+NOWHERE = "127.0.0.1:99999"
+CANNOT_LISTEN = b"cannot listen\n"
+ACK_BYTES = 17
+KEYS, FIELDS = [b"a", b"b", b"c", b"ab"], [b"", b"f", b"g"]
+NAMES = [(key,) for key in KEYS] + [(key, field) for key in KEYS for field in FIELDS]
+
+
+def drawn_change(draws):
+    kind = draws.randrange(12)
+    if kind == 0:
+        return DropKey(draws.choice(KEYS))
+    if kind == 1:
+        return Clear() if draws.randrange(4) == 0 else Drop(draws.choice(NAMES))
+    return Put(draws.choice(NAMES), draws.choice([b"", b"1", 63 * b"v", 200 * b"w"]))
+
+
+def drawn_frames(draws, position, count):
+    """The frames of groups from this position on, each of one to three positions."""
+    for _ in range(count):
+        after = position + draws.randint(1, 3)
+        yield Group(1, position, after, tuple(drawn_change(draws) for _ in range(draws.randrange(5))))
+        position = after
+
+
+def take(writer, frame):
+    """The writer's image takes a frame, as a node does that frees first what an earlier life ended, and what the frame ended after it. It gives whether there
+    is room."""
+    writer.free_ended()
+    if not writer.room.take(frame.changes):
+        return False
+    writer.commit_parts([writer.part(frame.changes)], frame.after - frame.before)
+    writer.free_ended()
+    return True
+
+
+def with_record(words, record):
+    """These words with a record and its root."""
+    slot = plain_image.RECORD_LINES[record.number % 2] * WORDS_OF_LINE
+    return words | {4: record.number} | dict(enumerate(plain_image.record_words(record), slot))
+
+
+def crashed(writer, group, draws):
+    """The words that a crash in the commit of a group leaves before its root is stored: some of those that it stores."""
+    later = copy.deepcopy(writer)
+    later.commit([group])
+    changed = [at for at in sorted(later.words.keys() | writer.words.keys()) if later.words.get(at) != writer.words.get(at) and at != 4]
+    share = draws.choice([0.2, 0.5, 0.9, 1])
+    return writer.words | {at: later.words.get(at, 0) for at in changed if draws.random() < share}
+
+
+class Node:
+    """A standby that runs. One that takes longer than a program may is ended."""
+
+    def __init__(self, path, **options):
+        for _ in range(20):
+            with socket.socket() as free:
+                free.bind(("127.0.0.1", 0))
+                self.address = free.getsockname()
+            words = [program("server"), "standby", "--image", str(path), "--listen", "{}:{}".format(*self.address)]
+            self.child = subprocess.Popen(words, stdout=subprocess.PIPE, stderr=subprocess.PIPE, **options)
+            if self.is_there():
+                return
+            self.child.kill()
+            if self.child.communicate()[1] != CANNOT_LISTEN:
+                break
+        raise AssertionError(f"it does not stand by: status {self.child.returncode}")
+
+    def is_there(self):
+        end = time.monotonic() + SECONDS
+        while self.child.poll() is None and time.monotonic() < end:
+            with contextlib.suppress(ConnectionRefusedError), self.link():
+                return True
+            time.sleep(0.005)
+        return False
+
+    def link(self):
+        link = socket.create_connection(self.address, SECONDS)
+        link.setsockopt(socket.IPPROTO_TCP, socket.TCP_NODELAY, 1)
+        return link
+
+    def exchange(self, data=b"", piece=2**20):
+        """All that is answered to these bytes, in pieces, up to the link's end."""
+        answered = b""
+        with self.link() as link:
+            # (a link that was ended meanwhile takes no more)
+            with contextlib.suppress(OSError):
+                for at in range(0, len(data), piece):
+                    link.sendall(data[at:at + piece])
+                link.shutdown(socket.SHUT_WR)
+            with contextlib.suppress(ConnectionError):
+                while more := link.recv(2**16):
+                    answered += more
+        return answered
+
+    def ended(self):
+        """How it ended by itself."""
+        output, errors = self.child.communicate(timeout=SECONDS)
+        return self.child.returncode, output, errors
+
+    def __enter__(self):
+        return self
+
+    def __exit__(self, *_):
+        self.child.kill()
+        self.child.communicate()
+
+
+class StandingBy(Images):
+    def standby_words(self, path):
+        return ["standby", "--image", str(path), "--listen", NOWHERE]
+
+    def open_again(self, path, **options):
+        """The image is opened again, and no link is taken."""
+        self.assertEqual(self.run_words(self.standby_words(path), **options), (FAILED, b"", CANNOT_LISTEN))
+
+    def assert_opened(self, before, after):
+        """The second words are those of an image that was opened again with the first: docs/image.md, "Reopening"."""
+        image = plain_image.read_image(before)
+        wanted = plain_image.reopened(image.record)[-1]
+        versions = plain_image.read_versions(before, image.record)
+        left = plain_image.read_versions(after, wanted)
+        self.assertEqual(plain_image.read_image(after), plain_image.Image(wanted, image.map))
+        self.assertEqual(left.counted, versions.counted)
+        # (an entry of a gap that was cleared is free)
+        self.assertLessEqual(set(left.gapped), set(versions.gapped))
+        if len(image.record.gaps) < 8:
+            self.assertEqual(left.gapped, versions.gapped)
+
+    def words(self, path):
+        return Words(LINES, words_of(path.read_bytes()))
+
+    def made(self, folder, words):
+        path = folder / "s.img"
+        path.write_bytes(image_bytes(LINES, words))
+        return path

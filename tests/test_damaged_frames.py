@@ -1,0 +1,80 @@
+"""Damaged frames that come to a standby's socket (docs/replication.md, "Frames")."""
+
+import socket
+
+from damaged_frames import SET_A, damaged, written
+from plain_image import STANDBY, Writer
+from plain_wire import Acknowledgement, read_stream, text
+from standby_node import ACK_BYTES, LIMIT, Node, StandingBy, with_record
+from test_images import LINES
+from worked_cases import DELTA
+
+PROGRAMS = ["server"]
+
+
+def acknowledged(epoch, position, data):
+    """What a standby at this position acknowledges of these bytes, none of whose frames it commits: those that end there or below, up to one that ends
+    the link."""
+    count = 1
+    for _, message in read_stream(data)[0]:
+        if isinstance(message, Acknowledgement) or message.epoch != epoch or message.after > position:
+            break
+        count += 1
+    return count * text(Acknowledgement(epoch, position))
+
+
+class Damaged(StandingBy):
+    """Damaged frames, to a standby at the highest position, which acknowledges each frame again that it can read."""
+
+    def show(self, rows, pieces):
+        with self.folder() as folder:
+            record = Writer(LINES, STANDBY).record._replace(position=LIMIT - 1)
+            path = self.made(folder, with_record(Writer(LINES, STANDBY).words, record))
+            with Node(path) as node:
+                data = path.read_bytes()
+                for name, sent in rows:
+                    for piece in pieces:
+                        with self.case(name, piece=piece):
+                            self.assertEqual(node.exchange(sent, piece), acknowledged(1, LIMIT - 1, sent))
+                self.assert_bytes(path.read_bytes(), data)
+
+    def test_500_damaged_frames(self):
+        rows = [(seed, damaged(seed)[1]) for seed in range(500)]
+        self.show(rows, [7, 2**20])
+        # some are read all the same
+        read = {len(acknowledged(1, LIMIT - 1, data)) // ACK_BYTES for _, data in rows}
+        self.assertEqual(read, {1, 2, 3})
+
+    def test_the_worked_delta_with_another_byte_in_each_place(self):
+        self.show(
+            [
+                (f"byte {byte} at {at}", written(DELTA, at, byte, 1) + SET_A)
+                for at in range(len(DELTA)) for byte in sorted({0, 255, DELTA[at] ^ 1, DELTA[at] ^ 4} - {DELTA[at]})
+            ],
+            [5, 2**20],
+        )
+
+    def test_fronts_of_frames(self):
+        """No front is a fault: the rest comes later."""
+        with self.folder() as folder:
+            path = self.made(folder, with_record(Writer(LINES, STANDBY).words, Writer(LINES, STANDBY).record._replace(position=LIMIT - 1)))
+            with Node(path) as node:
+                for data in (SET_A, DELTA):
+                    for end in range(1, len(data)):
+                        with self.case("front", bytes=len(data), end=end), node.link() as link:
+                            link.sendall(data[:end])
+                            link.sendall(data[end:])
+                            link.shutdown(socket.SHUT_WR)
+                            found = b""
+                            while more := link.recv(2**16):
+                                found += more
+                            self.assertEqual(found, 2 * text(Acknowledgement(1, LIMIT - 1)))
+
+    def test_the_first_byte_that_no_frame_has(self):
+        """The page and the plain reader agree on where a fault is."""
+        for at, byte, fault in [
+            (0, 0, 1), (0, 3, 1), (24, 0, 25), (25, 1, 26), (27, 2, 28), (32, 1, 34), (33, 7, 34), (33, 6, 35), (33, 2, 36), (34, 1, 35),
+            (35, 3, 36), (37, 1, 38), (40, 2, 41), (41, 50, None),
+        ]:
+            with self.case(f"byte {byte} at {at}"):
+                self.assertEqual(read_stream(written(SET_A, at, byte, 1))[1], fault)

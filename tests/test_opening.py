@@ -1,0 +1,96 @@
+"""The images that a standby opens again (docs/image.md, "Reopening"), before its address is looked at."""
+
+import random
+
+from damaged_images import BASE, ENTRIES_ALONE, ENTRIES_TOGETHER, FIELD_OF, RECORDS, SLOT, STRANGE, SUPERBLOCKS
+from plain_image import PRIMARY, STANDBY, Writer
+from plain_keyspace import Put
+from standby_node import LIMIT, StandingBy, crashed, drawn_change, drawn_frames, take, with_record
+from test_images import LINES, image_bytes, limited, words_of
+
+PROGRAMS = ["server"]
+
+
+class Opening(StandingBy):
+    """An image is looked at, and opened again, before the address is."""
+
+    def test_an_image_of_the_other_role(self):
+        with self.folder() as folder:
+            path = self.made(folder, Writer(LINES, PRIMARY).words)
+            data = path.read_bytes()
+            self.assert_refused(self.standby_words(path), 16)
+            self.assert_bytes(path.read_bytes(), data)
+
+    def test_images_that_are_none(self):
+        with self.folder() as folder:
+            self.assert_refused(self.standby_words(folder / "s.img"), 1)
+            for name, number, changes in SUPERBLOCKS + RECORDS + ENTRIES_ALONE + ENTRIES_TOGETHER:
+                with self.case(name):
+                    path = self.made(folder, BASE.words | {SLOT + FIELD_OF["role"]: STANDBY} | changes)
+                    data = path.read_bytes()
+                    self.assert_refused(self.standby_words(path), number)
+                    self.assert_bytes(path.read_bytes(), data)
+
+    def test_images_that_break_no_rule(self):
+        with self.folder() as folder:
+            for name, changes in STRANGE:
+                with self.case(name):
+                    path = self.made(folder, BASE.words | changes | {SLOT + FIELD_OF["role"]: STANDBY})
+                    before = self.words(path)
+                    self.open_again(path)
+                    self.assert_opened(before, self.words(path))
+
+    def test_twelve_reopenings(self):
+        """Each adds a gap. From the ninth on, the oldest goes first, under a record of its own."""
+        with self.folder() as folder:
+            writer = Writer(LINES, STANDBY)
+            writer.commit([[Put((b"a",), b"1")]])
+            path = self.made(folder, writer.words)
+            for count in range(1, 13):
+                writer.reopen()
+                with self.case("reopenings", count=count):
+                    self.open_again(path)
+                    self.assertEqual(words_of(path.read_bytes()), writer.words)
+            self.assertEqual((len(writer.record.gaps), writer.record.number), (8, 2 + 12 + 4))
+
+    def test_what_a_crash_in_a_commit_left(self):
+        """Twice in a row: map and position stay, and the entries that it left count for nothing."""
+        with self.folder() as folder:
+            for seed in range(40):
+                with self.case("seed", seed=seed):
+                    draws, writer = random.Random(f"crashed {seed}"), Writer(LINES, STANDBY)
+                    for frame in drawn_frames(draws, 0, 4):
+                        take(writer, frame)
+                    path = self.made(folder, crashed(writer, [drawn_change(draws) for _ in range(4)], draws))
+                    for _ in range(2):
+                        before = self.words(path)
+                        self.open_again(path)
+                        self.assert_opened(before, self.words(path))
+
+    def test_counters_at_their_end(self):
+        writer = Writer(LINES, STANDBY)
+        writer.commit([[Put((b"a",), b"1")]])
+        record, full = writer.record, LIMIT - 4_098
+        for name, current, is_opened in [
+            ("number", record._replace(number=LIMIT - 2), True),
+            ("number", record._replace(number=LIMIT - 1), False),
+            ("stamps", record._replace(cp=full, cd=full + 4_097), False),
+            ("stamps, but for one", record._replace(cp=full - 4_097, cd=full), True),
+            ("stamps reach the limit", record._replace(cp=full - 4_096, cd=full + 1), False),
+        ]:
+            with self.case(name, record=current), self.folder() as folder:
+                path = self.made(folder, with_record(writer.words, current))
+                before = self.words(path)
+                if is_opened:
+                    self.open_again(path)
+                    self.assert_opened(before, self.words(path))
+                else:
+                    self.assert_refused(self.standby_words(path), 6)
+                    self.assertEqual(words_of(path.read_bytes()), words_of(image_bytes(LINES, with_record(writer.words, current))))
+
+    def test_a_file_that_may_not_be_written(self):
+        with self.folder() as folder:
+            path = self.made(folder, Writer(LINES, STANDBY).words)
+            data = path.read_bytes()
+            self.assert_refused(self.standby_words(path), 1, preexec_fn=limited(0))
+            self.assert_bytes(path.read_bytes(), data)
