@@ -9,10 +9,10 @@ import time
 
 import plain_image
 from common import SECONDS, program
-from plain_image import WORDS_OF_LINE, Words
+from plain_image import PRIMARY, STANDBY, WORDS_OF_LINE, Words
 from plain_keyspace import Clear, Drop, DropKey, Put
 from plain_wire import Group
-from test_images import FAILED, LINES, Images, image_bytes, words_of
+from test_images import FAILED, LINES, ROLES, Images, image_bytes, words_of
 
 LIMIT = 2**62
 NOWHERE = "127.0.0.1:99999"
@@ -123,12 +123,15 @@ class Node:
 
 
 class StandingBy(Images):
-    def standby_words(self, path):
-        return ["standby", "--image", str(path), "--listen", NOWHERE]
+    ROLE = STANDBY
 
-    def open_again(self, path, **options):
-        """The image is opened again, and no link is taken."""
-        self.assertEqual(self.run_words(self.standby_words(path), **options), (FAILED, b"", CANNOT_LISTEN))
+    def opening_words(self, path):
+        """The words by which an image is opened again in its role, and then nothing can be listened to."""
+        links = ["--link", NOWHERE] * (self.ROLE == PRIMARY)
+        return [ROLES[self.ROLE], "--image", str(path), "--listen", NOWHERE, *links]
+
+    def open_again(self, path):
+        self.assertEqual(self.run_words(self.opening_words(path)), (FAILED, b"", CANNOT_LISTEN))
 
     def assert_opened(self, before, after):
         """The second words are those of an image that was opened again with the first: docs/image.md, "Reopening"."""

@@ -1,4 +1,4 @@
-"""The images that a standby opens again (docs/image.md, "Reopening"), before its address is looked at."""
+"""The images that a node opens again (docs/image.md, "Reopening"), before its address is looked at."""
 
 import random
 
@@ -12,30 +12,30 @@ PROGRAMS = ["server"]
 
 
 class Opening(StandingBy):
-    """An image is looked at, and opened again, before the address is."""
+    """Of a standby: an image is looked at, and opened again, before the address is."""
 
     def test_an_image_of_the_other_role(self):
         with self.folder() as folder:
-            path = self.made(folder, Writer(LINES, PRIMARY).words)
+            path = self.made(folder, Writer(LINES, PRIMARY + STANDBY - self.ROLE).words)
             data = path.read_bytes()
-            self.assert_refused(self.standby_words(path), 16)
+            self.assert_refused(self.opening_words(path), 16)
             self.assert_bytes(path.read_bytes(), data)
 
     def test_images_that_are_none(self):
         with self.folder() as folder:
-            self.assert_refused(self.standby_words(folder / "s.img"), 1)
+            self.assert_refused(self.opening_words(folder / "s.img"), 1)
             for name, number, changes in SUPERBLOCKS + RECORDS + ENTRIES_ALONE + ENTRIES_TOGETHER:
                 with self.case(name):
-                    path = self.made(folder, BASE.words | {SLOT + FIELD_OF["role"]: STANDBY} | changes)
+                    path = self.made(folder, BASE.words | {SLOT + FIELD_OF["role"]: self.ROLE} | changes)
                     data = path.read_bytes()
-                    self.assert_refused(self.standby_words(path), number)
+                    self.assert_refused(self.opening_words(path), number)
                     self.assert_bytes(path.read_bytes(), data)
 
     def test_images_that_break_no_rule(self):
         with self.folder() as folder:
             for name, changes in STRANGE:
                 with self.case(name):
-                    path = self.made(folder, BASE.words | changes | {SLOT + FIELD_OF["role"]: STANDBY})
+                    path = self.made(folder, BASE.words | changes | {SLOT + FIELD_OF["role"]: self.ROLE})
                     before = self.words(path)
                     self.open_again(path)
                     self.assert_opened(before, self.words(path))
@@ -43,7 +43,7 @@ class Opening(StandingBy):
     def test_twelve_reopenings(self):
         """Each adds a gap. From the ninth on, the oldest goes first, under a record of its own."""
         with self.folder() as folder:
-            writer = Writer(LINES, STANDBY)
+            writer = Writer(LINES, self.ROLE)
             writer.commit([[Put((b"a",), b"1")]])
             path = self.made(folder, writer.words)
             for count in range(1, 13):
@@ -58,7 +58,7 @@ class Opening(StandingBy):
         with self.folder() as folder:
             for seed in range(40):
                 with self.case("seed", seed=seed):
-                    draws, writer = random.Random(f"crashed {seed}"), Writer(LINES, STANDBY)
+                    draws, writer = random.Random(f"crashed {seed}"), Writer(LINES, self.ROLE)
                     for frame in drawn_frames(draws, 0, 4):
                         take(writer, frame)
                     path = self.made(folder, crashed(writer, [drawn_change(draws) for _ in range(4)], draws))
@@ -68,7 +68,7 @@ class Opening(StandingBy):
                         self.assert_opened(before, self.words(path))
 
     def test_counters_at_their_end(self):
-        writer = Writer(LINES, STANDBY)
+        writer = Writer(LINES, self.ROLE)
         writer.commit([[Put((b"a",), b"1")]])
         record, full = writer.record, LIMIT - 4_098
         for name, current, is_opened in [
@@ -85,12 +85,18 @@ class Opening(StandingBy):
                     self.open_again(path)
                     self.assert_opened(before, self.words(path))
                 else:
-                    self.assert_refused(self.standby_words(path), 6)
+                    self.assert_refused(self.opening_words(path), 6)
                     self.assertEqual(words_of(path.read_bytes()), words_of(image_bytes(LINES, with_record(writer.words, current))))
 
     def test_a_file_that_may_not_be_written(self):
         with self.folder() as folder:
-            path = self.made(folder, Writer(LINES, STANDBY).words)
+            path = self.made(folder, Writer(LINES, self.ROLE).words)
             data = path.read_bytes()
-            self.assert_refused(self.standby_words(path), 1, preexec_fn=limited(0))
+            self.assert_refused(self.opening_words(path), 1, preexec_fn=limited(0))
             self.assert_bytes(path.read_bytes(), data)
+
+
+class OpeningOfAPrimary(Opening):
+    """The same of a primary."""
+
+    ROLE = PRIMARY

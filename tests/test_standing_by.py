@@ -11,7 +11,7 @@ from damaged_frames import SET_A
 from plain_image import STANDBY, Words, Writer
 from plain_keyspace import DropKey, Put
 from plain_wire import Acknowledgement, Group, read_stream, text
-from standby_node import ACK_BYTES, LIMIT, NOWHERE, Node, StandingBy, crashed, drawn_change, drawn_frames, take, with_record
+from standby_node import ACK_BYTES, LIMIT, Node, StandingBy, crashed, drawn_change, drawn_frames, take, with_record
 from test_images import FAILED, LINE_BYTES, LINES, limited, refusal, words_of
 from worked_cases import DELTA
 
@@ -199,7 +199,7 @@ class Following(StandingBy):
             path = self.made(folder, Writer(LINES, STANDBY).words)
             with Node(path):
                 self.assert_refused(["inspect", "--image", str(path)], 1)
-                self.assert_refused(["standby", "--image", str(path), "--listen", NOWHERE], 1)
+                self.assert_refused(self.opening_words(path), 1)
             self.assertEqual(self.inspect(path).status, 0)
 
     def test_a_file_that_was_cut_short(self):
