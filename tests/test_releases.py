@@ -181,7 +181,13 @@ class Releases(common.Cases):
         (self.it.root / "releases" / "LIST").write_text("wbl-server 1\n", encoding="utf-8")
         status, said, errors = self.it.serve()
         self.assertEqual((status, said), (1, ""))
-        self.assertIn("releases/LIST has a line that bin/release does not write: wbl-server 1", errors)
+        told = "releases/LIST has a line that bin/release does not write: wbl-server 1: `git checkout releases` brings back what was released\n"
+        self.assertEqual(errors, f"{told}wbl-server: its release cannot be used, and nothing was run\n")
+        self.assertEqual(self.it.run("bin/release", "--stale"), (1, "", told))
+        self.assertEqual(self.it.run("bin/release", "--check"), (1, f"{told}0 passed, 1 failed\n", ""))
+        # (what is proved is released all the same)
+        self.release()
+        self.assert_checked("1 passed, 0 failed")
 
     def test_another_machine_builds(self):
         self.release()

@@ -167,14 +167,17 @@ class Following(StandingBy):
             writer.reopen()
             change = (Put((b"a",), b"1"),)
             with Node(path) as node:
+                node.exchange(SET_A)
+                take(writer, Group(1, 0, 1, change))
                 for name, frame in [
-                    ("a higher epoch", Group(2, 0, 1, change)),
-                    ("a lower epoch", Group(0, 0, 1, change)),
-                    ("a frame that does not join on", Group(1, 1, 2, change)),
-                    ("an acknowledgement", Acknowledgement(1, 0)),
+                    ("a higher epoch", Group(2, 1, 2, change)),
+                    ("a lower epoch", Group(0, 1, 2, change)),
+                    ("a frame that does not join on", Group(1, 2, 3, change)),
+                    ("a frame that begins before", Group(1, 0, 2, change)),
+                    ("an acknowledgement", Acknowledgement(1, 1)),
                 ]:
                     with self.case(name):
-                        self.assertEqual(node.exchange(text(frame) + SET_A), text(Acknowledgement(1, 0)))
+                        self.assertEqual(node.exchange(text(frame) + SET_A), text(Acknowledgement(1, 1)))
                         self.assert_holds(path, writer)
 
     def test_a_position_stays_below_2_to_the_62(self):
