@@ -65,7 +65,7 @@ def repository(toolchain, **crates):
         root = pathlib.Path(folder)
         for it in ("bin", "tools", "crates", *(f"crates/{crate}/src" for crate in crates)):
             (root / it).mkdir(parents=True)
-        for it in ("test", "check-layout", "wrong_bodies.py"):
+        for it in ("test", "check-layout", "release", "wrong_bodies.py"):
             shutil.copy(BIN / it, root / "bin")
         for it, text in crates.items():
             (root / "crates" / it / "src" / "lib.rt").write_text(text, encoding="utf-8")
