@@ -18,6 +18,7 @@ ROOT = pathlib.Path(__file__).resolve().parent.parent
 # By the name of a crate: the variable that names its program instead, and what builds it or unpacks its release.
 PROGRAMS = {
     "server": ("WBL_SERVER", "bin/wbl-server < /dev/null"),
+    "client": ("WBL_CLI", "bin/wbl-cli < /dev/null"),
     "simulator": ("WBL_SIM", "bin/wbl-sim < /dev/null"),
     "bench": ("WBL_BENCH", "cd crates/bench && rt run"),
 }

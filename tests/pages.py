@@ -12,7 +12,7 @@ PAGES = [
 ]
 
 # By the name of a command in bin/ the crate whose program it starts.
-STARTERS = {"wbl-server": "server", "wbl-sim": "simulator"}
+STARTERS = {"wbl-server": "server", "wbl-cli": "client", "wbl-sim": "simulator"}
 
 CODE = re.compile(r"`([^`\n]+)`")
 INDENTED = re.compile(r"(?m)^    .*\n?")

@@ -10,7 +10,7 @@ import common
 import pages
 import sources
 
-PROGRAMS = ["server", "simulator"]
+PROGRAMS = ["server", "client", "simulator"]
 
 README = common.ROOT / "README.md"
 SIMULATOR, SESSIONS = (common.ROOT / "docs" / f"{name}.md" for name in ("simulator", "sessions"))

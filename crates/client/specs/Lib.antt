@@ -1,0 +1,4 @@
+pub mod Asked
+pub mod Exchange
+pub mod Printed
+pub mod Told

@@ -1,0 +1,101 @@
+//! Why the program did not do what it was asked, and what it tells of that.
+ghost use Rattle.std.specs.Prelude.{OnOk};
+ghost use Rattle.std.specs.Io.KnownBytes.{Appends};
+ghost use Rattle.client.specs.Told.{refusal_line};
+
+use crate::exchange;
+use clap::error::ErrorKind;
+use kv_types::Refusal;
+use std::alloc::AllocError;
+use std::io::{self, Write};
+
+/// The status where not every reply came, or not every one was printed.
+const FAILED: u8 = 1;
+
+/// The status if the command line is not understood, or asks for help.
+const MISUSED: u8 = 2;
+
+/// Why the program did not do what it was asked.
+#[derive(Debug, Drop)]
+pub enum Failure {
+    /// The command line is none of this program's, or asks for help. Nothing was done.
+    Misused(clap::Error),
+    /// There was no connection, or it broke, or what came over it is no reply.
+    Broken,
+    /// Memory was refused.
+    Memory,
+    /// Standard input could not be read.
+    Read(io::Error),
+    /// Standard output could not be written.
+    Write(io::Error),
+}
+
+impl From<clap::Error> for Failure {
+    fn from(error: clap::Error) -> Failure {
+        if error.kind() == ErrorKind::OutOfMemory {
+            Failure::Memory
+        } else {
+            Failure::Misused(error)
+        }
+    }
+}
+
+impl From<AllocError> for Failure {
+    ghost use Rattle.std.specs.Prelude.{◌≡◌};
+    ghost use Rattle.client.specs.declared.failure.Failure.TheVariants.{Memory};
+
+    ghost from_gives = { λ _ failure. failure ≡ Memory };
+
+    fn from(_error: AllocError) -> Failure {
+        Failure::Memory
+    }
+}
+
+impl From<exchange::Broken> for Failure {
+    fn from(broken: exchange::Broken) -> Failure {
+        match broken {
+            exchange::Broken::Memory => Failure::Memory,
+            _ => Failure::Broken,
+        }
+    }
+}
+
+impl Failure {
+    ghost use Rattle.std.specs.Prelude.{◌≡◌, ◌<◌, ◌≤◌, IfSome, OnOk};
+    ghost use Rattle.std.specs.Io.KnownBytes.{Appends};
+    ghost use Rattle.client.specs.Told.{status_after, told_of};
+
+    /// The status that the program ends with.
+    pub fn status(&self) -> u8
+        ensures status { result ≡ status_after self.now }
+        ensures failed { 0 < result }
+        ensures known { result ≤ 2 }
+    {
+        match self {
+            Failure::Misused(_) => MISUSED,
+            Failure::Broken | Failure::Memory | Failure::Read(_) | Failure::Write(_) => FAILED,
+        }
+    }
+
+    /// Tells whoever started the program.
+    pub fn tell<E: Write>(&self, errors: &mut E) -> io::Result<()>
+        ensures { OnOk result (IfSome (told_of self.now) (Appends (E.contents errors.old) (E.contents errors.new))) }
+    {
+        match self {
+            // (its text ends its last line itself)
+            Failure::Misused(error) => write!(errors, "{error}"),
+            Failure::Broken => writeln!(errors, "broken connection"),
+            Failure::Memory => tell_refusal(Refusal::Memory, errors),
+            Failure::Read(error) => writeln!(errors, "reading failed: {error}"),
+            Failure::Write(error) => writeln!(errors, "writing failed: {error}"),
+        }
+    }
+}
+
+/// Tells of a refusal, with its number.
+fn tell_refusal<E: Write>(refusal: Refusal, errors: &mut E) -> io::Result<()>
+    ensures { OnOk result (Appends (E.contents errors.old) (E.contents errors.new) (refusal_line refusal)) }
+{
+    let number = refusal.number();
+    writeln!(errors, "refusal {number}: {refusal}")
+}
