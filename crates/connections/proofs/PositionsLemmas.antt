@@ -1,5 +1,6 @@
 -- The positions of the calls, and the calls up to one of them.
-use Rattle.std.proofs.Common.{◌≡◌, ℕ, zero, suc, ◌+◌, ◌-◌, ◌<◌, ◌≤◌, ◌++◌, true, false, cond, leb, List, [], ◌∷◌, length, take, Result, Ok, Err, is_ok, IsOk, Vec, vec_len, Global, slice_index_or, refl, sym, ap, subst, ◌∙◌, arith}
+use Rattle.std.proofs.Common.{◌≡◌, ℕ, zero, suc, ◌+◌, ◌-◌, ◌<◌, ◌≤◌, ◌++◌, true, false, cond, leb, List, [], ◌∷◌, length, take, Result, Ok, Err, is_ok, IsOk, Vec, vec_len, Global, slice_index_or, refl, sym, ap, subst, ◌∙◌, arith, max, le_refl}
+use Rattle.std.proofs.Math.Nat.{max-le}
 use Rattle.std.specs.Vec.{vec_capacity}
 use Rattle.std.proofs.lemmas.Bool.{leb-true, leb-false}
 use Rattle.std.specs.List.Sorted.{IsNonDecreasingBy, IsPartitionPoint}
@@ -120,3 +121,12 @@ from-take s p (call ∷ calls) (suc n) = ap (λ ps. position_with s p call ∷ p
 
 pub take-positions : (positions : List ℕ) (calls : List Call) (n : ℕ) → positions ≡ positions_of calls → take n positions ≡ positions_of (take n calls)
 take-positions positions calls n are = ap (take n) are ∙ from-take start_state 0 calls n
+
+-- ---- room for more
+
+-- there is room for as many positions, where both lists get room for the same number more
+pub room-made : (calls calls' : Vec Call Global) (positions : Vec ℕ Global) (all : List Call) (more : ℕ) → calls.items ≡ all → positions.items ≡ positions_of all
+    → vec_capacity calls ≤ vec_len calls → vec_capacity calls' ≡ max (vec_capacity calls) (vec_len calls + more) → vec_len positions + more ≤ vec_capacity positions → vec_capacity calls' ≤ vec_capacity positions
+room-made calls calls' positions all more are before full exact room =
+    let few : max (vec_capacity calls) (vec_len calls + more) ≤ vec_len calls + more = max-le (omega (arith, full)) (le_refl (vec_len calls + more)) in
+    omega (arith, exact, few, room, calls.ok.0, positions.ok.0, ap length are, ap length before, length-positions all)

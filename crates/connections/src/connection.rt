@@ -50,6 +50,16 @@ impl Connection {
     }
 
     /// All bytes that were written to it.
+    pub(crate) fn released(&self) -> &[u8]
+        ensures { result.now ≡ bytes_of self.now }
+    {
+        match self {
+            Connection::Open(client) => client.outbound.released.as_slice(),
+            Connection::Over(released) => released.as_slice(),
+        }
+    }
+
+    /// All bytes that were written to it.
     pub fn into_released(self) -> Vec<u8>
         ensures { result.items ≡ bytes_of self }
     {

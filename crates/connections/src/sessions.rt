@@ -1,5 +1,5 @@
 //! The connections, and the one list of calls that the sequencer makes of their items.
-ghost use Rattle.std.specs.Prelude.{◌≡◌, ◌≢◌, ℕ, ◌+◌, ◌<◌, ◌≤◌, ◌∷◌, ◌++◌, [], true, false, List, length, None, map, IfOk, IfErr, IfNone, IfSome, IsSome, OnErr, vec_len, vec_capacity};
+ghost use Rattle.std.specs.Prelude.{◌≡◌, ◌≢◌, ℕ, ◌+◌, ◌<◌, ◌≤◌, ◌∷◌, ◌++◌, [], true, false, List, length, None, map, IfOk, IfErr, IfNone, IfSome, IsSome, OnOk, OnErr, slice_index_or, vec_len, vec_capacity};
 ghost use Rattle.kv_types.specs.declared.item.Item.{Item};
 ghost use Rattle.model.specs.declared.call.Call.{Call};
 ghost use Rattle.model.specs.Call.{cut_at};
@@ -25,6 +25,9 @@ use redis_core::{Sequencer, Turn};
 use reply_gate::Seen;
 use std::alloc::Global;
 use std::collections::VecDeque;
+
+/// Room is made for as many calls at least.
+const LEAST_CALLS: usize = 16;
 
 /// All connections in the order in which they entered, and the list of calls.
 #[derive(Drop)]
@@ -56,6 +59,47 @@ impl Sessions {
             positions: Vec::with_capacity(alloc, calls)?,
             replies: LocalPipe::new(alloc)?,
         })
+    }
+
+    /// Makes room for one more call and its position, if there is none.
+    ///
+    /// # Errors
+    ///
+    /// `Memory` alone, where there was no room and it was refused. The list and the connections are as before.
+    pub fn make_room(&mut self) -> Result<(), Refusal>
+        ensures room { OnOk result (vec_len self.new.calls < vec_capacity self.new.calls) }
+        ensures stands { (machines : List Machine) (list : List Call) → SessionsRefine self.old machines list → SessionsRefine self.new machines list }
+        ensures calls { self.new.calls.items ≡ self.old.calls.items }
+        ensures connections { self.new.connections ≡ self.old.connections }
+        ensures enough { vec_len self.old.calls < vec_capacity self.old.calls → vec_capacity self.new.calls ≡ vec_capacity self.old.calls }
+        ensures cause { IfErr result (λ refusal. refusal ≡ Refusal.Memory) }
+        ensures none { OnErr result (vec_capacity self.old.calls ≤ vec_len self.old.calls) }
+    {
+        if self.calls.len() < self.calls.capacity() {
+            return Ok(());
+        }
+        // The positions come first: of them there may be room for more.
+        let more = self.calls.len().max(LEAST_CALLS);
+        self.positions.reserve_exact(more)?;
+        self.calls.reserve_exact(more)?;
+        Ok(())
+    }
+
+    /// The list of calls.
+    pub fn calls(&self) -> &[Call]
+        ensures { result.now ≡ self.now.calls.items }
+    {
+        self.calls.as_slice()
+    }
+
+    /// All bytes that were written to connection `c`; none if it has not entered.
+    pub fn released(&self, c: u64) -> &[u8]
+        ensures { result.now ≡ slice_index_or (released_of self.now.connections.items) c [] }
+    {
+        match self.connections.get(c as usize) {
+            Some(connection) => connection.released(),
+            None => &[],
+        }
     }
 
     /// Gives a new connection a seat, if one is free. Returns whether it did. Connections count from 0, in the order in which they enter.

@@ -1,0 +1,15 @@
+use Rattle.std.proofs.Common.{ap, sym, ◌∙◌, arith}
+use Rattle.connections.specs.Session.{positions_of}
+use Rattle.connections.proofs.PositionsLemmas.{room-made}
+use Rattle.connections.proofs.sessions.Sessions.make_room.Goals as goal
+
+pub returns-clause-stands : goal.returns-clause-stands
+returns-clause-stands c = λ machines list stands. record {
+  seats = stands.seats;
+  connections_stand = stands.connections_stand;
+  calls_are = c.reserve_exact-2.ensures.items ∙ stands.calls_are;
+  positions = c.reserve_exact.ensures.items ∙ stands.positions;
+  positions_room = room-made c.args.self.now.calls c.reserve_exact-2.new.self c.reserve_exact.new.self list c.max-more.result stands.calls_are (c.reserve_exact.ensures.items ∙ stands.positions)
+      (omega (arith, c.if-len-capacity.false, c.len.ensures, c.capacity.ensures)) c.in_ok-reserve_exact-2.ensures.capacity_exact c.in_ok-reserve_exact.ensures.ok;
+  no_reply = stands.no_reply;
+}
