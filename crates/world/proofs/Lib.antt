@@ -30,3 +30,6 @@ pub mod OpenedLemmas
 pub mod PairReopen
 pub mod FormLemmas
 pub mod RunningLemmas
+pub mod GivenLemmas
+pub mod StepLemmas
+pub mod LeavesLemmas

@@ -19,11 +19,13 @@ use Rattle.machine.proofs.SoundEvents.{sound-step}
 use Rattle.connections.specs.Going.{Goes}
 use Rattle.world.specs.Cause.{Stretch, EndsBy, asks_memory}
 use Rattle.world.specs.Committing.{Rests, Opens, next_primary, next_standby}
-use Rattle.connections.specs.Session.{IsListOf, SessionsRefine, SequencerRefines, SeatsFollow, KeepsSeats, AddsOne, StandsStill, TakesTurn, TellsTheSame, bytes_of, seats_of}
+use Rattle.connections.specs.Session.{HasSeat, IsListOf, SessionsRefine, SequencerRefines, SeatsFollow, KeepsSeats, AddsOne, StandsStill, TakesTurn, TellsTheSame, bytes_of, seats_of}
 use Rattle.world.specs.Pair.{Pair, EitherRefines, NodesRefine, PartsRefine, PairRefines, IsCut, MovesBoth, Steps, Does}
 use Rattle.world.specs.Standby.{Node, StandbyRefines}
 use Rattle.world.proofs.LivesLemmas.{Runs, enabled-is, is_own, lives-step, nodes-refine, own-runs}
+use Rattle.connections.specs.declared.connection.Connection.{Connection as CodeConnection}
 use Rattle.connections.specs.declared.sessions.Sessions.{Sessions}
+use Rattle.world.specs.Step.{IsRoomier}
 use Rattle.connections.proofs.SessionLemmas.{length-connections, released-told}
 use Rattle.connections.proofs.SeatLemmas.{follow-kept}
 use Rattle.connections.proofs.SequencerLemmas.{still-same}
@@ -182,6 +184,13 @@ sessions-parts first second old sessions connections w parts keeps stand =
       arrivals = parts.arrivals;
       standby = parts.standby;
     }
+
+-- sessions with more room stand for the same world
+pub roomier-stands : (first second : Holder) (old : Pair) (sessions : Sessions) (w : World) → PartsRefine first second old w → IsRoomier old.sessions sessions → PartsRefine first second (with_sessions sessions old) w
+roomier-stands first second old sessions w parts roomier =
+    sessions-parts first second old sessions w.primary.connections w parts
+    (λ c seat has. subst (λ (v : Vec CodeConnection Global). HasSeat (seats_of v.items) c seat) roomier.connections has)
+    (roomier.stands w.primary.connections w.primary.calls parts.sessions)
 
 -- What the sessions did, of all connections and every list that they stood for: they changed the connections so just where that was enabled.
 abbrev pub SessionsGo : (List Connection → Bool) → (List Connection → List Connection) → Bool → Sessions → Sessions → Type 0

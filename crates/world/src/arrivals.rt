@@ -1,5 +1,5 @@
 //! What came to the standby, and what it acknowledged.
-ghost use Rattle.std.specs.Prelude.{◌≡◌, ◌⊎◌, ◌↔◌, ℕ, ◌<◌, true, false, List, [], ◌∷◌, ◌++◌, length, slice_get, IsTrue, IfOk, IfErr, OnOk, OnErr};
+ghost use Rattle.std.specs.Prelude.{◌≡◌, ◌⊎◌, ◌↔◌, ℕ, ◌<◌, true, false, List, [], ◌∷◌, ◌++◌, length, slice_get, IsTrue, IfOk, IfErr, Ok, OnOk, OnErr};
 ghost use Rattle.machine.specs.declared.event.Event.TheVariants.{Deliver, Apply};
 ghost use Rattle.model.specs.Standing.{Holder};
 ghost use Rattle.machine.specs.Event.{World, may_happen, acknowledgement_of, delivered, option_items};
@@ -10,6 +10,7 @@ ghost use Rattle.connections.specs.Going.{Goes};
 ghost use Rattle.world.specs.Cause.{EndsBy};
 ghost use Rattle.world.specs.Committing.{NearOnly, next_standby};
 ghost use Rattle.world.specs.Link.{AreFramesSent};
+ghost use Rattle.world.specs.Step.{AcksBy, AddsMessage};
 ghost use Rattle.world.specs.Standby.{StandbyStands, ArrivalsRefine, AppliesFirst, node_at, told_by};
 
 use crate::wire::{ACK_BYTES, decode, encode, encode_ack};
@@ -50,6 +51,8 @@ impl Arrivals {
 
     /// Adds an acknowledgement, with which the standby tells its position.
     pub(crate) fn acknowledge(&mut self, alloc: Global, ack: Ack) -> Result<(), Refusal>
+        ensures more { OnOk result (AddsMessage self.old.acknowledgements.items self.new.acknowledgements.items) }
+        ensures kept { OnErr result (self.new.acknowledgements.items ≡ self.old.acknowledgements.items) }
         ensures stands { OnOk result ((epoch : ℕ) (w : World) → ArrivalsRefine epoch w.primary.calls self.old w.standby.waiting w.wire.acknowledgements → told_by ack ≡ acknowledgement_of w.standby
             → ArrivalsRefine epoch w.primary.calls self.new w.standby.waiting (w.wire.acknowledgements ++ acknowledgement_of w.standby ∷ [])) }
         ensures cause { IfErr result (λ refusal. refusal ≡ Refusal.Memory) }
@@ -75,6 +78,7 @@ impl Arrivals {
             (ArrivalsRefine epoch w.primary.calls self.new w.standby.waiting w.wire.acknowledgements)) }
         ensures cause { IfErr result (λ refusal. (epoch : ℕ) (w : World) → AreFramesSent epoch w.primary.calls frames.now w.wire.frames → refusal ≡ Refusal.Memory) }
         ensures some { OnErr result (frame < length frames.now) }
+        ensures acknowledgements { self.new.acknowledgements ≡ self.old.acknowledgements }
     {
         let Some(bytes) = frames.get(frame as usize) else {
             return Ok(false);
@@ -110,6 +114,8 @@ impl Arrivals {
             → StandbyStands holder (E.contents standby.old.engine).current.epoch w.primary.calls w.standby.position (node_at (E.device standby.old.engine) (E.contents standby.old.engine) (E.is_faulted standby.old.engine) (K.table standby.old.keyspace) standby.old.heap standby.old.ended.items)
             → (may_happen w Apply ≡ true)
             × EndsBy refusal Apply (λ _ last. last holder w.primary.calls w.standby.position (next_standby w) (E.device standby.old.engine) (E.device standby.new.engine))) }
+        ensures acknowledged { AcksBy Apply result self.old.acknowledgements.items self.new.acknowledgements.items }
+        ensures untouched { result ≡ Ok false → E.device standby.new.engine ≡ E.device standby.old.engine }
         // at any moment of the call
         ensures moments { (holder : Holder) (w : World) → Sound w
             → (E.contents standby.old.engine).current.epoch ≡ w.standby.epoch

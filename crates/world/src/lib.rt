@@ -4,6 +4,7 @@
 mod arrivals;
 mod form;
 mod pair;
+mod parts;
 mod playing;
 mod queue;
 mod restarting;
@@ -12,5 +13,7 @@ mod waiting;
 mod wire;
 
 pub use machine::{Event, Mark};
+pub use pair::{Pair, Stepper};
+pub use parts::Parts;
 pub use playing::run;
 pub use trace::{EarlyEnd, Trace};

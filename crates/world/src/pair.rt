@@ -4,9 +4,10 @@ ghost use Rattle.standby.specs.declared.frame.Frame.{Frame};
 ghost use Rattle.standby_stream.specs.Delta.{IsDelta};
 ghost use Rattle.machine.specs.declared.event.Event.TheVariants as events;
 ghost use Rattle.machine.specs.declared.event.Node.TheVariants as nodes;
-ghost use Rattle.world.specs.Pair.{Acts, Does, HasRoom, HasWorld, takes_part};
+ghost use Rattle.world.specs.Pair.{Acts, Does, HasWorld, takes_part};
 ghost use Rattle.world.specs.Pair as specs;
 ghost use Rattle.world.specs.Standby.{node_at};
+ghost use Rattle.world.specs.Step.{IsStep, Leaves, Turns};
 
 use crate::arrivals::Arrivals;
 use crate::queue::{is_step, may_clear, may_commit, may_free};
@@ -32,22 +33,29 @@ use stream_codec::Message;
 use wbl_engine::{Durable, Freed, Restarting};
 
 /// What events happen to, one at a time.
-pub(crate) trait Stepper {
+pub trait Stepper {
     /// What it is made of.
     ghost parts: { Self → specs.Pair };
 
-    /// Lets an event do its step, if it is enabled, and returns whether it was.
+    /// Lets an event do its step, if it is enabled, and returns whether it was. One that is not enabled changes nothing.
     ///
-    /// `Memory` where a growth was refused, `Fault` where a fence failed, `Exhausted` where a counter would reach 2^62: the event is the last, and
-    /// it was enabled.
+    /// For every world of the machine that the pair stands for, it is one step of the machine, and the pair stands for the world after it. The calls, the
+    /// released bytes and the messages are those of that world, before the event and after it, so what this very event gave to anyone is what is
+    /// new in them. A device that the event does not touch is as it was, with all that it has gone through; at any moment of the event
+    /// a crash leaves of the other an image that opens where its node stood before the event or where it stands after it.
+    ///
+    /// # Errors
+    ///
+    /// `Memory` where a growth was refused, `Fault` where a fence failed, `Exhausted` where a counter would reach 2^62. The event was enabled, the calls
+    /// and the released bytes are as before, and of the devices the contract says what each cause leaves: nothing but `into_parts` is
+    /// of use then. One `Memory` is another: where a turn was refused the room for its call, nothing changed, and the pair goes on.
     fn step(&mut self, event: &Event) -> Result<bool, Refusal>
         requires world { HasWorld (parts self.old) }
-        requires room { HasRoom (parts self.old) }
-        ensures { Acts (parts self.old) event.now result (parts self.new) };
+        ensures { IsStep (parts self.old) event.now result (parts self.new) };
 }
 
 /// Both nodes, and what lies between them and the clients.
-pub(crate) struct Pair<E: Durable, K: Keyspace> {
+pub struct Pair<E: Durable, K: Keyspace> {
     pub(crate) alloc: Global,
     pub(crate) sessions: Sessions,
     pub(crate) sequencer: Sequencer<K>,
@@ -162,32 +170,38 @@ impl<E: Restarting, K: Keyspace + Drop> Pair<E, K> {
     }
 
     fn enter(&mut self) -> Result<bool, Refusal>
-        ensures { Does (⟦<Pair<E, K> as Stepper>⟧.parts self.old) events.Enter result (⟦<Pair<E, K> as Stepper>⟧.parts self.new) }
+        ensures does { Does (⟦<Pair<E, K> as Stepper>⟧.parts self.old) events.Enter result (⟦<Pair<E, K> as Stepper>⟧.parts self.new) }
+        ensures leaves { Leaves events.Enter result (⟦<Pair<E, K> as Stepper>⟧.parts self.old) (⟦<Pair<E, K> as Stepper>⟧.parts self.new) }
     {
         self.sessions.enter(self.alloc, &mut self.sequencer)
     }
 
     fn feed(&mut self, c: u64, piece: &Bytes) -> Result<bool, Refusal>
-        ensures { Does (⟦<Pair<E, K> as Stepper>⟧.parts self.old) (events.Feed c piece.now) result (⟦<Pair<E, K> as Stepper>⟧.parts self.new) }
+        ensures does { Does (⟦<Pair<E, K> as Stepper>⟧.parts self.old) (events.Feed c piece.now) result (⟦<Pair<E, K> as Stepper>⟧.parts self.new) }
+        ensures leaves { Leaves (events.Feed c piece.now) result (⟦<Pair<E, K> as Stepper>⟧.parts self.old) (⟦<Pair<E, K> as Stepper>⟧.parts self.new) }
     {
         self.sessions.feed(c, piece)
     }
 
     fn offer(&mut self, c: u64) -> Result<bool, Refusal>
-        ensures { Does (⟦<Pair<E, K> as Stepper>⟧.parts self.old) (events.Offer c) result (⟦<Pair<E, K> as Stepper>⟧.parts self.new) }
+        ensures does { Does (⟦<Pair<E, K> as Stepper>⟧.parts self.old) (events.Offer c) result (⟦<Pair<E, K> as Stepper>⟧.parts self.new) }
+        ensures leaves { Leaves (events.Offer c) result (⟦<Pair<E, K> as Stepper>⟧.parts self.old) (⟦<Pair<E, K> as Stepper>⟧.parts self.new) }
     {
         self.sessions.offer(c)
     }
 
+    /// Room is made for the call first.
     fn turn(&mut self, c: u64) -> Result<bool, Refusal>
-        requires { HasRoom (⟦<Pair<E, K> as Stepper>⟧.parts self.old) }
-        ensures { Does (⟦<Pair<E, K> as Stepper>⟧.parts self.old) (events.Turn c) result (⟦<Pair<E, K> as Stepper>⟧.parts self.new) }
+        ensures turns { Turns (⟦<Pair<E, K> as Stepper>⟧.parts self.old) c result (⟦<Pair<E, K> as Stepper>⟧.parts self.new) }
+        ensures leaves { Leaves (events.Turn c) result (⟦<Pair<E, K> as Stepper>⟧.parts self.old) (⟦<Pair<E, K> as Stepper>⟧.parts self.new) }
     {
+        self.sessions.make_room()?;
         Ok(self.sessions.turn(self.alloc, c, &mut self.sequencer))
     }
 
     fn close_group(&mut self) -> Result<bool, Refusal>
-        ensures { Does (⟦<Pair<E, K> as Stepper>⟧.parts self.old) events.CloseGroup result (⟦<Pair<E, K> as Stepper>⟧.parts self.new) }
+        ensures does { Does (⟦<Pair<E, K> as Stepper>⟧.parts self.old) events.CloseGroup result (⟦<Pair<E, K> as Stepper>⟧.parts self.new) }
+        ensures leaves { Leaves events.CloseGroup result (⟦<Pair<E, K> as Stepper>⟧.parts self.old) (⟦<Pair<E, K> as Stepper>⟧.parts self.new) }
     {
         close_next(self.alloc, &mut self.sequencer, &mut self.work)
     }
@@ -195,7 +209,8 @@ impl<E: Restarting, K: Keyspace + Drop> Pair<E, K> {
     fn commit(&mut self) -> Result<bool, Refusal>
         requires serves { self.old.primary_runs ≡ true }
         requires world { HasWorld (⟦<Pair<E, K> as Stepper>⟧.parts self.old) }
-        ensures { Does (⟦<Pair<E, K> as Stepper>⟧.parts self.old) events.Commit result (⟦<Pair<E, K> as Stepper>⟧.parts self.new) }
+        ensures does { Does (⟦<Pair<E, K> as Stepper>⟧.parts self.old) events.Commit result (⟦<Pair<E, K> as Stepper>⟧.parts self.new) }
+        ensures leaves { Leaves events.Commit result (⟦<Pair<E, K> as Stepper>⟧.parts self.old) (⟦<Pair<E, K> as Stepper>⟧.parts self.new) }
     {
         if !may_commit(&self.committer, &self.work, &self.handed) {
             return Ok(false);
@@ -206,7 +221,8 @@ impl<E: Restarting, K: Keyspace + Drop> Pair<E, K> {
     }
 
     fn raise_local(&mut self) -> Result<bool, Refusal>
-        ensures { Does (⟦<Pair<E, K> as Stepper>⟧.parts self.old) events.RaiseLocal result (⟦<Pair<E, K> as Stepper>⟧.parts self.new) }
+        ensures does { Does (⟦<Pair<E, K> as Stepper>⟧.parts self.old) events.RaiseLocal result (⟦<Pair<E, K> as Stepper>⟧.parts self.new) }
+        ensures leaves { Leaves events.RaiseLocal result (⟦<Pair<E, K> as Stepper>⟧.parts self.old) (⟦<Pair<E, K> as Stepper>⟧.parts self.new) }
     {
         let Stage::Durable(_) = self.committer.stage() else {
             return Ok(false);
@@ -218,7 +234,8 @@ impl<E: Restarting, K: Keyspace + Drop> Pair<E, K> {
     }
 
     fn hand(&mut self) -> Result<bool, Refusal>
-        ensures { Does (⟦<Pair<E, K> as Stepper>⟧.parts self.old) events.Hand result (⟦<Pair<E, K> as Stepper>⟧.parts self.new) }
+        ensures does { Does (⟦<Pair<E, K> as Stepper>⟧.parts self.old) events.Hand result (⟦<Pair<E, K> as Stepper>⟧.parts self.new) }
+        ensures leaves { Leaves events.Hand result (⟦<Pair<E, K> as Stepper>⟧.parts self.old) (⟦<Pair<E, K> as Stepper>⟧.parts self.new) }
     {
         let Stage::Shown(_) = self.committer.stage() else {
             return Ok(false);
@@ -232,7 +249,8 @@ impl<E: Restarting, K: Keyspace + Drop> Pair<E, K> {
     fn free(&mut self) -> Result<bool, Refusal>
         requires serves { self.old.primary_runs ≡ true }
         requires world { HasWorld (⟦<Pair<E, K> as Stepper>⟧.parts self.old) }
-        ensures { Does (⟦<Pair<E, K> as Stepper>⟧.parts self.old) events.Free result (⟦<Pair<E, K> as Stepper>⟧.parts self.new) }
+        ensures does { Does (⟦<Pair<E, K> as Stepper>⟧.parts self.old) events.Free result (⟦<Pair<E, K> as Stepper>⟧.parts self.new) }
+        ensures leaves { Leaves events.Free result (⟦<Pair<E, K> as Stepper>⟧.parts self.old) (⟦<Pair<E, K> as Stepper>⟧.parts self.new) }
     {
         if !may_free(&self.committer, &self.work, &self.handed, self.remote) {
             return Ok(false);
@@ -250,7 +268,8 @@ impl<E: Restarting, K: Keyspace + Drop> Pair<E, K> {
     fn accept_freed(&mut self) -> bool
         requires serves { self.old.primary_runs ≡ true }
         requires world { HasWorld (⟦<Pair<E, K> as Stepper>⟧.parts self.old) }
-        ensures { Does (⟦<Pair<E, K> as Stepper>⟧.parts self.old) events.AcceptFreed (Ok result) (⟦<Pair<E, K> as Stepper>⟧.parts self.new) }
+        ensures does { Does (⟦<Pair<E, K> as Stepper>⟧.parts self.old) events.AcceptFreed (Ok result) (⟦<Pair<E, K> as Stepper>⟧.parts self.new) }
+        ensures leaves { Leaves events.AcceptFreed (Ok result) (⟦<Pair<E, K> as Stepper>⟧.parts self.old) (⟦<Pair<E, K> as Stepper>⟧.parts self.new) }
     {
         let Some(freed) = self.notices.pop_front() else {
             return false;
@@ -262,7 +281,8 @@ impl<E: Restarting, K: Keyspace + Drop> Pair<E, K> {
     fn clear_gap(&mut self) -> Result<bool, Refusal>
         requires serves { self.old.primary_runs ≡ true }
         requires world { HasWorld (⟦<Pair<E, K> as Stepper>⟧.parts self.old) }
-        ensures { Does (⟦<Pair<E, K> as Stepper>⟧.parts self.old) events.ClearGap result (⟦<Pair<E, K> as Stepper>⟧.parts self.new) }
+        ensures does { Does (⟦<Pair<E, K> as Stepper>⟧.parts self.old) events.ClearGap result (⟦<Pair<E, K> as Stepper>⟧.parts self.new) }
+        ensures leaves { Leaves events.ClearGap result (⟦<Pair<E, K> as Stepper>⟧.parts self.old) (⟦<Pair<E, K> as Stepper>⟧.parts self.new) }
     {
         if !may_clear(&self.committer, &self.work, &self.handed) {
             return Ok(false);
@@ -279,7 +299,8 @@ impl<E: Restarting, K: Keyspace + Drop> Pair<E, K> {
 
     fn open_link(&mut self) -> Result<bool, Refusal>
         requires follows { self.old.standby_runs ≡ true }
-        ensures { Does (⟦<Pair<E, K> as Stepper>⟧.parts self.old) events.OpenLink result (⟦<Pair<E, K> as Stepper>⟧.parts self.new) }
+        ensures does { Does (⟦<Pair<E, K> as Stepper>⟧.parts self.old) events.OpenLink result (⟦<Pair<E, K> as Stepper>⟧.parts self.new) }
+        ensures leaves { Leaves events.OpenLink result (⟦<Pair<E, K> as Stepper>⟧.parts self.old) (⟦<Pair<E, K> as Stepper>⟧.parts self.new) }
     {
         let ack = self.standby.ack();
         let delta = due_delta(self.alloc, &self.link, &self.opening, ack.position)?;
@@ -289,7 +310,8 @@ impl<E: Restarting, K: Keyspace + Drop> Pair<E, K> {
     }
 
     fn send(&mut self) -> Result<bool, Refusal>
-        ensures { Does (⟦<Pair<E, K> as Stepper>⟧.parts self.old) events.Send result (⟦<Pair<E, K> as Stepper>⟧.parts self.new) }
+        ensures does { Does (⟦<Pair<E, K> as Stepper>⟧.parts self.old) events.Send result (⟦<Pair<E, K> as Stepper>⟧.parts self.new) }
+        ensures leaves { Leaves events.Send result (⟦<Pair<E, K> as Stepper>⟧.parts self.old) (⟦<Pair<E, K> as Stepper>⟧.parts self.new) }
     {
         let Some(delta) = self.link.take_delta() else {
             return self.send_group();
@@ -301,7 +323,8 @@ impl<E: Restarting, K: Keyspace + Drop> Pair<E, K> {
     /// The frame of the next group passes, if there is one. None comes before all groups.
     fn send_group(&mut self) -> Result<bool, Refusal>
         requires none_before { (⟦<Pair<E, K> as Stepper>⟧.parts self.old).link.delta ≡ None }
-        ensures { Does (⟦<Pair<E, K> as Stepper>⟧.parts self.old) events.Send result (⟦<Pair<E, K> as Stepper>⟧.parts self.new) }
+        ensures does { Does (⟦<Pair<E, K> as Stepper>⟧.parts self.old) events.Send result (⟦<Pair<E, K> as Stepper>⟧.parts self.new) }
+        ensures leaves { Leaves events.Send result (⟦<Pair<E, K> as Stepper>⟧.parts self.old) (⟦<Pair<E, K> as Stepper>⟧.parts self.new) }
     {
         let Some(index) = self.link.next_frame(self.alloc, &mut self.handed)? else {
             return Ok(false);
@@ -313,7 +336,8 @@ impl<E: Restarting, K: Keyspace + Drop> Pair<E, K> {
 
     fn deliver(&mut self, frame: u64, piece: u64) -> Result<bool, Refusal>
         requires follows { self.old.standby_runs ≡ true }
-        ensures { Acts (⟦<Pair<E, K> as Stepper>⟧.parts self.old) (events.Deliver frame piece) result (⟦<Pair<E, K> as Stepper>⟧.parts self.new) }
+        ensures does { Acts (⟦<Pair<E, K> as Stepper>⟧.parts self.old) (events.Deliver frame piece) result (⟦<Pair<E, K> as Stepper>⟧.parts self.new) }
+        ensures leaves { Leaves (events.Deliver frame piece) result (⟦<Pair<E, K> as Stepper>⟧.parts self.old) (⟦<Pair<E, K> as Stepper>⟧.parts self.new) }
     {
         self.arrivals
             .deliver(self.alloc, self.frames.as_slice(), frame, piece)
@@ -322,13 +346,15 @@ impl<E: Restarting, K: Keyspace + Drop> Pair<E, K> {
     fn apply(&mut self) -> Result<bool, Refusal>
         requires follows { self.old.standby_runs ≡ true }
         requires world { HasWorld (⟦<Pair<E, K> as Stepper>⟧.parts self.old) }
-        ensures { Acts (⟦<Pair<E, K> as Stepper>⟧.parts self.old) events.Apply result (⟦<Pair<E, K> as Stepper>⟧.parts self.new) }
+        ensures does { Acts (⟦<Pair<E, K> as Stepper>⟧.parts self.old) events.Apply result (⟦<Pair<E, K> as Stepper>⟧.parts self.new) }
+        ensures leaves { Leaves events.Apply result (⟦<Pair<E, K> as Stepper>⟧.parts self.old) (⟦<Pair<E, K> as Stepper>⟧.parts self.new) }
     {
         self.arrivals.apply(self.alloc, &mut self.standby)
     }
 
     fn ack_delivered(&mut self, ack: u64) -> Result<bool, Refusal>
-        ensures { Does (⟦<Pair<E, K> as Stepper>⟧.parts self.old) (events.AckDelivered ack) result (⟦<Pair<E, K> as Stepper>⟧.parts self.new) }
+        ensures does { Does (⟦<Pair<E, K> as Stepper>⟧.parts self.old) (events.AckDelivered ack) result (⟦<Pair<E, K> as Stepper>⟧.parts self.new) }
+        ensures leaves { Leaves (events.AckDelivered ack) result (⟦<Pair<E, K> as Stepper>⟧.parts self.old) (⟦<Pair<E, K> as Stepper>⟧.parts self.new) }
     {
         let Some(bytes) = self.arrivals.acknowledgements.get(ack as usize) else {
             return Ok(false);
@@ -341,7 +367,8 @@ impl<E: Restarting, K: Keyspace + Drop> Pair<E, K> {
     }
 
     fn raise_remote(&mut self) -> Result<bool, Refusal>
-        ensures { Does (⟦<Pair<E, K> as Stepper>⟧.parts self.old) events.RaiseRemote result (⟦<Pair<E, K> as Stepper>⟧.parts self.new) }
+        ensures does { Does (⟦<Pair<E, K> as Stepper>⟧.parts self.old) events.RaiseRemote result (⟦<Pair<E, K> as Stepper>⟧.parts self.new) }
+        ensures leaves { Leaves events.RaiseRemote result (⟦<Pair<E, K> as Stepper>⟧.parts self.old) (⟦<Pair<E, K> as Stepper>⟧.parts self.new) }
     {
         let known = self.link.known();
         let rises = self.remote < known;
@@ -351,13 +378,15 @@ impl<E: Restarting, K: Keyspace + Drop> Pair<E, K> {
     }
 
     fn hold(&mut self, c: u64) -> Result<bool, Refusal>
-        ensures { Does (⟦<Pair<E, K> as Stepper>⟧.parts self.old) (events.Hold c) result (⟦<Pair<E, K> as Stepper>⟧.parts self.new) }
+        ensures does { Does (⟦<Pair<E, K> as Stepper>⟧.parts self.old) (events.Hold c) result (⟦<Pair<E, K> as Stepper>⟧.parts self.new) }
+        ensures leaves { Leaves (events.Hold c) result (⟦<Pair<E, K> as Stepper>⟧.parts self.old) (⟦<Pair<E, K> as Stepper>⟧.parts self.new) }
     {
         self.sessions.hold(c)
     }
 
     fn read(&mut self, c: u64, mark: Mark) -> Result<bool, Refusal>
-        ensures { Does (⟦<Pair<E, K> as Stepper>⟧.parts self.old) (events.Read c mark) result (⟦<Pair<E, K> as Stepper>⟧.parts self.new) }
+        ensures does { Does (⟦<Pair<E, K> as Stepper>⟧.parts self.old) (events.Read c mark) result (⟦<Pair<E, K> as Stepper>⟧.parts self.new) }
+        ensures leaves { Leaves (events.Read c mark) result (⟦<Pair<E, K> as Stepper>⟧.parts self.old) (⟦<Pair<E, K> as Stepper>⟧.parts self.new) }
     {
         let marks = Seen {
             local: self.committer.local(),
@@ -367,26 +396,30 @@ impl<E: Restarting, K: Keyspace + Drop> Pair<E, K> {
     }
 
     fn release(&mut self, c: u64) -> Result<bool, Refusal>
-        ensures { Does (⟦<Pair<E, K> as Stepper>⟧.parts self.old) (events.Release c) result (⟦<Pair<E, K> as Stepper>⟧.parts self.new) }
+        ensures does { Does (⟦<Pair<E, K> as Stepper>⟧.parts self.old) (events.Release c) result (⟦<Pair<E, K> as Stepper>⟧.parts self.new) }
+        ensures leaves { Leaves (events.Release c) result (⟦<Pair<E, K> as Stepper>⟧.parts self.old) (⟦<Pair<E, K> as Stepper>⟧.parts self.new) }
     {
         Ok(self.sessions.release(c))
     }
 
     fn write(&mut self, c: u64, n: u64) -> Result<bool, Refusal>
-        ensures { Does (⟦<Pair<E, K> as Stepper>⟧.parts self.old) (events.Write c n) result (⟦<Pair<E, K> as Stepper>⟧.parts self.new) }
+        ensures does { Does (⟦<Pair<E, K> as Stepper>⟧.parts self.old) (events.Write c n) result (⟦<Pair<E, K> as Stepper>⟧.parts self.new) }
+        ensures leaves { Leaves (events.Write c n) result (⟦<Pair<E, K> as Stepper>⟧.parts self.old) (⟦<Pair<E, K> as Stepper>⟧.parts self.new) }
     {
         self.sessions.write(c, n)
     }
 
     fn leave(&mut self, c: u64) -> Result<bool, Refusal>
-        ensures { Does (⟦<Pair<E, K> as Stepper>⟧.parts self.old) (events.Leave c) result (⟦<Pair<E, K> as Stepper>⟧.parts self.new) }
+        ensures does { Does (⟦<Pair<E, K> as Stepper>⟧.parts self.old) (events.Leave c) result (⟦<Pair<E, K> as Stepper>⟧.parts self.new) }
+        ensures leaves { Leaves (events.Leave c) result (⟦<Pair<E, K> as Stepper>⟧.parts self.old) (⟦<Pair<E, K> as Stepper>⟧.parts self.new) }
     {
         Ok(self.sessions.leave(self.alloc, c, &mut self.sequencer))
     }
 
     fn crash(&mut self, node: Node, picks: &Vec<u64>) -> Result<bool, Refusal>
         requires { HasWorld (⟦<Pair<E, K> as Stepper>⟧.parts self.old) }
-        ensures { Acts (⟦<Pair<E, K> as Stepper>⟧.parts self.old) (events.Crash node picks.now) result (⟦<Pair<E, K> as Stepper>⟧.parts self.new) }
+        ensures does { Acts (⟦<Pair<E, K> as Stepper>⟧.parts self.old) (events.Crash node picks.now) result (⟦<Pair<E, K> as Stepper>⟧.parts self.new) }
+        ensures leaves { Leaves (events.Crash node picks.now) result (⟦<Pair<E, K> as Stepper>⟧.parts self.old) (⟦<Pair<E, K> as Stepper>⟧.parts self.new) }
     {
         match node {
             Node::Primary => Ok(self.crash_primary(picks)),
@@ -397,7 +430,8 @@ impl<E: Restarting, K: Keyspace + Drop> Pair<E, K> {
     /// Of the primary there is its image then, with the calls that it holds. All connections are over.
     fn crash_primary(&mut self, picks: &Vec<u64>) -> bool
         requires { HasWorld (⟦<Pair<E, K> as Stepper>⟧.parts self.old) }
-        ensures { Acts (⟦<Pair<E, K> as Stepper>⟧.parts self.old) (events.Crash nodes.Primary picks.now) (Ok result) (⟦<Pair<E, K> as Stepper>⟧.parts self.new) }
+        ensures does { Acts (⟦<Pair<E, K> as Stepper>⟧.parts self.old) (events.Crash nodes.Primary picks.now) (Ok result) (⟦<Pair<E, K> as Stepper>⟧.parts self.new) }
+        ensures leaves { Leaves (events.Crash nodes.Primary picks.now) (Ok result) (⟦<Pair<E, K> as Stepper>⟧.parts self.old) (⟦<Pair<E, K> as Stepper>⟧.parts self.new) }
     {
         if !self.primary_runs {
             return false;
@@ -412,7 +446,8 @@ impl<E: Restarting, K: Keyspace + Drop> Pair<E, K> {
     /// Of the standby there is its image then. What was delivered to it is lost.
     fn crash_standby(&mut self, picks: &Vec<u64>) -> bool
         requires { HasWorld (⟦<Pair<E, K> as Stepper>⟧.parts self.old) }
-        ensures { Acts (⟦<Pair<E, K> as Stepper>⟧.parts self.old) (events.Crash nodes.Standby picks.now) (Ok result) (⟦<Pair<E, K> as Stepper>⟧.parts self.new) }
+        ensures does { Acts (⟦<Pair<E, K> as Stepper>⟧.parts self.old) (events.Crash nodes.Standby picks.now) (Ok result) (⟦<Pair<E, K> as Stepper>⟧.parts self.new) }
+        ensures leaves { Leaves (events.Crash nodes.Standby picks.now) (Ok result) (⟦<Pair<E, K> as Stepper>⟧.parts self.old) (⟦<Pair<E, K> as Stepper>⟧.parts self.new) }
     {
         if !self.standby_runs {
             return false;
@@ -425,7 +460,8 @@ impl<E: Restarting, K: Keyspace + Drop> Pair<E, K> {
 
     fn reopen(&mut self, node: Node) -> Result<bool, Refusal>
         requires { HasWorld (⟦<Pair<E, K> as Stepper>⟧.parts self.old) }
-        ensures { Acts (⟦<Pair<E, K> as Stepper>⟧.parts self.old) (events.Reopen node) result (⟦<Pair<E, K> as Stepper>⟧.parts self.new) }
+        ensures does { Acts (⟦<Pair<E, K> as Stepper>⟧.parts self.old) (events.Reopen node) result (⟦<Pair<E, K> as Stepper>⟧.parts self.new) }
+        ensures leaves { Leaves (events.Reopen node) result (⟦<Pair<E, K> as Stepper>⟧.parts self.old) (⟦<Pair<E, K> as Stepper>⟧.parts self.new) }
     {
         match node {
             Node::Primary => self.reopen_primary(),
@@ -436,7 +472,8 @@ impl<E: Restarting, K: Keyspace + Drop> Pair<E, K> {
     /// The primary goes on from its image: its keyspace and its heap are made from the versions there, and nothing waits.
     fn reopen_primary(&mut self) -> Result<bool, Refusal>
         requires { HasWorld (⟦<Pair<E, K> as Stepper>⟧.parts self.old) }
-        ensures { Acts (⟦<Pair<E, K> as Stepper>⟧.parts self.old) (events.Reopen nodes.Primary) result (⟦<Pair<E, K> as Stepper>⟧.parts self.new) }
+        ensures does { Acts (⟦<Pair<E, K> as Stepper>⟧.parts self.old) (events.Reopen nodes.Primary) result (⟦<Pair<E, K> as Stepper>⟧.parts self.new) }
+        ensures leaves { Leaves (events.Reopen nodes.Primary) result (⟦<Pair<E, K> as Stepper>⟧.parts self.old) (⟦<Pair<E, K> as Stepper>⟧.parts self.new) }
     {
         if self.primary_runs {
             return Ok(false);
@@ -460,7 +497,8 @@ impl<E: Restarting, K: Keyspace + Drop> Pair<E, K> {
     /// The standby goes on from its image.
     fn reopen_standby(&mut self) -> Result<bool, Refusal>
         requires { HasWorld (⟦<Pair<E, K> as Stepper>⟧.parts self.old) }
-        ensures { Acts (⟦<Pair<E, K> as Stepper>⟧.parts self.old) (events.Reopen nodes.Standby) result (⟦<Pair<E, K> as Stepper>⟧.parts self.new) }
+        ensures does { Acts (⟦<Pair<E, K> as Stepper>⟧.parts self.old) (events.Reopen nodes.Standby) result (⟦<Pair<E, K> as Stepper>⟧.parts self.new) }
+        ensures leaves { Leaves (events.Reopen nodes.Standby) result (⟦<Pair<E, K> as Stepper>⟧.parts self.old) (⟦<Pair<E, K> as Stepper>⟧.parts self.new) }
     {
         if self.standby_runs {
             return Ok(false);

@@ -6,19 +6,19 @@ ghost use Rattle.world.specs.Headline.{KeepsItsWord, PlaysOn, Plays, start};
 ghost use Rattle.world.specs.Pair.{NodesRefine};
 ghost use Rattle.connections.specs.Session.{released_of};
 
-use crate::form::form;
 use crate::pair::{Pair, Stepper};
+use crate::parts::Parts;
 use crate::trace::{EarlyEnd, Trace};
 use crate::wire::end_of_frame;
 use connections::Connection;
 use kv_types::Refusal;
 use machine::Event;
 use model::Call;
-use mv_keyspace::{Keyspace, ListKeyspace};
+use mv_keyspace::Keyspace;
 use pmem::Crashing;
 use std::alloc::{AllocError, Global};
 use std::hash::RandomState;
-use wbl_engine::{Durable, WblEngine};
+use wbl_engine::WblEngine;
 
 /// Formats the first device as primary and the second as standby, and lets the events happen to them and to their connections, one after another: an
 /// enabled event does its step, any other changes nothing. All devices come back in their order.
@@ -98,15 +98,7 @@ fn play_over<P: Crashing>(
         Ok(room) => room,
         Err(_) => return nothing(alloc, Refusal::Memory, primary, standby),
     };
-    let keyspaces = (ListKeyspace::new(alloc), ListKeyspace::new(alloc));
-    match form(
-        alloc,
-        primary,
-        standby,
-        keyspaces,
-        events.len(),
-        hash_builder,
-    ) {
+    match Pair::open(alloc, primary, standby, events.len(), hash_builder) {
         Ok(pair) => play_on(pair, events, done, released),
         Err((refusal, primary, standby)) => nothing(alloc, refusal, primary, standby),
     }
@@ -163,36 +155,25 @@ fn play_on<P: Crashing, K: Keyspace + Drop>(
     let mut done = done;
     let mut released = released;
     let ended = play(&mut pair, events, &mut done);
-    let Pair {
-        alloc: _,
-        sessions,
-        sequencer: _sequencer,
-        work: _work,
-        committer,
-        notices: _notices,
-        handed: _handed,
-        link: _link,
-        opening: _opening,
-        remote: _,
+    let Parts {
+        calls,
+        connections,
         mut frames,
-        arrivals,
+        acknowledgements,
+        primary,
         standby,
-        hash_builder: _,
-        primary_runs: _,
-        standby_runs: _,
-    } = pair;
-    let (calls, connections) = sessions.into_parts();
+    } = pair.into_parts();
     take_released(connections, &mut released);
     drop_repeats(&mut frames);
     Played {
         calls,
         released,
         frames,
-        acknowledgements: arrivals.acknowledgements,
+        acknowledgements,
         done,
         ended,
-        primary: committer.into_device(),
-        standby: standby.into_device(),
+        primary,
+        standby,
     }
 }
 

@@ -1,5 +1,5 @@
 //! What passes between the two nodes: the bytes of their messages.
-ghost use Rattle.std.specs.Prelude.{◌≡◌, ◌≤◌, ℕ, [], ◌∷◌, ◌++◌, IfOk, IfErr, OnOk, Vec, vec_capacity};
+ghost use Rattle.std.specs.Prelude.{◌≡◌, ◌≤◌, ℕ, [], ◌∷◌, ◌++◌, IfOk, IfErr, OnErr, OnOk, Vec, vec_capacity};
 ghost use Rattle.std.specs.Global.{Global};
 ghost use Rattle.stream_codec.specs.Message.{Sent, IsSent, IsWithinLimits, sent_of, sent_of_ack, sent_of_frame, sent_text};
 
@@ -32,6 +32,7 @@ pub(crate) fn encode(alloc: Global, message: &Message) -> Result<Vec<u8>, AllocE
 pub(crate) fn pass(alloc: Global, frames: &mut Vec<Vec<u8>>, frame: Frame) -> Result<(), Refusal>
     ensures passes { OnOk result ((bytes : Vec ℕ Global) × (bytes.items ≡ sent_text (sent_of_frame frame)) × IsWithinLimits (sent_of_frame frame)
         × (frames.new.items ≡ frames.old.items ++ bytes ∷ [])) }
+    ensures kept { OnErr result (frames.new.items ≡ frames.old.items) }
     ensures cause { IfErr result (λ refusal. refusal ≡ Refusal.Memory) }
 {
     let bytes = encode(alloc, &Message::Group(frame))?;

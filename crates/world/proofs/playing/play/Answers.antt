@@ -4,9 +4,10 @@ use Rattle.std.proofs.lemmas.Option.{slice_get-get_or}
 use Rattle.machine.specs.declared.event.Event.{Event}
 use Rattle.model.specs.Standing.{Holder}
 use Rattle.world.specs.Headline.{start, StandsAfter, IsCutAfter}
-use Rattle.world.specs.Pair.{Pair, NodesRefine}
+use Rattle.world.specs.Pair.{HasRoom, Pair, NodesRefine}
 use Rattle.world.proofs.PairLemmas.{sessions-stand}
 use Rattle.world.proofs.RunningLemmas.{reaches-start, reaches-world, reaches-next, reaches-cut}
+use Rattle.world.proofs.StepLemmas.{cut-for-room}
 use Rattle.world.proofs.playing.play.Goals as goal
 
 -- at the start there is no call
@@ -22,13 +23,10 @@ loop-event-init g c = record {
   reaches = λ first second stands. reaches-start first second c.args.done.now.items (g.S.Stepper.parts c.args.stepper.now) c.requires.none stands;
 }
 
-pub step-requires-clause-world : goal.step-requires-clause-world
-step-requires-clause-world g c =
+pub step-requires : goal.step-requires
+step-requires g c =
     let start = c.requires.stands in
-    reaches-world start.0 start.1 _ _ _ _ (c.loop-event.invariant.reaches start.0 start.1 start.2)
-
-pub step-requires-clause-room : goal.step-requires-clause-room
-step-requires-clause-room g c = record { room = omega (arith, c.loop-event.invariant.few, c.loop-event.invariant.room_calls, c.loop-event-test.true) }
+    record { world = reaches-world start.0 start.1 _ _ _ _ (c.loop-event.invariant.reaches start.0 start.1 start.2) }
 
 pub returns-in-Err : goal.returns-in-Err
 returns-in-Err g c = λ first second stands.
@@ -38,21 +36,26 @@ returns-in-Err g c = λ first second stands.
       c.event-item.result,
       ap (slice_get c.args.events.now) same ∙ there,
       subst (λ n. IsCutAfter first second (g.S.Stepper.parts c.args.stepper.now) (take n c.args.events.now) c.event-item.result c.in-Err.refusal c.loop-event.done.items (g.S.Stepper.parts c.step.new.self)) (sym same)
-          (reaches-cut first second _ _ _ _ _ _ _ c.in-Err.ensures.cut (c.loop-event.invariant.reaches first second stands)),
+          (reaches-cut first second _ _ _ _ _ _ _
+          (cut-for-room _ _ _ _ (record { room = omega (arith, c.loop-event.invariant.few, c.loop-event.invariant.room_calls, c.loop-event-test.true) }) c.in-Err.ensures.refused)
+          (c.loop-event.invariant.reaches first second stands)),
     )
 
 pub loop-event-preserved : goal.loop-event-preserved
-loop-event-preserved g c = record {
-  count = omega (arith, c.push_reserved.ensures.len, c.loop-event.invariant.count);
-  room = omega (arith, c.push_reserved.ensures.capacity, c.loop-event.invariant.room);
-  few = omega (arith, c.in-Ok.ensures.calls.one, c.loop-event.invariant.few);
-  room_calls = omega (arith, c.in-Ok.ensures.calls.room, c.loop-event.invariant.room_calls);
-  reaches = λ first second stands.
-      subst (λ (passed : List Event). StandsAfter first second (g.S.Stepper.parts c.args.stepper.now) passed c.push_reserved.new.self.items (g.S.Stepper.parts c.step.new.self))
-      (ap (λ event. take c.loop-event.event-index c.args.events.now ++ event ∷ []) c.event-item.is ∙ sym (take_more c.args.events.now c.loop-event.event-index c.event-item.result c.loop-event-test.true))
-      (reaches-next first second (g.S.Stepper.parts c.args.stepper.now) (take c.loop-event.event-index c.args.events.now) c.loop-event.done.items c.push_reserved.new.self.items (g.S.Stepper.parts c.loop-event.stepper) (g.S.Stepper.parts c.step.new.self)
-      c.event-item.result c.in-Ok.did c.push_reserved.ensures.items c.in-Ok.ensures.steps (c.loop-event.invariant.reaches first second stands));
-}
+loop-event-preserved g c =
+    let room : HasRoom (g.S.Stepper.parts c.loop-event.stepper) = record { room = omega (arith, c.loop-event.invariant.few, c.loop-event.invariant.room_calls, c.loop-event-test.true) } in
+    let adds = c.in-Ok.ensures.room room in
+    record {
+      count = omega (arith, c.push_reserved.ensures.len, c.loop-event.invariant.count);
+      room = omega (arith, c.push_reserved.ensures.capacity, c.loop-event.invariant.room);
+      few = omega (arith, adds.one, c.loop-event.invariant.few);
+      room_calls = omega (arith, adds.room, c.loop-event.invariant.room_calls);
+      reaches = λ first second stands.
+          subst (λ (passed : List Event). StandsAfter first second (g.S.Stepper.parts c.args.stepper.now) passed c.push_reserved.new.self.items (g.S.Stepper.parts c.step.new.self))
+          (ap (λ event. take c.loop-event.event-index c.args.events.now ++ event ∷ []) c.event-item.is ∙ sym (take_more c.args.events.now c.loop-event.event-index c.event-item.result c.loop-event-test.true))
+          (reaches-next first second (g.S.Stepper.parts c.args.stepper.now) (take c.loop-event.event-index c.args.events.now) c.loop-event.done.items c.push_reserved.new.self.items (g.S.Stepper.parts c.loop-event.stepper) (g.S.Stepper.parts c.step.new.self)
+          c.event-item.result c.in-Ok.did c.push_reserved.ensures.items (λ first second w stands. (c.in-Ok.ensures.happened first second w stands).steps) (c.loop-event.invariant.reaches first second stands));
+    }
 
 pub returns : goal.returns
 returns g c = λ first second stands.

@@ -14,4 +14,4 @@ take_released-requires-clause-room g c =
 pub returns : goal.returns
 returns g c = λ first second stands.
     plays-on first second _ _ _ _ _ _ _ _ _ (ap (λ (v : Vec Call Global). v.items) c.into_parts-calls.ensures.calls)
-    (c.take_released.ensures ∙ ap (λ (v : Vec Connection Global). released_of v.items) c.into_parts-calls.ensures.connections) c.into_device.ensures c.into_device-2.ensures (c.play-ended.ensures first second stands)
+    (c.take_released.ensures ∙ ap (λ (v : Vec Connection Global). released_of v.items) c.into_parts-calls.ensures.connections) c.into_parts-calls.ensures.primary c.into_parts-calls.ensures.standby (c.play-ended.ensures first second stands)

@@ -16,18 +16,18 @@ returns-in-Err g c =
     (subst (FormattingOnly Standby (state c.args.standby)) (ap state (sym nothing.devices.1)) (formatting-none Standby (state c.args.standby)))
     (ap state nothing.devices.0, ap state nothing.devices.1)
 
-pub returns-in-Ok-form : goal.returns-in-Ok-form
-returns-in-Ok-form g c =
-    let formatting = c.in-Ok-form.ensures.moments in
-    keeps-played _ _ _ _ _ _ _ _ _ _ _ formatting.0 formatting.1 (c.play_on.ensures _ _ c.in-Ok-form.ensures.stands)
+pub returns-in-Ok-open : goal.returns-in-Ok-open
+returns-in-Ok-open g c =
+    let formatting = c.in-Ok-open.ensures.moments in
+    keeps-played _ _ _ _ _ _ _ _ _ _ _ formatting.0 formatting.1 (c.play_on.ensures _ _ c.in-Ok-open.ensures.stands)
 
-pub returns-in-Err-form : goal.returns-in-Err-form
-returns-in-Err-form g c =
+pub returns-in-Err-open : goal.returns-in-Err-open
+returns-in-Err-open g c =
     let state = g.P.Pmem.state in
-    let nothing = c.nothing-in-Err-form.ensures in
-    let formatting = c.in-Err-form.ensures.moments in
+    let nothing = c.nothing-in-Err-open.ensures in
+    let formatting = c.in-Err-open.ensures.moments in
     keeps-unplayed _ _ _ _ _ _ _ _ _ _ nothing.ended nothing.none.0 nothing.none.1 (ap (map (λ bytes. bytes.items)) nothing.none.2)
     (subst (FormattingOnly Primary (state c.args.primary)) (ap state (sym nothing.devices.0)) formatting.0)
     (subst (FormattingOnly Standby (state c.args.standby)) (ap state (sym nothing.devices.1)) formatting.1)
-    (subst (λ (p : State). UnformedBy c.in-Err-form.refusal (state c.args.primary) (state c.args.standby) p (state c.nothing-in-Err-form.result.standby)) (ap state (sym nothing.devices.0))
-    (subst (UnformedBy c.in-Err-form.refusal (state c.args.primary) (state c.args.standby) (state c.in-Err-form.primary)) (ap state (sym nothing.devices.1)) c.in-Err-form.ensures.cause))
+    (subst (λ (p : State). UnformedBy c.in-Err-open.refusal (state c.args.primary) (state c.args.standby) p (state c.nothing-in-Err-open.result.standby)) (ap state (sym nothing.devices.0))
+    (subst (UnformedBy c.in-Err-open.refusal (state c.args.primary) (state c.args.standby) (state c.in-Err-open.primary)) (ap state (sym nothing.devices.1)) c.in-Err-open.ensures.cause))

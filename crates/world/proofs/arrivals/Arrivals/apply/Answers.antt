@@ -157,3 +157,14 @@ returns-in-Err-2-clause-cut g c = λ holder w sound epochs arrives stands.
           (frame-ends holder epoch w.primary.calls w.standby frame one.span (node g c.args.standby.now) (node g c.on_frame.new.self) one.epoch_is epochs one.is stands c.in-Err.refusal
           (λ goes. true≢false (sym (c.goes_on.ensures.1 goes) ∙ c.if-goes_on.false)) (told g prefix (Err c.in-Err.refusal) c.in-Err.is)),
     )
+
+pub returns-clause-acknowledged : goal.returns-clause-acknowledged
+returns-clause-acknowledged g c =
+    elim c.match-on_frame.branch [
+      | in-Ok w ↦
+          inl (
+            w.encode_ack.result,
+            ap (λ (a : Arrivals). a.acknowledgements.items) w.self-is ∙ w.push_reserved.ensures.items ∙ ap (λ (texts : List (Vec ℕ Global)). texts ++ w.encode_ack.result ∷ []) c.in_ok-reserve.ensures.items,
+          )
+      | in-Err w ↦ inr (ap (λ (a : Arrivals). a.acknowledgements.items) w.self-is ∙ c.in_ok-reserve.ensures.items)
+    ]

@@ -7,11 +7,11 @@ use Rattle.world.proofs.FrameLemmas.{found-there, frame_is_no_ack}
 use Rattle.world.proofs.PairLink.{ack-does, ack-cut, no-ack-does}
 use Rattle.world.proofs.pair.Pair.ack_delivered.Goals as goal
 
-pub returns-in_default : goal.returns-in_default
-returns-in_default g c = no-ack-does _ c.args.ack (subst (λ (acks : List (Vec ℕ Global)). length acks ≤ c.args.ack) c.deref.ensures.value c.in_default.ensures.lookup.3)
+pub returns-in_default-clause-does : goal.returns-in_default-clause-does
+returns-in_default-clause-does g c = no-ack-does _ c.args.ack (subst (λ (acks : List (Vec ℕ Global)). length acks ≤ c.args.ack) c.deref.ensures.value c.in_default.ensures.lookup.3)
 
-pub returns-in_err-ack : goal.returns-in_err-ack
-returns-in_err-ack g c =
+pub returns-in_err-ack-clause-does : goal.returns-in_err-ack-clause-does
+returns-in_err-ack-clause-does g c =
     let bytes = c.in-Some.bytes.now in
     let within = subst (λ (acks : List (Vec ℕ Global)). c.args.ack < length acks) c.deref.ensures.value (ltb-true c.args.ack (length c.deref.result.now) (sym c.in-Some.ensures.lookup.0)) in
     let found = found-there c.deref.result.now _ c.args.ack bytes c.deref.ensures.value c.in-Some.ensures.lookup.0 c.in-Some.ensures.lookup.1 in
@@ -19,8 +19,8 @@ returns-in_err-ack g c =
     ack-cut _ c.args.ack bytes c.from_residual.result exit.0 exit.1 within found
     (λ told is. exit.2 ∙ c.in_err-ack.ensures.cause (Acknowledged told.epoch told.position) is.may (c.as_slice.ensures.value ∙ is.text))
 
-pub returns-in_default-2 : goal.returns-in_default-2
-returns-in_default-2 g c =
+pub returns-in_default-2-clause-does : goal.returns-in_default-2-clause-does
+returns-in_default-2-clause-does g c =
     let bytes = c.in-Some.bytes.now in
     let within = subst (λ (acks : List (Vec ℕ Global)). c.args.ack < length acks) c.deref.ensures.value (ltb-true c.args.ack (length c.deref.result.now) (sym c.in-Some.ensures.lookup.0)) in
     let found = found-there c.deref.result.now _ c.args.ack bytes c.deref.ensures.value c.in-Some.ensures.lookup.0 c.in-Some.ensures.lookup.1 in
@@ -28,8 +28,8 @@ returns-in_default-2 g c =
     (λ told is. absurd (frame_is_no_ack c.in_default-2.field-0 told.epoch told.position
     (ap sent_of (sym c.in_default-2.is) ∙ c.in_ok-ack.ensures.read (Acknowledged told.epoch told.position) is.may (c.as_slice.ensures.value ∙ is.text))))
 
-pub returns : goal.returns
-returns g c =
+pub returns-clause-does : goal.returns-clause-does
+returns-clause-does g c =
     let bytes = c.in-Some.bytes.now in
     let within = subst (λ (acks : List (Vec ℕ Global)). c.args.ack < length acks) c.deref.ensures.value (ltb-true c.args.ack (length c.deref.result.now) (sym c.in-Some.ensures.lookup.0)) in
     let found = found-there c.deref.result.now _ c.args.ack bytes c.deref.ensures.value c.in-Some.ensures.lookup.0 c.in-Some.ensures.lookup.1 in

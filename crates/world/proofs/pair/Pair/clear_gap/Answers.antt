@@ -7,14 +7,14 @@ use Rattle.primary.proofs.LeadsLemmas.{gives-work}
 use Rattle.world.proofs.pair.Pair.clear_gap.Goals as goal
 use Rattle.world.proofs.pair.Pair.clear_gap.Goals.{in-Cleared, in_default}
 
-pub returns-then-not-may_clear : goal.returns-then-not-may_clear
-returns-then-not-may_clear g c =
+pub returns-then-not-may_clear-clause-does : goal.returns-then-not-may_clear-clause-does
+returns-then-not-may_clear-clause-does g c =
     let E = g.E.Durable in
     let pair = c.args.self.now in
     clear-idle E.device E.contents E.is_faulted _ _ pair.link pair.opening pair.remote _ _ _ _ _ pair.committer pair.work pair.notices.items pair.handed (sym c.may_clear.ensures ∙ c.if-not-may_clear.true)
 
-pub returns-in_err-reserve : goal.returns-in_err-reserve
-returns-in_err-reserve g c =
+pub returns-in_err-reserve-clause-does : goal.returns-in_err-reserve-clause-does
+returns-in_err-reserve-clause-does g c =
     let E = g.E.Durable in
     let pair = c.args.self.now in
     let exit = err_from_is_err_and c.from_residual.result c.from_residual.ensures.1 in
@@ -25,8 +25,8 @@ returns-in_err-reserve g c =
 pub turn-requires-clause-lawful : goal.turn-requires-clause-lawful
 turn-requires-clause-lawful g c = λ ready. gives-work _ c.args.self.now.work c.args.self.now.committer.aside.items _ _ (serves-as c.requires.serves c.requires.world.stands).parts.leads
 
-pub returns-in_err-done : goal.returns-in_err-done
-returns-in_err-done g c =
+pub returns-in_err-done-clause-does : goal.returns-in_err-done-clause-does
+returns-in_err-done-clause-does g c =
     let E = g.E.Durable in
     let pair = c.args.self.now in
     let exit = err_from_is_err_and c.from_residual-in_err-done.result c.from_residual-in_err-done.ensures.1 in
@@ -38,8 +38,8 @@ returns-in_err-done g c =
     (clear-ends E.device E.contents E.is_faulted _ _ pair.link pair.opening pair.remote _ _ _ _ _ pair.committer c.turn.new.self pair.work c.turn.new.work pair.notices.items pair.handed c.turn.new.link
     c.in_err-done.field-0.0 ready may turned.0 turned.2))
 
-pub returns : goal.returns
-returns g c =
+pub returns-clause-does : goal.returns-clause-does
+returns-clause-does g c =
     let E = g.E.Durable in
     let pair = c.args.self.now in
     let may = sym c.may_clear.ensures ∙ c.if-not-may_clear.false in

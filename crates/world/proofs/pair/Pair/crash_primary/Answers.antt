@@ -1,11 +1,11 @@
 use Rattle.world.proofs.PairCrash.{primary-crashed, primary-crashes}
 use Rattle.world.proofs.pair.Pair.crash_primary.Goals as goal
 
-pub returns-then-not-self : goal.returns-then-not-self
-returns-then-not-self g c = primary-crashed _ c.args.picks.now c.if-not-self.true
+pub returns-then-not-self-clause-does : goal.returns-then-not-self-clause-does
+returns-then-not-self-clause-does g c = primary-crashed _ c.args.picks.now c.if-not-self.true
 
-pub returns : goal.returns
-returns g c =
+pub returns-clause-does : goal.returns-clause-does
+returns-clause-does g c =
     let E = g.E.Durable in
     let engine = c.crash.new.self.engine in
     let crashed = c.crash.ensures in

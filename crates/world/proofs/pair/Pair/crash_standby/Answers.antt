@@ -1,11 +1,11 @@
 use Rattle.world.proofs.PairCrash.{standby-crashed, standby-crashes}
 use Rattle.world.proofs.pair.Pair.crash_standby.Goals as goal
 
-pub returns-then-not-self : goal.returns-then-not-self
-returns-then-not-self g c = standby-crashed _ c.args.picks.now c.if-not-self.true
+pub returns-then-not-self-clause-does : goal.returns-then-not-self-clause-does
+returns-then-not-self-clause-does g c = standby-crashed _ c.args.picks.now c.if-not-self.true
 
-pub returns : goal.returns
-returns g c =
+pub returns-clause-does : goal.returns-clause-does
+returns-clause-does g c =
     let E = g.E.Durable in
     let standby = c.crash.new.self in
     let crashed = c.crash.ensures in

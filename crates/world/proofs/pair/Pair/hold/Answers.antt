@@ -4,7 +4,7 @@ use Rattle.machine.specs.Connection.{changed_at, may_hold, with_outbound, held_f
 use Rattle.world.proofs.PairLemmas.{sessions-do}
 use Rattle.world.proofs.pair.Pair.hold.Goals as goal
 
-pub returns : goal.returns
-returns g c =
+pub returns-clause-does : goal.returns-clause-does
+returns-clause-does g c =
     sessions-do (events.Hold c.args.c) (λ machines. may_hold machines c.args.c) (changed_at c.args.c (with_outbound held_first)) (record { own = refl; may = λ w. refl; happens = λ w. refl }) refl _ c.hold.new.self c.hold.result
     c.hold.ensures.goes c.hold.ensures.told c.hold.ensures.cause c.hold.ensures.enabled c.hold.ensures.seats c.hold.ensures.calls

@@ -2,5 +2,5 @@ use Rattle.std.proofs.Common.{refl}
 use Rattle.world.proofs.PairLink.{raise-does}
 use Rattle.world.proofs.pair.Pair.raise_remote.Goals as goal
 
-pub returns : goal.returns
-returns g c = raise-does _ c.known-known.result _ c.forget_passed.new.opening c.known-known.ensures refl c.forget_passed.ensures.position c.forget_passed.ensures.kept
+pub returns-clause-does : goal.returns-clause-does
+returns-clause-does g c = raise-does _ c.known-known.result _ c.forget_passed.new.opening c.known-known.ensures refl c.forget_passed.ensures.position c.forget_passed.ensures.kept

@@ -4,7 +4,7 @@ use Rattle.machine.specs.Connection.{changed_at, may_release, with_outbound, hav
 use Rattle.world.proofs.PairLemmas.{sessions-did}
 use Rattle.world.proofs.pair.Pair.release.Goals as goal
 
-pub returns : goal.returns
-returns g c =
+pub returns-clause-does : goal.returns-clause-does
+returns-clause-does g c =
     sessions-did (events.Release c.args.c) (λ machines. may_release machines c.args.c) (changed_at c.args.c (with_outbound having_released)) (record { own = refl; may = λ w. refl; happens = λ w. refl }) _ c.release.new.self c.release.result
     c.release.ensures.goes c.release.ensures.seats c.release.ensures.calls

@@ -6,11 +6,11 @@ use Rattle.world.proofs.OpenedLemmas.{IsNotOpened}
 use Rattle.world.proofs.PairReopen.{primary-reopening-cut, primary-reopens, primary-runs-on}
 use Rattle.world.proofs.pair.Pair.reopen_primary.Goals as goal
 
-pub returns-then-self : goal.returns-then-self
-returns-then-self g c = primary-runs-on _ c.if-self.true
+pub returns-then-self-clause-does : goal.returns-then-self-clause-does
+returns-then-self-clause-does g c = primary-runs-on _ c.if-self.true
 
-pub returns-in_err-sequencer : goal.returns-in_err-sequencer
-returns-in_err-sequencer g c =
+pub returns-in_err-sequencer-clause-does : goal.returns-in_err-sequencer-clause-does
+returns-in_err-sequencer-clause-does g c =
     let E = g.E.Durable in
     let committer = c.restart_primary.new.committer in
     let told = c.in_err-sequencer.ensures in
@@ -20,8 +20,8 @@ returns-in_err-sequencer g c =
     primary-reopening-cut _ (record { waiting = c.args.self.now.work; aside = committer.aside.items; stage = committer.stage; local = committer.local }) (E.device committer.engine) (E.contents committer.engine) (E.is_faulted committer.engine)
     c.from_residual.result exit.0 exit.1 c.if-self.false (subst (IsNotOpened Primary (E.device c.args.self.now.committer.engine) (E.device committer.engine)) (sym exit.2) refused)
 
-pub returns : goal.returns
-returns g c =
+pub returns-clause-does : goal.returns-clause-does
+returns-clause-does g c =
     let E = g.E.Durable in
     let committer = c.restart_primary.new.committer in
     let told = c.in_ok-sequencer.ensures in

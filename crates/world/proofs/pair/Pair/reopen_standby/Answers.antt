@@ -6,11 +6,11 @@ use Rattle.world.proofs.OpenedLemmas.{IsNotOpened}
 use Rattle.world.proofs.PairReopen.{standby-reopening-cut, standby-reopens, standby-runs-on}
 use Rattle.world.proofs.pair.Pair.reopen_standby.Goals as goal
 
-pub returns-then-self : goal.returns-then-self
-returns-then-self g c = standby-runs-on _ c.if-self.true
+pub returns-then-self-clause-does : goal.returns-then-self-clause-does
+returns-then-self-clause-does g c = standby-runs-on _ c.if-self.true
 
-pub returns-in_err-restart : goal.returns-in_err-restart
-returns-in_err-restart g c =
+pub returns-in_err-restart-clause-does : goal.returns-in_err-restart-clause-does
+returns-in_err-restart-clause-does g c =
     let E = g.E.Durable in
     let standby = c.restart.new.self in
     let told = c.in_err-restart.ensures in
@@ -36,8 +36,8 @@ returns-in_err-restart g c =
     } in
     standby-reopening-cut _ node' c.from_residual.result exit.0 exit.1 c.if-self.false (subst (IsNotOpened Standby (E.device c.args.self.now.standby.engine) node'.device) (sym exit.2) refused)
 
-pub returns : goal.returns
-returns g c =
+pub returns-clause-does : goal.returns-clause-does
+returns-clause-does g c =
     let E = g.E.Durable in
     let standby = c.restart.new.self in
     let told = c.in_ok-restart.ensures in

@@ -6,8 +6,8 @@ use Rattle.world.proofs.LinkLemmas.{Answers, sends}
 use Rattle.world.proofs.PairLink.{send-does, send-none, send-cut}
 use Rattle.world.proofs.pair.Pair.send_group.Goals as goal
 
-pub returns-in_err-index : goal.returns-in_err-index
-returns-in_err-index g c =
+pub returns-in_err-index-clause-does : goal.returns-in_err-index-clause-does
+returns-in_err-index-clause-does g c =
     let old = c.args.self.now in
     let link = c.next_frame.new.self in
     let waiting = c.next_frame.new.groups in
@@ -19,8 +19,8 @@ returns-in_err-index g c =
     send-cut _ waiting link _ c.from_residual.result exit.0 exit.1 memory
     (λ w legal stands. sends w.primary.calls old.link old.handed old.remote w.primary.link legal stands c.requires.none_before (Err c.in_err-index.field-0.0) link waiting answers)
 
-pub returns-in_default : goal.returns-in_default
-returns-in_default g c =
+pub returns-in_default-clause-does : goal.returns-in_default-clause-does
+returns-in_default-clause-does g c =
     let old = c.args.self.now in
     let link = c.next_frame.new.self in
     let waiting = c.next_frame.new.groups in
@@ -28,8 +28,8 @@ returns-in_default g c =
     record { again = c.next_frame.ensures.again; full = c.next_frame.ensures.full; next = c.next_frame.ensures.next; refused = c.next_frame.ensures.refused } in
     send-none _ waiting link (subst (λ (r : Result (Option ℕ) Refusal). Answers old.link old.handed r link waiting) (c.in_ok-index.was ∙ ap Ok c.in_default.is) told) c.requires.none_before
 
-pub returns-in_err-frame : goal.returns-in_err-frame
-returns-in_err-frame g c =
+pub returns-in_err-frame-clause-does : goal.returns-in_err-frame-clause-does
+returns-in_err-frame-clause-does g c =
     let old = c.args.self.now in
     let link = c.next_frame.new.self in
     let waiting = c.next_frame.new.groups in
@@ -40,8 +40,8 @@ returns-in_err-frame g c =
     send-cut _ waiting link _ c.from_residual-in_err-frame.result exit.0 exit.1 exit.2
     (λ w legal stands. (sends w.primary.calls old.link old.handed old.remote w.primary.link legal stands c.requires.none_before (Ok (Some c.in-Some.index)) link waiting answers).may)
 
-pub returns-in_err-pass : goal.returns-in_err-pass
-returns-in_err-pass g c =
+pub returns-in_err-pass-clause-does : goal.returns-in_err-pass-clause-does
+returns-in_err-pass-clause-does g c =
     let old = c.args.self.now in
     let link = c.next_frame.new.self in
     let waiting = c.next_frame.new.groups in
@@ -52,8 +52,8 @@ returns-in_err-pass g c =
     send-cut _ waiting link c.pass.new.frames.items c.from_residual-in_err-pass.result exit.0 exit.1 (exit.2 ∙ c.in_err-pass.ensures.cause)
     (λ w legal stands. (sends w.primary.calls old.link old.handed old.remote w.primary.link legal stands c.requires.none_before (Ok (Some c.in-Some.index)) link waiting answers).may)
 
-pub returns : goal.returns
-returns g c =
+pub returns-clause-does : goal.returns-clause-does
+returns-clause-does g c =
     let old = c.args.self.now in
     let link = c.next_frame.new.self in
     let waiting = c.next_frame.new.groups in

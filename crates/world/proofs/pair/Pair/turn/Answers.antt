@@ -1,5 +1,32 @@
+use Rattle.std.proofs.Common.{refl, ◌∙◌}
+use Rattle.std.proofs.lemmas.Result.{err_from_is_err_and}
 use Rattle.world.proofs.PairLemmas.{turn-does}
 use Rattle.world.proofs.pair.Pair.turn.Goals as goal
 
-pub returns : goal.returns
-returns g c = turn-does _ c.turn.new.self c.turn.new.sequencer c.args.c c.turn.result c.turn.ensures.turns c.turn.ensures.seats c.turn.ensures.stands c.turn.ensures.calls
+pub returns-in_err-make_room-clause-turns : goal.returns-in_err-make_room-clause-turns
+returns-in_err-make_room-clause-turns g c =
+    let exit = err_from_is_err_and c.from_residual.result c.from_residual.ensures.1 in
+    rw exit.1 (record {
+      roomy = c.make_room.new.self;
+      is_roomier = record {
+        calls = c.make_room.ensures.calls;
+        connections = c.make_room.ensures.connections;
+        stands = c.make_room.ensures.stands;
+        enough = c.make_room.ensures.enough;
+      };
+      does = tt;
+      refused = (exit.2 ∙ c.in_err-make_room.ensures.cause, c.in_err-make_room.ensures.none, refl);
+    })
+
+pub returns-clause-turns : goal.returns-clause-turns
+returns-clause-turns g c = record {
+  roomy = c.make_room.new.self;
+  is_roomier = record {
+    calls = c.make_room.ensures.calls;
+    connections = c.make_room.ensures.connections;
+    stands = c.make_room.ensures.stands;
+    enough = c.make_room.ensures.enough;
+  };
+  does = turn-does _ c.turn.new.self c.turn.new.sequencer c.args.c c.turn.result c.turn.ensures.turns c.turn.ensures.seats c.turn.ensures.stands c.turn.ensures.calls;
+  refused = tt;
+}

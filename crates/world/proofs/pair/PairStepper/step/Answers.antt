@@ -1,66 +1,78 @@
 use Rattle.std.proofs.lemmas.Bool.{and_parts}
-use Rattle.world.proofs.PairLives.{idle-step, own-acts}
+use Rattle.world.proofs.StepLemmas.{acts-is, idle-is, own-is, turn-is}
 use Rattle.world.proofs.pair.PairStepper.step.Goals as goal
 
 pub returns-then-not-takes_part : goal.returns-then-not-takes_part
-returns-then-not-takes_part g c = idle-step c.takes_part.ensures c.if-not-takes_part.true
+returns-then-not-takes_part g c = idle-is c.takes_part.ensures c.if-not-takes_part.true
 
 pub returns-in-Enter : goal.returns-in-Enter
-returns-in-Enter g c = own-acts c.in-Enter.is c.takes_part.ensures c.if-not-takes_part.false (λ runs. runs) c.enter.ensures
+returns-in-Enter g c = own-is c.in-Enter.is c.takes_part.ensures c.if-not-takes_part.false (λ runs. runs) c.enter.ensures.does c.enter.ensures.leaves
 
 pub returns-in-Feed : goal.returns-in-Feed
-returns-in-Feed g c = own-acts c.in-Feed.is c.takes_part.ensures c.if-not-takes_part.false (λ runs. runs) c.feed.ensures
+returns-in-Feed g c = own-is c.in-Feed.is c.takes_part.ensures c.if-not-takes_part.false (λ runs. runs) c.feed.ensures.does c.feed.ensures.leaves
 
 pub returns-in-Offer : goal.returns-in-Offer
-returns-in-Offer g c = own-acts c.in-Offer.is c.takes_part.ensures c.if-not-takes_part.false (λ runs. runs) c.offer.ensures
+returns-in-Offer g c = own-is c.in-Offer.is c.takes_part.ensures c.if-not-takes_part.false (λ runs. runs) c.offer.ensures.does c.offer.ensures.leaves
 
 pub returns-in-Turn : goal.returns-in-Turn
-returns-in-Turn g c = own-acts c.in-Turn.is c.takes_part.ensures c.if-not-takes_part.false (λ runs. runs) c.turn.ensures
+returns-in-Turn g c = turn-is c.in-Turn.is c.takes_part.ensures c.if-not-takes_part.false c.turn.ensures.turns c.turn.ensures.leaves
 
 pub returns-in-CloseGroup : goal.returns-in-CloseGroup
-returns-in-CloseGroup g c = own-acts c.in-CloseGroup.is c.takes_part.ensures c.if-not-takes_part.false (λ runs. runs) c.close_group.ensures
+returns-in-CloseGroup g c = own-is c.in-CloseGroup.is c.takes_part.ensures c.if-not-takes_part.false (λ runs. runs) c.close_group.ensures.does c.close_group.ensures.leaves
 
 pub returns-in-Commit : goal.returns-in-Commit
-returns-in-Commit g c = own-acts c.in-Commit.is c.takes_part.ensures c.if-not-takes_part.false (λ runs. runs) c.commit.ensures
+returns-in-Commit g c = own-is c.in-Commit.is c.takes_part.ensures c.if-not-takes_part.false (λ runs. runs) c.commit.ensures.does c.commit.ensures.leaves
 
 pub returns-in-RaiseLocal : goal.returns-in-RaiseLocal
-returns-in-RaiseLocal g c = own-acts c.in-RaiseLocal.is c.takes_part.ensures c.if-not-takes_part.false (λ runs. runs) c.raise_local.ensures
+returns-in-RaiseLocal g c = own-is c.in-RaiseLocal.is c.takes_part.ensures c.if-not-takes_part.false (λ runs. runs) c.raise_local.ensures.does c.raise_local.ensures.leaves
 
 pub returns-in-Hand : goal.returns-in-Hand
-returns-in-Hand g c = own-acts c.in-Hand.is c.takes_part.ensures c.if-not-takes_part.false (λ runs. runs) c.hand.ensures
+returns-in-Hand g c = own-is c.in-Hand.is c.takes_part.ensures c.if-not-takes_part.false (λ runs. runs) c.hand.ensures.does c.hand.ensures.leaves
 
 pub returns-in-Free : goal.returns-in-Free
-returns-in-Free g c = own-acts c.in-Free.is c.takes_part.ensures c.if-not-takes_part.false (λ runs. runs) c.free.ensures
+returns-in-Free g c = own-is c.in-Free.is c.takes_part.ensures c.if-not-takes_part.false (λ runs. runs) c.free.ensures.does c.free.ensures.leaves
 
 pub returns-in-AcceptFreed : goal.returns-in-AcceptFreed
-returns-in-AcceptFreed g c = own-acts c.in-AcceptFreed.is c.takes_part.ensures c.if-not-takes_part.false (λ runs. runs) c.accept_freed.ensures
+returns-in-AcceptFreed g c = own-is c.in-AcceptFreed.is c.takes_part.ensures c.if-not-takes_part.false (λ runs. runs) c.accept_freed.ensures.does c.accept_freed.ensures.leaves
 
 pub returns-in-ClearGap : goal.returns-in-ClearGap
-returns-in-ClearGap g c = own-acts c.in-ClearGap.is c.takes_part.ensures c.if-not-takes_part.false (λ runs. runs) c.clear_gap.ensures
+returns-in-ClearGap g c = own-is c.in-ClearGap.is c.takes_part.ensures c.if-not-takes_part.false (λ runs. runs) c.clear_gap.ensures.does c.clear_gap.ensures.leaves
 
 pub returns-in-Send : goal.returns-in-Send
-returns-in-Send g c = own-acts c.in-Send.is c.takes_part.ensures c.if-not-takes_part.false (λ runs. runs) c.send.ensures
+returns-in-Send g c = own-is c.in-Send.is c.takes_part.ensures c.if-not-takes_part.false (λ runs. runs) c.send.ensures.does c.send.ensures.leaves
 
 pub returns-in-AckDelivered : goal.returns-in-AckDelivered
-returns-in-AckDelivered g c = own-acts c.in-AckDelivered.is c.takes_part.ensures c.if-not-takes_part.false (λ runs. runs) c.ack_delivered.ensures
+returns-in-AckDelivered g c = own-is c.in-AckDelivered.is c.takes_part.ensures c.if-not-takes_part.false (λ runs. runs) c.ack_delivered.ensures.does c.ack_delivered.ensures.leaves
 
 pub returns-in-RaiseRemote : goal.returns-in-RaiseRemote
-returns-in-RaiseRemote g c = own-acts c.in-RaiseRemote.is c.takes_part.ensures c.if-not-takes_part.false (λ runs. runs) c.raise_remote.ensures
+returns-in-RaiseRemote g c = own-is c.in-RaiseRemote.is c.takes_part.ensures c.if-not-takes_part.false (λ runs. runs) c.raise_remote.ensures.does c.raise_remote.ensures.leaves
 
 pub returns-in-Hold : goal.returns-in-Hold
-returns-in-Hold g c = own-acts c.in-Hold.is c.takes_part.ensures c.if-not-takes_part.false (λ runs. runs) c.hold.ensures
+returns-in-Hold g c = own-is c.in-Hold.is c.takes_part.ensures c.if-not-takes_part.false (λ runs. runs) c.hold.ensures.does c.hold.ensures.leaves
 
 pub returns-in-Read : goal.returns-in-Read
-returns-in-Read g c = own-acts c.in-Read.is c.takes_part.ensures c.if-not-takes_part.false (λ runs. runs) c.read.ensures
+returns-in-Read g c = own-is c.in-Read.is c.takes_part.ensures c.if-not-takes_part.false (λ runs. runs) c.read.ensures.does c.read.ensures.leaves
 
 pub returns-in-Release : goal.returns-in-Release
-returns-in-Release g c = own-acts c.in-Release.is c.takes_part.ensures c.if-not-takes_part.false (λ runs. runs) c.release.ensures
+returns-in-Release g c = own-is c.in-Release.is c.takes_part.ensures c.if-not-takes_part.false (λ runs. runs) c.release.ensures.does c.release.ensures.leaves
 
 pub returns-in-Write : goal.returns-in-Write
-returns-in-Write g c = own-acts c.in-Write.is c.takes_part.ensures c.if-not-takes_part.false (λ runs. runs) c.write.ensures
+returns-in-Write g c = own-is c.in-Write.is c.takes_part.ensures c.if-not-takes_part.false (λ runs. runs) c.write.ensures.does c.write.ensures.leaves
 
 pub returns-in-Leave : goal.returns-in-Leave
-returns-in-Leave g c = own-acts c.in-Leave.is c.takes_part.ensures c.if-not-takes_part.false (λ runs. runs) c.leave.ensures
+returns-in-Leave g c = own-is c.in-Leave.is c.takes_part.ensures c.if-not-takes_part.false (λ runs. runs) c.leave.ensures.does c.leave.ensures.leaves
 
 pub returns-in-OpenLink : goal.returns-in-OpenLink
-returns-in-OpenLink g c = own-acts c.in-OpenLink.is c.takes_part.ensures c.if-not-takes_part.false (λ both. (and_parts c.args.self.now.primary_runs c.args.self.now.standby_runs both).0) c.open_link.ensures
+returns-in-OpenLink g c = own-is c.in-OpenLink.is c.takes_part.ensures c.if-not-takes_part.false (λ both. (and_parts c.args.self.now.primary_runs c.args.self.now.standby_runs both).0) c.open_link.ensures.does c.open_link.ensures.leaves
+
+pub returns-in-Deliver : goal.returns-in-Deliver
+returns-in-Deliver g c = acts-is c.in-Deliver.is c.deliver.ensures.does c.deliver.ensures.leaves
+
+pub returns-in-Apply : goal.returns-in-Apply
+returns-in-Apply g c = acts-is c.in-Apply.is c.apply.ensures.does c.apply.ensures.leaves
+
+pub returns-in-Crash : goal.returns-in-Crash
+returns-in-Crash g c = acts-is c.in-Crash.is c.crash.ensures.does c.crash.ensures.leaves
+
+pub returns-in-Reopen : goal.returns-in-Reopen
+returns-in-Reopen g c = acts-is c.in-Reopen.is c.reopen.ensures.does c.reopen.ensures.leaves

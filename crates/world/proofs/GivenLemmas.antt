@@ -1,0 +1,165 @@
+-- What one event of the machine gives: to the list of calls, and to each connection.
+use Rattle.std.proofs.Common.{◌≡◌, ℕ, zero, suc, ◌+◌, Bool, true, false, cond, nat_eq, eqb-true, List, [], ◌∷◌, ◌++◌, take, Option, Some, None, slice_get, refl, sym, ap, subst, ◌∙◌, inl, inr, true≢false}
+use Rattle.std.proofs.lemmas.Bool.{eq-eqb}
+use Rattle.std.proofs.lemmas.List.{append-nil}
+use Rattle.model.specs.declared.call.Call.{Call}
+use Rattle.model.specs.Call.{position_of}
+use Rattle.machine.specs.declared.event.Event.{Event}
+use Rattle.machine.specs.declared.event.Event.TheVariants.{Enter, Feed, Offer, Turn, CloseGroup, Commit, RaiseLocal, Hand, Free, AcceptFreed, ClearGap, OpenLink, Send, Deliver, Apply, AckDelivered, RaiseRemote, Hold, Read, Release, Write, Leave, Crash, Reopen}
+use Rattle.machine.specs.declared.event.Mark.{Mark}
+use Rattle.machine.specs.declared.event.Mark.TheVariants.{Local, Remote}
+use Rattle.machine.specs.declared.event.Node.TheVariants as node
+use Rattle.machine.specs.Event.{Acknowledgement, Connection, Inbound, Outbound, Step, World, Happens, called, changed_at, connection_of, fed_with, get_connection, having_read, having_released, held_first, knowing, left, offered_next, on_inbound, on_outbound, taken_first, told, with_call, with_connections, with_inbound, with_link, with_made, with_outbound, written}
+use Rattle.machine.specs.Promise.{released_in}
+use Rattle.machine.proofs.ConnectionLemmas.{get-changed_other, get-entered}
+use Rattle.machine.proofs.CrashLemmas.{get-over}
+use Rattle.world.specs.Step.{CallsBy, released_by}
+
+-- ---- calls
+
+told-calls : (w : World) (ack : Option Acknowledgement) → (with_link (told w.primary.epoch ack w.primary.link) w).primary.calls ≡ w.primary.calls
+told-calls w ack = refl
+
+of_calls : (w then new : World) → new ≡ then → then.primary.calls ≡ w.primary.calls → new.primary.calls ≡ w.primary.calls
+of_calls w then new e same = ap (λ (x : World). x.primary.calls) e ∙ same
+
+calls-happen : (w : World) (event : Event) (new : World) → Happens w event new → CallsBy w event true new.primary.calls
+calls-happen w (Turn c) new h = (h.call, h.connection, h.first, h.reply, ap (λ (x : World). x.primary.calls) h.now)
+calls-happen w (Crash node.Primary picks) new h = ap (λ (x : World). x.primary.calls) h
+calls-happen w (Crash node.Standby picks) new h = of_calls w _ new h refl
+calls-happen w (Reopen node.Primary) new h = of_calls w _ new h.1 refl
+calls-happen w (Reopen node.Standby) new h = of_calls w _ new h refl
+calls-happen w Apply new h = of_calls w _ new h.now refl
+calls-happen w CloseGroup new h =
+    elim h [
+      | inl group ↦ of_calls w _ new group.1.now refl
+      | inr list ↦ of_calls w _ new list.1 refl
+    ]
+calls-happen w Enter new h = of_calls w _ new h refl
+calls-happen w (Feed c piece) new h = of_calls w _ new h refl
+calls-happen w (Offer c) new h = of_calls w _ new h refl
+calls-happen w Commit new h = of_calls w _ new h refl
+calls-happen w RaiseLocal new h = of_calls w _ new h refl
+calls-happen w Hand new h = of_calls w _ new h refl
+calls-happen w Free new h = of_calls w _ new h refl
+calls-happen w AcceptFreed new h = of_calls w _ new h refl
+calls-happen w ClearGap new h = of_calls w _ new h refl
+calls-happen w OpenLink new h = of_calls w _ new h refl
+calls-happen w Send new h = of_calls w _ new h refl
+calls-happen w (Deliver frame piece) new h = of_calls w _ new h refl
+calls-happen w (AckDelivered a) new h = of_calls w _ new h (told-calls w (slice_get w.wire.acknowledgements a))
+calls-happen w RaiseRemote new h = of_calls w _ new h refl
+calls-happen w (Hold c) new h = of_calls w _ new h refl
+calls-happen w (Read c mark) new h = of_calls w _ new h refl
+calls-happen w (Release c) new h = of_calls w _ new h refl
+calls-happen w (Write c n) new h = of_calls w _ new h refl
+calls-happen w (Leave c) new h = of_calls w _ new h refl
+
+-- nothing is called where the event was not enabled
+calls-stay : (w : World) (event : Event) (calls : List Call) → calls ≡ w.primary.calls → CallsBy w event false calls
+calls-stay w (Turn c) calls same = same
+calls-stay w (Crash node.Primary picks) calls same = same
+calls-stay w (Crash node.Standby picks) calls same = same
+calls-stay w event calls same = same
+
+pub calls-step : (w : World) (event : Event) (did : Bool) (new : World) → Step w event did new → CallsBy w event did new.primary.calls
+calls-step w event true new step = calls-happen w event new (step.happens refl)
+calls-step w event false new step = calls-stay w event new.primary.calls (ap (λ (x : World). x.primary.calls) (step.stands refl))
+
+-- ---- released bytes
+
+-- nothing is released to any connection
+abbrev Silent : World → World → Type 0
+Silent w new = (c : ℕ) → released_in new c ≡ released_in w c
+
+silent-changed : (c : ℕ) (change : Connection → Connection) (connections : List Connection) → ((connection : Connection) → (change connection).outbound.released ≡ connection.outbound.released)
+    → (d : ℕ) → (get_connection (changed_at c change connections) d).outbound.released ≡ (get_connection connections d).outbound.released
+silent-changed c change [] each d = refl
+silent-changed zero change (connection ∷ connections) each zero = each connection
+silent-changed zero change (connection ∷ connections) each (suc d) = refl
+silent-changed (suc c) change (connection ∷ connections) each zero = refl
+silent-changed (suc c) change (connection ∷ connections) each (suc d) = silent-changed c change connections each d
+
+silent-inbound : (w : World) (c : ℕ) (change : Inbound → Inbound) → Silent w (on_inbound c change w)
+silent-inbound w c change d = silent-changed c (with_inbound change) w.primary.connections (λ connection. refl) d
+
+silent-outbound : (w : World) (c : ℕ) (change : Outbound → Outbound) → ((outbound : Outbound) → (change outbound).released ≡ outbound.released) → Silent w (on_outbound c change w)
+silent-outbound w c change each d = silent-changed c (with_outbound change) w.primary.connections (λ connection. each connection.outbound) d
+
+silent-read : (w : World) (mark : Mark) (outbound : Outbound) → (having_read mark w outbound).released ≡ outbound.released
+silent-read w Local outbound = refl
+silent-read w Remote outbound = refl
+
+silent-called : (w : World) (c : ℕ) (call : Call) → Silent w (called c call w)
+silent-called w c call d =
+    let taken = on_inbound c taken_first (with_call call w) in
+    silent-outbound taken c (with_made (record { reply = call.reply; position = position_of (w.primary.calls ++ call ∷ []) })) (λ outbound. refl) d ∙ silent-inbound (with_call call w) c taken_first d
+
+-- what a write releases: at its connection the first of what waits there, and nothing elsewhere
+written-same : (c n : ℕ) (connections : List Connection)
+    → (get_connection (changed_at c (with_outbound (written n)) connections) c).outbound.released ≡ (get_connection connections c).outbound.released ++ take n (get_connection connections c).outbound.pending
+written-same c zero [] = refl
+written-same c (suc n) [] = refl
+written-same zero n (connection ∷ connections) = refl
+written-same (suc c) n (connection ∷ connections) = written-same c n connections
+
+written-at : (w : World) (c n d : ℕ) → released_in (on_outbound c (written n) w) d ≡ released_in w d ++ cond (nat_eq c d) (take n (connection_of w c).outbound.pending) []
+written-at w c n d =
+    elim (nat_eq c d) as (λ b. nat_eq c d ≡ b → released_in (on_outbound c (written n) w) d ≡ released_in w d ++ cond b (take n (connection_of w c).outbound.pending) []) [
+      | true ↦ λ e. subst (λ x. released_in (on_outbound c (written n) w) x ≡ released_in w x ++ take n (connection_of w c).outbound.pending) (eqb-true c d e) (written-same c n w.primary.connections)
+      | false ↦ λ e.
+          ap (λ (x : Connection). x.outbound.released) (get-changed_other c d (with_outbound (written n)) w.primary.connections (λ same. true≢false (sym (eq-eqb c d same) ∙ e)))
+          ∙ sym (append-nil (released_in w d))
+    ] refl
+
+-- an event that releases nothing
+quiet : (w then new : World) → new ≡ then → Silent w then → (c : ℕ) → released_in new c ≡ released_in w c ++ []
+quiet w then new e silent c = ap (λ (x : World). released_in x c) e ∙ silent c ∙ sym (append-nil (released_in w c))
+
+none : (w : World) → Silent w w
+none w c = refl
+
+told-silent : (w : World) (ack : Option Acknowledgement) → Silent w (with_link (told w.primary.epoch ack w.primary.link) w)
+told-silent w ack c = refl
+
+released-happens : (w : World) (event : Event) (new : World) → Happens w event new → (c : ℕ) → released_in new c ≡ released_in w c ++ released_by w event true c
+released-happens w Enter new h = quiet w _ new h (get-entered (λ connection. connection.outbound.released) refl w.primary.connections)
+released-happens w (Feed d piece) new h = quiet w _ new h (silent-inbound w d (fed_with piece))
+released-happens w (Offer d) new h = quiet w _ new h (silent-inbound w d offered_next)
+released-happens w (Turn d) new h = quiet w _ new h.now (silent-called w d h.call)
+released-happens w CloseGroup new h =
+    elim h [
+      | inl group ↦ quiet w _ new group.1.now (λ c. refl)
+      | inr list ↦ quiet w _ new list.1 (λ c. refl)
+    ]
+released-happens w Commit new h = quiet w _ new h (λ c. refl)
+released-happens w RaiseLocal new h = quiet w _ new h (λ c. refl)
+released-happens w Hand new h = quiet w _ new h (λ c. refl)
+released-happens w Free new h = quiet w _ new h (λ c. refl)
+released-happens w AcceptFreed new h = quiet w _ new h (λ c. refl)
+released-happens w ClearGap new h = quiet w _ new h (λ c. refl)
+released-happens w OpenLink new h = quiet w _ new h (λ c. refl)
+released-happens w Send new h = quiet w _ new h (λ c. refl)
+released-happens w (Deliver frame piece) new h = quiet w _ new h (λ c. refl)
+released-happens w Apply new h = quiet w _ new h.now (λ c. refl)
+released-happens w (AckDelivered a) new h = quiet w _ new h (told-silent w (slice_get w.wire.acknowledgements a))
+released-happens w RaiseRemote new h = quiet w _ new h (λ c. refl)
+released-happens w (Hold d) new h = quiet w _ new h (silent-outbound w d held_first (λ outbound. refl))
+released-happens w (Read d mark) new h = quiet w _ new h (silent-outbound w d (having_read mark w) (silent-read w mark))
+released-happens w (Release d) new h = quiet w _ new h (silent-outbound w d having_released (λ outbound. refl))
+released-happens w (Write d n) new h = λ c. ap (λ (x : World). released_in x c) h ∙ written-at w d n c
+released-happens w (Leave d) new h = quiet w _ new h (silent-changed d left w.primary.connections (λ connection. refl))
+released-happens w (Crash node.Primary picks) new h = quiet w _ new h (λ c. ap (λ (x : Connection). x.outbound.released) (get-over w.primary.connections c))
+released-happens w (Crash node.Standby picks) new h = quiet w _ new h (λ c. refl)
+released-happens w (Reopen node.Primary) new h = quiet w _ new h.1 (λ c. refl)
+released-happens w (Reopen node.Standby) new h = quiet w _ new h (λ c. refl)
+
+-- nothing is released where the event was not enabled
+released-stays : (w : World) (event : Event) (c : ℕ) → released_by w event false c ≡ []
+released-stays w (Write d n) c = refl
+released-stays w event c = refl
+
+pub released-step : (w : World) (event : Event) (did : Bool) (new : World) → Step w event did new → (c : ℕ) → released_in new c ≡ released_in w c ++ released_by w event did c
+released-step w event true new step = released-happens w event new (step.happens refl)
+released-step w event false new step = λ c.
+    ap (λ (x : World). released_in x c) (step.stands refl) ∙ sym (append-nil (released_in w c)) ∙ ap (λ xs. released_in w c ++ xs) (sym (released-stays w event c))

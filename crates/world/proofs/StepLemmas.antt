@@ -1,0 +1,184 @@
+-- From what an event did to a pair to what can be told of it.
+use Rattle.std.proofs.Common.{◌≡◌, ◌⊎◌, ℕ, ◌<◌, Vec, Global, ◌≤◌, ◌&&◌, ◌++◌, ◌∷◌, [], Bool, true, false, List, Result, Ok, Err, length, vec_len, slice_index_or, refl, sym, ap, subst, ◌∙◌, arith, inl, inr, true≢false}
+use Rattle.std.specs.Vec.{vec_capacity}
+use Rattle.kv_types.specs.declared.refusal.Refusal.{Refusal}
+use Rattle.model.specs.declared.call.Call.{Call}
+use Rattle.model.specs.Standing.{Holder}
+use Rattle.machine.specs.declared.event.Event.{Event}
+use Rattle.machine.specs.declared.event.Event.TheVariants.{Apply, OpenLink, Send, Turn}
+use Rattle.machine.specs.Event.{World}
+use Rattle.machine.proofs.PromiseLemmas.{released-held}
+use Rattle.connections.specs.Session.{AddsOne, released_of}
+use Rattle.connections.specs.declared.connection.Connection.{Connection as CodeConnection}
+use Rattle.connections.specs.declared.sessions.Sessions.{Sessions}
+use Rattle.connections.proofs.SessionLemmas.{released-told}
+use Rattle.world.specs.Headline.{start}
+use Rattle.world.specs.Link.{AreAcksSent, AreFramesSent}
+use Rattle.world.specs.Pair.{Acts, Does, EitherRefines, HasRoom, HasWorld, IsCut, NodesRefine, Pair, PairRefines, Steps, takes_part}
+use Rattle.world.specs.Step.{AcksBy, CallsBy, FramesBy, Happened, IsRoomier, IsStep, LacksRoom, Leaves, Shows, Turns, WasCut, released_by, released_to}
+use Rattle.world.proofs.GivenLemmas.{calls-step, released-step}
+use Rattle.world.proofs.LivesLemmas.{nodes-refine, serves-as}
+use Rattle.world.proofs.PairLemmas.{primary-stands, roomier-stands, sessions-stand, standby-stands}
+use Rattle.world.proofs.PairLives.{idle-step, own-acts}
+
+-- ---- what can be seen
+
+frames-sent : (first second : Holder) (pair : Pair) (w : World) → EitherRefines first second pair w → AreFramesSent w.primary.epoch w.primary.calls pair.frames w.wire.frames
+frames-sent first second pair w parts = elim parts [
+  | inl up ↦ subst (λ epoch. AreFramesSent epoch w.primary.calls pair.frames w.wire.frames) up.1.epoch up.1.frames
+  | inr down ↦ subst (λ epoch. AreFramesSent epoch w.primary.calls pair.frames w.wire.frames) down.1.epoch down.1.frames
+]
+
+acks-sent : (first second : Holder) (pair : Pair) (w : World) → EitherRefines first second pair w → AreAcksSent pair.arrivals.acknowledgements.items w.wire.acknowledgements
+acks-sent first second pair w parts = elim parts [
+  | inl up ↦ up.1.arrivals.acknowledged
+  | inr down ↦ down.1.arrivals.acknowledged
+]
+
+pub shows : (first second : Holder) (pair : Pair) (w : World) → NodesRefine first second pair w → Shows first second w pair
+shows first second pair w stands =
+    let sessions = sessions-stand stands.parts in
+    record {
+      calls = sessions.calls_are;
+      released = λ c. released-told w.primary.calls pair.sessions.connections.items w.primary.connections sessions.connections_stand c;
+      frames = frames-sent first second pair w stands.parts;
+      acknowledgements = acks-sent first second pair w stands.parts;
+      primary = primary-stands first second pair w stands.parts;
+      standby = standby-stands first second pair w stands.parts;
+      held = λ prefix call released. released-held w stands.sound prefix call released;
+    }
+
+-- ---- one event
+
+happened : (first second : Holder) (w : World) (event : Event) (did : Bool) (old new : Pair) → NodesRefine first second old w → Steps first second w event did old new → Happened first second w event did old new
+happened first second w event did old new stands steps =
+    let before = shows first second old w stands in
+    let after = shows first second new steps.world steps.stands in
+    record {
+      steps = steps;
+      before = before;
+      after = after;
+      called = subst (CallsBy w event did) (sym after.calls) (calls-step w event did steps.world steps.step);
+      released = λ c. after.released c ∙ released-step w event did steps.world steps.step c ∙ ap (λ bytes. bytes ++ released_by w event did c) (sym (before.released c));
+    }
+
+pub is-step : (old : Pair) (event : Event) (result : Result Bool Refusal) (new : Pair) → Acts old event result new → Leaves event result old new → IsStep old event result new
+is-step old event (Ok did) new acts leaves = record {
+  happened = λ first second w stands. happened first second w event did old new stands (acts.steps first second w stands);
+  refused = tt;
+  leaves = leaves;
+  room = λ room. acts.calls;
+}
+is-step old event (Err refusal) new acts leaves = record {
+  happened = tt;
+  refused = inl (λ first second w stands. record { cut = acts.cut first second w stands; before = shows first second old w stands });
+  leaves = leaves;
+  room = λ room. acts.calls;
+}
+
+frames-still : (event : Event) (frames : List (Vec ℕ Global)) → FramesBy event (Ok false) frames frames
+frames-still Send frames = refl
+frames-still event frames = refl
+
+acks-still : (event : Event) (acks : List (Vec ℕ Global)) → AcksBy event (Ok false) acks acks
+acks-still OpenLink acks = refl
+acks-still Apply acks = refl
+acks-still event acks = refl
+
+-- its nodes do not run
+pub idle-is : {old : Pair} {event : Event} {took : Bool} → took ≡ takes_part old.primary_runs old.standby_runs event → took ≡ false → IsStep old event (Ok false) old
+idle-is {old} {event} {took} takes idle =
+    is-step old event (Ok false) old (idle-step takes idle)
+    (record { primary = λ idle. refl; standby = λ idle. refl; frames = frames-still event old.frames; acknowledgements = acks-still event old.arrivals.acknowledgements.items })
+
+-- the primary takes part alone
+pub own-is : {old new : Pair} {event event' : Event} {result : Result Bool Refusal} {took : Bool} → event ≡ event' → took ≡ takes_part old.primary_runs old.standby_runs event → took ≡ true
+    → (takes_part old.primary_runs old.standby_runs event' ≡ true → old.primary_runs ≡ true) → Does old event' result new → Leaves event' result old new → IsStep old event result new
+own-is {old} {new} {event} {event'} {result} {took} is takes took_part own does leaves =
+    is-step old event result new (own-acts is takes took_part own does) (subst (λ (e : Event). Leaves e result old new) (sym is) leaves)
+
+-- any event
+pub acts-is : {old new : Pair} {event event' : Event} {result : Result Bool Refusal} → event ≡ event' → Acts old event' result new → Leaves event' result old new → IsStep old event result new
+acts-is {old} {new} {event} {event'} {result} is acts leaves = subst (λ (e : Event). IsStep old e result new) (sym is) (is-step old event' result new acts leaves)
+
+-- ---- a turn
+
+abbrev roomy : Sessions → Pair → Pair
+roomy sessions old = record old { sessions = sessions }
+
+-- one step of the pair with room is one of the pair
+steps-from : (first second : Holder) (w : World) (event : Event) (did : Bool) (old : Pair) (sessions : Sessions) (new : Pair) → Steps first second w event did (roomy sessions old) new → Steps first second w event did old new
+steps-from first second w event did old sessions new steps = record {
+  world = steps.world;
+  step = steps.step;
+  stands = steps.stands;
+  moves = record { primary = steps.moves.primary; standby = steps.moves.standby };
+}
+
+roomy-refines : (first second : Holder) (old : Pair) (sessions : Sessions) (w : World) → IsRoomier old.sessions sessions → PairRefines first second old w → PairRefines first second (roomy sessions old) w
+roomy-refines first second old sessions w roomier stands = record {
+  sound = stands.sound;
+  lives = stands.lives;
+  serves = stands.serves;
+  parts = roomier-stands first second old sessions w stands.parts roomier;
+}
+
+adds-roomy : (old sessions : Sessions) (new : Pair) → IsRoomier old sessions → length old.calls.items < vec_capacity old.calls → AddsOne sessions.calls new.sessions.calls → AddsOne old.calls new.sessions.calls
+adds-roomy old sessions new roomier room adds = record {
+  one = omega (arith, adds.one, ap length roomier.calls);
+  room = adds.room ∙ roomier.enough (omega (arith, room, old.calls.ok.0));
+}
+
+turn-step : (old : Pair) (c : ℕ) (result : Result Bool Refusal) (new : Pair) → old.primary_runs ≡ true → Turns old c result new → Leaves (Turn c) result old new → IsStep old (Turn c) result new
+turn-step old c (Ok did) new runs turns leaves = record {
+  happened = λ first second w stands.
+      happened first second w (Turn c) did old new stands
+      (steps-from first second w (Turn c) did old turns.roomy new (turns.does.steps first second w (roomy-refines first second old turns.roomy w turns.is_roomier (serves-as runs stands))));
+  refused = tt;
+  leaves = leaves;
+  room = λ room. adds-roomy old.sessions turns.roomy new turns.is_roomier room.room turns.does.calls;
+}
+turn-step old c (Err refusal) new runs turns leaves =
+    let same = turns.refused.2 in
+    record {
+      happened = tt;
+      refused = inr (record {
+        connection = c;
+        turn = refl;
+        memory = turns.refused.0;
+        none = turns.refused.1;
+        calls = ap (λ (p : Pair). p.sessions.calls.items) same ∙ turns.is_roomier.calls;
+        released = ap (λ (p : Pair). released_of p.sessions.connections.items) same ∙ ap (λ (v : Vec CodeConnection Global). released_of v.items) turns.is_roomier.connections;
+        devices = (ap (λ (p : Pair). p.device) same, ap (λ (p : Pair). p.standby.device) same);
+        stands = λ first second w stands.
+            subst (λ (p : Pair). NodesRefine first second p w) (sym same)
+            (nodes-refine (roomy-refines first second old turns.roomy w turns.is_roomier (serves-as runs stands)));
+      });
+      leaves = leaves;
+      room = λ room. absurd (omega (arith, room.room, turns.refused.1, old.sessions.calls.ok.0));
+    }
+
+pub turn-is : {old new : Pair} {event : Event} {c : ℕ} {result : Result Bool Refusal} {took : Bool} → event ≡ Turn c → took ≡ takes_part old.primary_runs old.standby_runs event → took ≡ true
+    → Turns old c result new → Leaves (Turn c) result old new → IsStep old event result new
+turn-is {old} {new} {event} {c} {result} {took} is takes took_part turns leaves =
+    let runs = ap (takes_part old.primary_runs old.standby_runs) (sym is) ∙ sym takes ∙ took_part in
+    subst (λ (e : Event). IsStep old e result new) (sym is) (turn-step old c result new runs turns leaves)
+
+-- ---- a run
+
+-- where there is room for a call, a refusal is a cut
+pub cut-for-room : (old : Pair) (event : Event) (refusal : Refusal) (new : Pair) → HasRoom old
+    → ((first second : Holder) (w : World) → NodesRefine first second old w → WasCut first second w event refusal old new) ⊎ LacksRoom event refusal old new
+    → (first second : Holder) (w : World) → NodesRefine first second old w → IsCut first second event refusal old new w
+cut-for-room old event refusal new room (inl cuts) first second w stands = (cuts first second w stands).cut
+cut-for-room old event refusal new room (inr lacks) first second w stands = absurd (omega (arith, room.room, lacks.none, old.sessions.calls.ok.0))
+
+-- and a pair to which an event happened stands for a world again
+pub goes-on : {old new : Pair} {event : Event} {did : Bool} → HasWorld old → IsStep old event (Ok did) new → HasWorld new
+goes-on has is =
+    let steps = (is.happened has.first has.second has.world has.stands).steps in
+    record { first = has.first; second = has.second; world = steps.world; stands = steps.stands }
+
+-- as a new one does
+pub has-start : (first second : Holder) (pair : Pair) → NodesRefine first second pair start → HasWorld pair
+has-start first second pair stands = record { first = first; second = second; world = start; stands = stands }

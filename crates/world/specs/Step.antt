@@ -1,0 +1,146 @@
+-- What one event does to a pair of nodes: one step of the machine, with both devices before it and after it, and all that it gave to anyone.
+use Rattle.std.specs.Prelude.{◌≡◌, ◌⊎◌, ℕ, ◌<◌, ◌≤◌, ◌&&◌, nat_eq, if◌then◌else◌, Bool, true, false, List, [], ◌∷◌, ◌++◌, take, slice_index_or, Vec, vec_len, vec_capacity, Result, Ok, Err, IfOk, IfErr}
+use Rattle.std.specs.Global.{Global}
+use Rattle.kv_types.specs.declared.refusal.Refusal.{Refusal}
+use Rattle.kv_types.specs.declared.refusal.Refusal.TheVariants.{Memory}
+use Rattle.model.specs.declared.call.Call.{Call}
+use Rattle.model.specs.Call.{MayReply, cut_at, position_of, state_after}
+use Rattle.model.specs.Standing.{Holder}
+use Rattle.machine.specs.declared.event.Event.{Event}
+use Rattle.machine.specs.declared.event.Event.TheVariants.{Apply, ClearGap, Commit, Crash, Free, OpenLink, Reopen, Send, Turn, Write}
+use Rattle.machine.specs.declared.event.Node.TheVariants as node
+use Rattle.machine.specs.Event.{Connection, World, connection_of}
+use Rattle.machine.specs.Promise.{IsReleased, released_in}
+use Rattle.connections.specs.Session.{AddsOne, SessionsRefine, released_of}
+use Rattle.connections.specs.declared.sessions.Sessions.{Sessions}
+use Rattle.world.specs.Committing.{Opens}
+use Rattle.world.specs.Link.{AreAcksSent, AreFramesSent}
+use Rattle.world.specs.Pair.{Does, HasRoom, IsCut, NodesRefine, Pair, Steps}
+
+-- ---- what an event leaves as it was
+
+-- the events that do something to the primary's device
+abbrev pub touches_primary : Event → Bool
+touches_primary Commit = true
+touches_primary Free = true
+touches_primary ClearGap = true
+touches_primary (Crash node.Primary picks) = true
+touches_primary (Reopen node.Primary) = true
+touches_primary event = false
+
+-- and to the standby's
+abbrev pub touches_standby : Event → Bool
+touches_standby Apply = true
+touches_standby (Crash node.Standby picks) = true
+touches_standby (Reopen node.Standby) = true
+touches_standby event = false
+
+-- the event did its step, or was cut in it
+abbrev pub has_begun : Result Bool Refusal → Bool
+has_begun (Ok did) = did
+has_begun (Err refusal) = true
+
+-- the bytes of one message came behind those of all before
+abbrev pub AddsMessage : List (Vec ℕ Global) → List (Vec ℕ Global) → Type 0
+AddsMessage old new = (bytes : Vec ℕ Global) × (new ≡ old ++ bytes ∷ [])
+
+-- what an event does to the frames that were sent: Send sends one, and no other event any
+abbrev pub FramesBy : Event → Result Bool Refusal → List (Vec ℕ Global) → List (Vec ℕ Global) → Type 0
+FramesBy Send (Ok true) old new = AddsMessage old new
+FramesBy event result old new = new ≡ old
+
+-- What an event does to the acknowledgements that were made: the standby makes one where the link opens, and one where it takes a frame, unless it refuses that.
+abbrev pub AcksBy : Event → Result Bool Refusal → List (Vec ℕ Global) → List (Vec ℕ Global) → Type 0
+AcksBy OpenLink (Ok true) old new = AddsMessage old new
+AcksBy Apply (Ok true) old new = AddsMessage old new ⊎ (new ≡ old)
+AcksBy event result old new = new ≡ old
+
+-- A device that the event does not touch is as it was, with all that it has gone through; and so are both, and all messages, where it was not enabled.
+pub record Leaves (event : Event) (result : Result Bool Refusal) (old new : Pair) : Type 0 where
+  pub primary : (touches_primary event && has_begun result) ≡ false → new.device ≡ old.device
+  pub standby : (touches_standby event && has_begun result) ≡ false → new.standby.device ≡ old.standby.device
+  pub frames : FramesBy event result old.frames new.frames
+  pub acknowledgements : AcksBy event result old.arrivals.acknowledgements.items new.arrivals.acknowledgements.items
+
+-- ---- what can be seen of a pair
+
+-- the bytes that were released to connection c
+abbrev pub released_to : Pair → ℕ → List ℕ
+released_to pair c = slice_index_or (released_of pair.sessions.connections.items) c []
+
+-- What anyone may see of a pair that stands for this world: the list of calls, the released bytes and the messages between its nodes; and what a crash now leaves of
+-- either device opens where its node stands, with each call that was released.
+pub record Shows (first second : Holder) (w : World) (pair : Pair) : Type 0 where
+  pub calls : pair.sessions.calls.items ≡ w.primary.calls
+  pub released : (c : ℕ) → released_to pair c ≡ released_in w c
+  pub frames : AreFramesSent w.primary.epoch w.primary.calls pair.frames w.wire.frames
+  pub acknowledgements : AreAcksSent pair.arrivals.acknowledgements.items w.wire.acknowledgements
+  pub primary : Opens first w.primary.calls w.primary.committer.position pair.device
+  pub standby : Opens second w.primary.calls w.standby.position pair.standby.device
+  pub held : (prefix : List Call) (call : Call) → IsReleased w.primary.calls (released_in w) prefix call
+      → (position_of (prefix ++ call ∷ []) ≤ w.primary.committer.position) × (position_of (prefix ++ call ∷ []) ≤ w.standby.position)
+
+-- ---- what an event gave
+
+-- the list of calls after an event: a turn adds the call of the connection's first waiting item, and a crash of the primary drops the calls that its image does not hold
+abbrev pub CallsBy : World → Event → Bool → List Call → Type 0
+CallsBy w (Turn c) true new =
+    (call : Call) × (call.connection ≡ c) × (take 1 (connection_of w c).inbound.waiting ≡ call.item ∷ []) × MayReply (state_after w.primary.calls) call × (new ≡ w.primary.calls ++ call ∷ [])
+CallsBy w (Crash node.Primary picks) true new = new ≡ cut_at w.primary.calls w.primary.committer.position
+CallsBy w event did new = new ≡ w.primary.calls
+
+-- the bytes that an event releases to connection c: only a write does, the first of those that its gate let out
+abbrev pub released_by : World → Event → Bool → ℕ → List ℕ
+released_by w (Write d n) true c = if nat_eq d c then take n (connection_of w d).outbound.pending else []
+released_by w event did c = []
+
+-- ---- one event
+
+-- An event happened to a pair that stood for this world: the machine's step, the world that the pair stands for then, and what the event did to both devices, whose
+-- moments since then are those of that step; what was seen of the pair before it and after it; and what the event gave.
+pub record Happened (first second : Holder) (w : World) (event : Event) (did : Bool) (old new : Pair) : Type 0 where
+  pub steps : Steps first second w event did old new
+  pub before : Shows first second w old
+  pub after : Shows first second steps.world new
+  pub called : CallsBy w event did new.sessions.calls.items
+  pub released : (c : ℕ) → released_to new c ≡ released_to old c ++ released_by w event did c
+
+-- A turn was refused the room for its call, and there was none: the pair stands for the same worlds, and nothing that can be seen of it changed.
+pub record LacksRoom (event : Event) (refusal : Refusal) (old new : Pair) : Type 0 where
+  pub connection : ℕ
+  pub turn : event ≡ Turn connection
+  pub memory : refusal ≡ Memory
+  pub none : vec_capacity old.sessions.calls ≤ vec_len old.sessions.calls
+  pub calls : new.sessions.calls.items ≡ old.sessions.calls.items
+  pub released : released_of new.sessions.connections.items ≡ released_of old.sessions.connections.items
+  pub devices : (new.device ≡ old.device) × (new.standby.device ≡ old.standby.device)
+  pub stands : (first second : Holder) (w : World) → NodesRefine first second old w → NodesRefine first second new w
+
+-- An event was cut: it was enabled in the world that the pair stood for, and has a cause.
+pub record WasCut (first second : Holder) (w : World) (event : Event) (refusal : Refusal) (old new : Pair) : Type 0 where
+  pub cut : IsCut first second event refusal old new w
+  pub before : Shows first second w old
+
+-- What an event did to a pair, of all worlds that it stood for: a step, or it was cut, or a turn lacked room. Where there was room for a call, none is asked for.
+pub record IsStep (old : Pair) (event : Event) (result : Result Bool Refusal) (new : Pair) : Type 0 where
+  pub happened : IfOk result (λ did. (first second : Holder) (w : World) → NodesRefine first second old w → Happened first second w event did old new)
+  pub refused : IfErr result (λ refusal. ((first second : Holder) (w : World) → NodesRefine first second old w → WasCut first second w event refusal old new) ⊎ LacksRoom event refusal old new)
+  pub leaves : Leaves event result old new
+  pub room : HasRoom old → AddsOne old.sessions.calls new.sessions.calls
+
+-- ---- a turn
+
+-- these sessions are the others, perhaps with more room
+pub record IsRoomier (old new : Sessions) : Type 0 where
+  pub calls : new.calls.items ≡ old.calls.items
+  pub connections : new.connections ≡ old.connections
+  pub stands : (machines : List Connection) (list : List Call) → SessionsRefine old machines list → SessionsRefine new machines list
+  -- where there is room, it stays as it is
+  pub enough : vec_len old.calls < vec_capacity old.calls → vec_capacity new.calls ≡ vec_capacity old.calls
+
+-- What a turn of a running primary did: it was a turn of the pair with room for the call, or it was refused that room, and there was none.
+pub record Turns (old : Pair) (c : ℕ) (result : Result Bool Refusal) (new : Pair) : Type 0 where
+  pub roomy : Sessions
+  pub is_roomier : IsRoomier old.sessions roomy
+  pub does : IfOk result (λ did. Does (record old { sessions = roomy }) (Turn c) (Ok did) new)
+  pub refused : IfErr result (λ refusal. (refusal ≡ Memory) × (vec_capacity old.sessions.calls ≤ vec_len old.sessions.calls) × (new ≡ record old { sessions = roomy }))
