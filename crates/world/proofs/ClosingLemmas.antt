@@ -1,7 +1,6 @@
 -- Closing a group or a free list: what it takes from the sequencer, and what it adds to the queue.
-use Rattle.std.proofs.Common.{◌≡◌, ◌≢◌, ◌⊎◌, ℕ, ◌+◌, ◌-◌, ◌<◌, ◌≤◌, ◌++◌, ◌||◌, Bool, true, false, cond, nat_lt, List, [], ◌∷◌, length, Option, suc, refl, sym, ap, ap₂, subst, ◌∙◌, arith, add-zero, append-nil, append_assoc, inl, inr, le_refl}
+use Rattle.std.proofs.Common.{◌≡◌, ◌≢◌, ◌⊎◌, ℕ, ◌+◌, ◌-◌, ◌<◌, ◌≤◌, ◌++◌, ◌||◌, Bool, true, false, cond, nat_lt, List, [], ◌∷◌, length, Option, suc, refl, sym, ap, ap₂, subst, ◌∙◌, arith, add-zero, inl, inr, le_refl}
 use Rattle.std.proofs.lemmas.Bool.{and_from, false_from_ne_true, le-ltb, lt-ltb, ltb-true, or_cases, or_left, or_right}
-use Rattle.std.proofs.lemmas.Grind.{flat_map-append}
 use Rattle.std.specs.List.{flat_map}
 use Rattle.kv_types.specs.declared.change.Change.{Change}
 use Rattle.kv_types.specs.declared.place.EntryNo.{EntryNo}
@@ -10,24 +9,17 @@ use Rattle.model.specs.declared.group.Group.{Group}
 use Rattle.model.specs.declared.group.Part.{Part}
 use Rattle.model.specs.declared.work.FreeList.{FreeList}
 use Rattle.model.specs.declared.work.Work.{Work}
-use Rattle.model.specs.declared.work.Work.TheVariants as work
 use Rattle.model.specs.Call.{is_nonempty, position_of}
-use Rattle.model.specs.Group.{AreEnded, Contents, IsConsistent, after_group, changes_of_part, last_position}
+use Rattle.model.specs.Group.{changes_of_part, last_position}
 use Rattle.model.specs.Position.{changes_since}
 use Rattle.multi_watch.specs.Sessions.{slot}
-use Rattle.wbl_engine.specs.declared.freeing.Freed.{Freed}
-use Rattle.redis_core.specs.Sequencing.{Expects, HandsList, HandsOut, IsAheadOf, Sequencing, ended_by_parts, newest_end}
-use Rattle.group_commit.specs.Group.{after_work, groups_of, lists_of}
-use Rattle.group_commit.specs.Working.{entries_of_lists}
-use Rattle.group_commit.proofs.FreedLemmas.{AreEnded-rest, IsConsistent-after_groups}
-use Rattle.group_commit.proofs.WorkLemmas.{AreGroups-of-work, AreWork-push-group, AreWork-push-list, after_work-push-group, after_work-push-list, groups_of-append, lists_of-append}
+use Rattle.redis_core.specs.Sequencing.{HandsList, HandsOut, Sequencing, ended_by_parts, newest_end}
 use Rattle.machine.specs.declared.event.Event.TheVariants.{CloseGroup}
 use Rattle.machine.specs.declared.event.TheConstants.{PIPE_ITEMS}
 use Rattle.machine.specs.Event.{Closes, Work as MachineWork, World, closed_group, has_room, listed, may_happen, open_changes, with_committer, with_ended}
 use Rattle.machine.proofs.SoundConnection.{both}
 use Rattle.pipes.specs.Waiting.{Waiting}
-use Rattle.primary.specs.Closing.{ClosesGroup, ClosesList, MayClose}
-use Rattle.world.specs.Committing.{AreOfEpoch, Leads, entries_told, extents_told}
+use Rattle.primary.specs.Closing.{MayClose}
 use Rattle.world.specs.GroupSpan.{AreWorkOf, IsGroupOf, IsWorkOf}
 use Rattle.connections.specs.Session.{AreOpen, SeatsFollow, SequencerRefines}
 use Rattle.connections.proofs.SequencerLemmas.{follow-same}

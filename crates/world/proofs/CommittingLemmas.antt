@@ -1,6 +1,6 @@
 -- The committer and its engine still refine the machine's after each step.
-use Rattle.std.proofs.Common.{◌≡◌, ◌⊎◌, inl, inr, true≢false, ℕ, ◌+◌, ◌-◌, ◌<◌, ◌≤◌, ◌++◌, Bool, true, false, List, [], ◌∷◌, length, map, Result, Err, IfErr, IsErrOf, refl, sym, ap, ap₂, subst, ◌∙◌, append_assoc, arith}
-use Rattle.std.proofs.lemmas.List.{append-nil, map-append}
+use Rattle.std.proofs.Common.{◌≡◌, ◌⊎◌, inl, inr, true≢false, ℕ, ◌+◌, ◌-◌, ◌<◌, ◌≤◌, ◌++◌, Bool, true, false, List, [], ◌∷◌, length, map, Result, Err, IfErr, IsErrOf, refl, sym, ap, ap₂, subst, ◌∙◌, arith}
+use Rattle.std.proofs.lemmas.List.{map-append}
 use Rattle.pmem.specs.Device.{State}
 use Rattle.pmem.specs.Crash.{IsImage}
 use Rattle.kv_types.specs.declared.refusal.Refusal.{Refusal}
@@ -16,28 +16,26 @@ use Rattle.model.specs.declared.work.Work.{Work}
 use Rattle.model.specs.declared.work.Work.TheVariants as work
 use Rattle.model.specs.Call.{position_of}
 use Rattle.model.specs.Image.{Image}
-use Rattle.model.specs.Group.{AreEnded, AreParts, Contents, IsConsistent, IsGroup, Versions, after_group, last_position, part_versions}
+use Rattle.model.specs.Group.{AreParts, Contents, IsConsistent, IsGroup, Versions, after_group, last_position, part_versions}
 use Rattle.model.specs.Standing.{Holder}
 use Rattle.wbl_engine.specs.declared.freeing.Freed.{Freed}
 use Rattle.wbl_engine.specs.Contents.{Exhausts, Keeps, IsDurable, Same}
 use Rattle.wbl_engine.proofs.LawfulLemmas.{group_lawful, same_lawful}
-use Rattle.redis_core.specs.Sequencing.{Expects, IsAheadOf, Sequencing}
+use Rattle.redis_core.specs.Sequencing.{Sequencing}
 use Rattle.pipes.specs.Waiting.{Waiting}
-use Rattle.group_commit.specs.Group.{AreWork, after_groups, after_work, groups_of, lists_of}
-use Rattle.group_commit.specs.Working.{entries_of_lists}
+use Rattle.group_commit.specs.Group.{AreWork, groups_of}
 use Rattle.group_commit.specs.declared.stage.Done.{Done}
 use Rattle.group_commit.specs.declared.stage.Stage.{Stage}
 use Rattle.group_commit.specs.declared.stage.Stage.TheVariants.{Ready, Durable, Shown}
-use Rattle.group_commit.proofs.FreedLemmas.{AreEnded-after_group}
 use Rattle.group_commit.proofs.GroupsLemmas.{Same-is}
-use Rattle.group_commit.proofs.WorkLemmas.{AreWork-behind, groups_of-lists, lists_before-lists, lists_of-lists}
+use Rattle.group_commit.proofs.WorkLemmas.{AreWork-behind, groups_of-lists}
 use Rattle.machine.specs.declared.event.TheConstants.{PIPE_ITEMS}
 use Rattle.machine.specs.declared.event.Event.TheVariants.{Commit, Hand, RaiseLocal}
 use Rattle.machine.specs.Event.{Committer as Machine, Commits, Frees, Stage as MachineStage, Span, Work as MachineWork, World, committed_first, from_group, handed, lists_before, may_happen, is_durable, is_shown, raised_local, ready_again, shown}
 use Rattle.machine.specs.World as machine_stage
 use Rattle.machine.specs.Sound.{HasRoomFor, Sound}
 use Rattle.world.specs.Cause.{IsAtLimit, EndsBy}
-use Rattle.world.specs.Committing.{AreContentsAt, AreOfEpoch, Committing, CommittingRefines, EngineStands, Leads, StageRefines, OpensAtEither, NearOnly, entries_told, extents_told, next_primary}
+use Rattle.world.specs.Committing.{AreContentsAt, AreOfEpoch, Committing, CommittingRefines, EngineStands, Leads, StageRefines, OpensAtEither, NearOnly, next_primary}
 use Rattle.connections.specs.Going.{Goes}
 use Rattle.world.specs.GroupSpan.{AreGroupsOf, AreWorkOf, IsGroupOf, positions_of_lists}
 use Rattle.world.specs.Recalling.{Remembers}

@@ -1,5 +1,5 @@
 -- What one event of the machine gives: to the list of calls, and to each connection.
-use Rattle.std.proofs.Common.{◌≡◌, ℕ, zero, suc, ◌+◌, Bool, true, false, cond, nat_eq, eqb-true, List, [], ◌∷◌, ◌++◌, take, Option, Some, None, slice_get, refl, sym, ap, subst, ◌∙◌, inl, inr, true≢false}
+use Rattle.std.proofs.Common.{◌≡◌, ℕ, zero, suc, Bool, true, false, cond, nat_eq, eqb-true, List, [], ◌∷◌, ◌++◌, take, Option, slice_get, refl, sym, ap, subst, ◌∙◌, inl, inr, true≢false}
 use Rattle.std.proofs.lemmas.Bool.{eq-eqb}
 use Rattle.std.proofs.lemmas.List.{append-nil}
 use Rattle.model.specs.declared.call.Call.{Call}
@@ -9,7 +9,7 @@ use Rattle.machine.specs.declared.event.Event.TheVariants.{Enter, Feed, Offer, T
 use Rattle.machine.specs.declared.event.Mark.{Mark}
 use Rattle.machine.specs.declared.event.Mark.TheVariants.{Local, Remote}
 use Rattle.machine.specs.declared.event.Node.TheVariants as node
-use Rattle.machine.specs.Event.{Acknowledgement, Connection, Inbound, Outbound, Step, World, Happens, called, changed_at, connection_of, fed_with, get_connection, having_read, having_released, held_first, knowing, left, offered_next, on_inbound, on_outbound, taken_first, told, with_call, with_connections, with_inbound, with_link, with_made, with_outbound, written}
+use Rattle.machine.specs.Event.{Acknowledgement, Connection, Inbound, Outbound, Step, World, Happens, called, changed_at, connection_of, fed_with, get_connection, having_read, having_released, held_first, left, offered_next, on_inbound, on_outbound, taken_first, told, with_call, with_inbound, with_link, with_made, with_outbound, written}
 use Rattle.machine.specs.Promise.{released_in}
 use Rattle.machine.proofs.ConnectionLemmas.{get-changed_other, get-entered}
 use Rattle.machine.proofs.CrashLemmas.{get-over}

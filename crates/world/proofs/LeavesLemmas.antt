@@ -1,5 +1,5 @@
 -- What an event leaves as it was.
-use Rattle.std.proofs.Common.{◌≡◌, Bool, true, false, Result, Ok, Err, ap, ◌∙◌, true≢false}
+use Rattle.std.proofs.Common.{◌≡◌, Bool, false, Result, Ok, Err, ap, ◌∙◌, true≢false}
 use Rattle.kv_types.specs.declared.refusal.Refusal.{Refusal}
 use Rattle.pmem.specs.Device.{State}
 use Rattle.group_commit.specs.declared.committer.Committer.{Committer}

@@ -1,33 +1,21 @@
 -- What waits for the committer stands for what waits for the machine's: the same may happen next, and a turn may take it.
-use Rattle.std.proofs.Common.{◌≡◌, ℕ, suc, Bool, true, false, not, ◌&&◌, cond, nat_eq, nat_lt, List, [], ◌∷◌, ◌++◌, length, map, refl, sym, ap, ap₂, subst, ◌∙◌, append_assoc, inl, inr, true≢false}
-use Rattle.std.proofs.lemmas.Bool.{or_cases}
-use Rattle.std.proofs.lemmas.Grind.{flat_map-append}
+use Rattle.std.proofs.Common.{◌≡◌, ℕ, suc, Bool, true, false, not, ◌&&◌, cond, nat_lt, List, [], ◌∷◌, ◌++◌, length, map, refl, ap, ap₂, ◌∙◌}
 use Rattle.std.proofs.lemmas.List.{map-append}
-use Rattle.std.proofs.lemmas.List.Folds.{list_any-append}
-use Rattle.kv_types.specs.declared.place.EntryNo.{EntryNo}
 use Rattle.model.specs.declared.call.Call.{Call}
 use Rattle.model.specs.declared.group.Group.{Group}
 use Rattle.model.specs.declared.work.FreeList.{FreeList}
 use Rattle.model.specs.declared.work.Work.{Work}
 use Rattle.model.specs.declared.work.Work.TheVariants as work
 use Rattle.model.specs.Call.{is_nonempty}
-use Rattle.model.specs.Group.{AreEnded, Contents, after_group, is_listed}
-use Rattle.wbl_engine.specs.declared.freeing.Freed.{Freed}
-use Rattle.wbl_engine.proofs.WithoutLemmas.{AllEnded}
-use Rattle.redis_core.specs.Sequencing.{Sequencing}
-use Rattle.pipes.specs.Waiting.{Waiting, LocalTakes}
-use Rattle.group_commit.specs.Group.{AreWork, after_groups, after_work, groups_of, lists_before, lists_of}
-use Rattle.group_commit.specs.Working.{GivesWork, entries_of_lists}
+use Rattle.group_commit.specs.Group.{groups_of, lists_before, lists_of}
 use Rattle.group_commit.specs.declared.stage.Stage.{Stage}
 use Rattle.group_commit.specs.declared.stage.Stage.TheVariants.{Ready, Durable, Shown}
-use Rattle.group_commit.proofs.FreedLemmas.{AllEnded-listed, AreEnded-first, AreEnded-moved}
-use Rattle.group_commit.proofs.WorkLemmas.{GivesWork-first}
 use Rattle.machine.specs.declared.event.Event.TheVariants.{ClearGap, Free}
 use Rattle.machine.specs.declared.event.TheConstants.{PIPE_ITEMS}
 use Rattle.machine.specs.Event.{Commits, Frees, Span, Stage as MachineStage, Work as MachineWork, World, first_is_within, from_group, has_room, is_ready, may_commit, may_happen, reached_lists, spans_of}
 use Rattle.machine.specs.Event as machine
 use Rattle.machine.specs.World as machine_stage
-use Rattle.world.specs.Committing.{Committing, CommittingRefines, Leads, StageRefines}
+use Rattle.world.specs.Committing.{Committing, CommittingRefines, StageRefines}
 use Rattle.world.specs.GroupSpan.{AreGroupsOf, AreWorkOf, IsWorkOf, positions_of_lists}
 use Rattle.world.specs.Queue.{has_group, is_first_within, is_ready_now, link_has_room, may_clear_now, may_commit_now, may_free_now, reached_now}
 use Rattle.world.proofs.GroupSpanLemmas.{IsGroupOf-grows, length-groups}

@@ -1,8 +1,7 @@
 -- From what an event did to a pair to what can be told of it.
-use Rattle.std.proofs.Common.{◌≡◌, ◌⊎◌, ℕ, ◌<◌, Vec, Global, ◌≤◌, ◌&&◌, ◌++◌, ◌∷◌, [], Bool, true, false, List, Result, Ok, Err, length, vec_len, slice_index_or, refl, sym, ap, subst, ◌∙◌, arith, inl, inr, true≢false}
+use Rattle.std.proofs.Common.{◌≡◌, ◌⊎◌, ℕ, ◌<◌, Vec, Global, ◌++◌, Bool, true, false, List, Result, Ok, Err, length, refl, sym, ap, subst, ◌∙◌, arith, inl, inr}
 use Rattle.std.specs.Vec.{vec_capacity}
 use Rattle.kv_types.specs.declared.refusal.Refusal.{Refusal}
-use Rattle.model.specs.declared.call.Call.{Call}
 use Rattle.model.specs.Standing.{Holder}
 use Rattle.machine.specs.declared.event.Event.{Event}
 use Rattle.machine.specs.declared.event.Event.TheVariants.{Apply, OpenLink, Send, Turn}
@@ -15,7 +14,7 @@ use Rattle.connections.proofs.SessionLemmas.{released-told}
 use Rattle.world.specs.Headline.{start}
 use Rattle.world.specs.Link.{AreAcksSent, AreFramesSent}
 use Rattle.world.specs.Pair.{Acts, Does, EitherRefines, HasRoom, HasWorld, IsCut, NodesRefine, Pair, PairRefines, Steps, takes_part}
-use Rattle.world.specs.Step.{AcksBy, CallsBy, FramesBy, Happened, IsRoomier, IsStep, LacksRoom, Leaves, Shows, Turns, WasCut, released_by, released_to}
+use Rattle.world.specs.Step.{AcksBy, CallsBy, FramesBy, Happened, IsRoomier, IsStep, LacksRoom, Leaves, Shows, Turns, WasCut, released_by}
 use Rattle.world.proofs.GivenLemmas.{calls-step, released-step}
 use Rattle.world.proofs.LivesLemmas.{nodes-refine, serves-as}
 use Rattle.world.proofs.PairLemmas.{primary-stands, roomier-stands, sessions-stand, standby-stands}

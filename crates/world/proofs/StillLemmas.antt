@@ -1,13 +1,10 @@
 -- What a pair keeps where its sequencer stands, to an engine, as it did.
-use Rattle.std.proofs.Common.{◌≡◌, ◌++◌, List, length, sym, ap, subst, ◌∙◌}
-use Rattle.kv_types.specs.declared.place.EntryNo.{EntryNo}
+use Rattle.std.proofs.Common.{◌≡◌, List, length, ap, ◌∙◌}
 use Rattle.model.specs.declared.work.FreeList.{FreeList}
 use Rattle.model.specs.declared.work.Work.{Work}
-use Rattle.model.specs.Group.{AreEnded, Contents}
+use Rattle.model.specs.Group.{Contents}
 use Rattle.redis_core.specs.Sequencing.{Sequencing}
 use Rattle.wbl_engine.specs.declared.freeing.Freed.{Freed}
-use Rattle.group_commit.specs.Group.{after_work, lists_of}
-use Rattle.group_commit.specs.Working.{entries_of_lists}
 use Rattle.connections.specs.Session.{StandsStill}
 use Rattle.machine.specs.Event.{Primary}
 use Rattle.world.specs.Committing.{Leads}

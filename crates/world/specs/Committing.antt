@@ -1,28 +1,20 @@
 -- How the committer and its engine refine the machine's.
-use Rattle.std.specs.Prelude.{◌≡◌, ◌⊎◌, ℕ, ◌≤◌, Bool, false, nat_eq, if◌then◌else◌, List, [], ◌∷◌, ◌++◌}
-use Rattle.std.specs.List.{AllByRecursion, flat_map}
-use Rattle.kv_types.specs.declared.place.EntryNo.{EntryNo}
-use Rattle.kv_types.specs.declared.place.Extent.{Extent}
+use Rattle.std.specs.Prelude.{◌≡◌, ◌⊎◌, ℕ, ◌≤◌, Bool, false, nat_eq, if◌then◌else◌, List, [], ◌∷◌}
 use Rattle.pmem.specs.Device.{State}
 use Rattle.pmem.specs.Crash.{IsImage, IsSettled, image_of}
 use Rattle.pmem.specs.Runs.{LeavesOnly}
 use Rattle.model.specs.declared.call.Call.{Call}
-use Rattle.model.specs.declared.group.Group.{Group}
 use Rattle.model.specs.Call.{keyspace_after, cut_at}
 use Rattle.model.specs.Image.{Image, IsMapOf, entries_of_lines}
 use Rattle.model.specs.declared.work.FreeList.{FreeList}
 use Rattle.model.specs.declared.work.Work.{Work}
-use Rattle.model.specs.Group.{AreEnded, Contents, IsConsistent}
+use Rattle.model.specs.Group.{Contents, IsConsistent}
 use Rattle.model.specs.Standing.{Holder, StandsAt}
 use Rattle.model.specs.declared.record.Role.{Role}
-use Rattle.wbl_engine.specs.declared.freeing.Freed.{Freed}
 use Rattle.wbl_engine.specs.Contents.{IsDurable, Keeps}
 use Rattle.wbl_engine.specs.Formatting.{IsFormatting}
 use Rattle.wbl_engine.specs.Lawful.{AreLawful, IsUndamaged}
-use Rattle.redis_core.specs.Sequencing.{Expects, IsAheadOf, Sequencing}
 use Rattle.pipes.specs.Waiting.{Waiting}
-use Rattle.group_commit.specs.Group.{AreWork, after_work, groups_of, lists_of}
-use Rattle.group_commit.specs.Working.{entries_of_lists}
 use Rattle.group_commit.specs.declared.stage.Stage.{Stage}
 use Rattle.group_commit.specs.declared.stage.Stage.TheVariants.{Ready, Durable, Shown}
 use Rattle.machine.specs.Event.{Committer as Machine, Stage as MachineStage, Frame as Sent, World, committed_first, from_group}
