@@ -1,54 +1,65 @@
 -- What a standby's answer to one frame says of a run.
-use Rattle.std.proofs.Common.{◌≡◌, ◌≢◌, ℕ, ◌<◌, ◌≤◌, ◌⊎◌, ⊎_elim, inl, inr, List, [], ◌∷◌, ◌++◌, Result, Ok, Err, IsErrOf, refl, sym, ap, subst, ◌∙◌, take, length, get_or, ◌+◌, append-nil, append_assoc, Option, Some, None}
-use Rattle.std.proofs.lemmas.Bool.{cases_lt, cases_eq}
+use Rattle.std.proofs.Common.{◌≡◌, ◌≢◌, ℕ, ◌<◌, ◌⊎◌, inl, inr, List, [], ◌∷◌, ◌++◌, Result, Ok, Err, IsErrOf, OnOk, refl, sym, ap, subst, ◌∙◌, take, length, get_or, ◌+◌, append-nil, append_assoc, Option, Some, None}
 use Rattle.kv_types.specs.declared.refusal.Refusal.{Refusal}
-use Rattle.kv_types.specs.declared.refusal.Refusal.TheVariants.{WrongEpoch, PositionGap, Fault}
+use Rattle.kv_types.specs.declared.refusal.Refusal.TheVariants.{Fault}
 use Rattle.standby.specs.declared.frame.Frame.{Frame}
 use Rattle.standby.specs.declared.frame.Ack.{Ack}
-use Rattle.standby.specs.Following.{IsNext, HasTaken}
+use Rattle.model.specs.declared.record.Record.{Record}
+use Rattle.mv_keyspace.specs.Table.{records}
+use Rattle.standby.specs.Following.{IsHeld, IsTakenNext, HasTaken}
 use Rattle.links.specs.declared.link_end.LinkEnd.{LinkEnd}
 use Rattle.links.specs.declared.link_end.LinkEnd.TheVariants.{Stops}
 use Rattle.std.proofs.lemmas.List.{flat_map_more, map_more}
 use Rattle.stream_codec.specs.declared.message.Message.{Message}
-use Rattle.stream_codec.specs.Message.{Sent, sent_of}
+use Rattle.stream_codec.specs.Message.{Sent, sent_of, sent_of_frame}
 use Rattle.stream_codec.specs.Scanning.{sent_of_all}
 use Rattle.std.specs.Io.KnownBytes.{Appends, Consumes}
 use Rattle.std.proofs.lemmas.Grind.{flat_map-append}
 use Rattle.stream_codec.specs.Stream.{begun as unfed, took, fed}
-use Rattle.links.specs.Serving.{Held, Acknowledges, Answers, Run, none, more, Puts, HasRun, Served, ack_text, acks_text, ends_by}
+use Rattle.links.specs.Serving.{Held, Acknowledges, Answers, IsFreed, Run, none, more, Says, HasRun, Served, ack_text, acks_text, ends_by}
 
--- The clauses of a node's answer, which was an acknowledgement.
-pub record Answered (before : Held) (frame : Frame) (ack : Ack) (result : Result Ack Refusal) (after : Held) : Type 0 where
-  pub is : result ≡ Ok ack
-  pub wrong : frame.epoch ≢ before.contents.current.epoch → result ≡ Err WrongEpoch
-  pub again : frame.epoch ≡ before.contents.current.epoch → frame.after ≤ before.contents.current.position → after ≡ before
-  pub gap : frame.epoch ≡ before.contents.current.epoch → before.contents.current.position < frame.after → frame.before ≢ before.contents.current.position → result ≡ Err PositionGap
-  pub taken : frame.epoch ≡ before.contents.current.epoch → IsNext before.contents.current.position frame → HasTaken frame before.contents after.contents before.table after.table
-  pub ack_epoch : ack.epoch ≡ frame.epoch
-  pub ack_position : ack.position ≡ after.contents.current.position
+-- what a node says of a frame that it acknowledged
+pub acknowledges : (before : Held) (frame : Frame) (ack : Ack) (after : Held) → ack.epoch ≡ frame.epoch → ack.position ≡ after.contents.current.position
+    → (IsHeld before.contents.current frame × (after ≡ before)) ⊎ IsTakenNext before.contents.current frame
+    → (IsTakenNext before.contents.current frame → HasTaken frame before.contents after.contents before.table after.table) → Acknowledges before frame ack after
+acknowledges before frame ack after epoch_is position_is (inl held) taken = record { epoch_is = epoch_is; position_is = position_is; moves = inl held }
+acknowledges before frame ack after epoch_is position_is (inr next) taken = record { epoch_is = epoch_is; position_is = position_is; moves = inr (next, taken next) }
 
-module _ (before : Held) (frame : Frame) (ack : Ack) (result : Result Ack Refusal) (after : Held) (answered : Answered before frame ack result after) where
-  not_refused : (refusal : Refusal) → result ≡ Err refusal → ⊥
-  not_refused refusal refused = let is = answered.is in cc
+-- what stays of a node stays of what it holds
+pub known : {N P Q : Type 0} {old new : N} (holds : N → Held) → (P × (new ≡ old)) ⊎ Q → (P × (holds new ≡ holds old)) ⊎ Q
+known holds (inl same) = inl (same.0, ap holds same.1)
+known holds (inr next) = inr next
 
-  own : frame.epoch ≡ before.contents.current.epoch
-  own = ⊎_elim (λ (e : frame.epoch ≡ before.contents.current.epoch). e) (λ (ne : frame.epoch ≢ before.contents.current.epoch). absurd (not_refused WrongEpoch (answered.wrong ne))) (cases_eq frame.epoch before.contents.current.epoch)
+-- what the frame ended is freed after it
+taken-freed : (before : Held) (frame : Frame) (middle after : Held) → IsFreed middle after → HasTaken frame before.contents middle.contents before.table middle.table
+    → HasTaken frame before.contents after.contents before.table after.table
+taken-freed before frame middle after freed taken = record {
+  position = ap (λ (r : Record). r.position) freed.current ∙ taken.position;
+  keyspace = ap records freed.table_is ∙ taken.keyspace;
+  lines = freed.line_count ∙ taken.lines;
+  role = ap (λ (r : Record). r.role) freed.current ∙ taken.role;
+  epoch = ap (λ (r : Record). r.epoch) freed.current ∙ taken.epoch;
+}
 
-  abbrev Moves : Type 0
-  Moves = ((frame.after ≤ before.contents.current.position) × (after ≡ before))
-      ⊎ (IsNext before.contents.current.position frame × HasTaken frame before.contents after.contents before.table after.table)
+pub moved-from : {at position told : ℕ} → position ≡ at → told ≢ position → told ≢ at
+moved-from was moved is = moved (is ∙ sym was)
 
-  joined : before.contents.current.position < frame.after → frame.before ≡ before.contents.current.position
-  joined lt = ⊎_elim (λ (e : frame.before ≡ before.contents.current.position). e) (λ (ne : frame.before ≢ before.contents.current.position). absurd (not_refused PositionGap (answered.gap own lt ne))) (cases_eq frame.before before.contents.current.position)
-
-  moves : Moves
-  moves = ⊎_elim
-      (λ (lt : before.contents.current.position < frame.after). let next : IsNext before.contents.current.position frame = record { later = lt; joined = joined lt } in inr (next, answered.taken own next))
-      (λ (le : frame.after ≤ before.contents.current.position). inl (le, answered.again own le))
-      (cases_lt before.contents.current.position frame.after)
-
-  pub acknowledges : Acknowledges before frame ack after
-  acknowledges = record { epoch = own; epoch_is = answered.ack_epoch; position_is = answered.ack_position; moves = moves }
+pub acknowledges-freed : (before : Held) (frame : Frame) (ack : Ack) (middle after : Held) → ack.position ≢ before.contents.current.position → Acknowledges before frame ack middle → IsFreed middle after
+    → Acknowledges before frame ack after
+acknowledges-freed before frame ack middle after moved told freed = record {
+  epoch_is = told.epoch_is;
+  position_is = told.position_is ∙ sym (ap (λ (r : Record). r.position) freed.current);
+  moves = after_it told.moves;
+}
+  where
+    after_it : (IsHeld before.contents.current frame × (middle ≡ before))
+        ⊎ (IsTakenNext before.contents.current frame × HasTaken frame before.contents middle.contents before.table middle.table)
+        → (IsHeld before.contents.current frame × (after ≡ before))
+        ⊎ (IsTakenNext before.contents.current frame × HasTaken frame before.contents after.contents before.table after.table)
+    after_it (inl same) =
+        let at : ack.position ≡ before.contents.current.position = told.position_is ∙ ap (λ (node : Held). node.contents.current.position) same.1 in
+        absurd (moved at)
+    after_it (inr taken) = inr (taken.0, taken-freed before frame middle after freed taken.1)
 
 -- a link that does not stop for a fault ends by another refusal
 pub not_fault : (refusal : Refusal) (end : LinkEnd) → end ≡ ends_by refusal → ¬ IsErrOf {T = Ack} {E = LinkEnd} (Err end) (Stops Fault) → ¬ IsErrOf {T = Ack} {E = Refusal} (Err refusal) Fault
@@ -60,35 +71,16 @@ not_fault refusal end is not_stops fault =
 pub not_refused-ok : (ack : Ack) → ¬ IsErrOf {T = Ack} {E = Refusal} (Ok ack) Fault
 not_refused-ok ack is = cc
 
+pub same_end : {T : Type 0} (x y : LinkEnd) → ◌≡◌ {A = Result T LinkEnd} (Err x) (Err y) → x ≡ y
+same_end x y e = cc
+
+pub OnOk-into : {T E : Type 0} {P Q : Type 0} (result : Result T E) → (P → Q) → OnOk result P → OnOk result Q
+OnOk-into (Ok x) into told = into told
+OnOk-into (Err e) into told = tt
+
 -- a link that goes on has not stopped
 pub not_stopped : (x : Unit {0}) → ¬ IsErrOf {T = Unit {0}} {E = LinkEnd} (Ok x) (Stops Fault)
 not_stopped x is = cc
-
--- nothing was put
-pub puts-none : (first : Held) (old : List ℕ) → Puts first old old
-puts-none first old = record { messages = []; acks = []; middle = first; run = none first; put = sym (append-nil old) }
-
-pub begun : (first : Held) (old : List ℕ) → HasRun first [] old first old
-begun first old = record { acks = []; run = none first; put = sym (append-nil old) }
-
-pub puts-run : {first last : Held} {messages : List Sent} {old new : List ℕ} → HasRun first messages old last new → Puts first old new
-puts-run {first} {last} {messages} so_far = record { messages = messages; acks = so_far.acks; middle = last; run = so_far.run; put = so_far.put }
-
-pub one_more : (first middle last : Held) (messages : List Sent) (message : Sent) (ack : Ack) (old between new : List ℕ)
-    → HasRun first messages old middle between → Answers middle message ack last → new ≡ between ++ ack_text ack → HasRun first (messages ++ message ∷ []) old last new
-one_more first middle last messages message ack old between new so_far answers put = record {
-  acks = so_far.acks ++ ack ∷ [];
-  run = more first middle last messages so_far.acks message ack so_far.run answers;
-  put = put ∙ ap (λ (text : List ℕ). text ++ ack_text ack) so_far.put ∙ flat_map_more ack_text old so_far.acks ack;
-}
-
--- the messages up to the next one
-pub one_more-taken : (first middle last : Held) (messages : List Message) (i : ℕ) (item : Message) (ack : Ack) (old between new : List ℕ) → i < length messages → item ≡ get_or messages i item
-    → HasRun first (sent_of_all (take i messages)) old middle between → Answers middle (sent_of item) ack last → new ≡ between ++ ack_text ack
-    → HasRun first (sent_of_all (take (i + 1) messages)) old last new
-one_more-taken first middle last messages i item ack old between new within is so_far answers put =
-    subst (λ (sent : List Sent). HasRun first sent old last new) (sym (map_more sent_of messages i item within ∙ ap (λ (m : Message). sent_of_all (take i messages) ++ sent_of m ∷ []) (sym is)))
-    (one_more first middle last (sent_of_all (take i messages)) (sent_of item) ack old between new so_far answers put)
 
 -- one run after another
 pub Run-join : (first middle last : Held) (messages more_messages : List Sent) (acks more_acks : List Ack) → Run first messages acks middle → Run middle more_messages more_acks last
@@ -118,6 +110,60 @@ Appends-join (Some b) (Some c) (Some d) xs ys one two = two ∙ ap (λ (text : L
 Appends-none : (before : Option (List ℕ)) → Appends before before []
 Appends-none None = tt
 Appends-none (Some b) = sym (append-nil b)
+
+-- nothing was written
+pub says-none : (first : Held) (before : Option (List ℕ)) → Says first before before
+says-none first before = record { messages = []; acks = []; middle = first; run = none first; written = Appends-none before }
+
+pub begun : (first : Held) (before : Option (List ℕ)) → HasRun first [] before first before
+begun first before = record { acks = []; run = none first; written = Appends-none before }
+
+pub says-run : {first last : Held} {messages : List Sent} {before after : Option (List ℕ)} → HasRun first messages before last after → Says first before after
+says-run {first} {last} {messages} so_far = record { messages = messages; acks = so_far.acks; middle = last; run = so_far.run; written = so_far.written }
+
+-- one frame was answered
+pub says-one : (first last : Held) (message : Sent) (ack : Ack) (before after : Option (List ℕ)) → Answers first message ack last → Appends before after (ack_text ack) → Says first before after
+says-one first last message ack before after answers written = record {
+  messages = message ∷ [];
+  acks = ack ∷ [];
+  middle = last;
+  run = more first first last [] [] message ack (none first) answers;
+  written = subst (λ (text : List ℕ). Appends before after text) (sym (append-nil (ack_text ack))) written;
+}
+
+pub says-frame : (first last : Held) (frame : Frame) (ack : Ack) (before after : Option (List ℕ)) → Acknowledges first frame ack last → Appends before after (ack_text ack) → Says first before after
+says-frame first last frame ack before after told written =
+    says-one first last (sent_of_frame frame) ack before after (record { frame = frame; is_frame = refl; acknowledges = told }) written
+
+-- what was put alone was written
+pub sent-alone : (before after : Option (List ℕ)) (old out text : List ℕ) → old ≡ [] → out ≡ old ++ text → Appends before after out → Appends before after text
+sent-alone before after old out text empty put written = subst (λ (bytes : List ℕ). Appends before after bytes) (put ∙ ap (λ (bytes : List ℕ). bytes ++ text) empty) written
+
+-- and what came after it
+pub says-then : (first middle : Held) (messages : List Sent) (before between after : Option (List ℕ)) → HasRun first messages before middle between → Says middle between after → Says first before after
+says-then first middle messages before between after so_far says = record {
+  messages = messages ++ says.messages;
+  acks = so_far.acks ++ says.acks;
+  middle = says.middle;
+  run = Run-join first middle says.middle messages says.messages so_far.acks says.acks so_far.run says.run;
+  written = subst (λ (text : List ℕ). Appends before after text) (sym (flat_map-append ack_text so_far.acks says.acks)) (Appends-join before between after (acks_text so_far.acks) (acks_text says.acks) so_far.written says.written);
+}
+
+pub one_more : (first middle last : Held) (messages : List Sent) (message : Sent) (ack : Ack) (before between after : Option (List ℕ))
+    → HasRun first messages before middle between → Answers middle message ack last → Appends between after (ack_text ack) → HasRun first (messages ++ message ∷ []) before last after
+one_more first middle last messages message ack before between after so_far answers written = record {
+  acks = so_far.acks ++ ack ∷ [];
+  run = more first middle last messages so_far.acks message ack so_far.run answers;
+  written = subst (λ (text : List ℕ). Appends before after text) (flat_map_more ack_text [] so_far.acks ack) (Appends-join before between after (acks_text so_far.acks) (ack_text ack) so_far.written written);
+}
+
+-- the messages up to the next one
+pub one_more-taken : (first middle last : Held) (messages : List Message) (i : ℕ) (item : Message) (ack : Ack) (before between after : Option (List ℕ)) → i < length messages → item ≡ get_or messages i item
+    → HasRun first (sent_of_all (take i messages)) before middle between → Answers middle (sent_of item) ack last → Appends between after (ack_text ack)
+    → HasRun first (sent_of_all (take (i + 1) messages)) before last after
+one_more-taken first middle last messages i item ack before between after within is so_far answers written =
+    subst (λ (sent : List Sent). HasRun first sent before last after) (sym (map_more sent_of messages i item within ∙ ap (λ (m : Message). sent_of_all (take i messages) ++ sent_of m ∷ []) (sym is)))
+    (one_more first middle last (sent_of_all (take i messages)) (sent_of item) ack before between after so_far answers written)
 
 -- a link that has just begun
 pub Served-begun : (first : Held) (bytes before : Option (List ℕ)) → Served first bytes before first bytes before (Some [])

@@ -1,11 +1,11 @@
 -- How a standby serves a link: which frames it answered, and what it holds then.
-use Rattle.std.specs.Prelude.{◌≡◌, ◌⊎◌, ℕ, ◌≤◌, Bool, false, List, [], ◌∷◌, ◌++◌, Option}
+use Rattle.std.specs.Prelude.{◌≡◌, ◌⊎◌, ℕ, Bool, false, nat_eq, if◌then◌else◌, List, [], ◌∷◌, ◌++◌, Option}
 use Rattle.std.specs.List.{flat_map}
 use Rattle.std.specs.Io.KnownBytes.{Appends, Consumes}
 use Rattle.stream_codec.specs.Stream.{Reaches}
 use Rattle.kv_types.specs.declared.place.EntryNo.{EntryNo}
 use Rattle.kv_types.specs.declared.refusal.Refusal.{Refusal}
-use Rattle.kv_types.specs.declared.refusal.Refusal.TheVariants.{Fault, Exhausted}
+use Rattle.kv_types.specs.declared.refusal.Refusal.TheVariants.{Fault, Exhausted, PositionGap, WrongEpoch}
 use Rattle.extent_heap.specs.Room.{Room}
 use Rattle.pmem.specs.Device.{State}
 use Rattle.model.specs.Group.{Contents}
@@ -13,7 +13,7 @@ use Rattle.mv_keyspace.specs.Table.{Table}
 use Rattle.wbl_engine.specs.Contents.{IsDurable}
 use Rattle.standby.specs.declared.frame.Frame.{Frame}
 use Rattle.standby.specs.declared.frame.Ack.{Ack}
-use Rattle.standby.specs.Following.{Follows, IsNext, HasTaken}
+use Rattle.standby.specs.Following.{Follows, IsHeld, IsTakenNext, HasTaken}
 use Rattle.stream_codec.specs.Message.{Sent, sent_of_frame, sent_of_ack, sent_text}
 use Rattle.links.specs.declared.link_end.LinkEnd.{LinkEnd}
 use Rattle.links.specs.declared.link_end.LinkEnd.TheVariants.{Refused, Stops}
@@ -34,11 +34,16 @@ held contents table = record { contents = contents; table = table }
 
 -- the node answered the frame: it held it already, or has taken it whole; and the acknowledgement is of where it is then
 pub record Acknowledges (before : Held) (frame : Frame) (ack : Ack) (after : Held) : Type 0 where
-  pub epoch : frame.epoch ≡ before.contents.current.epoch
   pub epoch_is : ack.epoch ≡ frame.epoch
   pub position_is : ack.position ≡ after.contents.current.position
-  pub moves : ((frame.after ≤ before.contents.current.position) × (after ≡ before))
-      ⊎ (IsNext before.contents.current.position frame × HasTaken frame before.contents after.contents before.table after.table)
+  pub moves : (IsHeld before.contents.current frame × (after ≡ before))
+      ⊎ (IsTakenNext before.contents.current frame × HasTaken frame before.contents after.contents before.table after.table)
+
+-- nothing changed, but that what has ended may be freed
+pub record IsFreed (before after : Held) : Type 0 where
+  pub current : after.contents.current ≡ before.contents.current
+  pub line_count : after.contents.lines ≡ before.contents.lines
+  pub table_is : after.table ≡ before.table
 
 -- the same of what came on the link, which is a frame
 pub record Answers (before : Held) (message : Sent) (ack : Ack) (after : Held) : Type 0 where
@@ -59,19 +64,19 @@ ack_text ack = sent_text (sent_of_ack ack)
 abbrev pub acks_text : List Ack → List ℕ
 acks_text = flat_map ack_text
 
--- The bytes were put last, and they are the acknowledgements of a run that answered some messages.
-pub record Puts (first : Held) (old new : List ℕ) : Type 0 where
+-- What was written is the acknowledgements of a run that answered some messages.
+pub record Says (first : Held) (before after : Option (List ℕ)) : Type 0 where
   pub messages : List Sent
   pub acks : List Ack
   pub middle : Held
   pub run : Run first messages acks middle
-  pub put : new ≡ old ++ acks_text acks
+  pub written : Appends before after (acks_text acks)
 
--- The bytes were put last, and they are the acknowledgements of a run that answered just these messages.
-pub record HasRun (first : Held) (messages : List Sent) (old : List ℕ) (last : Held) (new : List ℕ) : Type 0 where
+-- What was written is the acknowledgements of a run that answered just these messages.
+pub record HasRun (first : Held) (messages : List Sent) (before : Option (List ℕ)) (last : Held) (after : Option (List ℕ)) : Type 0 where
   pub acks : List Ack
   pub run : Run first messages acks last
-  pub put : new ≡ old ++ acks_text acks
+  pub written : Appends before after (acks_text acks)
 
 -- What was read since the link began, from what a reader had then to what it has left: the node answered the whole frames in it, in order, and what was written is the acknowledgements.
 -- `unread` is what follows the last whole frame.
@@ -89,3 +94,7 @@ abbrev pub ends_by : Refusal → LinkEnd
 ends_by Fault = Stops Fault
 ends_by Exhausted = Stops Exhausted
 ends_by refusal = Refused refusal
+
+-- why a node of this epoch refuses an acknowledgement, which only a standby sends
+abbrev pub refusal_of_ack : ℕ → Ack → Refusal
+refusal_of_ack epoch ack = if nat_eq ack.epoch epoch then PositionGap else WrongEpoch

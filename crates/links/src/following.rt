@@ -6,10 +6,11 @@ ghost use Rattle.stream_codec.specs.Message.{sent_of};
 ghost use Rattle.stream_codec.specs.Scanning.{sent_of_all};
 ghost use Rattle.stream_codec.specs.Stream.{fed};
 ghost use Rattle.standby.specs.declared.frame.Ack.{Ack as Told};
-ghost use Rattle.links.specs.Serving.{Stands, held, Run, Acknowledges, Answers, Puts, HasRun, Served, ack_text, acks_text};
-ghost use Rattle.links.specs.declared.link_end.LinkEnd.TheVariants.{Refused, Stops};
+ghost use Rattle.stream_codec.specs.declared.message.Message.TheVariants.{Ack as AckMessage};
+ghost use Rattle.links.specs.Serving.{Stands, held, Acknowledges, Answers, HasRun, IsFreed, Says, Served, ack_text, refusal_of_ack};
+ghost use Rattle.links.specs.declared.link_end.LinkEnd.TheVariants.{Closed, Refused, Stops};
 
-use crate::link_end::{LinkEnd, ends_by};
+use crate::link_end::{LinkEnd, ends_by, refusal_of_ack};
 use kv_types::Refusal;
 use mv_keyspace::Keyspace;
 use standby::{Ack, Frame, Standby};
@@ -47,11 +48,12 @@ pub fn follow<E: Durable, K: Keyspace>(
 }
 
 /// Serves one link: says where the node is, and then answers each frame that comes, in order, until the primary closes the connection. Then what was written is the
-/// acknowledgement of where the node was, and those with which it answered the frames that were read, in order.
+/// acknowledgement of where the node was, and those with which it answered the frames that were read, in order. Each is sent as soon as its frame is
+/// durable, before what that frame ended is freed.
 ///
 /// # Errors
 ///
-/// Why the link ended otherwise. The acknowledgements of the frames before a refused one are still sent.
+/// Why the link ended otherwise. The acknowledgements of the frames before a refused one were sent.
 pub fn serve_link<E: Durable, K: Keyspace, I: Read, O: Write>(
     alloc: Global,
     node: &mut Standby<E, K>,
@@ -107,40 +109,11 @@ fn answer_until_closed<E: Durable, K: Keyspace, I: Read, O: Write>(
         let Some(piece) = read_piece(from, block)? else {
             return Ok(());
         };
-        if let Err(end) = answer_and_send(alloc, node, &mut decoder, piece, out, to) {
+        if let Err(end) = answer_piece(alloc, node, &mut decoder, piece, out, to) {
             return Err(end);
         }
     }
     Ok(())
-}
-
-/// Answers the frames that are whole with this piece, and sends the acknowledgements, also where a later frame ends the link.
-fn answer_and_send<E: Durable, K: Keyspace, O: Write>(
-    alloc: Global,
-    node: &mut Standby<E, K>,
-    decoder: &mut Decoder,
-    piece: &[u8],
-    out: &mut Vec<u8>,
-    to: &mut O,
-) -> Result<(), LinkEnd>
-    requires stands { Stands (E.is_faulted node.old.engine) (E.device node.old.engine) (E.contents node.old.engine) (K.table node.old.keyspace) node.old.heap node.old.ended.items }
-    requires empty { out.old.items ≡ [] }
-    ensures stands { ¬ IsErrOf result (Stops Fault) → Stands (E.is_faulted node.new.engine) (E.device node.new.engine) (E.contents node.new.engine) (K.table node.new.keyspace) node.new.heap node.new.ended.items }
-    ensures all { OnOk result ((acks : List Told) × Run (held (E.contents node.old.engine) (K.table node.old.keyspace)) (fed decoder.old piece.now).messages acks
-        (held (E.contents node.new.engine) (K.table node.new.keyspace)) × Appends (O.contents to.old) (O.contents to.new) (acks_text acks)) }
-    ensures unread { OnOk result (decoder.new ≡ (fed decoder.old piece.now).unread) }
-    ensures emptied { out.new.items ≡ [] }
-{
-    match answer_piece(alloc, node, decoder, piece, out) {
-        Ok(()) => {
-            send(to, out)?;
-            Ok(())
-        }
-        Err(end) => {
-            let _ = send(to, out);
-            Err(end)
-        }
-    }
 }
 
 /// Reads what has come, or `None` where the other side closed the connection.
@@ -174,73 +147,110 @@ fn send<O: Write>(to: &mut O, out: &mut Vec<u8>) -> Result<(), LinkEnd>
     }
 }
 
-/// Answers the frames that are whole with this piece, in order, and puts the acknowledgements last into `out`.
-fn answer_piece<E: Durable, K: Keyspace>(
+/// Answers the frames that are whole with this piece, in order. Nothing is left in `out`.
+fn answer_piece<E: Durable, K: Keyspace, O: Write>(
     alloc: Global,
     node: &mut Standby<E, K>,
     decoder: &mut Decoder,
     piece: &[u8],
     out: &mut Vec<u8>,
+    to: &mut O,
 ) -> Result<(), LinkEnd>
     requires stands { Stands (E.is_faulted node.old.engine) (E.device node.old.engine) (E.contents node.old.engine) (K.table node.old.keyspace) node.old.heap node.old.ended.items }
+    requires empty { out.old.items ≡ [] }
     ensures stands { ¬ IsErrOf result (Stops Fault) → Stands (E.is_faulted node.new.engine) (E.device node.new.engine) (E.contents node.new.engine) (K.table node.new.keyspace) node.new.heap node.new.ended.items }
-    ensures all { OnOk result (HasRun (held (E.contents node.old.engine) (K.table node.old.keyspace)) (fed decoder.old piece.now).messages out.old.items
-        (held (E.contents node.new.engine) (K.table node.new.keyspace)) out.new.items) }
+    ensures all { OnOk result (HasRun (held (E.contents node.old.engine) (K.table node.old.keyspace)) (fed decoder.old piece.now).messages (O.contents to.old)
+        (held (E.contents node.new.engine) (K.table node.new.keyspace)) (O.contents to.new)) }
     ensures unread { OnOk result (decoder.new ≡ (fed decoder.old piece.now).unread) }
-    ensures puts { Puts (held (E.contents node.old.engine) (K.table node.old.keyspace)) out.old.items out.new.items }
+    ensures emptied { OnOk result (out.new.items ≡ []) }
+    ensures says { ¬ IsErrOf result Closed → Says (held (E.contents node.old.engine) (K.table node.old.keyspace)) (O.contents to.old) (O.contents to.new) }
 {
     let messages = match decoder.feed(piece) {
         Ok(messages) => messages,
         Err(refusal) => return Err(LinkEnd::Refused(refusal)),
     };
-    answer_all(alloc, node, &messages, out)?;
+    answer_all(alloc, node, &messages, out, to)?;
     if decoder.is_broken() {
         return Err(LinkEnd::Refused(Refusal::FrameFault));
     }
     Ok(())
 }
 
-/// Answers what came, in order, and puts the acknowledgements last into `out`.
-fn answer_all<E: Durable, K: Keyspace>(
+/// Answers what came, in order.
+fn answer_all<E: Durable, K: Keyspace, O: Write>(
     alloc: Global,
     node: &mut Standby<E, K>,
     messages: &[Message],
     out: &mut Vec<u8>,
+    to: &mut O,
 ) -> Result<(), LinkEnd>
     requires stands { Stands (E.is_faulted node.old.engine) (E.device node.old.engine) (E.contents node.old.engine) (K.table node.old.keyspace) node.old.heap node.old.ended.items }
+    requires empty { out.old.items ≡ [] }
     ensures stands { ¬ IsErrOf result (Stops Fault) → Stands (E.is_faulted node.new.engine) (E.device node.new.engine) (E.contents node.new.engine) (K.table node.new.keyspace) node.new.heap node.new.ended.items }
-    ensures all { OnOk result (HasRun (held (E.contents node.old.engine) (K.table node.old.keyspace)) (sent_of_all messages.now) out.old.items
-        (held (E.contents node.new.engine) (K.table node.new.keyspace)) out.new.items) }
-    ensures puts { Puts (held (E.contents node.old.engine) (K.table node.old.keyspace)) out.old.items out.new.items }
+    ensures all { OnOk result (HasRun (held (E.contents node.old.engine) (K.table node.old.keyspace)) (sent_of_all messages.now) (O.contents to.old)
+        (held (E.contents node.new.engine) (K.table node.new.keyspace)) (O.contents to.new)) }
+    ensures emptied { OnOk result (out.new.items ≡ []) }
+    ensures says { ¬ IsErrOf result Closed → Says (held (E.contents node.old.engine) (K.table node.old.keyspace)) (O.contents to.old) (O.contents to.new) }
 {
     for message in messages {
-        answer(alloc, node, message, out)?;
+        answer(alloc, node, message, out, to)?;
     }
     Ok(())
 }
 
-/// Answers a frame, and puts the acknowledgement last into `out`; or puts nothing there. An acknowledgement from the primary is refused as a fault of the frame.
-fn answer<E: Durable, K: Keyspace>(
+/// Answers what came: a frame by its acknowledgement, which is sent before what the frame ended is freed. An acknowledgement from the primary is
+/// refused, with nothing changed: `PositionGap` where it is of the node's epoch, else `WrongEpoch`.
+fn answer<E: Durable, K: Keyspace, O: Write>(
     alloc: Global,
     node: &mut Standby<E, K>,
     message: &Message,
     out: &mut Vec<u8>,
+    to: &mut O,
 ) -> Result<(), LinkEnd>
     requires stands { Stands (E.is_faulted node.old.engine) (E.device node.old.engine) (E.contents node.old.engine) (K.table node.old.keyspace) node.old.heap node.old.ended.items }
+    requires empty { out.old.items ≡ [] }
     ensures stands { ¬ IsErrOf result (Stops Fault) → Stands (E.is_faulted node.new.engine) (E.device node.new.engine) (E.contents node.new.engine) (K.table node.new.keyspace) node.new.heap node.new.ended.items }
     ensures answered { OnOk result ((ack : Told) × Answers (held (E.contents node.old.engine) (K.table node.old.keyspace)) (sent_of message.now) ack (held (E.contents node.new.engine) (K.table node.new.keyspace))
-        × (out.new.items ≡ out.old.items ++ ack_text ack)) }
-    ensures refused { OnErr result (out.new.items ≡ out.old.items) }
+        × Appends (O.contents to.old) (O.contents to.new) (ack_text ack)) }
+    ensures emptied { OnOk result (out.new.items ≡ []) }
+    ensures says { ¬ IsErrOf result Closed → Says (held (E.contents node.old.engine) (K.table node.old.keyspace)) (O.contents to.old) (O.contents to.new) }
+    ensures misplaced { (ack : Told) → message.now ≡ AckMessage ack
+        → (result ≡ Err (Refused (refusal_of_ack (E.contents node.old.engine).current.epoch ack))) × (node.new ≡ node.old) × (to.new ≡ to.old) }
 {
-    let Message::Group(frame) = message else {
-        return Err(LinkEnd::Refused(Refusal::FrameFault));
-    };
+    match message {
+        Message::Group(frame) => answer_frame(alloc, node, frame, out, to),
+        Message::Ack(ack) => Err(LinkEnd::Refused(refusal_of_ack(node.epoch(), ack))),
+    }
+}
+
+/// Takes a frame, sends its acknowledgement, and then frees what the frame ended.
+fn answer_frame<E: Durable, K: Keyspace, O: Write>(
+    alloc: Global,
+    node: &mut Standby<E, K>,
+    frame: &Frame,
+    out: &mut Vec<u8>,
+    to: &mut O,
+) -> Result<(), LinkEnd>
+    requires stands { Stands (E.is_faulted node.old.engine) (E.device node.old.engine) (E.contents node.old.engine) (K.table node.old.keyspace) node.old.heap node.old.ended.items }
+    requires empty { out.old.items ≡ [] }
+    ensures stands { ¬ IsErrOf result (Stops Fault) → Stands (E.is_faulted node.new.engine) (E.device node.new.engine) (E.contents node.new.engine) (K.table node.new.keyspace) node.new.heap node.new.ended.items }
+    ensures answered { OnOk result ((ack : Told) × Acknowledges (held (E.contents node.old.engine) (K.table node.old.keyspace)) frame.now ack (held (E.contents node.new.engine) (K.table node.new.keyspace))
+        × Appends (O.contents to.old) (O.contents to.new) (ack_text ack)) }
+    ensures emptied { OnOk result (out.new.items ≡ []) }
+    ensures says { ¬ IsErrOf result Closed → Says (held (E.contents node.old.engine) (K.table node.old.keyspace)) (O.contents to.old) (O.contents to.new) }
+{
+    let position = node.position();
     let ack = take_frame(alloc, node, frame)?;
     put_ack(ack, out)?;
+    send(to, out)?;
+    if ack.position == position {
+        return Ok(());
+    }
+    free_ended(alloc, node)?;
     Ok(())
 }
 
-/// Takes a frame as `Standby::on_frame` does, and answers how the link ends where it is refused.
+/// Takes a frame as `Standby::take_frame` does, and answers how the link ends where it is refused.
 fn take_frame<E: Durable, K: Keyspace>(
     alloc: Global,
     node: &mut Standby<E, K>,
@@ -250,9 +260,25 @@ fn take_frame<E: Durable, K: Keyspace>(
     ensures stands { ¬ IsErrOf result (Stops Fault) → Stands (E.is_faulted node.new.engine) (E.device node.new.engine) (E.contents node.new.engine) (K.table node.new.keyspace) node.new.heap node.new.ended.items }
     ensures acknowledges { IfOk result (λ ack. Acknowledges (held (E.contents node.old.engine) (K.table node.old.keyspace)) frame.now ack (held (E.contents node.new.engine) (K.table node.new.keyspace))) }
 {
-    match node.on_frame(alloc, frame) {
+    match node.take_frame(alloc, frame) {
         Ok(ack) => Ok(ack),
         Err(refusal) => Err(ends_by(refusal)),
+    }
+}
+
+/// Frees what has ended. Where there is no memory to free it, it is left for the next frame. A fence that fails stops the node.
+fn free_ended<E: Durable, K: Keyspace>(
+    alloc: Global,
+    node: &mut Standby<E, K>,
+) -> Result<(), LinkEnd>
+    requires stands { Stands (E.is_faulted node.old.engine) (E.device node.old.engine) (E.contents node.old.engine) (K.table node.old.keyspace) node.old.heap node.old.ended.items }
+    ensures stands { ¬ IsErrOf result (Stops Fault) → Stands (E.is_faulted node.new.engine) (E.device node.new.engine) (E.contents node.new.engine) (K.table node.new.keyspace) node.new.heap node.new.ended.items }
+    ensures frees { OnOk result (IsFreed (held (E.contents node.old.engine) (K.table node.old.keyspace)) (held (E.contents node.new.engine) (K.table node.new.keyspace))) }
+    ensures cause { IfErr result (λ end. end ≡ Stops Fault) }
+{
+    match node.free_ended(alloc) {
+        Ok(()) | Err(Refusal::Memory) => Ok(()),
+        Err(_) => Err(LinkEnd::Stops(Refusal::Fault)),
     }
 }
 

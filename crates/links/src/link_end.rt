@@ -1,8 +1,9 @@
 //! Why a link ended, on the standby's side.
 ghost use Rattle.std.specs.Prelude.{◌≡◌};
-ghost use Rattle.links.specs.Serving.{ends_by};
+ghost use Rattle.links.specs.Serving.{ends_by, refusal_of_ack};
 
 use kv_types::Refusal;
+use standby::Ack;
 use std::alloc::AllocError;
 
 /// Why a standby's link ended that the primary did not close.
@@ -34,5 +35,16 @@ pub(crate) fn ends_by(refusal: Refusal) -> LinkEnd
     match refusal {
         Refusal::Fault | Refusal::Exhausted => LinkEnd::Stops(refusal),
         _ => LinkEnd::Refused(refusal),
+    }
+}
+
+/// Why an acknowledgement is refused that comes from the primary, by a node of this epoch: only a standby sends one.
+pub(crate) fn refusal_of_ack(epoch: u64, ack: &Ack) -> Refusal
+    ensures { result ≡ refusal_of_ack epoch ack.now }
+{
+    if ack.epoch == epoch {
+        Refusal::PositionGap
+    } else {
+        Refusal::WrongEpoch
     }
 }

@@ -1,5 +1,5 @@
 -- A standby that has taken a whole frame still follows, and the commit asked of its engine meets the engine's contract.
-use Rattle.std.proofs.Common.{◌≡◌, ℕ, ◌+◌, ◌<◌, ◌≤◌, ◌||◌, ◌⊎◌, inl, inr, ⊎_elim, Bool, true, false, not, IsTrue, List, [], ◌∷◌, length, map, Option, Some, None, refl, sym, ap, subst, ◌∙◌, arith}
+use Rattle.std.proofs.Common.{◌≡◌, ◌≢◌, ℕ, ◌+◌, ◌<◌, ◌≤◌, ◌||◌, ◌⊎◌, inl, inr, ⊎_elim, Bool, true, false, not, IsTrue, List, [], ◌∷◌, length, map, Option, Some, None, refl, sym, ap, subst, ◌∙◌, arith}
 use Rattle.std.proofs.lemmas.Bool.{cases_Bool, cases_lt, or_left, or_right, true≢false}
 use Rattle.std.specs.List.{AllByRecursion}
 use Rattle.kv_types.specs.declared.place.EntryNo.{EntryNo}
@@ -35,7 +35,7 @@ use Rattle.wbl_engine.specs.Lawful.{AreLawful}
 use Rattle.wbl_engine.proofs.ApartLemmas.{group_apart}
 use Rattle.wbl_engine.proofs.LawfulLemmas.{group_lawful}
 use Rattle.standby.specs.declared.frame.Frame.{Frame}
-use Rattle.standby.specs.Following.{Follows, HasTaken, IsWhole, IsBeforeOrWhole, WouldExhaust}
+use Rattle.standby.specs.Following.{Follows, HasTaken, IsBeforeOrWhole, IsHeld, IsTakenNext, IsWhole, TakesEpoch, WouldExhaust}
 use Rattle.standby.proofs.EndedLemmas.{AreEnded-from_members, AreEnded-same, KeepsWithoutSome-none, listed-from_member}
 
 -- ---- the frame as a group of one part
@@ -65,11 +65,25 @@ module _ (contents : Contents) (table : Table) (room : Room) (follows : Follows 
   distinct = AreDistinct-from_apart puts apart
 
   -- it is a group that a commit asks for
-  pub IsGroup-one : (group : Group) → group.parts.items ≡ part ∷ [] → group.before ≡ contents.current.position → group.epoch ≡ contents.current.epoch → contents.current.position < part.position → IsGroup contents group
+  pub IsGroup-one : (group : Group) → group.parts.items ≡ part ∷ [] → group.before ≡ contents.current.position → TakesEpoch contents.current group.epoch → contents.current.position < part.position → IsGroup contents group
   IsGroup-one group one before epoch later =
-      IsGroup-alone contents part group one before epoch later (names-ended contents.versions table part empty distinct follows.table_is ended)
+      -- of its own epoch it would be one
+      let own : Contents = record contents { current = record contents.current { epoch = group.epoch } } in
+      let is : IsGroup own group =
+      IsGroup-alone own part group one before refl later (names-ended contents.versions table part empty distinct follows.table_is ended)
       (All-map (IsFree room) (IsPlaced contents.lines) (λ put. placed_of_free contents room put follows.left) puts free) (places_fitting room puts left takes)
-      (All-map (IsFree room) (IsUnused contents.versions contents.is_free) (λ put. unused_of_free contents room put follows.left) puts free) apart
+      (All-map (IsFree room) (IsUnused contents.versions contents.is_free) (λ put. unused_of_free contents room put follows.left) puts free) apart in
+      record {
+        epoch = epoch;
+        before = is.before;
+        some = is.some;
+        few = is.few;
+        parts = is.parts;
+        placed = is.placed;
+        fitting = is.fitting;
+        unused = is.unused;
+        apart = is.apart;
+      }
 
   left_after : (epoch : ℕ) → IsLeftOf (after_parts epoch contents (part ∷ [])) left
   left_after epoch = left-after epoch contents left part (left_within contents left room within follows.left) taken
@@ -192,7 +206,7 @@ Follows-same old new table room ended same follows = record {
 -- ---- the frame whole
 
 module _ (contents : Contents) (table : Table) (frame : Frame) (part : Part) (same : map change_of part.changes.items ≡ frame.changes.items) (at : part.position ≡ frame.after)
-    (group : Group) (one : group.parts.items ≡ part ∷ []) (own : group.epoch ≡ contents.current.epoch) where
+    (group : Group) (one : group.parts.items ≡ part ∷ []) (own : group.epoch ≡ frame.epoch) where
   position_after : (after_group contents group).current.position ≡ frame.after
   position_after = ap (last_position contents.current.position) one ∙ at
 
@@ -209,14 +223,14 @@ module _ (contents : Contents) (table : Table) (frame : Frame) (part : Part) (sa
   }
 
   -- the commit brings no counter to its limit
-  pub not_exhausted : ¬ WouldExhaust contents.current frame.after → ¬ Exhausts contents group
+  pub not_exhausted : ¬ WouldExhaust contents.current frame → ¬ Exhausts contents group
   not_exhausted fits (inl cd) = fits (inl (subst (λ (n : ℕ). COUNTER_LIMIT ≤ contents.current.cp + n + 1 + STAMP_WINDOW) (ap length one) cd))
   not_exhausted fits (inr (inl position)) = fits (inr (inl (subst (λ (n : ℕ). COUNTER_LIMIT ≤ n) position_after position)))
-  not_exhausted fits (inr (inr (inl number))) = fits (inr (inr number))
-  not_exhausted fits (inr (inr (inr epoch))) = let same = own in let rises = epoch.0 in omega (arith, same, rises)
+  not_exhausted fits (inr (inr (inl number))) = fits (inr (inr (inl number)))
+  not_exhausted fits (inr (inr (inr epoch))) = fits (inr (inr (inr (subst (λ (n : ℕ). (contents.current.epoch < n) × (COUNTER_LIMIT ≤ n)) own epoch))))
 
   module _ (room : Room) (ended : List EntryNo) (follows : Follows (after_group contents group) (place_all part.position table part.changes.items) room ended)
-      (is : IsGroup contents group) (fits : ¬ WouldExhaust contents.current frame.after) where
+      (is : IsGroup contents group) (fits : ¬ WouldExhaust contents.current frame) where
     pub IsWhole-group : IsWhole frame contents table (after_group contents group)
     IsWhole-group = record {
       position = position_after;
@@ -239,6 +253,12 @@ module _ (contents : Contents) (table : Table) (frame : Frame) (part : Part) (sa
         whole image (inr keeps) = inr (after_group contents group, IsWhole-group, keeps)
 
 -- ---- a frame that was taken
+
+-- a frame that moved the node is the one that came next
+pub next-of_moved : {N : Type 0} (current : Record) (frame : Frame) (position told : ℕ) (at : N → ℕ) (old new : N) → position ≡ at old → told ≡ at new → told ≢ position
+    → (IsHeld current frame × (new ≡ old)) ⊎ IsTakenNext current frame → IsTakenNext current frame
+next-of_moved current frame position told at old new was is moved (inl held) = absurd (moved (is ∙ ap at held.1 ∙ sym was))
+next-of_moved current frame position told at old new was is moved (inr next) = next
 
 pub IsWhole-taken : (frame : Frame) (before after : Contents) (old new : Table) (room : Room) (ended : List EntryNo) → HasTaken frame before after old new → Follows after new room ended
     → (AreLawful before → AreLawful after) → IsWhole frame before old after

@@ -207,7 +207,7 @@ module _ (frame : Frame) (ended : List EntryNo) (before between : Contents) (tab
     position = whole.position;
     line_count = whole.line_count ∙ freed.lines;
     role = whole.role ∙ ap (λ (r : Record). r.role) freed.current;
-    epoch = whole.epoch ∙ ap (λ (r : Record). r.epoch) freed.current;
+    epoch = whole.epoch;
     consistent = whole.consistent;
     map = subst (λ rows. IsMapOf after.versions (entries_of_lines after.lines) (play_all (records rows) frame.changes.items)) same whole.map;
     lawful = λ lawful. whole.lawful (lawful_freed before between ended are freed lawful);

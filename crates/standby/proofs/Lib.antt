@@ -1,5 +1,6 @@
 pub mod EndedLemmas
 pub mod FollowingLemmas
 pub mod FreedLemmas
+pub mod GoneLemmas
 pub mod NewLemmas
 pub mod Restarted

@@ -1,17 +1,16 @@
 //! The standby.
-ghost use Rattle.std.specs.Prelude.{◌≡◌, ◌≢◌, ◌⊎◌, ◌↔◌, ◌<◌, ◌≤◌, false, true, Ok, Err, IsTrue, IfOk, IfErr, OnOk, OnErr, IsErrOf};
+ghost use Rattle.std.specs.Prelude.{◌≡◌, ◌⊎◌, ◌↔◌, ◌<◌, ◌≤◌, false, true, Ok, Err, IfOk, IfErr, OnOk, OnErr, IsErrOf};
 ghost use Rattle.kv_types.specs.declared.refusal.Refusal.TheVariants.{WrongEpoch, PositionGap, Full, Memory, Fault, Exhausted};
 ghost use Rattle.pmem.specs.Runs.{LeavesOnly};
 ghost use Rattle.placing.specs.Place.{HasRoomFor};
 ghost use Rattle.wbl_engine.specs.Contents.{IsDurable};
 ghost use Rattle.wbl_engine.specs.Freeing.{KeepsWithoutSome};
 ghost use Rattle.wbl_engine.specs.Lawful.{AreLawful};
-ghost use Rattle.standby.specs.Following.{Follows, IsNext, HasFreed, HasTaken, WouldExhaust, IsBeforeOrWhole, EndsAs};
+ghost use Rattle.standby.specs.Following.{Follows, TakesEpoch, IsHeld, IsNext, IsTakenNext, HasFreed, HasTaken, AreGone, HasRoomOnceFreed, WouldExhaust, IsBeforeOrWhole, EndsAs};
 
 use crate::frame::{Ack, Frame};
 use extent_heap::ExtentHeap;
 use kv_types::{EntryNo, Refusal};
-use model::{COUNTER_LIMIT, Record, STAMP_WINDOW};
 use mv_keyspace::Keyspace;
 use placing::Rebuilt;
 use std::alloc::Global;
@@ -64,42 +63,46 @@ impl<E: Durable, K: Keyspace> Standby<E, K> {
         }
     }
 
-    /// Takes a frame. One that ends at the standby's position or below it is acknowledged again. One that begins at its position first frees what
-    /// has ended, moves the standby by all the frame's changes under one record, frees what they ended, and is acknowledged. Where there is no memory
-    /// to free what they ended, that is left for the next frame.
+    /// Takes a frame, and frees what it ended: `take_frame` and then, where that moved the standby, `free_ended`. Where there is no memory to free what
+    /// the frame ended, that is left for the next one.
     ///
     /// # Errors
     ///
-    /// `WrongEpoch` for a frame of another epoch, `PositionGap` for one that begins elsewhere, `Exhausted` if a counter would reach 2^62: nothing
-    /// changed. `Full` if the image has no room for its puts, `Memory` if an allocation was refused: nothing changed, or what had ended is freed and
-    /// nothing else changed. `Fault` if a fence failed: the engine holds what it held, perhaps without what had ended, or the whole frame, but the
-    /// keyspace and the heap may be ahead of it or behind it, so the image has to be reopened.
+    /// Those of `take_frame`, with the same after them; and `Fault` if a fence failed while what the frame ended was freed: the engine then holds the
+    /// whole frame, and the image has to be reopened.
     pub fn on_frame(&mut self, alloc: Global, frame: &Frame) -> Result<Ack, Refusal>
         requires follows { Follows (E.contents self.old.engine) (K.table self.old.keyspace) self.old.heap self.old.ended.items }
         requires sound { E.is_faulted self.old.engine ≡ false }
         requires durable { IsDurable (E.device self.old.engine) (E.contents self.old.engine) }
-        ensures epoch { frame.now.epoch ≢ (E.contents self.old.engine).current.epoch → (result ≡ Err WrongEpoch) × (self.new ≡ self.old) }
+        ensures epoch { ¬ TakesEpoch (E.contents self.old.engine).current frame.now.epoch → (result ≡ Err WrongEpoch) × (self.new ≡ self.old) }
         ensures again { frame.now.epoch ≡ (E.contents self.old.engine).current.epoch → frame.now.after ≤ (E.contents self.old.engine).current.position
             → (result ≡ Ok (record { epoch = (E.contents self.old.engine).current.epoch; position = (E.contents self.old.engine).current.position }))
             × (self.new ≡ self.old) }
-        ensures gap { frame.now.epoch ≡ (E.contents self.old.engine).current.epoch → (E.contents self.old.engine).current.position < frame.now.after
-            → frame.now.before ≢ (E.contents self.old.engine).current.position
-            → (result ≡ Err PositionGap) × (self.new ≡ self.old) }
+        ensures gap { TakesEpoch (E.contents self.old.engine).current frame.now.epoch → ¬ IsHeld (E.contents self.old.engine).current frame.now
+            → ¬ IsNext (E.contents self.old.engine).current.position frame.now → (result ≡ Err PositionGap) × (self.new ≡ self.old) }
+        // no other frame is acknowledged
+        ensures answers { IfOk result (λ _. (IsHeld (E.contents self.old.engine).current frame.now × (self.new ≡ self.old))
+            ⊎ IsTakenNext (E.contents self.old.engine).current frame.now) }
 
         // for the frame that comes next
-        ensures ack { frame.now.epoch ≡ (E.contents self.old.engine).current.epoch → IsNext (E.contents self.old.engine).current.position frame.now
+        ensures ack { IsTakenNext (E.contents self.old.engine).current frame.now
             → IfOk result (λ ack. ack ≡ record { epoch = frame.now.epoch; position = frame.now.after }) }
-        ensures taken { frame.now.epoch ≡ (E.contents self.old.engine).current.epoch → IsNext (E.contents self.old.engine).current.position frame.now
+        ensures taken { IsTakenNext (E.contents self.old.engine).current frame.now
             → OnOk result (HasTaken frame.now (E.contents self.old.engine) (E.contents self.new.engine)
             (K.table self.old.keyspace) (K.table self.new.keyspace)) }
-        ensures causes { frame.now.epoch ≡ (E.contents self.old.engine).current.epoch → IsNext (E.contents self.old.engine).current.position frame.now
+        ensures gone { IsTakenNext (E.contents self.old.engine).current frame.now
+            → OnOk result (AreGone frame.now.after (E.contents self.old.engine).versions (E.contents self.new.engine).versions) }
+        ensures fits { IsTakenNext (E.contents self.old.engine).current frame.now
+            → OnOk result (HasRoomOnceFreed self.old.heap self.old.ended.items (E.contents self.old.engine) frame.now) }
+        ensures causes { IsTakenNext (E.contents self.old.engine).current frame.now
             → IfErr result (λ refusal. (refusal ≡ Full) ⊎ (refusal ≡ Memory) ⊎ (refusal ≡ Fault) ⊎ (refusal ≡ Exhausted)) }
-        ensures exhausts { frame.now.epoch ≡ (E.contents self.old.engine).current.epoch → IsNext (E.contents self.old.engine).current.position frame.now
-            → WouldExhaust (E.contents self.old.engine).current frame.now.after → result ≡ Err Exhausted }
+        ensures exhausts { IsTakenNext (E.contents self.old.engine).current frame.now
+            → WouldExhaust (E.contents self.old.engine).current frame.now → result ≡ Err Exhausted }
 
         // each refusal has its cause, and all but a failed fence change nothing, or free what had ended
-        ensures full { IsErrOf result Full → ¬ HasRoomFor self.new.heap frame.now.changes.items }
-        ensures exhausted { IsErrOf result Exhausted → WouldExhaust (E.contents self.old.engine).current frame.now.after × (self.new ≡ self.old) }
+        ensures full { IsErrOf result Full → ¬ HasRoomFor self.new.heap frame.now.changes.items
+            × HasFreed self.old.ended.items (E.contents self.old.engine) (E.contents self.new.engine) self.old.heap self.new.heap self.new.ended.items }
+        ensures exhausted { IsErrOf result Exhausted → WouldExhaust (E.contents self.old.engine).current frame.now × (self.new ≡ self.old) }
         ensures fault { IsErrOf result Fault
             → (E.is_faulted self.new.engine ≡ true) × ((E.device self.old.engine).failures < (E.device self.new.engine).failures) }
         ensures refused { ¬ IsErrOf result Fault → OnErr result ((K.table self.new.keyspace ≡ K.table self.old.keyspace) × ((self.new ≡ self.old)
@@ -114,41 +117,37 @@ impl<E: Durable, K: Keyspace> Standby<E, K> {
         ensures durable { ¬ IsErrOf result Fault → IsDurable (E.device self.new.engine) (E.contents self.new.engine) }
         ensures lawful { AreLawful (E.contents self.old.engine) → ¬ IsErrOf result Fault → AreLawful (E.contents self.new.engine) }
         ensures stays { OnErr result (EndsAs frame.now self.old.ended.items (E.contents self.old.engine) (K.table self.old.keyspace) (E.contents self.new.engine)) }
-        ensures epoch_stays { (E.contents self.new.engine).current.epoch ≡ (E.contents self.old.engine).current.epoch }
+        ensures own_epoch { frame.now.epoch ≡ (E.contents self.old.engine).current.epoch
+            → (E.contents self.new.engine).current.epoch ≡ (E.contents self.old.engine).current.epoch }
 
         // at any moment of the call
-        ensures moments { frame.now.epoch ≡ (E.contents self.old.engine).current.epoch → IsNext (E.contents self.old.engine).current.position frame.now
+        ensures moments { IsTakenNext (E.contents self.old.engine).current frame.now
             → LeavesOnly (E.device self.old.engine) (E.device self.new.engine)
             (IsBeforeOrWhole frame.now self.old.ended.items (E.contents self.old.engine) (K.table self.old.keyspace)) }
         // at any moment of a call that refuses the frame
-        ensures rests { frame.now.epoch ≡ (E.contents self.old.engine).current.epoch → IsNext (E.contents self.old.engine).current.position frame.now
+        ensures rests { IsTakenNext (E.contents self.old.engine).current frame.now
             → ¬ IsErrOf result Fault → OnErr result (LeavesOnly (E.device self.old.engine) (E.device self.new.engine)
             (KeepsWithoutSome self.old.ended.items (E.contents self.old.engine))) }
     {
-        if frame.epoch != self.epoch() {
-            return Err(Refusal::WrongEpoch);
-        }
         let position = self.position();
-        if frame.after <= position {
-            return Ok(self.ack());
+        let ack = self.take_frame(alloc, frame)?;
+        if ack.position == position {
+            return Ok(ack);
         }
-        if frame.before != position {
-            return Err(Refusal::PositionGap);
-        }
-        if would_exhaust(self.engine.record(), frame.after) {
-            return Err(Refusal::Exhausted);
-        }
-        self.take(alloc, frame)
+        only_fault(self.free_ended(alloc))?;
+        Ok(ack)
     }
 }
 
-/// Whether the commit of one part up to this position would bring a counter to its limit.
-fn would_exhaust(current: &Record, position: u64) -> bool
-    ensures { IsTrue result ↔ WouldExhaust current.now position }
+/// `Fault` if there was one: what there was no memory to free is left for later.
+fn only_fault(freed: Result<(), Refusal>) -> Result<(), Refusal>
+    ensures fault { IsErrOf result Fault ↔ IsErrOf freed Fault }
+    ensures cause { IfErr result (λ refusal. refusal ≡ Fault) }
 {
-    current.cp >= COUNTER_LIMIT - STAMP_WINDOW - 2
-        || position >= COUNTER_LIMIT
-        || current.number >= COUNTER_LIMIT - 1
+    match freed {
+        Err(Refusal::Fault) => Err(Refusal::Fault),
+        _ => Ok(()),
+    }
 }
 
 impl<E: Durable, K: Keyspace + Drop> Standby<E, K> {

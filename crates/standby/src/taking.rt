@@ -1,64 +1,122 @@
-//! How a standby takes the frame that comes next: what has ended is freed, before the frame and after it.
-ghost use Rattle.std.specs.Prelude.{◌≡◌, ◌↔◌, ◌⊎◌, ◌<◌, false, true, [], IfOk, IfErr, OnOk, OnErr, IsErrOf};
-ghost use Rattle.kv_types.specs.declared.refusal.Refusal.TheVariants.{Full, Memory, Fault};
+//! How a standby takes a frame, and how it frees what has ended.
+ghost use Rattle.std.specs.Prelude.{◌≡◌, ◌↔◌, ◌⊎◌, ◌<◌, ◌≤◌, false, true, [], Ok, Err, IsTrue, IfOk, IfErr, OnOk, OnErr, IsErrOf};
+ghost use Rattle.kv_types.specs.declared.refusal.Refusal.TheVariants.{WrongEpoch, PositionGap, Full, Memory, Fault, Exhausted};
 ghost use Rattle.pmem.specs.Runs.{LeavesOnly};
 ghost use Rattle.placing.specs.Place.{HasRoomFor};
 ghost use Rattle.wbl_engine.specs.Contents.{IsDurable, Same};
 ghost use Rattle.wbl_engine.specs.Freeing.{KeepsWithoutSome, after_free};
 ghost use Rattle.wbl_engine.specs.Lawful.{AreLawful};
-ghost use Rattle.standby.specs.Following.{Follows, IsNext, HasFreed, HasTaken, WouldExhaust, IsBeforeOrWhole, EndsAs};
+ghost use Rattle.standby.specs.Following.{Follows, TakesEpoch, IsHeld, IsNext, IsTakenNext, HasFreed, HasTaken, AreGone, IsMadeAt, HasRoomOnceFreed, WouldExhaust, IsBeforeOrWhole, EndsAs};
 
 use crate::frame::{Ack, Frame};
 use crate::part::make_part;
 use crate::standby::Standby;
 use kv_types::Refusal;
-use model::Group;
+use model::{COUNTER_LIMIT, Group, Record, STAMP_WINDOW};
 use mv_keyspace::Keyspace;
 use placing::give_all;
 use std::alloc::Global;
 use wbl_engine::Durable;
 
 impl<E: Durable, K: Keyspace> Standby<E, K> {
-    /// Takes the frame that comes next, which brings no counter to its limit. The errors are those of `on_frame`.
-    pub(crate) fn take(&mut self, alloc: Global, frame: &Frame) -> Result<Ack, Refusal>
+    /// Takes a frame of its epoch, or, at position 0, of a higher one. One of its epoch that ends at its position or below it is acknowledged again. One
+    /// that begins at its position moves the standby by all the frame's changes under one record, which bears the frame's epoch, and is acknowledged:
+    /// it is durable then. What the frame ended is listed and not freed: `free_ended` does that, and so does the next call that takes a frame, which
+    /// first frees all that is listed.
+    ///
+    /// # Errors
+    ///
+    /// `WrongEpoch` for a frame of another epoch, `PositionGap` for one that begins elsewhere, or at position 0 for one of a higher epoch that ends
+    /// there, `Exhausted` if a counter would reach 2^62: nothing changed. `Full` if the image has no room for its puts, also after all that had ended
+    /// is freed: that is freed, and nothing else changed. `Memory` if an allocation was refused: nothing changed, or what had ended is freed and
+    /// nothing else changed. `Fault` if a fence failed: the engine holds what it held, perhaps without what had ended, or the whole frame, but the
+    /// keyspace and the heap may be ahead of it or behind it, so the image has to be reopened.
+    pub fn take_frame(&mut self, alloc: Global, frame: &Frame) -> Result<Ack, Refusal>
         requires follows { Follows (E.contents self.old.engine) (K.table self.old.keyspace) self.old.heap self.old.ended.items }
         requires sound { E.is_faulted self.old.engine ≡ false }
         requires durable { IsDurable (E.device self.old.engine) (E.contents self.old.engine) }
-        requires next { IsNext (E.contents self.old.engine).current.position frame.now }
-        requires epoch { frame.now.epoch ≡ (E.contents self.old.engine).current.epoch }
-        requires counters { ¬ WouldExhaust (E.contents self.old.engine).current frame.now.after }
-        ensures ack { IfOk result (λ ack. ack ≡ record { epoch = frame.now.epoch; position = frame.now.after }) }
-        ensures taken { OnOk result (HasTaken frame.now (E.contents self.old.engine) (E.contents self.new.engine) (K.table self.old.keyspace) (K.table self.new.keyspace)) }
-        ensures causes { IfErr result (λ refusal. (refusal ≡ Full) ⊎ (refusal ≡ Memory) ⊎ (refusal ≡ Fault)) }
-        ensures full { IsErrOf result Full → ¬ HasRoomFor self.new.heap frame.now.changes.items }
+        ensures epoch { ¬ TakesEpoch (E.contents self.old.engine).current frame.now.epoch → (result ≡ Err WrongEpoch) × (self.new ≡ self.old) }
+        ensures again { frame.now.epoch ≡ (E.contents self.old.engine).current.epoch → frame.now.after ≤ (E.contents self.old.engine).current.position
+            → (result ≡ Ok (record { epoch = (E.contents self.old.engine).current.epoch; position = (E.contents self.old.engine).current.position }))
+            × (self.new ≡ self.old) }
+        ensures gap { TakesEpoch (E.contents self.old.engine).current frame.now.epoch → ¬ IsHeld (E.contents self.old.engine).current frame.now
+            → ¬ IsNext (E.contents self.old.engine).current.position frame.now → (result ≡ Err PositionGap) × (self.new ≡ self.old) }
+        // no other frame is acknowledged
+        ensures answers { IfOk result (λ _. (IsHeld (E.contents self.old.engine).current frame.now × (self.new ≡ self.old))
+            ⊎ IsTakenNext (E.contents self.old.engine).current frame.now) }
+
+        // for the frame that comes next
+        ensures ack { IsTakenNext (E.contents self.old.engine).current frame.now
+            → IfOk result (λ ack. ack ≡ record { epoch = frame.now.epoch; position = frame.now.after }) }
+        ensures taken { IsTakenNext (E.contents self.old.engine).current frame.now
+            → OnOk result (HasTaken frame.now (E.contents self.old.engine) (E.contents self.new.engine)
+            (K.table self.old.keyspace) (K.table self.new.keyspace)) }
+        ensures gone { IsTakenNext (E.contents self.old.engine).current frame.now
+            → OnOk result (AreGone frame.now.after (E.contents self.old.engine).versions (E.contents self.new.engine).versions) }
+        ensures fits { IsTakenNext (E.contents self.old.engine).current frame.now
+            → OnOk result (HasRoomOnceFreed self.old.heap self.old.ended.items (E.contents self.old.engine) frame.now) }
+        ensures causes { IsTakenNext (E.contents self.old.engine).current frame.now
+            → IfErr result (λ refusal. (refusal ≡ Full) ⊎ (refusal ≡ Memory) ⊎ (refusal ≡ Fault) ⊎ (refusal ≡ Exhausted)) }
+        ensures exhausts { IsTakenNext (E.contents self.old.engine).current frame.now
+            → WouldExhaust (E.contents self.old.engine).current frame.now → result ≡ Err Exhausted }
+
+        // each refusal has its cause, and all but a failed fence change nothing, or free what had ended
+        ensures full { IsErrOf result Full → ¬ HasRoomFor self.new.heap frame.now.changes.items
+            × HasFreed self.old.ended.items (E.contents self.old.engine) (E.contents self.new.engine) self.old.heap self.new.heap self.new.ended.items }
+        ensures exhausted { IsErrOf result Exhausted → WouldExhaust (E.contents self.old.engine).current frame.now × (self.new ≡ self.old) }
         ensures fault { IsErrOf result Fault
             → (E.is_faulted self.new.engine ≡ true) × ((E.device self.old.engine).failures < (E.device self.new.engine).failures) }
         ensures refused { ¬ IsErrOf result Fault → OnErr result ((K.table self.new.keyspace ≡ K.table self.old.keyspace) × ((self.new ≡ self.old)
             ⊎ HasFreed self.old.ended.items (E.contents self.old.engine) (E.contents self.new.engine) self.old.heap self.new.heap self.new.ended.items)) }
+
+        // for any frame
+        ensures one_epoch { IfOk result (λ ack. (ack.epoch ≡ frame.now.epoch) × (ack.epoch ≡ (E.contents self.new.engine).current.epoch)
+            × (ack.position ≡ (E.contents self.new.engine).current.position)) }
         ensures still { ¬ IsErrOf result Fault → Follows (E.contents self.new.engine) (K.table self.new.keyspace) self.new.heap self.new.ended.items }
         ensures sound { ¬ IsErrOf result Fault
             → (E.is_faulted self.new.engine ≡ false) × ((E.device self.new.engine).failures ≡ (E.device self.old.engine).failures) }
         ensures durable { ¬ IsErrOf result Fault → IsDurable (E.device self.new.engine) (E.contents self.new.engine) }
         ensures lawful { AreLawful (E.contents self.old.engine) → ¬ IsErrOf result Fault → AreLawful (E.contents self.new.engine) }
         ensures stays { OnErr result (EndsAs frame.now self.old.ended.items (E.contents self.old.engine) (K.table self.old.keyspace) (E.contents self.new.engine)) }
-        ensures epoch_stays { (E.contents self.new.engine).current.epoch ≡ (E.contents self.old.engine).current.epoch }
-        ensures moments { LeavesOnly (E.device self.old.engine) (E.device self.new.engine)
+        ensures own_epoch { frame.now.epoch ≡ (E.contents self.old.engine).current.epoch
+            → (E.contents self.new.engine).current.epoch ≡ (E.contents self.old.engine).current.epoch }
+
+        // at any moment of the call
+        ensures moments { IsTakenNext (E.contents self.old.engine).current frame.now
+            → LeavesOnly (E.device self.old.engine) (E.device self.new.engine)
             (IsBeforeOrWhole frame.now self.old.ended.items (E.contents self.old.engine) (K.table self.old.keyspace)) }
-        ensures rests { ¬ IsErrOf result Fault → OnErr result (LeavesOnly (E.device self.old.engine) (E.device self.new.engine)
+        // at any moment of a call that refuses the frame
+        ensures rests { IsTakenNext (E.contents self.old.engine).current frame.now
+            → ¬ IsErrOf result Fault → OnErr result (LeavesOnly (E.device self.old.engine) (E.device self.new.engine)
             (KeepsWithoutSome self.old.ended.items (E.contents self.old.engine))) }
     {
+        if !self.takes_epoch(frame.epoch) {
+            return Err(Refusal::WrongEpoch);
+        }
+        if frame.epoch == self.epoch() && frame.after <= self.position() {
+            return Ok(self.ack());
+        }
+        if !is_next(self.position(), frame) {
+            return Err(Refusal::PositionGap);
+        }
+        if would_exhaust(self.engine.record(), frame) {
+            return Err(Refusal::Exhausted);
+        }
         self.free_ended(alloc)?;
         self.commit_frame(alloc, frame)?;
-        only_fault(self.free_ended(alloc))?;
-        Ok(Ack {
-            epoch: frame.epoch,
-            position: frame.after,
-        })
+        Ok(self.ack())
+    }
+
+    /// Whether it takes frames of this epoch: its own, or, at position 0, a higher one.
+    fn takes_epoch(&self, epoch: u64) -> bool
+        ensures { IsTrue result ↔ TakesEpoch (E.contents self.now.engine).current epoch }
+    {
+        epoch == self.epoch() || (self.position() == 0 && epoch > self.epoch())
     }
 
     /// Frees what has ended, and gives its places back to the heap. `Memory` if an allocation was refused, with nothing changed. `Fault` if a fence
     /// failed: the heap and the list are as they were, and the engine holds its contents without what had ended.
-    fn free_ended(&mut self, alloc: Global) -> Result<(), Refusal>
+    pub fn free_ended(&mut self, alloc: Global) -> Result<(), Refusal>
         requires follows { Follows (E.contents self.old.engine) (K.table self.old.keyspace) self.old.heap self.old.ended.items }
         requires sound { E.is_faulted self.old.engine ≡ false }
         requires durable { IsDurable (E.device self.old.engine) (E.contents self.old.engine) }
@@ -93,10 +151,11 @@ impl<E: Durable, K: Keyspace> Standby<E, K> {
         requires none { self.old.ended.items ≡ [] }
         requires sound { E.is_faulted self.old.engine ≡ false }
         requires durable { IsDurable (E.device self.old.engine) (E.contents self.old.engine) }
-        requires next { IsNext (E.contents self.old.engine).current.position frame.now }
-        requires epoch { frame.now.epoch ≡ (E.contents self.old.engine).current.epoch }
-        requires counters { ¬ WouldExhaust (E.contents self.old.engine).current frame.now.after }
+        requires next { IsTakenNext (E.contents self.old.engine).current frame.now }
+        requires counters { ¬ WouldExhaust (E.contents self.old.engine).current frame.now }
         ensures taken { OnOk result (HasTaken frame.now (E.contents self.old.engine) (E.contents self.new.engine) (K.table self.old.keyspace) (K.table self.new.keyspace)) }
+        ensures made { OnOk result (IsMadeAt frame.now.after (E.contents self.old.engine).versions (E.contents self.new.engine).versions) }
+        ensures fits { OnOk result (HasRoomFor self.old.heap frame.now.changes.items) }
         ensures causes { IfErr result (λ refusal. (refusal ≡ Full) ⊎ (refusal ≡ Memory) ⊎ (refusal ≡ Fault)) }
         ensures full { IsErrOf result Full → ¬ HasRoomFor self.old.heap frame.now.changes.items }
         ensures fault { IsErrOf result Fault
@@ -109,7 +168,8 @@ impl<E: Durable, K: Keyspace> Standby<E, K> {
         ensures durable { ¬ IsErrOf result Fault → IsDurable (E.device self.new.engine) (E.contents self.new.engine) }
         ensures lawful { AreLawful (E.contents self.old.engine) → ¬ IsErrOf result Fault → AreLawful (E.contents self.new.engine) }
         ensures stays { OnErr result (Same (E.contents self.old.engine) (E.contents self.new.engine)) }
-        ensures epoch_stays { (E.contents self.new.engine).current.epoch ≡ (E.contents self.old.engine).current.epoch }
+        ensures own_epoch { frame.now.epoch ≡ (E.contents self.old.engine).current.epoch
+            → (E.contents self.new.engine).current.epoch ≡ (E.contents self.old.engine).current.epoch }
         ensures moments { LeavesOnly (E.device self.old.engine) (E.device self.new.engine)
             (IsBeforeOrWhole frame.now [] (E.contents self.old.engine) (K.table self.old.keyspace)) }
     {
@@ -129,13 +189,19 @@ impl<E: Durable, K: Keyspace> Standby<E, K> {
     }
 }
 
-/// `Fault` if there was one: what there was no memory to free is left for later.
-fn only_fault(freed: Result<(), Refusal>) -> Result<(), Refusal>
-    ensures fault { IsErrOf result Fault ↔ IsErrOf freed Fault }
-    ensures cause { IfErr result (λ refusal. refusal ≡ Fault) }
+/// Whether the frame is the one that comes next at this position.
+fn is_next(position: u64, frame: &Frame) -> bool
+    ensures { IsTrue result ↔ IsNext position frame.now }
 {
-    match freed {
-        Err(Refusal::Fault) => Err(Refusal::Fault),
-        _ => Ok(()),
-    }
+    position < frame.after && frame.before == position
+}
+
+/// Whether the commit of the frame would bring a counter to its limit.
+fn would_exhaust(current: &Record, frame: &Frame) -> bool
+    ensures { IsTrue result ↔ WouldExhaust current.now frame.now }
+{
+    current.cp >= COUNTER_LIMIT - STAMP_WINDOW - 2
+        || frame.after >= COUNTER_LIMIT
+        || current.number >= COUNTER_LIMIT - 1
+        || (current.epoch < frame.epoch && frame.epoch >= COUNTER_LIMIT)
 }

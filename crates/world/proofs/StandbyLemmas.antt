@@ -88,12 +88,12 @@ pub record Answers (frame : Frame) (old : Node) (result : Result Ack Refusal) (n
       → IfErr result (λ refusal. (refusal ≡ Full) ⊎ (refusal ≡ Memory) ⊎ (refusal ≡ Fault) ⊎ (refusal ≡ Exhausted))
   pub refused : ¬ IsErrOf result Fault → OnErr result (IsKept old new)
   pub fault : result ≡ Err Fault → old.device.failures < new.device.failures
-  pub exhausted : result ≡ Err Exhausted → WouldExhaust old.contents.current frame.after × (new.device ≡ old.device)
+  pub exhausted : result ≡ Err Exhausted → WouldExhaust old.contents.current frame × (new.device ≡ old.device)
   pub still : ¬ IsErrOf result Fault → Follows new.contents new.table new.room new.ended
   pub sound : ¬ IsErrOf result Fault → (new.is_faulted ≡ false) × (new.device.failures ≡ old.device.failures)
   pub durable : ¬ IsErrOf result Fault → IsDurable new.device new.contents
   pub lawful : AreLawful old.contents → ¬ IsErrOf result Fault → AreLawful new.contents
-  pub epoch_stays : new.epoch ≡ old.epoch
+  pub own_epoch : frame.epoch ≡ old.epoch → new.epoch ≡ old.epoch
   pub moments : frame.epoch ≡ old.epoch → IsNext old.contents.current.position frame → LeavesOnly old.device new.device (IsBeforeOrWhole frame old.ended old.contents old.table)
   pub rests : frame.epoch ≡ old.epoch → IsNext old.contents.current.position frame → ¬ IsErrOf result Fault
       → OnErr result (LeavesOnly old.device new.device (KeepsWithoutSome old.ended old.contents))
@@ -179,7 +179,7 @@ module _ (holder : Holder) (epoch : ℕ) (calls : List Call) (machine : Machine)
           contents_at = record {
             at = taken.position ∙ is.after;
             role_is = taken.role ∙ stands.engine.contents_at.role_is;
-            epoch_is = taken.epoch ∙ stands.engine.contents_at.epoch_is;
+            epoch_is = taken.epoch ∙ is.epoch_is ∙ stands.epoch_held;
             lines_are = taken.lines ∙ stands.engine.contents_at.lines_are;
             consistent = follows.consistent;
             map = subst (IsMapOf new.contents.versions (entries_of_lines new.contents.lines)) now
@@ -248,7 +248,7 @@ module _ (holder : Holder) (epoch : ℕ) (calls : List Call) (machine : Machine)
       let contents_at : AreContentsAt holder calls span.after after = record {
         at = held.1.position ∙ is.after;
         role_is = held.1.role ∙ stands.engine.contents_at.role_is;
-        epoch_is = held.1.epoch ∙ stands.engine.contents_at.epoch_is;
+        epoch_is = held.1.epoch ∙ is.epoch_is ∙ stands.epoch_held;
         lines_are = held.1.line_count ∙ stands.engine.contents_at.lines_are;
         consistent = held.1.consistent;
         map = subst (IsMapOf after.versions (entries_of_lines after.lines)) (keyspace_next e) held.1.map;
@@ -301,7 +301,7 @@ module _ (holder : Holder) (epoch : ℕ) (calls : List Call) (machine : Machine)
             standby = moved_to span.after machine;
             takes = inr (inr (inl (own, lt, e, refl, ap (λ (a : Acknowledgement). a ∷ []) (moved_as ack (ap (λ (a : Ack). a.epoch) (answers.ack epoch_same next) ∙ epoch_same) (ap (λ (a : Ack). a.position) (answers.ack epoch_same next) ∙ is.after)))));
             waiting = refl;
-            stands = taken_stands e (answers.taken epoch_same next) (answers.still no_fault) (answers.sound no_fault).0 (answers.durable no_fault) (answers.lawful stands.engine.lawful no_fault) answers.epoch_stays;
+            stands = taken_stands e (answers.taken epoch_same next) (answers.still no_fault) (answers.sound no_fault).0 (answers.durable no_fault) (answers.lawful stands.engine.lawful no_fault) (answers.own_epoch epoch_same);
             moves = taken_moves e (answers.moments epoch_same next) (answers.sound no_fault).1;
           }
 
@@ -325,7 +325,7 @@ module _ (holder : Holder) (epoch : ℕ) (calls : List Call) (machine : Machine)
             takes = inr (inr (inr (inl (own, lt, e, refl, refl))));
             waiting = refl;
             stands =
-                refused_stands (answers.refused no_fault) (answers.still no_fault) (answers.sound no_fault).0 (answers.durable no_fault) (answers.lawful stands.engine.lawful no_fault) answers.epoch_stays;
+                refused_stands (answers.refused no_fault) (answers.still no_fault) (answers.sound no_fault).0 (answers.durable no_fault) (answers.lawful stands.engine.lawful no_fault) (answers.own_epoch epoch_same);
             moves = refused_moves (answers.rests epoch_same (is_next lt e) no_fault) (answers.sound no_fault).1;
           }
 
@@ -371,15 +371,19 @@ module _ (holder : Holder) (epoch : ℕ) (calls : List Call) (machine : Machine)
       above lt = ⊎_elim (joins lt) (λ (ne : span.before ≢ machine.position). still (answers.gap epoch_same (is_above lt) (is_apart ne)).1) (cases_eq span.before machine.position)
 
   -- a frame that would take a counter to the limit: it takes one stamp
-  frame-limit : machine.position < span.after → span.before ≡ machine.position → WouldExhaust old.contents.current frame.after → (image : Image) → IsImage old.device.words image → IsAtLimit (next - machine.position) image
+  frame-limit : machine.position < span.after → span.before ≡ machine.position → WouldExhaust old.contents.current frame → (image : Image) → IsImage old.device.words image → IsAtLimit (next - machine.position) image
   frame-limit lt e would image at_image =
       record { current = old.contents.current; has_record = (stands.engine.durable image at_image).has_record; reached = reached (next - machine.position) (omega (arith, lt, next-joined e), omega (arith, lt, next-joined e, is.after, at)) would }
     where
-      reached : (more : ℕ) → (0 < more) × (frame.after ≡ old.contents.current.position + more) → WouldExhaust old.contents.current frame.after
+      reached : (more : ℕ) → (0 < more) × (frame.after ≡ old.contents.current.position + more) → WouldExhaust old.contents.current frame
           → (COUNTER_LIMIT ≤ old.contents.current.cp + more + 1 + STAMP_WINDOW) ⊎ (COUNTER_LIMIT ≤ old.contents.current.position + more) ⊎ (COUNTER_LIMIT ≤ old.contents.current.number + 1)
       reached more some (inl stamps) = inl (omega (arith, stamps, some.0))
       reached more some (inr (inl position)) = inr (inl (omega (arith, position, some.1)))
-      reached more some (inr (inr number)) = inr (inr number)
+      reached more some (inr (inr (inl number))) = inr (inr number)
+      reached more some (inr (inr (inr epoch))) =
+          let same : frame.epoch ≡ old.contents.current.epoch = is.epoch_is ∙ stands.epoch_held ∙ sym stands.engine.contents_at.epoch_is in
+          let rises = epoch.0 in
+          absurd (omega (arith, same, rises))
 
   -- a frame that it refused, and did not go on: memory was refused, a fence failed, or a counter is at its limit
   pub frame-ends : (refusal : Refusal) → ¬ GoesOn refusal → Answers frame old (Err refusal) new

@@ -1,5 +1,5 @@
-use Rattle.links.proofs.Serving.{puts-none}
+use Rattle.links.proofs.Serving.{says-none}
 use Rattle.links.proofs.following.answer_piece.Goals as goal
 
-pub returns-in-Err-clause-puts : goal.returns-in-Err-clause-puts
-returns-in-Err-clause-puts g c = puts-none _ _
+pub returns-in-Err-clause-says : goal.returns-in-Err-clause-says
+returns-in-Err-clause-says g c = λ _. says-none _ _

@@ -24,16 +24,16 @@ pub loop-preserved : goal.loop-preserved
 loop-preserved g c =
     let consumed : Consumes (g.I.Read.remaining c.loop.from) (g.I.Read.remaining c.read_piece.new.from) c.in-Some.piece.now = search rules in
     let first = held (g.E.Durable.contents c.args.node.now.engine) (g.K.Keyspace.table c.args.node.now.keyspace) in
-    let last = held (g.E.Durable.contents c.answer_and_send.new.node.engine) (g.K.Keyspace.table c.answer_and_send.new.node.keyspace) in
+    let last = held (g.E.Durable.contents c.answer_piece.new.node.engine) (g.K.Keyspace.table c.answer_piece.new.node.keyspace) in
     let bytes = g.I.Read.remaining c.args.from.now in
     let before = g.O.Write.contents c.args.to.now in
     let left = g.I.Read.remaining c.read_piece.new.from in
-    let after = g.O.Write.contents c.answer_and_send.new.to in
-    let done = c.in_default-answer_and_send.ensures.all in
+    let after = g.O.Write.contents c.answer_piece.new.to in
+    let done = c.in_default-answer_piece.ensures.all in
     record {
-      stands = c.in_default-answer_and_send.ensures.stands (not_stopped _);
-      emptied = c.answer_and_send.ensures.emptied;
-      served = subst (λ (unread : Option (List ℕ)). Served first bytes before last left after unread) (sym c.in_default-answer_and_send.ensures.unread)
+      stands = c.in_default-answer_piece.ensures.stands (not_stopped _);
+      emptied = c.in_default-answer_piece.ensures.emptied;
+      served = subst (λ (unread : Option (List ℕ)). Served first bytes before last left after unread) (sym c.in_default-answer_piece.ensures.unread)
           (Served-more first (held (g.E.Durable.contents c.loop.node.engine) (g.K.Keyspace.table c.loop.node.keyspace)) last bytes before (g.I.Read.remaining c.loop.from) (g.O.Write.contents c.loop.to) left after
-          c.loop.decoder c.in-Some.piece.now done.0 c.loop.invariant.served consumed done.1 done.2);
+          c.loop.decoder c.in-Some.piece.now done.acks c.loop.invariant.served consumed done.run done.written);
     }

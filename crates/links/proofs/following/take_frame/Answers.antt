@@ -1,7 +1,6 @@
-use Rattle.std.proofs.Common.{Ok, refl, ap}
 use Rattle.standby.specs.declared.standby.Standby.{Standby}
 use Rattle.links.specs.Serving.{Held, held}
-use Rattle.links.proofs.Serving.{acknowledges, not_fault, not_refused-ok}
+use Rattle.links.proofs.Serving.{acknowledges, known, not_fault, not_refused-ok}
 use Rattle.links.proofs.following.take_frame.Given.{Over}
 use Rattle.links.proofs.following.take_frame.Goals as goal
 
@@ -15,15 +14,8 @@ returns-in-Ok-clause-stands g c = λ _.
 
 pub returns-in-Ok-clause-acknowledges : goal.returns-in-Ok-clause-acknowledges
 returns-in-Ok-clause-acknowledges g c =
-    acknowledges (holds g c.args.node.now) c.args.frame.now c.in-Ok.ack (Ok c.in-Ok.ack) (holds g c.on_frame.new.self) (record {
-      is = refl;
-      wrong = λ ne. (c.in-Ok.ensures.epoch ne).0;
-      again = λ own le. ap (holds g) (c.in-Ok.ensures.again own le).1;
-      gap = λ own lt ne. (c.in-Ok.ensures.gap own lt ne).0;
-      taken = c.in-Ok.ensures.taken;
-      ack_epoch = c.in-Ok.ensures.one_epoch.0;
-      ack_position = c.in-Ok.ensures.one_epoch.2;
-    })
+    acknowledges (holds g c.args.node.now) c.args.frame.now c.in-Ok.ack (holds g c.take_frame.new.self) c.in-Ok.ensures.one_epoch.0 c.in-Ok.ensures.one_epoch.2
+    (known (holds g) c.in-Ok.ensures.answers) c.in-Ok.ensures.taken
 
 pub returns-in-Err-clause-stands : goal.returns-in-Err-clause-stands
 returns-in-Err-clause-stands g c = λ not_stops.

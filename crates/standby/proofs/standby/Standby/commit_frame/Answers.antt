@@ -1,14 +1,16 @@
-use Rattle.std.proofs.Common.{◌≡◌, ◌<◌, [], ◌∷◌, ◌++◌, List, inl, sym, ap, subst, ◌∙◌}
+use Rattle.std.proofs.Common.{◌≡◌, ◌<◌, [], ◌∷◌, ◌++◌, List, Err, inl, inr, refl, sym, ap, subst, ◌∙◌}
+use Rattle.std.proofs.lemmas.Result.{err_from_is_err_and}
 use Rattle.std.specs.Option.{option_to_list}
 use Rattle.pmem.proofs.Leaving.{none_leaves}
 use Rattle.model.specs.declared.group.Group.{Group}
 use Rattle.model.specs.declared.group.Part.{Part}
 use Rattle.model.specs.Group.{IsGroup, after_group}
 use Rattle.mv_keyspace.specs.Table.{place_all}
-use Rattle.wbl_engine.specs.Contents.{Exhausts}
+use Rattle.wbl_engine.specs.Contents.{Exhausts, IsDurable}
 use Rattle.wbl_engine.proofs.LawfulLemmas.{group_lawful, same_lawful}
 use Rattle.standby.specs.Following.{Follows}
 use Rattle.standby.proofs.EndedLemmas.{KeepsWithoutSome-none}
+use Rattle.standby.proofs.GoneLemmas.{made-group}
 use Rattle.standby.proofs.FollowingLemmas.{IsGroup-one, Follows-after, Follows-same, HasTaken-group, LeavesOnly-group}
 use Rattle.standby.proofs.standby.Standby.commit_frame.Given.{Over}
 use Rattle.standby.proofs.standby.Standby.commit_frame.Goals as goal
@@ -24,9 +26,9 @@ one g c = c.push_reserved.ensures.items ∙ ap (λ (parts : List Part). parts ++
 is_group : (g : Over) (c : After-push_reserved g) → IsGroup (g.E.Durable.contents c.args.self.now.engine) (the_group g c)
 is_group g c =
     let contents = g.E.Durable.contents c.args.self.now.engine in
-    let later : contents.current.position < c.in_ok-part.part.position = subst (λ n. contents.current.position < n) (sym c.in_ok-part.ensures.ok.position_is) c.requires.next.later in
+    let later : contents.current.position < c.in_ok-part.part.position = subst (λ n. contents.current.position < n) (sym c.in_ok-part.ensures.ok.position_is) c.requires.next.next.later in
     IsGroup-one contents (g.K.Keyspace.table c.args.self.now.keyspace) c.args.self.now.heap c.requires.follows c.in_ok-part.part c.make_part.new.heap
-    c.in_ok-part.ensures.ok.places c.in_ok-part.ensures.ok.ended (the_group g c) (one g c) c.requires.next.joined c.requires.epoch later
+    c.in_ok-part.ensures.ok.places c.in_ok-part.ensures.ok.ended (the_group g c) (one g c) c.requires.next.next.joined c.requires.next.epoch later
 
 -- the tables after the part are those of the contents after the group
 follows_after : (g : Over) (c : After-push_reserved g)
@@ -48,21 +50,36 @@ pub returns-in_err-commit-clause-moments : goal.returns-in_err-commit-clause-mom
 returns-in_err-commit-clause-moments g c =
     let prefix = (goal.at.returns-in_err-commit-clause-moments g c).After-push_reserved in
     LeavesOnly-group (g.E.Durable.contents c.args.self.now.engine) (g.K.Keyspace.table c.args.self.now.keyspace) c.args.frame.now c.in_ok-part.part c.in_ok-part.ensures.ok.changes_are c.in_ok-part.ensures.ok.position_is
-    (the_group g prefix) (one g prefix) c.requires.epoch c.make_part.new.heap c.in_ok-part.part.ended.items (follows_after g prefix) (is_group g prefix) c.requires.counters
+    (the_group g prefix) (one g prefix) refl c.make_part.new.heap c.in_ok-part.part.ended.items (follows_after g prefix) (is_group g prefix) c.requires.counters
     (g.E.Durable.device c.args.self.now.engine) (g.E.Durable.device c.commit.new.self) (c.commit.ensures.moments c.requires.sound)
 
 pub returns-clause-moments : goal.returns-clause-moments
 returns-clause-moments g c =
     let prefix = (goal.at.returns-clause-moments g c).After-push_reserved in
     LeavesOnly-group (g.E.Durable.contents c.args.self.now.engine) (g.K.Keyspace.table c.args.self.now.keyspace) c.args.frame.now c.in_ok-part.part c.in_ok-part.ensures.ok.changes_are c.in_ok-part.ensures.ok.position_is
-    (the_group g prefix) (one g prefix) c.requires.epoch c.make_part.new.heap c.in_ok-part.part.ended.items (follows_after g prefix) (is_group g prefix) c.requires.counters
+    (the_group g prefix) (one g prefix) refl c.make_part.new.heap c.in_ok-part.part.ended.items (follows_after g prefix) (is_group g prefix) c.requires.counters
     (g.E.Durable.device c.args.self.now.engine) (g.E.Durable.device c.commit.new.self) (c.commit.ensures.moments c.requires.sound)
 
 pub returns-clause-taken : goal.returns-clause-taken
 returns-clause-taken g c =
     let prefix = (goal.at.returns-clause-taken g c).After-push_reserved in
     HasTaken-group (g.E.Durable.contents c.args.self.now.engine) (g.K.Keyspace.table c.args.self.now.keyspace) c.args.frame.now c.in_ok-part.part c.in_ok-part.ensures.ok.changes_are c.in_ok-part.ensures.ok.position_is
-    (the_group g prefix) (one g prefix) c.requires.epoch (g.E.Durable.contents c.commit.new.self) (g.K.Keyspace.table c.make_part.new.keyspace) c.in_ok-commit.ensures.moved c.in_ok-part.ensures.ok.table_is
+    (the_group g prefix) (one g prefix) refl (g.E.Durable.contents c.commit.new.self) (g.K.Keyspace.table c.make_part.new.keyspace) c.in_ok-commit.ensures.moved c.in_ok-part.ensures.ok.table_is
+
+pub returns-clause-made : goal.returns-clause-made
+returns-clause-made g c =
+    let prefix = (goal.at.returns-clause-made g c).After-push_reserved in
+    made-group (g.E.Durable.contents c.args.self.now.engine) (the_group g prefix) c.in_ok-part.part c.args.frame.now.after (one g prefix) c.in_ok-part.ensures.ok.position_is
+    (g.E.Durable.contents c.commit.new.self) c.in_ok-commit.ensures.moved
+
+pub returns-in_err-commit-clause-durable : goal.returns-in_err-commit-clause-durable
+returns-in_err-commit-clause-durable g c = λ no_fault.
+    let exit = err_from_is_err_and c.from_residual-in_err-commit.result c.from_residual-in_err-commit.ensures.1 in
+    elim c.in_err-commit.ensures.causes [
+      | inl fault ↦ absurd (no_fault (exit.1 ∙ ap Err (exit.2 ∙ fault)))
+      | inr exhausted ↦
+          subst (λ engine. IsDurable (g.E.Durable.device engine) (g.E.Durable.contents engine)) (sym (c.in_err-commit.ensures.exhausted (ap Err exhausted)).1) c.requires.durable
+    ]
 
 alone : (parts : List Part) (part last : Part) → part ∷ [] ≡ parts ++ last ∷ [] → last ≡ part
 alone [] part last is = cc

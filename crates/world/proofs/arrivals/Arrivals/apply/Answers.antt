@@ -1,4 +1,4 @@
-use Rattle.std.proofs.Common.{◌≡◌, ◌⊎◌, inl, inr, ℕ, Vec, Global, ◌++◌, [], ◌∷◌, drop, List, Result, Ok, Err, refl, sym, ap, subst, ◌∙◌, append-nil, true≢false}
+use Rattle.std.proofs.Common.{◌≡◌, ◌⊎◌, inl, inr, ℕ, Vec, Global, ◌++◌, [], ◌∷◌, drop, List, Result, Ok, Err, refl, sym, ap, subst, ◌∙◌, append-nil, arith, true≢false}
 use Rattle.model.specs.Standing.{Holder}
 use Rattle.std.proofs.lemmas.Result.{err_from_is_err_and}
 use Rattle.kv_types.specs.declared.refusal.Refusal.{Refusal}
@@ -45,10 +45,12 @@ kept g old new (table, inr freed) = IsKept-freed (node g old) (node g new) table
 answers : (g : Over) (c : After-on_frame g) → Answers c.in-Some.frame.now (node g c.args.standby.now) c.on_frame.result (node g c.on_frame.new.self)
 answers g c = record {
   again = λ epoch le. let told = c.on_frame.ensures.again epoch le in (told.0, ap (node g) told.1);
-  gap = λ epoch lt ne. let told = c.on_frame.ensures.gap epoch lt ne in (told.0, ap (node g) told.1);
-  ack = c.on_frame.ensures.ack;
-  taken = c.on_frame.ensures.taken;
-  causes = c.on_frame.ensures.causes;
+  gap = λ epoch lt ne.
+      let told = c.on_frame.ensures.gap (inl epoch) (λ held. let below = held.below in omega (arith, lt, below)) (λ next. ne next.joined) in
+      (told.0, ap (node g) told.1);
+  ack = λ epoch next. c.on_frame.ensures.ack (record { epoch = inl epoch; next = next });
+  taken = λ epoch next. c.on_frame.ensures.taken (record { epoch = inl epoch; next = next });
+  causes = λ epoch next. c.on_frame.ensures.causes (record { epoch = inl epoch; next = next });
   refused = λ no_fault. OnErr-weaken c.on_frame.result (kept g c.args.standby.now c.on_frame.new.self) (c.on_frame.ensures.refused no_fault);
   fault = λ cause. (c.on_frame.ensures.fault cause).1;
   exhausted = λ cause. let told = c.on_frame.ensures.exhausted cause in (told.0, ap (λ (s : Standby g.row.E.Denot g.row.K.Denot g.row.E-Device.Denot). g.E.Durable.device s.engine) told.1);
@@ -56,9 +58,9 @@ answers g c = record {
   sound = c.on_frame.ensures.sound;
   durable = c.on_frame.ensures.durable;
   lawful = c.on_frame.ensures.lawful;
-  epoch_stays = c.on_frame.ensures.epoch_stays;
-  moments = c.on_frame.ensures.moments;
-  rests = c.on_frame.ensures.rests;
+  own_epoch = c.on_frame.ensures.own_epoch;
+  moments = λ epoch next. c.on_frame.ensures.moments (record { epoch = inl epoch; next = next });
+  rests = λ epoch next. c.on_frame.ensures.rests (record { epoch = inl epoch; next = next });
 }
 
 told : (g : Over) (c : After-on_frame g) (result : Result Ack Refusal) → c.on_frame.result ≡ result → Answers c.in-Some.frame.now (node g c.args.standby.now) result (node g c.on_frame.new.self)
