@@ -1,7 +1,7 @@
 -- What a standby's answer to one frame says of a run.
-use Rattle.std.proofs.Common.{◌≡◌, ◌≢◌, ℕ, ◌<◌, ◌⊎◌, inl, inr, List, [], ◌∷◌, ◌++◌, Result, Ok, Err, IsErrOf, OnOk, refl, sym, ap, subst, ◌∙◌, take, length, get_or, ◌+◌, append-nil, append_assoc, Option, Some, None}
+use Rattle.std.proofs.Common.{◌≡◌, ◌≢◌, ℕ, ◌<◌, ◌⊎◌, inl, inr, List, [], ◌∷◌, ◌++◌, Result, Ok, Err, IfErr, IsErrOf, OnOk, refl, sym, ap, subst, ◌∙◌, take, length, get_or, ◌+◌, append-nil, append_assoc, Option, Some, None}
 use Rattle.kv_types.specs.declared.refusal.Refusal.{Refusal}
-use Rattle.kv_types.specs.declared.refusal.Refusal.TheVariants.{Fault}
+use Rattle.kv_types.specs.declared.refusal.Refusal.TheVariants.{Fault, Memory}
 use Rattle.standby.specs.declared.frame.Frame.{Frame}
 use Rattle.standby.specs.declared.frame.Ack.{Ack}
 use Rattle.model.specs.declared.record.Record.{Record}
@@ -77,6 +77,19 @@ same_end x y e = cc
 pub OnOk-into : {T E : Type 0} {P Q : Type 0} (result : Result T E) → (P → Q) → OnOk result P → OnOk result Q
 OnOk-into (Ok x) into told = into told
 OnOk-into (Err e) into told = tt
+
+-- what had ended is freed, or there was no memory to free it
+pub frees-by : {T : Type 0} (result : Result T Refusal) (before after : Held) → ¬ IsErrOf result Fault → IfErr result (λ refusal. (refusal ≡ Memory) ⊎ (refusal ≡ Fault))
+    → OnOk result (IsFreed before after) → (IsErrOf result Memory → after ≡ before) → IsFreed before after
+frees-by (Ok x) before after no_fault causes freed same = freed
+frees-by (Err refusal) before after no_fault (inl memory) freed same =
+    let is = same (ap Err memory) in
+    record {
+      current = ap (λ (node : Held). node.contents.current) is;
+      line_count = ap (λ (node : Held). node.contents.lines) is;
+      table_is = ap (λ (node : Held). node.table) is;
+    }
+frees-by (Err refusal) before after no_fault (inr fault) freed same = absurd (no_fault (ap Err fault))
 
 -- a link that goes on has not stopped
 pub not_stopped : (x : Unit {0}) → ¬ IsErrOf {T = Unit {0}} {E = LinkEnd} (Ok x) (Stops Fault)

@@ -1,5 +1,5 @@
 //! The standby's side: one link at a time.
-ghost use Rattle.std.specs.Prelude.{◌≡◌, ℕ, List, [], ◌++◌, OnOk, OnErr, Err, Ok, Option, MatchOption, IfOk, IfErr, IsErrOf};
+ghost use Rattle.std.specs.Prelude.{◌≡◌, ◌↔◌, ℕ, List, [], ◌++◌, OnOk, OnErr, Err, Ok, Option, MatchOption, IfOk, IfErr, IsErrOf};
 ghost use Rattle.std.specs.Io.KnownBytes.{Appends, Consumes};
 ghost use Rattle.kv_types.specs.declared.refusal.Refusal.TheVariants.{Fault, Memory};
 ghost use Rattle.stream_codec.specs.Message.{sent_of};
@@ -276,9 +276,18 @@ fn free_ended<E: Durable, K: Keyspace>(
     ensures frees { OnOk result (IsFreed (held (E.contents node.old.engine) (K.table node.old.keyspace)) (held (E.contents node.new.engine) (K.table node.new.keyspace))) }
     ensures cause { IfErr result (λ end. end ≡ Stops Fault) }
 {
-    match node.free_ended(alloc) {
-        Ok(()) | Err(Refusal::Memory) => Ok(()),
-        Err(_) => Err(LinkEnd::Stops(Refusal::Fault)),
+    only_fault(node.free_ended(alloc))?;
+    Ok(())
+}
+
+/// A link stops for a fault alone: what there was no memory to free is left for later.
+fn only_fault(freed: Result<(), Refusal>) -> Result<(), LinkEnd>
+    ensures fault { IsErrOf result (Stops Fault) ↔ IsErrOf freed Fault }
+    ensures cause { IfErr result (λ end. end ≡ Stops Fault) }
+{
+    match freed {
+        Err(Refusal::Fault) => Err(LinkEnd::Stops(Refusal::Fault)),
+        _ => Ok(()),
     }
 }
 

@@ -1,10 +1,8 @@
-use Rattle.std.specs.Io.KnownBytes.{Appends}
 use Rattle.standby.specs.declared.standby.Standby.{Standby}
-use Rattle.links.specs.Serving.{Acknowledges, Held, ack_text, held}
+use Rattle.links.specs.Serving.{Held, ack_text, held}
 use Rattle.links.proofs.Serving.{acknowledges-freed, moved-from, says-frame, says-none, sent-alone}
 use Rattle.links.proofs.following.answer_frame.Given.{Over}
 use Rattle.links.proofs.following.answer_frame.Goals as goal
-use Rattle.links.proofs.following.answer_frame.Goals.{After-send, After-free_ended}
 
 abbrev holds : (g : Over) → Standby g.row.E.Denot g.row.K.Denot g.row.E-Device.Denot → Held
 holds g standby = held (g.E.Durable.contents standby.engine) (g.K.Keyspace.table standby.keyspace)
@@ -19,38 +17,39 @@ returns-in_err-put_ack-clause-says g c = λ _. says-none _ _
 
 -- ---- the acknowledgement is sent
 
-sent : (g : Over) (c : After-send g) → Appends (g.O.Write.contents c.args.to.now) (g.O.Write.contents c.send.new.to) (ack_text c.in_ok-ack.ack)
-sent g c =
-    sent-alone (g.O.Write.contents c.args.to.now) (g.O.Write.contents c.send.new.to) c.args.out.now.items c.put_ack.new.out.items (ack_text c.in_ok-ack.ack)
-    c.requires.empty c.in_ok-put_ack.ensures.put c.in_ok-send.ensures.written
-
 pub returns-then-ack-position-clause-answered : goal.returns-then-ack-position-clause-answered
-returns-then-ack-position-clause-answered g c =
-    (c.in_ok-ack.ack, c.in_ok-ack.ensures.acknowledges, sent g (goal.at.returns-then-ack-position-clause-answered g c).After-send)
+returns-then-ack-position-clause-answered g c = (
+  c.in_ok-ack.ack,
+  c.in_ok-ack.ensures.acknowledges,
+  sent-alone (g.O.Write.contents c.args.to.now) (g.O.Write.contents c.send.new.to) c.args.out.now.items c.put_ack.new.out.items (ack_text c.in_ok-ack.ack)
+      c.requires.empty c.in_ok-put_ack.ensures.put c.in_ok-send.ensures.written,
+)
 
 pub returns-then-ack-position-clause-says : goal.returns-then-ack-position-clause-says
 returns-then-ack-position-clause-says g c = λ _.
     says-frame (holds g c.args.node.now) (holds g c.take_frame.new.node) c.args.frame.now c.in_ok-ack.ack _ _
-    c.in_ok-ack.ensures.acknowledges (sent g (goal.at.returns-then-ack-position-clause-says g c).After-send)
+    c.in_ok-ack.ensures.acknowledges (sent-alone (g.O.Write.contents c.args.to.now) (g.O.Write.contents c.send.new.to) c.args.out.now.items c.put_ack.new.out.items (ack_text c.in_ok-ack.ack)
+    c.requires.empty c.in_ok-put_ack.ensures.put c.in_ok-send.ensures.written)
 
 pub returns-in_err-free_ended-clause-says : goal.returns-in_err-free_ended-clause-says
 returns-in_err-free_ended-clause-says g c = λ _.
     says-frame (holds g c.args.node.now) (holds g c.take_frame.new.node) c.args.frame.now c.in_ok-ack.ack _ _
-    c.in_ok-ack.ensures.acknowledges (sent g (goal.at.returns-in_err-free_ended-clause-says g c).After-send)
+    c.in_ok-ack.ensures.acknowledges (sent-alone (g.O.Write.contents c.args.to.now) (g.O.Write.contents c.send.new.to) c.args.out.now.items c.put_ack.new.out.items (ack_text c.in_ok-ack.ack)
+    c.requires.empty c.in_ok-put_ack.ensures.put c.in_ok-send.ensures.written)
 
 -- ---- what the frame ended is freed
 
-acknowledged : (g : Over) (c : After-free_ended g) → Acknowledges (holds g c.args.node.now) c.args.frame.now c.in_ok-ack.ack (holds g c.free_ended.new.node)
-acknowledged g c =
-    acknowledges-freed (holds g c.args.node.now) c.args.frame.now c.in_ok-ack.ack (holds g c.take_frame.new.node) (holds g c.free_ended.new.node)
-    (moved-from c.position-position.ensures c.if-ack-position.false) c.in_ok-ack.ensures.acknowledges c.in_ok-free_ended.ensures.frees
-
 pub returns-clause-answered : goal.returns-clause-answered
-returns-clause-answered g c =
-    let prefix = goal.at.returns-clause-answered g c in
-    (c.in_ok-ack.ack, acknowledged g prefix.After-free_ended, sent g prefix.After-send)
+returns-clause-answered g c = (
+  c.in_ok-ack.ack,
+  acknowledges-freed (holds g c.args.node.now) c.args.frame.now c.in_ok-ack.ack (holds g c.take_frame.new.node) (holds g c.free_ended.new.node)
+      (moved-from c.position-position.ensures c.if-ack-position.false) c.in_ok-ack.ensures.acknowledges c.in_ok-free_ended.ensures.frees,
+  sent-alone (g.O.Write.contents c.args.to.now) (g.O.Write.contents c.send.new.to) c.args.out.now.items c.put_ack.new.out.items (ack_text c.in_ok-ack.ack)
+      c.requires.empty c.in_ok-put_ack.ensures.put c.in_ok-send.ensures.written,
+)
 
 pub returns-clause-says : goal.returns-clause-says
 returns-clause-says g c = λ _.
     says-frame (holds g c.args.node.now) (holds g c.take_frame.new.node) c.args.frame.now c.in_ok-ack.ack _ _
-    c.in_ok-ack.ensures.acknowledges (sent g (goal.at.returns-clause-says g c).After-send)
+    c.in_ok-ack.ensures.acknowledges (sent-alone (g.O.Write.contents c.args.to.now) (g.O.Write.contents c.send.new.to) c.args.out.now.items c.put_ack.new.out.items (ack_text c.in_ok-ack.ack)
+    c.requires.empty c.in_ok-put_ack.ensures.put c.in_ok-send.ensures.written)
