@@ -142,7 +142,7 @@ cleared_new {r} {d} {gap} {begins} {ends} {image} clearing made =
 -- ---- the contents afterwards
 
 -- the same versions
-same_versions : {r q : Record} {d : State} (c : State) → IsAtRest r d → c.lines ≡ d.lines → IsErased r q d.lines nothing (image_of d.words) (image_of c.words)
+pub same_versions : {r q : Record} {d : State} (c : State) → IsAtRest r d → c.lines ≡ d.lines → IsErased r q d.lines nothing (image_of d.words) (image_of c.words)
     → (i : ℕ) → (contents_of q c).versions i ≡ (contents_of r d).versions i
 same_versions {r} {q} {d} c rest lines erased i =
     let at : ℕ → Option Version = λ (n : ℕ). cond (nat_lt i (entries_of_lines n)) (version_at q (image_of c.words) i) None in
@@ -240,7 +240,7 @@ abbrev pub IsClearedOrNot : Record → State → Image → Type 0
 IsClearedOrNot r d image = Keeps (contents_of r d) image ⊎ Keeps (cleared_contents (contents_of r d)) image
 
 -- what is left without nothing is all
-all_left : {q : Record} {image : Image} (contents : Contents) → Keeps (record (without nothing contents) { current = q }) image
+pub all_left : {q : Record} {image : Image} (contents : Contents) → Keeps (record (without nothing contents) { current = q }) image
     → Keeps (record contents { current = q }) image
 all_left {q} {image} contents keeps =
     record { superblock = keeps.superblock; has_record = keeps.has_record; versions = keeps.versions; entries = keeps.entries }

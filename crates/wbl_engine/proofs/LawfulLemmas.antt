@@ -52,7 +52,7 @@ new_lawful lines role contents new many few =
 -- ---- a group
 
 -- a counter that does not reach the limit is below it
-below_limit : (counter : ℕ) → (COUNTER_LIMIT ≤ counter → ⊥) → counter < COUNTER_LIMIT
+pub below_limit : (counter : ℕ) → (COUNTER_LIMIT ≤ counter → ⊥) → counter < COUNTER_LIMIT
 below_limit counter other = elim (cases_lt counter COUNTER_LIMIT) [ inl below ↦ below | inr reached ↦ absurd (other reached) ]
 
 group_current : (contents : Contents) (group : Group) → IsLawful contents.current → IsGroup contents group → (Exhausts contents group → ⊥)

@@ -31,6 +31,7 @@ pub mod PartEffects
 pub mod PartSteps
 pub mod PartWords
 pub mod PositionLemmas
+pub mod PromotingLemmas
 pub mod PutPairs
 pub mod ReadBack
 pub mod Readable

@@ -5,5 +5,6 @@ pub mod Formatting
 pub mod Freeing
 pub mod Inspecting
 pub mod Lawful
+pub mod Promoting
 pub mod Reopening
 pub mod Stage

@@ -7,6 +7,7 @@ ghost use Rattle.model.specs.Group.{Contents, IsGroup, after_group};
 ghost use Rattle.model.specs.declared.image.TheConstants.{COUNTER_LIMIT};
 ghost use Rattle.wbl_engine.specs.Contents.{Keeps, IsDurable, Same, Exhausts};
 ghost use Rattle.wbl_engine.specs.Freeing.{AreEnded, Clears, KeepsMap, KeepsVersions, KeepsWithoutSome, after_free, cleared_contents, extents_of};
+ghost use Rattle.wbl_engine.specs.Promoting.{ExhaustsPromotion, promoted};
 
 use crate::committed::Committed;
 use crate::freeing::Freed;
@@ -94,6 +95,24 @@ pub trait Durable {
         // the versions stay, at any moment of the call
         ensures moments { is_faulted self.old ≡ false → LeavesOnly (device self.old) (device self.new)
             (λ image. Keeps (contents self.old) image ⊎ Keeps (cleared_contents (contents self.old)) image) };
+
+    /// Promotes the image: writes one record of the next epoch, with a primary's role and the same position, stamps and gaps. `Fault` if a fence
+    /// failed, in this call or an earlier one; `Exhausted` if the record's number or its epoch would reach 2^62, with nothing changed. It allocates
+    /// no memory.
+    fn promote(&mut self) -> Result<(), Refusal>
+        ensures moved { OnOk result (Same (promoted (contents self.old)) (contents self.new)) }
+        ensures durable { OnOk result (IsDurable (device self.new) (contents self.new)) }
+        ensures sound { OnOk result ((is_faulted self.new ≡ false) × ((device self.new).failures ≡ (device self.old).failures)) }
+        ensures causes { IfErr result (λ refusal. (refusal ≡ Refusal.Fault) ⊎ (refusal ≡ Refusal.Exhausted)) }
+        ensures fault { IsErrOf result Refusal.Fault → (is_faulted self.old ≡ true) ⊎ ((device self.old).failures < (device self.new).failures) }
+        ensures stopped { IsErrOf result Refusal.Fault → is_faulted self.new ≡ true }
+        ensures exhausted { IsErrOf result Refusal.Exhausted → ExhaustsPromotion (contents self.old).current × (self.new ≡ self.old) }
+        ensures exhausts { is_faulted self.old ≡ false → ExhaustsPromotion (contents self.old).current → result ≡ Err Refusal.Exhausted }
+        ensures stays { OnErr result (Same (contents self.old) (contents self.new)) }
+        ensures faulted { is_faulted self.old ≡ true → (result ≡ Err Refusal.Fault) × (self.new ≡ self.old) }
+        // the standby's image before or the primary's after, at any moment of the call
+        ensures moments { is_faulted self.old ≡ false → LeavesOnly (device self.old) (device self.new)
+            (λ image. Keeps (contents self.old) image ⊎ Keeps (promoted (contents self.old)) image) };
 
     /// The current record.
     fn record(&self) -> &Record

@@ -9,6 +9,7 @@ use crate::durable::Durable;
 use crate::erasing::erase_stamps;
 use crate::format::{first_record, format_device};
 use crate::freeing::{Freed, freed_by};
+use crate::promoting::{promoted_record, write_promoted};
 use crate::reopening::reopen_device;
 use crate::restarting::Restarting;
 use crate::successor::next_record;
@@ -198,6 +199,21 @@ impl<P: Pmem> Durable for WblEngine<P> {
             entries: stamped.begins,
             extents: Vec::new(alloc),
         })
+    }
+
+    fn promote(&mut self) -> Result<(), Refusal> {
+        if self.faulted {
+            return Err(Refusal::Fault);
+        }
+        let Some(next) = promoted_record(&self.current) else {
+            return Err(Refusal::Exhausted);
+        };
+        let Ok(()) = write_promoted(&mut self.device, &self.current, &next) else {
+            self.faulted = true;
+            return Err(Refusal::Fault);
+        };
+        self.current = next;
+        Ok(())
     }
 
     fn record(&self) -> &Record {

@@ -8,11 +8,13 @@ ghost use Rattle.heap_layout.specs.declared.entry.Entry.{Entry};
 ghost use Rattle.model.specs.declared.group.Group.{Group};
 ghost use Rattle.model.specs.declared.image.TheConstants.{COUNTER_LIMIT, MIN_LINES, MAX_LINES};
 ghost use Rattle.model.specs.declared.record.Role.{Role};
+ghost use Rattle.model.specs.declared.record.Role.TheVariants.{Primary};
 ghost use Rattle.model.specs.Group.{Contents, IsConsistent, IsGroup, after_group, is_ended_version};
 ghost use Rattle.model.specs.Image.{Image, IsMapOf, entries_of_lines};
 ghost use Rattle.wbl_engine.specs.Contents.{Keeps, IsNew, Same, Exhausts};
 ghost use Rattle.wbl_engine.specs.Freeing.{Clears, without};
 ghost use Rattle.wbl_engine.specs.Lawful.{AreLawful, IsUndamaged};
+ghost use Rattle.wbl_engine.specs.Promoting.{ExhaustsPromotion, promoted, promoted_record};
 ghost use Rattle.wbl_engine.specs.Reopening.{ExhaustsReopening, KeepsThrough, RefusesReopening, Reopens};
 
 /// The contents of a new image, of a size that an image may have, obey the rules.
@@ -71,4 +73,19 @@ pub fn lawful_contents_are_reopened()
     ensures { (contents : Contents) (image : Image) (refusal : Refusal) → AreLawful contents → Keeps contents image
         → RefusesReopening contents.lines image contents.current.role refusal
         → (refusal ≡ Memory) ⊎ ((refusal ≡ Exhausted) × ExhaustsReopening contents.current) }
+{}
+
+/// Contents that obey the rules do so once they are promoted, unless a counter of the record would reach its limit: the versions are those that
+/// they were. Free entries still have no version.
+pub fn promoted_contents_are_lawful()
+    ensures lawful { (contents : Contents) → AreLawful contents → ¬ ExhaustsPromotion contents.current → AreLawful (promoted contents) }
+    ensures consistent { (contents : Contents) → IsConsistent contents → IsConsistent (promoted contents) }
+{}
+
+/// A promoted image is opened as a primary's, neither refused for its role nor as damaged, if the contents obeyed the rules before: unless memory
+/// is refused, a counter of its record is at its limit, or a fence fails.
+pub fn promoted_contents_are_reopened()
+    ensures { (contents : Contents) (image : Image) (refusal : Refusal) → AreLawful contents → ¬ ExhaustsPromotion contents.current
+        → Keeps (promoted contents) image → RefusesReopening contents.lines image Primary refusal
+        → (refusal ≡ Memory) ⊎ ((refusal ≡ Exhausted) × ExhaustsReopening (promoted_record contents.current)) }
 {}

@@ -11,6 +11,7 @@ mod format;
 mod freeing;
 mod inspecting;
 mod laws;
+mod promoting;
 mod reopening;
 mod restarting;
 mod staging;
@@ -24,7 +25,8 @@ pub use heap_layout::Versions;
 pub use inspecting::inspect;
 pub use laws::{
     groups_keep_contents_lawful, lawful_contents_are_reopened, lawful_contents_are_undamaged,
-    new_contents_are_lawful, reopening_keeps_contents, same_contents_are_lawful,
+    new_contents_are_lawful, promoted_contents_are_lawful, promoted_contents_are_reopened,
+    reopening_keeps_contents, same_contents_are_lawful,
 };
 pub use model::{Gap, Record, Role};
 pub use restarting::Restarting;
