@@ -71,6 +71,13 @@ impl<E: Durable, K: Keyspace> Primary<E, K> {
         self.committer.position()
     }
 
+    /// The epoch of its record: which primary of the pair it is.
+    pub fn epoch(&self) -> u64
+        ensures { result ≡ (E.contents self.now.committer.engine).current.epoch }
+    {
+        self.committer.epoch()
+    }
+
     /// Opens a seat for the connection that was given it, as `Sequencer::open_seat` does.
     ///
     /// # Errors
@@ -167,6 +174,15 @@ impl<E: Durable, K: Keyspace> Primary<E, K> {
         ensures same { O.is_same link.old link.new }
     {
         self.committer.turn(alloc, &mut self.work, link, remote)
+    }
+}
+
+impl<E: Durable, K: Keyspace + Drop> Primary<E, K> {
+    /// The engine's device, unchanged. What waits is dropped: this primary does nothing more.
+    pub fn into_device(self) -> E::Device
+        ensures { E.Device.state result ≡ E.device self.committer.engine }
+    {
+        self.committer.into_device()
     }
 }
 
