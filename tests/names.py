@@ -3,7 +3,7 @@
 # Calls and definitions that pages say come later. Once one is there, the pages say so and it is removed from here.
 LATER = [
     "IsFenced", "Promotes",
-    "pin", "promote", "raise_round", "rejoin",
+    "pin", "raise_round", "rejoin",
 ]
 
 # What belongs to Redis, to the toolchain or to the system, requests of one word, and what a page spells for a word of the
@@ -33,6 +33,7 @@ REPEATED = {
     "Discard": "the command: its name, and what a request asks of a session",
     "Durable": "what is durable: an engine that makes it so, and the stage of a group that is",
     "Failed": "it went wrong: a fence, in what a device has gone through; the writing of replies",
+    "Fenced": "a fence is behind it: in what a device has gone through, and of a primary that does nothing more",
     "Field": "a field of a hash: its name, and the record that it names",
     "Free": "what has ended gives its place back: the event, and the list that waits for it",
     "Freed": "places that are free on an image: what the engine returns, and that a turn of the committer did it",
@@ -64,7 +65,8 @@ REPEATED = {
     "commit": "makes a group durable: the engine, and the primary that has one",
     "crash": "what is only in memory is lost: of a device what was not made durable, by itself, under its engine, and under a node's committer or standby; and all connections of a node",
     "enter": "a connection takes a seat",
-    "epoch": "the epoch of the record: of the image under a committer, and of a standby's; and of the frames of a link",
+    "epoch": "the epoch of the record: of the image under a committer or a primary, of a standby's and of a promoted one; of the frames of a link, and of a fence",
+    "fence": "nothing from before goes on behind it: the stores of a device, which are durable then, and a primary, which has ended",
     "feed": "takes the next piece: of a client's bytes, of a server's, and of frames",
     "field": "the field of a hash: of a record its name, of a keyspace what it holds",
     "finish": "an end of a ring is given up and keeps what it was",
@@ -92,6 +94,7 @@ REPEATED = {
     "serve": "answers those who ask: the node's thread, and the connections on its floor",
     "set": "a command of Redis, and a flag",
     "open_seat": "a connection was given its seat: at the sequencer, and at the primary that has it",
+    "promote": "a standby's image becomes a primary's: by its engine, and that of a stopped standby under a fence",
     "position": "a position of the list of calls up to which it stands",
     "read": "a mark is looked at: among threads, and by the gate of a connection",
     "release": "the replies that are covered go out: of a gate, and of the connection whose gate it is",

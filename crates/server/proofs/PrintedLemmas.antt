@@ -3,9 +3,16 @@ use Rattle.std.proofs.Common.{◌≡◌, ℕ, ◌+◌, ◌<◌, List, [], ◌∷
 use Rattle.std.proofs.KnownBytes.{Appends-trans}
 use Rattle.std.proofs.lemmas.List.{flat_map_more, take_more}
 use Rattle.std.specs.Io.KnownBytes.{Appends}
+use Rattle.pmem.specs.Device.{State}
 use Rattle.model.specs.declared.record.Gap.{Gap}
 use Rattle.model.specs.declared.record.Record.{Record}
-use Rattle.server.specs.Printed.{gap_line, gap_lines, image_text, number_line, role_line}
+use Rattle.model.specs.declared.record.Role.TheVariants.{Standby}
+use Rattle.model.specs.Group.{Contents}
+use Rattle.model.specs.Image.{Image}
+use Rattle.wbl_engine.specs.Contents.{IsDurable, Same}
+use Rattle.wbl_engine.specs.Promoting.{promoted}
+use Rattle.standby.specs.Restarting.{IsReopened}
+use Rattle.server.specs.Printed.{TellsPromotion, gap_line, gap_lines, image_text, number_line, promoted_text, role_line}
 
 -- one gap more
 pub gaps-more : (gaps : List Gap) (i : ℕ) (gap : Gap) → i < length gaps → gap_lines (take (i + 1) gaps) ≡ gap_lines (take i gaps) ++ gap_line (slice_index_or gaps i gap)
@@ -27,3 +34,17 @@ image-whole current live count gaps a b c d e f g h i j counted same number posi
     (Appends-trans f g j _ _ role
     (Appends-trans g h j _ _ (subst (λ (n : ℕ). Appends g h (number_line (codes "gaps") n)) counted many)
     (Appends-trans h i j _ _ (subst (λ (gs : List Gap). Appends h i (gap_lines gs)) same each) (subst (Appends i j) (sym (append-nil (number_line (codes "live") live))) last))))))))
+
+-- the epoch of a promoted image, whose device is given back
+pub tells-promotion : {lines epoch : ℕ} {image : Image} {opened contents : Contents} {device left : State} {before after : Option (List ℕ)}
+    → IsReopened lines image Standby opened → Same (promoted opened) contents → left ≡ device → IsDurable device contents
+    → epoch ≡ contents.current.epoch → Appends before after (promoted_text epoch) → TellsPromotion lines image left before after
+tells-promotion {lines} {epoch} {image} {opened} {contents} {device} {left} {before} {after} reopened promotes given durable is told =
+    record {
+      opened = opened;
+      reopened = reopened;
+      contents = contents;
+      promotes = promotes;
+      durable = subst (λ (d : State). IsDurable d contents) (sym given) durable;
+      told = subst (λ (n : ℕ). Appends before after (promoted_text n)) is told;
+    }

@@ -3,18 +3,27 @@ use Rattle.std.specs.Prelude.{◌≡◌, ℕ, Option, List, [], ◌∷◌, ◌++
 use Rattle.std.specs.List.{concat, flat_map}
 use Rattle.std.specs.Fmt.{decimal}
 use Rattle.std.specs.Io.KnownBytes.{Appends}
+use Rattle.pmem.specs.Device.{State}
 use Rattle.model.specs.declared.record.Gap.{Gap}
 use Rattle.model.specs.declared.record.Role.{Role}
 use Rattle.model.specs.declared.record.Role.TheVariants.{Primary, Standby}
 use Rattle.model.specs.declared.record.Record.{Record}
+use Rattle.model.specs.Group.{Contents}
 use Rattle.model.specs.Image.{Image, entries_of_lines}
+use Rattle.wbl_engine.specs.Contents.{IsDurable, Same}
 use Rattle.wbl_engine.specs.Inspecting.{live_below}
 use Rattle.wbl_engine.specs.Lawful.{IsUndamaged}
+use Rattle.wbl_engine.specs.Promoting.{promoted}
+use Rattle.standby.specs.Restarting.{IsReopened}
 use Rattle.server.specs.Told.{newline}
 
 -- after an image of so many lines was formatted
 abbrev pub formatted_text : ℕ → List ℕ
 formatted_text lines = codes "formatted " ++ decimal lines ++ codes " lines, " ++ decimal (entries_of_lines lines) ++ codes " entries" ++ newline
+
+-- after an image was promoted
+abbrev pub promoted_text : ℕ → List ℕ
+promoted_text epoch = codes "promoted to epoch " ++ decimal epoch ++ newline
 
 -- a line of a word and a number
 abbrev pub number_line : List ℕ → ℕ → List ℕ
@@ -51,3 +60,13 @@ pub record TellsImage (lines : ℕ) (image : Image) (before after : Option (List
   pub current : Record
   pub undamaged : IsUndamaged lines current image
   pub told : Appends before after (image_text current (live_below current image (entries_of_lines lines)))
+
+-- An undamaged image of so many lines was a standby's. It was opened again, and what it held then each crash leaves now under a primary's record of the
+-- next epoch, which is told.
+pub record TellsPromotion (lines' : ℕ) (image : Image) (device : State) (before after : Option (List ℕ)) : Type 0 where
+  pub opened : Contents
+  pub reopened : IsReopened lines' image Standby opened
+  pub contents : Contents
+  pub promotes : Same (promoted opened) contents
+  pub durable : IsDurable device contents
+  pub told : Appends before after (promoted_text contents.current.epoch)

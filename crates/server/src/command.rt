@@ -9,6 +9,7 @@ use crate::formatting::format;
 use crate::images::Images;
 use crate::inspecting::inspect;
 use crate::options::{Task, options};
+use crate::promoting::promote;
 use crate::serve::{ServeError, serve};
 use crate::serving_clients::serve_clients;
 use crate::standing_by::stand_by;
@@ -97,6 +98,10 @@ fn run<
     match options(alloc, words)? {
         Task::Format { image, lines, role } => format(images, image, lines, role, writer),
         Task::Inspect { image } => inspect(alloc, images, image, writer),
+        Task::Promote {
+            image,
+            old_primary_stopped,
+        } => promote(alloc, images, image, old_primary_stopped, writer),
         Task::Standby { image, listen } => stand_by(rt, alloc, images, image, listen),
         Task::Primary {
             image,

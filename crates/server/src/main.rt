@@ -9,6 +9,7 @@ mod images;
 mod inspecting;
 mod opening;
 mod options;
+mod promoting;
 mod schedule;
 mod serve;
 mod serving_clients;

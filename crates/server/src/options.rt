@@ -10,6 +10,9 @@ const PROGRAM: &str = "wbl-server";
 
 const PRIMARY: &str = "primary";
 
+/// The option by which the operator states that the old primary does nothing more.
+const STOPPED: &str = "old-primary-stopped";
+
 /// The roles that an image is formatted for.
 static ROLES: [&str; 2] = [PRIMARY, "standby"];
 
@@ -32,6 +35,11 @@ pub enum Task<'a> {
     Standby {
         image: &'a str,
         listen: &'a str,
+    },
+    /// To make the image of a stopped standby a primary's, if the operator says that the old primary is stopped.
+    Promote {
+        image: &'a str,
+        old_primary_stopped: bool,
     },
     /// To print what an image holds.
     Inspect {
@@ -76,6 +84,7 @@ fn grammar<'a>(alloc: Global) -> Result<Command<'a>, Error> {
         .subcommand(format_command(alloc)?)?
         .subcommand(primary_command(alloc)?)?
         .subcommand(standby_command(alloc)?)?
+        .subcommand(promote_command(alloc)?)?
         .subcommand(inspect_command(alloc)?)?;
     Ok(command)
 }
@@ -113,6 +122,18 @@ fn standby_command<'a>(alloc: Global) -> Result<Command<'a>, Error> {
         .about("Follows a primary")
         .arg(image(alloc))?
         .arg(option(alloc, "listen", "ADDRESS", "Where the primary connects"))?;
+    Ok(command)
+}
+
+fn promote_command<'a>(alloc: Global) -> Result<Command<'a>, Error> {
+    let stopped = Arg::new(alloc, STOPPED)
+        .long(STOPPED)
+        .help("States that the old primary is stopped and is not started again")
+        .action(ArgAction::SetTrue);
+    let command = Command::new(alloc, "promote")
+        .about("Makes a stopped standby's image a primary's")
+        .arg(image(alloc))?
+        .arg(stopped)?;
     Ok(command)
 }
 
@@ -156,6 +177,10 @@ fn asked<'a>(matches: &ArgMatches<'a>) -> Option<Task<'a>> {
         "standby" => Some(Task::Standby {
             image,
             listen: found.get_str("listen")?,
+        }),
+        "promote" => Some(Task::Promote {
+            image,
+            old_primary_stopped: found.get_flag(STOPPED),
         }),
         "inspect" => Some(Task::Inspect { image }),
         _ => None,
