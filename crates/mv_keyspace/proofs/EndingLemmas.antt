@@ -1,5 +1,6 @@
 -- The ranges in which the rows stand that a change ends.
-use Rattle.std.proofs.Common.{◌≡◌, ℕ, ◌+◌, ◌≤◌, Bool, true, false, not, ◌&&◌, List, ◌++◌, length, IsTrue, T, Vec, vec_capacity, slice_range, refl, sym, ap, subst, ◌∙◌, arith}
+use Rattle.std.proofs.Common.{◌≡◌, ℕ, ◌+◌, ◌≤◌, Bool, true, false, not, ◌&&◌, List, ◌++◌, length, IsTrue, T, Vec, vec_capacity, slice_range, refl, sym, ap, subst, ◌∙◌, ◌-◌, take, drop, arith}
+use Rattle.std.proofs.lemmas.List.{length-drop, length-take-le}
 use Rattle.std.proofs.lemmas.List.Filters.{length-filter_both}
 use Rattle.std.specs.List.{remove_range}
 use Rattle.std.specs.Global.{Global}
@@ -8,7 +9,7 @@ use Rattle.kv_types.specs.declared.record_id.RecordId.{RecordId}
 use Rattle.kv_types.specs.declared.place.EntryNo.{EntryNo}
 use Rattle.kv_types.specs.Keyspace.{record_cmp}
 use Rattle.cmd_core.specs.Record.{SplitsAt}
-use Rattle.cmd_core.proofs.OrderedLemmas.{range-between, left-between}
+use Rattle.cmd_core.proofs.OrderedLemmas.{cuts-rise, range-between, left-between}
 use Rattle.mv_keyspace.specs.declared.row.Row.{Row}
 use Rattle.mv_keyspace.specs.Table.{Cell, Table, entries_of, IsLawful}
 use Rattle.mv_keyspace.specs.Row.{records_of, records_of_table, table_of, numbers_of, TakesOut}
@@ -16,6 +17,12 @@ use Rattle.mv_keyspace.proofs.ListLemmas.{length_map, length-ended, entry_of, ta
 use Rattle.mv_keyspace.proofs.TableMembers.{is_sorted-records}
 
 -- ---- rows between two cuts
+
+pub length_slice : {A : Type 0} (xs : List A) (i j : ℕ) → i ≤ j → j ≤ length xs → i + length (slice_range xs i j) ≡ j
+length_slice xs i j rise within =
+    let rest = length-drop i xs in
+    let part = length-take-le (j - i) (drop i xs) (omega (arith, rise, within, rest)) in
+    omega (arith, rise, within, part)
 
 module _ (earlier later passes : RecordId → Bool) (both : (id : RecordId) → earlier id ≡ true → later id ≡ true) (between : (id : RecordId) → passes id ≡ (later id && not (earlier id))) (rows : List Row) (i j : ℕ)
     (start : SplitsAt (λ (row : Row). earlier row.id) rows i) (end : SplitsAt (λ (row : Row). later row.id) rows j) where
@@ -30,6 +37,15 @@ module _ (earlier later passes : RecordId → Bool) (both : (id : RecordId) → 
       ap table_of (left-between (λ (row : Row). earlier row.id) (λ (row : Row). later row.id) (λ row. both row.id) rows i j start end)
       ∙ table_of-filter (λ id. not (later id && not (earlier id))) rows
       ∙ (λ t. where_key record_cmp (λ id. not (sym (between id) t)) (table_of rows))
+
+  -- as many rows stand between the cuts as pass
+  pub range-length : i + length (where_key record_cmp passes (table_of rows)) ≡ j
+  range-length =
+      let rise = cuts-rise (λ (row : Row). earlier row.id) (λ (row : Row). later row.id) (λ row. both row.id) rows i j start end in
+      let same = ap (λ (t : Table). length t) range-passes in
+      let slice = length_map entry_of (slice_range rows i j) in
+      let few = length_slice rows i j rise end.0 in
+      omega (arith, rise, same, slice, few)
 
 -- rows that pass a test and rows that do not are all rows
 pub length-taken : (passes : RecordId → Bool) (rows left : List Row) (before after : List EntryNo) → table_of left ≡ where_key record_cmp (λ id. not (passes id)) (table_of rows)

@@ -11,3 +11,7 @@ pub mod EndingLemmas
 pub mod KeyCountLemmas
 pub mod PuttingLemmas
 pub mod LoadingLemmas
+pub mod SlotLemmas
+pub mod PlacingLemmas
+pub mod WritingLemmas
+pub mod ReadingLemmas

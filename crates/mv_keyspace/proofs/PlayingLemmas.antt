@@ -1,13 +1,21 @@
 -- Changes made one after another: what holds between two of them.
-use Rattle.std.proofs.Common.{◌≡◌, ℕ, ◌<◌, List, [], ◌∷◌, ◌++◌, length, refl, sym, ap, subst, ◌∙◌, append_assoc, subst₂, drop, get_or, ◌+◌}
+use Rattle.std.proofs.Common.{◌≡◌, ℕ, ◌<◌, List, [], ◌∷◌, ◌++◌, length, refl, sym, ap, subst, ◌∙◌, append_assoc, subst₂, drop, get_or, ◌+◌, ◌≤◌, not, length-append, arith}
+use Rattle.std.proofs.lemmas.List.Filters.{length-filter_both}
 use Rattle.std.proofs.lemmas.List.{append-nil, drop_more}
+use Rattle.std.specs.FinMap.Entries.{where_key}
 use Rattle.kv_types.specs.declared.record_id.RecordId.{RecordId}
+use Rattle.kv_types.specs.declared.record_id.RecordId.TheVariants.{Str, Field}
+use Rattle.kv_types.specs.declared.change.Change.TheVariants as kinds
+use Rattle.kv_types.specs.Keyspace.{record_cmp}
+use Rattle.kv_types.specs.declared.change.Change.{Change}
+use Rattle.mv_keyspace.specs.declared.row.Row.{Row}
+use Rattle.mv_keyspace.proofs.ListLemmas.{length_map, entry_of}
 use Rattle.model.specs.declared.group.Put.{Put}
 use Rattle.model.specs.declared.group.PlacedChange.{PlacedChange}
 use Rattle.model.specs.declared.group.PlacedChange.TheVariants as placed
-use Rattle.model.specs.Group.{change_of, put_of}
+use Rattle.model.specs.Group.{change_of, ends_record, put_of}
 use Rattle.mv_keyspace.specs.Table.{Cell, Table, with_cell, entries_of, cell_of_put, place, place_all, puts_of, AreFresh, IsLawful, AreNumbersEnded}
-use Rattle.mv_keyspace.specs.Row.{ended_rows, spared_rows, rows_of_puts}
+use Rattle.mv_keyspace.specs.Row.{ended_rows, spared_rows, rows_of_puts, table_of}
 use Rattle.mv_keyspace.proofs.TableMembers.{IsSortedTable}
 use Rattle.mv_keyspace.proofs.EndedLemmas.{place-made, lawful-place, fresh-place, none-ended, ended-first}
 
@@ -49,6 +57,14 @@ module _ (position : ℕ) (start : Table) (all : List PlacedChange) (before : Li
         (playing.numbers (entries_of (ended_rows (change_of c) table) ++ more) (ended-first position c rest table playing.lawful playing.fresh more h));
   }
 
+-- what a put ends is a matter of its record alone
+pub ended-put_id : (id other : RecordId) (value value' : List ℕ) (table : Table) → id ≡ other → length (where_key record_cmp (ends_record (kinds.Put id value)) table) ≡ length (ended_rows (kinds.Put other value') table)
+ended-put_id id other value value' table is = (λ k. length (where_key record_cmp (ends_record (kinds.Put (is k) value)) table)) ∙ own other
+  where
+    own : (other : RecordId) → length (where_key record_cmp (ends_record (kinds.Put other value)) table) ≡ length (ended_rows (kinds.Put other value') table)
+    own (Str key) = refl
+    own (Field key field) = refl
+
 -- the first row that is staged is that of the put
 module _ (position : ℕ) (put : Put) (later : List Put) (table : Table) (staged left : Table) (id : RecordId) (cell : Cell) (is : staged ≡ rows_of_puts position (put ∷ later)) (first : staged ≡ (id, cell) ∷ left) where
   both : (id, cell) ∷ left ≡ (put.id, cell_of_put position put) ∷ rows_of_puts position later
@@ -89,3 +105,21 @@ module _ (position : ℕ) (start : Table) (all : List PlacedChange) (before : Li
   change-step after left is left_is named is_named =
       subst₂ (λ t e. Playing position start all before t (drop (n + 1) all) left e) (sym is) (sym is_named)
       (playing-place position start all before table c (drop (n + 1) all) waiting ended at_change left left_is)
+
+-- ---- room
+
+-- the rows of these puts are staged
+pub length-staged : (position : ℕ) (puts later : List Put) (rows : List Row) → table_of rows ≡ rows_of_puts position (puts ++ later) → length puts ≤ length rows
+length-staged position puts later rows is =
+    let same = ap (λ (t : Table). length t) is in
+    let all = length_map entry_of rows in
+    let made = length_map {Y = RecordId × Cell} (λ (put : Put). (put.id, cell_of_put position put)) (puts ++ later) in
+    let parts = length-append puts later in
+    omega (arith, same, all, made, parts)
+
+-- a change ends rows that are there
+pub ended-few : (c : Change) (rows : List Row) → length (ended_rows c (table_of rows)) ≤ length rows
+ended-few c rows =
+    let both = length-filter_both (λ (row : RecordId × Cell). ends_record c row.0) (λ row. not (ends_record c row.0)) (λ row. refl) (table_of rows) in
+    let all = length_map entry_of rows in
+    omega (arith, both, all)

@@ -25,9 +25,9 @@ use Rattle.model.specs.Group.{ends_record}
 use Rattle.mv_keyspace.specs.declared.row.Row.{Row}
 use Rattle.mv_keyspace.specs.Table.{Cell, Table, cell_at, with_cell, entries_of}
 use Rattle.mv_keyspace.specs.Row.{cell_of_row, table_of, numbers_of, TakesOut, is_string_of, stands_for, IsRangeOf, PutsIn}
-use Rattle.mv_keyspace.proofs.ListLemmas.{entry_of, table_of-insert}
+use Rattle.mv_keyspace.proofs.ListLemmas.{length_map, entry_of, table_of-insert}
 use Rattle.mv_keyspace.proofs.EndedLemmas.{cell_at-spared}
-use Rattle.mv_keyspace.proofs.EndingLemmas.{AreInOrder, order-table, range-passes, left-passes, length-taken, length-left, takes_out}
+use Rattle.mv_keyspace.proofs.EndingLemmas.{length_slice, AreInOrder, order-table, range-passes, left-passes, length-taken, length-left, takes_out}
 
 -- ---- a field and the string of its key, ended one after the other
 
@@ -107,6 +107,14 @@ ended-put : (id : RecordId) (value : List ℕ) (table : Table) → IsTrue (is_so
     → where_key record_cmp (is_string_of id) table ++ where_key record_cmp (stands_for id) (where_key record_cmp (λ other. not (is_string_of id other)) table) ≡ where_key record_cmp (ends_record (change.Put id value)) table
 ended-put (Str key) value table sorted = ap₂ (λ a b. a ++ where_key record_cmp (stands_for (Str key)) b) (where_none table) (where_all table)
 ended-put (Field key field) value table sorted = ended-both key field table sorted
+
+-- the rows that a put ends, in two steps
+pub length-ended_put : (id : RecordId) (value : List ℕ) (table : Table) → IsTrue (is_sorted record_cmp table)
+    → length (where_key record_cmp (is_string_of id) table) + length (where_key record_cmp (stands_for id) (where_key record_cmp (λ other. not (is_string_of id other)) table)) ≡ length (where_key record_cmp (ends_record (change.Put id value)) table)
+length-ended_put id value table sorted =
+    let whole = ap (λ (t : Table). length t) (ended-put id value table sorted) in
+    let parts = length-append (where_key record_cmp (is_string_of id) table) (where_key record_cmp (stands_for id) (where_key record_cmp (λ other. not (is_string_of id other)) table)) in
+    omega (arith, whole, parts)
 
 spared-put : (id : RecordId) (value : List ℕ) (table : Table)
     → where_key record_cmp (λ other. not (stands_for id other)) (where_key record_cmp (λ other. not (is_string_of id other)) table) ≡ where_key record_cmp (λ other. not (ends_record (change.Put id value) other)) table
@@ -204,6 +212,14 @@ numbers-over rows row first i j before pushed after lt within is push named =
     ∙ ap (λ items. numbers_of before ++ entries_of (table_of items)) (sym (slice-over rows row first i j lt within is))
 
 -- ---- the range of a record
+
+-- as many rows are in the range as the record goes in the place of
+pub length-range_of : (id : RecordId) (rows : List Row) (i j : ℕ) → IsRangeOf id rows i j → i + length (where_key record_cmp (stands_for id) (table_of rows)) ≡ j
+length-range_of id rows i j range =
+    let same = ap (λ (t : Table). length t) range.inside in
+    let slice = length_map entry_of (slice_range rows i j) in
+    let few = length_slice rows i j range.rise range.within in
+    omega (arith, same, slice, few)
 
 module _ (id : RecordId) (later : RecordId → Bool) (both : (other : RecordId) → comes_before id other ≡ true → later other ≡ true) (between : (other : RecordId) → stands_for id other ≡ (later other && not (comes_before id other))) (rows : List Row) (i j : ℕ)
     (start : SplitsAt (λ (row : Row). comes_before id row.id) rows i) (end : SplitsAt (λ (row : Row). later row.id) rows j) where

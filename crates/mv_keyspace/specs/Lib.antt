@@ -1,4 +1,5 @@
 pub mod Table
 pub mod Row
 pub mod Keys
+pub mod Slots
 pub mod Loading

@@ -1,9 +1,9 @@
 //! The rows that a change ends, taken out of a list in order by the ranges in which they stand.
-ghost use Rattle.std.specs.Prelude.{◌≡◌, ◌+◌, ◌≤◌, ◌++◌, true, IsTrue, nat_eq, slice_range, vec_len, vec_capacity};
+ghost use Rattle.std.specs.Prelude.{◌≡◌, ◌+◌, ◌≤◌, ◌++◌, length, true, IsTrue, nat_eq, slice_range, vec_len, vec_capacity};
 ghost use Rattle.std.specs.List.{remove_range};
 ghost use Rattle.std.specs.Ordering.{eq_by_cmp};
 ghost use Rattle.std.specs.Cmp.Lexicographic.{pointwise};
-ghost use Rattle.std.specs.FinMap.Entries.{is_sorted};
+ghost use Rattle.std.specs.FinMap.Entries.{is_sorted, where_key};
 ghost use Rattle.kv_types.specs.Keyspace.{key_of, record_cmp};
 ghost use Rattle.mv_keyspace.specs.Table.{entries_of};
 ghost use Rattle.mv_keyspace.specs.Row.{TakesOut, is_string_of, numbers_of, records_of, table_of};
@@ -14,7 +14,7 @@ use kv_types::{EntryNo, Field, Key, RecordId};
 
 /// Ends all records.
 pub(crate) fn end_all(rows: &mut Vec<Row>, ended: &mut Vec<EntryNo>)
-    requires room { vec_len ended.old + vec_len rows.old ≤ vec_capacity ended.old }
+    requires room { vec_len ended.old + length (where_key record_cmp (λ id. true) (table_of rows.old.items)) ≤ vec_capacity ended.old }
     ensures { TakesOut (λ id. true) rows.old rows.new ended.old ended.new }
 {
     let end = rows.len();
@@ -24,7 +24,7 @@ pub(crate) fn end_all(rows: &mut Vec<Row>, ended: &mut Vec<EntryNo>)
 /// Ends all records of a key.
 pub(crate) fn end_key(rows: &mut Vec<Row>, key: &Key, ended: &mut Vec<EntryNo>)
     requires order { IsTrue (is_sorted record_cmp (records_of rows.old.items)) }
-    requires room { vec_len ended.old + vec_len rows.old ≤ vec_capacity ended.old }
+    requires room { vec_len ended.old + length (where_key record_cmp (λ id. pointwise nat_eq (key_of id) key.now) (table_of rows.old.items)) ≤ vec_capacity ended.old }
     ensures { TakesOut (λ id. pointwise nat_eq (key_of id) key.now) rows.old rows.new ended.old ended.new }
 {
     let start = start_of_key(rows, key.as_slice());
@@ -35,7 +35,7 @@ pub(crate) fn end_key(rows: &mut Vec<Row>, key: &Key, ended: &mut Vec<EntryNo>)
 /// Ends one record, if it is there.
 pub(crate) fn end_record(rows: &mut Vec<Row>, id: &RecordId, ended: &mut Vec<EntryNo>)
     requires order { IsTrue (is_sorted record_cmp (records_of rows.old.items)) }
-    requires room { vec_len ended.old + vec_len rows.old ≤ vec_capacity ended.old }
+    requires room { vec_len ended.old + length (where_key record_cmp (λ other. eq_by_cmp record_cmp other id.now) (table_of rows.old.items)) ≤ vec_capacity ended.old }
     ensures { TakesOut (λ other. eq_by_cmp record_cmp other id.now) rows.old rows.new ended.old ended.new }
 {
     match id {
@@ -47,7 +47,7 @@ pub(crate) fn end_record(rows: &mut Vec<Row>, id: &RecordId, ended: &mut Vec<Ent
 /// Ends the string of a key, if there is one.
 fn end_string(rows: &mut Vec<Row>, key: &Key, ended: &mut Vec<EntryNo>)
     requires order { IsTrue (is_sorted record_cmp (records_of rows.old.items)) }
-    requires room { vec_len ended.old + vec_len rows.old ≤ vec_capacity ended.old }
+    requires room { vec_len ended.old + length (where_key record_cmp (λ other. eq_by_cmp record_cmp other (RecordId.Str key.now)) (table_of rows.old.items)) ≤ vec_capacity ended.old }
     ensures { TakesOut (λ other. eq_by_cmp record_cmp other (RecordId.Str key.now)) rows.old rows.new ended.old ended.new }
 {
     let start = start_of_key(rows, key.as_slice());
@@ -58,7 +58,7 @@ fn end_string(rows: &mut Vec<Row>, key: &Key, ended: &mut Vec<EntryNo>)
 /// Ends what a put of a record ends beside the rows in whose place it goes: the string of a field's key.
 pub(crate) fn end_string_of(rows: &mut Vec<Row>, id: &RecordId, ended: &mut Vec<EntryNo>)
     requires order { IsTrue (is_sorted record_cmp (records_of rows.old.items)) }
-    requires room { vec_len ended.old + vec_len rows.old ≤ vec_capacity ended.old }
+    requires room { vec_len ended.old + length (where_key record_cmp (is_string_of id.now) (table_of rows.old.items)) ≤ vec_capacity ended.old }
     ensures { TakesOut (is_string_of id.now) rows.old rows.new ended.old ended.new }
 {
     match id {
@@ -70,7 +70,7 @@ pub(crate) fn end_string_of(rows: &mut Vec<Row>, id: &RecordId, ended: &mut Vec<
 /// Ends a field of a key, if it is there.
 fn end_field(rows: &mut Vec<Row>, key: &Key, field: &Field, ended: &mut Vec<EntryNo>)
     requires order { IsTrue (is_sorted record_cmp (records_of rows.old.items)) }
-    requires room { vec_len ended.old + vec_len rows.old ≤ vec_capacity ended.old }
+    requires room { vec_len ended.old + length (where_key record_cmp (λ other. eq_by_cmp record_cmp other (RecordId.Field key.now field.now)) (table_of rows.old.items)) ≤ vec_capacity ended.old }
     ensures { TakesOut (λ other. eq_by_cmp record_cmp other (RecordId.Field key.now field.now)) rows.old rows.new ended.old ended.new }
 {
     let start = start_of_field(rows, key.as_slice(), field.as_slice());

@@ -3,12 +3,16 @@
 
 mod counting;
 mod ending;
+mod key_bytes;
 mod keyspace;
 mod list_keyspace;
 mod loading;
+mod making;
 mod putting;
 mod row;
 mod sharing;
+mod slot;
+mod slots;
 
 pub use keyspace::Keyspace;
 pub use list_keyspace::ListKeyspace;

@@ -11,11 +11,10 @@ ghost use Rattle.mv_keyspace.specs.Table.{entries_of, place, place_all, puts_of,
 ghost use Rattle.mv_keyspace.specs.Row.{records_of, table_of, rows_of_puts, numbers_of, ended_rows};
 
 use crate::counting::{count_others, count_with};
-use crate::ending::{end_all, end_key, end_record};
 use crate::keyspace::Keyspace;
 use crate::loading::sort_rows;
-use crate::putting::put_row;
-use crate::row::{Row, row_of};
+use crate::making::{make_change, stage};
+use crate::row::Row;
 use crate::sharing::rows_since;
 use cmd_core::{
     Lookup, count_fields_in_order, count_keys_in, field_in_order, fields_in_order, has_in_order,
@@ -24,7 +23,6 @@ use cmd_core::{
 use kv_types::{EntryNo, Field, Refusal, Value};
 use model::PlacedChange;
 use std::alloc::{AllocError, Global};
-use std::vec::IntoIter;
 
 /// The live records of a node, as a list in their order. It is halved to find a record or the place of one, and the keys are
 /// counted as they come and go.
@@ -133,20 +131,6 @@ impl Keyspace for ListKeyspace {
     }
 }
 
-/// The rows that the puts among the changes make, in order.
-fn stage(alloc: Global, changes: &[PlacedChange], position: u64) -> Result<Vec<Row>, Refusal>
-    ensures ok { IfOk result (λ staged. table_of staged.items ≡ rows_of_puts position (puts_of changes.now)) }
-    ensures cause { IfErr result (λ refusal. refusal ≡ Refusal.Memory) }
-{
-    let mut staged = Vec::new(alloc);
-    for change in changes {
-        if let PlacedChange::Put(put) = change {
-            staged.push(row_of(put, position)?)?;
-        }
-    }
-    Ok(staged)
-}
-
 /// Makes the changes, whose puts have their rows staged, and returns how many keys there are then; there were `keys`.
 /// The entries that the changes ended come after those in `ended`. There is room for everything that the changes add.
 fn play(
@@ -176,33 +160,4 @@ fn play(
         count = count_with(rows, others, change);
     }
     count
-}
-
-/// Makes one change. A put takes the first of the rows that are staged.
-fn make_change(
-    rows: &mut Vec<Row>,
-    change: &PlacedChange,
-    staged: &mut IntoIter<Row>,
-    ended: &mut Vec<EntryNo>,
-)
-    requires order { IsTrue (is_sorted record_cmp (records_of rows.old.items)) }
-    requires staged { (position : ℕ) × (later : List Put) × (table_of (into_iter_items staged.old) ≡ rows_of_puts position (put_of change.now ++ later)) }
-    requires room { vec_len rows.old + into_iter_len staged.old ≤ vec_capacity rows.old }
-    requires room_for_ended { vec_len ended.old + vec_len rows.old ≤ vec_capacity ended.old }
-    ensures table { (position : ℕ) (later : List Put) → table_of (into_iter_items staged.old) ≡ rows_of_puts position (put_of change.now ++ later)
-        → (table_of rows.new.items ≡ place position (table_of rows.old.items) change.now) × (table_of (into_iter_items staged.new) ≡ rows_of_puts position later) }
-    ensures ended { numbers_of ended.new.items ≡ numbers_of ended.old.items ++ entries_of (ended_rows (change_of change.now) (table_of rows.old.items)) }
-    ensures len { vec_len ended.new + (vec_len rows.new + into_iter_len staged.new) ≡ vec_len ended.old + (vec_len rows.old + into_iter_len staged.old) }
-    ensures room { vec_len rows.new + into_iter_len staged.new ≤ vec_capacity rows.new }
-    ensures capacity_for_ended { vec_capacity ended.old ≤ vec_capacity ended.new }
-{
-    match change {
-        PlacedChange::Put(_) => {
-            let row = staged.next().unwrap();
-            put_row(rows, row, ended);
-        }
-        PlacedChange::Drop(id) => end_record(rows, id, ended),
-        PlacedChange::DropKey(key) => end_key(rows, key, ended),
-        PlacedChange::Clear => end_all(rows, ended),
-    }
 }

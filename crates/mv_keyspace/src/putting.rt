@@ -1,7 +1,7 @@
 //! The row of a put, in the place of what it replaces.
-ghost use Rattle.std.specs.Prelude.{◌≡◌, ℕ, List, ◌+◌, ◌<◌, ◌≤◌, ◌++◌, [], ◌∷◌, IsTrue, slice_range, vec_len, vec_capacity};
+ghost use Rattle.std.specs.Prelude.{◌≡◌, ℕ, List, ◌+◌, ◌<◌, ◌≤◌, ◌++◌, [], ◌∷◌, length, IsTrue, slice_range, vec_len, vec_capacity};
 ghost use Rattle.std.specs.List.{replace_range};
-ghost use Rattle.std.specs.FinMap.Entries.{is_sorted};
+ghost use Rattle.std.specs.FinMap.Entries.{is_sorted, where_key};
 ghost use Rattle.kv_types.specs.declared.change.Change.TheVariants as kinds;
 ghost use Rattle.kv_types.specs.Keyspace.{record_cmp};
 ghost use Rattle.model.specs.Group.{ends_record};
@@ -18,7 +18,7 @@ use kv_types::{EntryNo, RecordId};
 pub(crate) fn put_row(rows: &mut Vec<Row>, row: Row, ended: &mut Vec<EntryNo>)
     requires order { IsTrue (is_sorted record_cmp (records_of rows.old.items)) }
     requires room { vec_len rows.old < vec_capacity rows.old }
-    requires room_for_ended { vec_len ended.old + vec_len rows.old ≤ vec_capacity ended.old }
+    requires room_for_ended { (value : List ℕ) → vec_len ended.old + length (where_key record_cmp (ends_record (kinds.Put row.id value)) (table_of rows.old.items)) ≤ vec_capacity ended.old }
     ensures { (value : List ℕ) → PutsIn row (ends_record (kinds.Put row.id value)) rows.old rows.new ended.old ended.new }
 {
     end_string_of(rows, &row.id, ended);
@@ -48,7 +48,7 @@ fn put_over(rows: &mut Vec<Row>, start: usize, end: usize, row: Row, ended: &mut
     requires rise { start ≤ end }
     requires within { end ≤ vec_len rows.old }
     requires room { vec_len rows.old < vec_capacity rows.old }
-    requires room_for_ended { vec_len ended.old + vec_len rows.old ≤ vec_capacity ended.old }
+    requires room_for_ended { vec_len ended.old + end ≤ vec_capacity ended.old + start }
     ensures rows { rows.new.items ≡ replace_range rows.old.items start end (row ∷ []) }
     ensures ended { numbers_of ended.new.items ≡ numbers_of ended.old.items ++ entries_of (table_of (slice_range rows.old.items start end)) }
     ensures capacity { vec_capacity rows.old ≤ vec_capacity rows.new }

@@ -1,4 +1,4 @@
-use Rattle.std.proofs.Common.{◌++◌, length, sym, ap, subst, ◌∙◌, arith}
+use Rattle.std.proofs.Common.{◌+◌, ◌≤◌, ◌++◌, length, sym, ap, subst, ◌∙◌, arith}
 use Rattle.std.specs.Option.{option_to_list}
 use Rattle.std.specs.Vec.Iter.{into_iter_items}
 use Rattle.kv_types.specs.declared.change.Change.TheVariants as kinds
@@ -7,13 +7,40 @@ use Rattle.mv_keyspace.specs.Table.{place, entries_of}
 use Rattle.mv_keyspace.specs.Row.{table_of, cell_of_row, rows_of_puts, ended_rows, numbers_of, TakesOut, PutsIn}
 use Rattle.mv_keyspace.proofs.EndedLemmas.{place-spared}
 use Rattle.mv_keyspace.proofs.EndingLemmas.{order-table}
-use Rattle.mv_keyspace.proofs.PlayingLemmas.{id-first, placed-first, left-first}
-use Rattle.mv_keyspace.proofs.list_keyspace.make_change.Goals as goal
+use Rattle.mv_keyspace.proofs.PlayingLemmas.{ended-put_id, id-first, placed-first, left-first}
+use Rattle.mv_keyspace.proofs.making.make_change.Goals as goal
 
 pub put_row-requires-clause-room : goal.put_row-requires-clause-room
-put_row-requires-clause-room c =
-    let taken = ap (λ r. length (option_to_list r)) c.unwrap-row.ensures in
-    omega (arith, taken, c.next.ensures.len, c.requires.room)
+put_row-requires-clause-room c = let one = ap (λ change. length (put_of change)) c.in-Put.is in omega (arith, one, c.requires.room)
+
+pub put_row-requires-clause-room_for_ended : goal.put_row-requires-clause-room_for_ended
+put_row-requires-clause-room_for_ended c = λ value.
+    let row = c.unwrap-row.result in
+    let table = table_of c.args.rows.now.items in
+    let put = c.in-Put.field-0 in
+    let first = ap table_of (c.next.ensures.items ∙ ap (λ r. option_to_list r ++ into_iter_items c.next.new.self) c.unwrap-row.ensures) in
+    let own_staged = c.requires.staged.2 ∙ ap (λ change. rows_of_puts c.requires.staged.0 (put_of change ++ c.requires.staged.1)) c.in-Put.is in
+    let id_is = id-first c.requires.staged.0 put c.requires.staged.1 table (table_of (into_iter_items c.args.staged.now)) (table_of (into_iter_items c.next.new.self)) row.id (cell_of_row row) own_staged first in
+    let same = ended-put_id row.id put.id value put.value table id_is in
+    let change = ap (λ change. length (ended_rows (change_of change) table)) c.in-Put.is in
+    omega (arith, same, change, c.requires.room_for_ended)
+
+pub end_record-requires-clause-room : goal.end_record-requires-clause-room
+end_record-requires-clause-room c =
+    let change = ap (λ change. length (ended_rows (change_of change) (table_of c.args.rows.now.items))) c.in-Drop.is in
+    omega (arith, change, c.requires.room_for_ended)
+
+pub end_key-requires-clause-room : goal.end_key-requires-clause-room
+end_key-requires-clause-room c =
+    let change = ap (λ change. length (ended_rows (change_of change) (table_of c.args.rows.now.items))) c.in-DropKey.is in
+    omega (arith, change, c.requires.room_for_ended)
+
+pub end_all-requires : goal.end_all-requires
+end_all-requires c = record {
+  room =
+      let change = ap (λ change. length (ended_rows (change_of change) (table_of c.args.rows.now.items))) c.in-Clear.is in
+      omega (arith, change, c.requires.room_for_ended);
+}
 
 pub returns-in-Put : goal.returns-in-Put
 returns-in-Put c =
@@ -24,6 +51,7 @@ returns-in-Put c =
     let put = c.in-Put.field-0 in
     let first = ap table_of (c.next.ensures.items ∙ ap (λ r. option_to_list r ++ into_iter_items c.next.new.self) c.unwrap-row.ensures) in
     let taken = ap (λ r. length (option_to_list r)) c.unwrap-row.ensures in
+    let one = ap (λ change. length (put_of change)) c.in-Put.is in
     let own_staged = c.requires.staged.2 ∙ ap (λ change. rows_of_puts c.requires.staged.0 (put_of change ++ c.requires.staged.1)) c.in-Put.is in
     let id_is = id-first c.requires.staged.0 put c.requires.staged.1 table waiting left row.id (cell_of_row row) own_staged first in
     let puts = subst (λ id. PutsIn row (ends_record (kinds.Put id put.value)) c.args.rows.now c.put_row.new.rows c.args.ended.now c.put_row.new.ended) id_is (c.put_row.ensures put.value) in
@@ -34,8 +62,10 @@ returns-in-Put c =
             left-first position put later table waiting left row.id (cell_of_row row) is first,
           );
       ended = puts.numbers ∙ ap (λ change. numbers_of c.args.ended.now.items ++ entries_of (ended_rows (change_of change) table)) (sym c.in-Put.is);
-      len = let len = puts.len in omega (arith, taken, len, c.next.ensures.len);
-      room = let fewer = puts.fewer in let capacity = puts.capacity in omega (arith, taken, fewer, capacity, c.next.ensures.len, c.requires.room);
+      len = let len = puts.len in omega (arith, one, len);
+      left = omega (arith, one, taken, c.next.ensures.len);
+      fewer = let fewer = puts.fewer in omega (arith, one, fewer);
+      capacity = puts.capacity;
       capacity_for_ended = puts.capacity_for_ended;
     }
 
@@ -48,8 +78,10 @@ returns-in-Drop c =
     record {
       table = λ position later staged. (taken.table ∙ place-spared position change (table_of rows.items) none, staged ∙ ap (λ puts. rows_of_puts position (puts ++ later)) none);
       ended = taken.numbers;
-      len = let len = taken.len in omega (arith, len);
-      room = let fewer = taken.fewer in let capacity = taken.capacity in omega (arith, fewer, capacity, c.requires.room);
+      len = let len = taken.len in let zero = ap (λ puts. length puts) none in omega (arith, zero, len);
+      left = let zero = ap (λ puts. length puts) none in omega (arith, zero);
+      fewer = let fewer = taken.fewer in let zero = ap (λ puts. length puts) none in omega (arith, zero, fewer);
+      capacity = let capacity = taken.capacity in omega (arith, capacity);
       capacity_for_ended = taken.capacity_for_ended;
     }
 
@@ -62,8 +94,10 @@ returns-in-DropKey c =
     record {
       table = λ position later staged. (taken.table ∙ place-spared position change (table_of rows.items) none, staged ∙ ap (λ puts. rows_of_puts position (puts ++ later)) none);
       ended = taken.numbers;
-      len = let len = taken.len in omega (arith, len);
-      room = let fewer = taken.fewer in let capacity = taken.capacity in omega (arith, fewer, capacity, c.requires.room);
+      len = let len = taken.len in let zero = ap (λ puts. length puts) none in omega (arith, zero, len);
+      left = let zero = ap (λ puts. length puts) none in omega (arith, zero);
+      fewer = let fewer = taken.fewer in let zero = ap (λ puts. length puts) none in omega (arith, zero, fewer);
+      capacity = let capacity = taken.capacity in omega (arith, capacity);
       capacity_for_ended = taken.capacity_for_ended;
     }
 
@@ -76,7 +110,9 @@ returns-in-Clear c =
     record {
       table = λ position later staged. (taken.table ∙ place-spared position change (table_of rows.items) none, staged ∙ ap (λ puts. rows_of_puts position (puts ++ later)) none);
       ended = taken.numbers;
-      len = let len = taken.len in omega (arith, len);
-      room = let fewer = taken.fewer in let capacity = taken.capacity in omega (arith, fewer, capacity, c.requires.room);
+      len = let len = taken.len in let zero = ap (λ puts. length puts) none in omega (arith, zero, len);
+      left = let zero = ap (λ puts. length puts) none in omega (arith, zero);
+      fewer = let fewer = taken.fewer in let zero = ap (λ puts. length puts) none in omega (arith, zero, fewer);
+      capacity = let capacity = taken.capacity in omega (arith, capacity);
       capacity_for_ended = taken.capacity_for_ended;
     }

@@ -1,0 +1,91 @@
+-- What is read of a key among all rows is what is read of it among its own.
+use Rattle.std.proofs.Common.{◌≡◌, ℕ, suc, ◌+◌, ◌≤◌, Bool, true, false, cond, ◌||◌, List, [], ◌∷◌, ◌++◌, length, Option, Some, None, refl, sym, ap, ◌∙◌, arith}
+use Rattle.std.proofs.lemmas.Bool.{false_from_ne_true}
+use Rattle.std.specs.Cmp.{tied_itself}
+use Rattle.std.specs.Cmp.Lexicographic.{nat_list_cmp_total}
+use Rattle.std.specs.declared.cmp.Ordering.{Ordering}
+use Rattle.std.specs.declared.cmp.Ordering.TheVariants.{Less, Equal, Greater}
+use Rattle.kv_types.specs.declared.record_id.RecordId.{RecordId}
+use Rattle.kv_types.specs.declared.record_id.RecordId.TheVariants.{Str, Field}
+use Rattle.kv_types.specs.Keyspace.{Keyspace, key_of, bytes_cmp, value_at}
+use Rattle.kv_types.proofs.OrderLemmas.{key_itself, same_record}
+use Rattle.kv_types.proofs.LookUpLemmas.{is_same}
+use Rattle.cmd_core.specs.Contents.{fields_of, has_key, keys_of, same_bytes}
+use Rattle.cmd_core.specs.Record.{field_at}
+use Rattle.cmd_core.proofs.RecordsLemmas.{fields_more, has_more, keys_more, keys_none, with_field}
+use Rattle.mv_keyspace.specs.declared.row.Row.{Row}
+use Rattle.mv_keyspace.specs.Row.{records_of, table_of}
+use Rattle.mv_keyspace.specs.Slots.{Slots, rows_at, rows_in, AreOfKey, AreSlots}
+use Rattle.mv_keyspace.proofs.SlotLemmas.{AllStand, around, slots-tail}
+use Rattle.mv_keyspace.proofs.PlacingLemmas.{apart-keys, not_tied_greater, not_tied_less}
+
+abbrev record_of : Row → RecordId × List ℕ
+record_of row = (row.id, row.value)
+
+-- a reading that passes over the records of other keys
+module _ (A : Type 0) (key : List ℕ) (read : Keyspace → A) (with : RecordId × List ℕ → A → A) (more : (e : RecordId × List ℕ) (s : Keyspace) → read (e ∷ s) ≡ with e (read s))
+    (passes : (order : Ordering) → (order ≡ Equal → ⊥) → (e : RecordId × List ℕ) (x : A) → bytes_cmp key (key_of e.0) ≡ order → with e x ≡ x) where
+  skip : (order : Ordering) → (order ≡ Equal → ⊥) → (rows others : List Row) → AllStand order key (table_of rows) → read (records_of (rows ++ others)) ≡ read (records_of others)
+  skip order apart [] others all = refl
+  skip order apart (row ∷ rows) others all =
+      more (record_of row) (records_of (rows ++ others)) ∙ passes order apart (record_of row) (read (records_of (rows ++ others))) all.0 ∙ skip order apart rows others all.1
+
+  none : (rows : List Row) → AllStand Less key (table_of rows) → read (records_of rows) ≡ read []
+  none [] all = refl
+  none (row ∷ rows) all = more (record_of row) (records_of rows) ∙ passes Less not_tied_less (record_of row) (read (records_of rows)) all.0 ∙ none rows all.1
+
+  stop : (rows others : List Row) → AllStand Less key (table_of others) → read (records_of (rows ++ others)) ≡ read (records_of rows)
+  stop [] others all = none others all
+  stop (row ∷ rows) others all = more (record_of row) (records_of (rows ++ others)) ∙ ap (with (record_of row)) (stop rows others all) ∙ sym (more (record_of row) (records_of rows))
+
+  read-at : (es : Slots) → AreSlots es → read (records_of (rows_in es)) ≡ read (records_of (rows_at key es))
+  read-at es slots =
+      let own = around key es slots in
+      ap (λ rows. read (records_of rows)) own.rows ∙ skip Greater not_tied_greater own.before (rows_at key es ++ own.after) own.lower ∙ stop (rows_at key es) own.after own.upper
+
+other_record : (order : Ordering) → (order ≡ Equal → ⊥) → (id other : RecordId) → bytes_cmp (key_of id) (key_of other) ≡ order → is_same id other ≡ false
+other_record order apart id other at =
+    false_from_ne_true (is_same id other) (λ e. apart (sym at ∙ ap (λ x. bytes_cmp (key_of id) (key_of x)) (sym (same_record id other e)) ∙ tied_itself nat_list_cmp_total (key_of id)))
+
+pub value_at-own : (id : RecordId) (es : Slots) → AreSlots es → value_at (records_of (rows_in es)) id ≡ value_at (records_of (rows_at (key_of id) es)) id
+value_at-own id es slots =
+    read-at (Option (List ℕ)) (key_of id) (λ s. value_at s id) (λ e x. cond (is_same id e.0) (Some e.1) x) (λ e s. refl)
+    (λ order apart e x at. ap (λ b. cond b (Some e.1) x) (other_record order apart id e.0 at)) es slots
+
+pub has_key-own : (key : List ℕ) (es : Slots) → AreSlots es → has_key (records_of (rows_in es)) key ≡ has_key (records_of (rows_at key es)) key
+has_key-own key es slots =
+    read-at Bool key (λ s. has_key s key) (λ e x. same_bytes (key_of e.0) key || x) (λ e s. has_more e s key)
+    (λ order apart e x at. ap (λ b. b || x) (apart-keys order key (key_of e.0) at apart)) es slots
+
+pub fields_of-own : (key : List ℕ) (es : Slots) → AreSlots es → fields_of (records_of (rows_in es)) key ≡ fields_of (records_of (rows_at key es)) key
+fields_of-own key es slots =
+    read-at (List (List ℕ × List ℕ)) key (λ s. fields_of s key) (λ e x. with_field (field_at e.0 key) e.1 x) (λ e s. fields_more e s key)
+    (λ order apart e x at. ap (λ f. with_field f e.1 x) (no_field order apart e.0 at)) es slots
+  where
+    no_field : (order : Ordering) → (order ≡ Equal → ⊥) → (id : RecordId) → bytes_cmp key (key_of id) ≡ order → field_at id key ≡ None
+    no_field order apart (Str own) at = refl
+    no_field order apart (Field own field) at = ap (λ b. cond b (Some field) None) (apart-keys order key own at apart)
+
+-- ---- how many keys there are
+
+key-once : (key : List ℕ) (rows others : List Row) → AreOfKey key (table_of rows) → length (keys_of (records_of (rows ++ others))) ≤ 1 + length (keys_of (records_of others))
+key-once key [] others own = omega arith
+key-once key (row ∷ []) others own = step (has_key (records_of others) (key_of row.id)) (ap (λ keys. length keys) (keys_more (record_of row) (records_of others)))
+  where
+    step : (b : Bool) → length (keys_of (records_of ((row ∷ []) ++ others))) ≡ length (cond b (keys_of (records_of others)) (key_of row.id ∷ keys_of (records_of others))) → length (keys_of (records_of ((row ∷ []) ++ others))) ≤ 1 + length (keys_of (records_of others))
+    step true is = omega (arith, is)
+    step false is = omega (arith, is)
+key-once key (row ∷ next ∷ rows) others own =
+    let s = records_of (next ∷ rows ++ others) in
+    let same = own.0 ∙ sym own.1.0 in
+    let has = ap (has_key s) same ∙ has_more (record_of next) (records_of (rows ++ others)) (key_of next.id) ∙ ap (λ b. b || has_key (records_of (rows ++ others)) (key_of next.id)) (key_itself (key_of next.id)) in
+    let keys = ap (λ keys. length keys) (keys_more (record_of row) s ∙ ap (λ b. cond b (keys_of s) (key_of row.id ∷ keys_of s)) has) in
+    let rest = key-once key (next ∷ rows) others own.1 in
+    omega (arith, keys, rest)
+
+pub keys-few_slots : (es : Slots) → AreSlots es → length (keys_of (records_of (rows_in es))) ≤ length es
+keys-few_slots [] slots = let none = ap (λ keys. length keys) keys_none in omega (arith, none)
+keys-few_slots (e ∷ es) slots =
+    let first = key-once e.0 e.1.rows.items (rows_in es) slots.own.0 in
+    let rest = keys-few_slots es (slots-tail e es slots) in
+    omega (arith, first, rest)

@@ -1,0 +1,125 @@
+-- The slot of a key, once another is written in its place.
+use Rattle.std.proofs.Common.{◌≡◌, ℕ, ◌+◌, Bool, true, false, cond, List, [], ◌∷◌, ◌++◌, Option, Some, None, IsSome, refl, sym, ap, ap₂, subst, ◌∙◌, arith}
+use Rattle.std.specs.List.Sorted.{IsStrictlySortedBy}
+use Rattle.std.specs.Map.{keys_of, set_value}
+use Rattle.std.specs.BTreeMap.{is_at}
+use Rattle.std.specs.Ordering.{is_eq}
+use Rattle.std.specs.declared.cmp.Ordering.{Ordering}
+use Rattle.std.specs.declared.cmp.Ordering.TheVariants.{Less, Equal, Greater}
+use Rattle.kv_types.specs.Keyspace.{bytes_cmp}
+use Rattle.kv_types.proofs.OrderLemmas.{bytes_cmp_equal}
+use Rattle.model.specs.declared.group.PlacedChange.{PlacedChange}
+use Rattle.model.specs.Group.{change_of}
+use Rattle.mv_keyspace.specs.declared.row.Row.{Row}
+use Rattle.mv_keyspace.specs.declared.slot.Slot.{Slot}
+use Rattle.mv_keyspace.specs.Keys.{changed_key}
+use Rattle.mv_keyspace.specs.Row.{ended_rows, table_of}
+use Rattle.mv_keyspace.specs.Table.{Table, place}
+use Rattle.mv_keyspace.specs.Slots.{Slots, rows_in, slot_at, rows_of_slot, rows_at, awaited_of, awaited_at, AreOfKey, AreSlots}
+use Rattle.mv_keyspace.proofs.SlotLemmas.{Around, around, own-at, slots-written, table_of-append}
+use Rattle.mv_keyspace.proofs.PlacingLemmas.{place-between, ended-within, own-placed}
+
+table_of-parts : (a b c : List Row) → table_of (a ++ (b ++ c)) ≡ table_of a ++ (table_of b ++ table_of c)
+table_of-parts a b c = table_of-append a (b ++ c) ∙ ap (λ t. table_of a ++ t) (table_of-append b c)
+
+pub some_found : (key : List ℕ) (es : Slots) (slot : Slot) → slot_at key es ≡ Some slot → IsSome (slot_at key es)
+some_found key es slot found = subst IsSome (sym found) refl
+
+-- the slot is that of the key
+module _ (key : List ℕ) (es : Slots) (slot : Slot) (slots : AreSlots es) (found : slot_at key es ≡ Some slot) where
+  abbrev own : Around key es
+  own = around key es slots
+
+  rows-found : rows_in es ≡ own.before ++ (slot.rows.items ++ own.after)
+  rows-found = own.rows ∙ ap (λ s. own.before ++ (rows_of_slot s ++ own.after)) found
+
+  of-key : AreOfKey key (table_of slot.rows.items)
+  of-key = subst (λ s. AreOfKey key (table_of (rows_of_slot s))) found (own-at key es slots.own)
+
+  pub ended-found : (c : PlacedChange) → changed_key (change_of c) ≡ Some key → ended_rows (change_of c) (table_of (rows_in es)) ≡ ended_rows (change_of c) (table_of slot.rows.items)
+  ended-found c is =
+      ap (λ rows. ended_rows (change_of c) (table_of rows)) rows-found
+      ∙ ap (ended_rows (change_of c)) (table_of-parts own.before slot.rows.items own.after)
+      ∙ ended-within key (change_of c) (table_of own.before) (table_of slot.rows.items) (table_of own.after) is own.lower own.upper
+
+  -- another slot was written
+  module _ (other : Slot) (after : Slots) (is : after ≡ set_value (is_at (bytes_cmp key)) es other) (sorted : IsStrictlySortedBy bytes_cmp (keys_of after)) where
+    rows-written : rows_in after ≡ own.before ++ (other.rows.items ++ own.after)
+    rows-written = ap rows_in is ∙ own.written other (some_found key es slot found)
+
+    pub same-rows : other.rows.items ≡ slot.rows.items → rows_in after ≡ rows_in es
+    same-rows same = rows-written ∙ ap (λ items. own.before ++ (items ++ own.after)) same ∙ sym rows-found
+
+    pub same-slots : other.rows.items ≡ slot.rows.items → AreSlots after
+    same-slots same = slots-written key other es after is sorted (subst (λ items. AreOfKey key (table_of items)) (sym same) of-key) slots
+
+    pub placed-slots : (position : ℕ) (c : PlacedChange) → changed_key (change_of c) ≡ Some key → table_of other.rows.items ≡ place position (table_of slot.rows.items) c → AreSlots after
+    placed-slots position c of placed =
+        slots-written key other es after is sorted (subst (AreOfKey key) (sym placed) (own-placed position key c (table_of slot.rows.items) of of-key)) slots
+
+    pub placed-rows : (position : ℕ) (c : PlacedChange) → changed_key (change_of c) ≡ Some key → table_of other.rows.items ≡ place position (table_of slot.rows.items) c → table_of (rows_in after) ≡ place position (table_of (rows_in es)) c
+    placed-rows position c of placed =
+        ap table_of rows-written ∙ table_of-parts own.before other.rows.items own.after
+        ∙ ap (λ t. table_of own.before ++ (t ++ table_of own.after)) placed
+        ∙ sym (place-between position key c (table_of own.before) (table_of slot.rows.items) (table_of own.after) of own.lower own.upper)
+        ∙ ap (λ t. place position t c) (sym (ap table_of rows-found ∙ table_of-parts own.before slot.rows.items own.after))
+
+-- ---- a key that has no slot
+
+module _ (key : List ℕ) (es : Slots) (slots : AreSlots es) (missing : slot_at key es ≡ None) where
+  abbrev gap : Around key es
+  gap = around key es slots
+
+  rows-missing : rows_in es ≡ gap.before ++ ([] ++ gap.after)
+  rows-missing = gap.rows ∙ ap (λ s. gap.before ++ (rows_of_slot s ++ gap.after)) missing
+
+  pub ended-missing : (c : PlacedChange) → changed_key (change_of c) ≡ Some key → ended_rows (change_of c) (table_of (rows_in es)) ≡ []
+  ended-missing c is =
+      ap (λ rows. ended_rows (change_of c) (table_of rows)) rows-missing
+      ∙ ap (ended_rows (change_of c)) (table_of-parts gap.before [] gap.after)
+      ∙ ended-within key (change_of c) (table_of gap.before) [] (table_of gap.after) is gap.lower gap.upper
+
+  pub placed-missing : (position : ℕ) (c : PlacedChange) → changed_key (change_of c) ≡ Some key → place position [] c ≡ [] → table_of (rows_in es) ≡ place position (table_of (rows_in es)) c
+  placed-missing position c of none =
+      let whole = ap table_of rows-missing ∙ table_of-parts gap.before [] gap.after in
+      whole ∙ ap (λ t. table_of gap.before ++ (t ++ table_of gap.after)) (sym none)
+      ∙ sym (place-between position key c (table_of gap.before) [] (table_of gap.after) of gap.lower gap.upper)
+      ∙ ap (λ t. place position t c) (sym whole)
+
+-- ---- how many rows are awaited
+
+is_eq_Equal : (o : Ordering) → is_eq o ≡ true → o ≡ Equal
+is_eq_Equal Less e = cc
+is_eq_Equal Equal e = refl
+is_eq_Equal Greater e = cc
+
+tied : (key q : List ℕ) → is_at (bytes_cmp key) q ≡ true → key ≡ q
+tied key q e = bytes_cmp_equal key q (is_eq_Equal (bytes_cmp key q) e)
+
+module _ (key q : List ℕ) (es after : Slots) (other : Slot) (updates : slot_at q after ≡ cond (is_at (bytes_cmp key) q) (Some other) (slot_at q es)) where
+  awaited-by : (b : Bool) → is_at (bytes_cmp key) q ≡ b → awaited_at q after ≡ awaited_of (cond b (Some other) (slot_at q es))
+  awaited-by b is = ap awaited_of updates ∙ ap (λ b. awaited_of (cond b (Some other) (slot_at q es))) is
+
+  at-key : (slot : Option Slot) → slot_at key es ≡ slot → is_at (bytes_cmp key) q ≡ true → awaited_at q es ≡ awaited_of slot
+  at-key slot found is = ap (λ k. awaited_at k es) (sym (tied key q is)) ∙ ap awaited_of found
+
+  pub awaited-more : (slot : Slot) → slot_at key es ≡ Some slot → other.awaited ≡ slot.awaited + 1 → awaited_at q after ≡ awaited_at q es + cond (is_at (bytes_cmp key) q) 1 0
+  awaited-more slot found more = by (is_at (bytes_cmp key) q) refl
+    where
+      by : (b : Bool) → is_at (bytes_cmp key) q ≡ b → awaited_at q after ≡ awaited_at q es + cond b 1 0
+      by true is = let a = awaited-by true is in let k = at-key (Some slot) found is in omega (arith, a, k, more)
+      by false is = let a = awaited-by false is in omega (arith, a)
+
+  pub awaited-less : (slot : Slot) (n : ℕ) → slot_at key es ≡ Some slot → other.awaited + n ≡ slot.awaited → awaited_at q after + cond (is_at (bytes_cmp key) q) n 0 ≡ awaited_at q es
+  awaited-less slot n found less = by (is_at (bytes_cmp key) q) refl
+    where
+      by : (b : Bool) → is_at (bytes_cmp key) q ≡ b → awaited_at q after + cond b n 0 ≡ awaited_at q es
+      by true is = let a = awaited-by true is in let k = at-key (Some slot) found is in omega (arith, a, k, less)
+      by false is = let a = awaited-by false is in omega (arith, a)
+
+  pub awaited-made : slot_at key es ≡ None → other.awaited ≡ 0 → awaited_at q after ≡ awaited_at q es
+  awaited-made missing zero = by (is_at (bytes_cmp key) q) refl
+    where
+      by : (b : Bool) → is_at (bytes_cmp key) q ≡ b → awaited_at q after ≡ awaited_at q es
+      by true is = let a = awaited-by true is in let k = at-key None missing is in omega (arith, a, k, zero)
+      by false is = awaited-by false is

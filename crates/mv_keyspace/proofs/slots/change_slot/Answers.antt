@@ -1,0 +1,61 @@
+use Rattle.std.proofs.Common.{◌≡◌, ◌+◌, ◌≤◌, [], ◌++◌, List, length, sym, ap, ◌∙◌, arith}
+use Rattle.std.proofs.lemmas.List.{append-nil}
+use Rattle.std.specs.Option.{option_copied_mut}
+use Rattle.model.specs.declared.group.Put.{Put}
+use Rattle.model.specs.Group.{change_of, put_of}
+use Rattle.mv_keyspace.specs.Row.{numbers_of, rows_of_puts, table_of}
+use Rattle.mv_keyspace.specs.Slots.{awaited_of, rows_in}
+use Rattle.mv_keyspace.specs.Table.{Table, entries_of}
+use Rattle.mv_keyspace.proofs.PlacingLemmas.{none-made, place-none}
+use Rattle.mv_keyspace.proofs.WritingLemmas.{awaited-less, some_found, ended-found, ended-missing, placed-missing, placed-rows, placed-slots}
+use Rattle.mv_keyspace.proofs.slots.change_slot.Goals as goal
+
+pub change-requires-clause-awaited : goal.change-requires-clause-awaited
+change-requires-clause-awaited c = let found = ap awaited_of (sym c.in-Some.ensures.value) in omega (arith, found, c.requires.awaited)
+
+pub change-requires-clause-room_for_ended : goal.change-requires-clause-room_for_ended
+change-requires-clause-room_for_ended c =
+    let same = ap (λ (t : Table). length t) (ended-found c.args.key.now c.args.slots.now.entries c.in-Some.slot.now c.requires.slots (sym c.in-Some.ensures.value) c.args.change.now c.requires.key) in
+    omega (arith, same, c.requires.room_for_ended)
+
+pub returns-in-Some-clause-slots : goal.returns-in-Some-clause-slots
+returns-in-Some-clause-slots c =
+    let slot = c.change.new.self in
+    let wrote = c.get_mut.follows.holds slot in
+    let staged = c.requires.staged in
+    placed-slots c.args.key.now c.args.slots.now.entries c.in-Some.slot.now c.requires.slots (sym c.in-Some.ensures.value) slot (c.get_mut.follows.lender slot).entries wrote.0 wrote.4 staged.0 c.args.change.now c.requires.key
+    (c.change.ensures.table staged.0 staged.1 staged.2).0
+
+pub returns-in-Some-clause-table : goal.returns-in-Some-clause-table
+returns-in-Some-clause-table c = λ position later staged.
+    let slot = c.change.new.self in
+    let wrote = c.get_mut.follows.holds slot in
+    let made = c.change.ensures.table position later staged in
+    (placed-rows c.args.key.now c.args.slots.now.entries c.in-Some.slot.now c.requires.slots (sym c.in-Some.ensures.value) slot (c.get_mut.follows.lender slot).entries wrote.0 wrote.4 position c.args.change.now c.requires.key made.0, made.1)
+
+pub returns-in-Some-clause-ended : goal.returns-in-Some-clause-ended
+returns-in-Some-clause-ended c =
+    c.change.ensures.ended
+    ∙ ap (λ t. numbers_of c.args.ended.now.items ++ entries_of t) (sym (ended-found c.args.key.now c.args.slots.now.entries c.in-Some.slot.now c.requires.slots (sym c.in-Some.ensures.value) c.args.change.now c.requires.key))
+
+pub returns-in-Some-clause-awaited : goal.returns-in-Some-clause-awaited
+returns-in-Some-clause-awaited c = λ q.
+    let slot = c.change.new.self in
+    let wrote = c.get_mut.follows.holds slot in
+    awaited-less c.args.key.now q c.args.slots.now.entries (c.get_mut.follows.lender slot).entries slot ((wrote.3 (some_found c.args.key.now c.args.slots.now.entries c.in-Some.slot.now (sym c.in-Some.ensures.value))).0 q)
+    c.in-Some.slot.now (length (put_of c.args.change.now)) (sym c.in-Some.ensures.value) c.change.ensures.awaited
+
+pub returns-in-None-clause-table : goal.returns-in-None-clause-table
+returns-in-None-clause-table c = λ position later staged.
+    let change = c.args.change.now in
+    let missing = sym c.get_mut.ensures.value ∙ ap option_copied_mut c.in-None.is in
+    let zero = ap awaited_of missing in
+    let none = none-made change (omega (arith, zero, c.requires.awaited)) in (
+      ap (λ m. table_of (rows_in m.entries)) c.get_mut.follows.holds-at-none ∙ placed-missing c.args.key.now c.args.slots.now.entries c.requires.slots missing position change c.requires.key (place-none position change none),
+      staged ∙ ap (λ (puts : List Put). rows_of_puts position (puts ++ later)) none,
+    )
+
+pub returns-in-None-clause-ended : goal.returns-in-None-clause-ended
+returns-in-None-clause-ended c =
+    let missing = sym c.get_mut.ensures.value ∙ ap option_copied_mut c.in-None.is in
+    sym (ap (λ t. numbers_of c.args.ended.now.items ++ entries_of t) (ended-missing c.args.key.now c.args.slots.now.entries c.requires.slots missing c.args.change.now c.requires.key) ∙ append-nil (numbers_of c.args.ended.now.items))

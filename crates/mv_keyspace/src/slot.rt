@@ -1,0 +1,98 @@
+//! The records of one key, as the map keeps them.
+ghost use Rattle.std.specs.Prelude.{◌≡◌, ℕ, ◌+◌, ◌≤◌, ◌++◌, List, [], length, IsTrue, OnOk, vec_len, vec_capacity};
+ghost use Rattle.std.specs.Vec.Iter.{into_iter_items};
+ghost use Rattle.std.specs.FinMap.Entries.{is_sorted};
+ghost use Rattle.kv_types.specs.Keyspace.{record_cmp};
+ghost use Rattle.model.specs.declared.group.Put.{Put};
+ghost use Rattle.model.specs.Group.{change_of, put_of};
+ghost use Rattle.mv_keyspace.specs.Table.{entries_of, place};
+ghost use Rattle.mv_keyspace.specs.Row.{ended_rows, numbers_of, records_of, rows_of_puts, table_of};
+
+use crate::making::make_change;
+use crate::row::Row;
+use kv_types::EntryNo;
+use model::PlacedChange;
+use std::alloc::{AllocError, Global};
+use std::vec::IntoIter;
+
+/// The rows of one key, in the order of records: that of its string, or one for each field of its hash. There are none while the
+/// key waits for its first one.
+#[derive(Debug, Drop)]
+pub(crate) struct Slot {
+    rows: Vec<Row>,
+    /// How many rows are to come, for which there is room.
+    awaited: usize,
+    ghost in_order: { IsTrue (is_sorted record_cmp (records_of rows.items)) },
+    ghost has_room: { vec_len rows + awaited ≤ vec_capacity rows },
+}
+
+impl Slot {
+    /// No rows. It takes no memory.
+    pub(crate) fn new(alloc: Global) -> Slot
+        ensures rows { result.rows.items ≡ [] }
+        ensures awaited { result.awaited ≡ 0 }
+    {
+        Slot {
+            rows: Vec::new(alloc),
+            awaited: 0,
+        }
+    }
+
+    pub(crate) fn rows(&self) -> &[Row]
+        ensures rows { result.now ≡ self.now.rows.items }
+        ensures order { IsTrue (is_sorted record_cmp (records_of self.now.rows.items)) }
+    {
+        &self.rows
+    }
+
+    /// Makes room for one row more than are awaited. A first row has no room beside it, as most keys have one.
+    pub(crate) fn expect_row(&mut self) -> Result<(), AllocError>
+        ensures rows { self.new.rows.items ≡ self.old.rows.items }
+        ensures awaited { OnOk result (self.new.awaited ≡ self.old.awaited + 1) }
+    {
+        if self.rows.is_empty() {
+            self.rows.reserve_exact(self.awaited + 1)?;
+        } else {
+            self.rows.reserve(self.awaited + 1)?;
+        }
+        self.awaited += 1;
+        Ok(())
+    }
+
+    /// Awaits no row any more.
+    pub(crate) fn settle(&mut self)
+        ensures { self.new.rows.items ≡ self.old.rows.items }
+    {
+        self.awaited = 0;
+    }
+
+    /// Makes one change of the key. A put takes the first of the rows that are staged, and the room of one that is awaited.
+    pub(crate) fn change(
+        &mut self,
+        change: &PlacedChange,
+        staged: &mut IntoIter<Row>,
+        ended: &mut Vec<EntryNo>,
+    )
+        requires staged { (position : ℕ) × (later : List Put) × (table_of (into_iter_items staged.old) ≡ rows_of_puts position (put_of change.now ++ later)) }
+        requires awaited { length (put_of change.now) ≤ self.old.awaited }
+        requires room_for_ended { vec_len ended.old + length (ended_rows (change_of change.now) (table_of self.old.rows.items)) ≤ vec_capacity ended.old }
+        ensures table { (position : ℕ) (later : List Put) → table_of (into_iter_items staged.old) ≡ rows_of_puts position (put_of change.now ++ later)
+            → (table_of self.new.rows.items ≡ place position (table_of self.old.rows.items) change.now) × (table_of (into_iter_items staged.new) ≡ rows_of_puts position later) }
+        ensures ended { numbers_of ended.new.items ≡ numbers_of ended.old.items ++ entries_of (ended_rows (change_of change.now) (table_of self.old.rows.items)) }
+        ensures awaited { self.new.awaited + length (put_of change.now) ≡ self.old.awaited }
+        ensures capacity_for_ended { vec_capacity ended.old ≤ vec_capacity ended.new }
+    {
+        self.awaited -= count_puts(change);
+        make_change(&mut self.rows, change, staged, ended);
+    }
+}
+
+/// 1 for a put, and 0 for any other change.
+fn count_puts(change: &PlacedChange) -> usize
+    ensures { result ≡ length (put_of change.now) }
+{
+    match change {
+        PlacedChange::Put(_) => 1,
+        _ => 0,
+    }
+}
