@@ -15,3 +15,4 @@ pub mod SlotLemmas
 pub mod PlacingLemmas
 pub mod WritingLemmas
 pub mod ReadingLemmas
+pub mod RoomLemmas

@@ -12,6 +12,7 @@ use Rattle.model.specs.Group.{change_of}
 use Rattle.mv_keyspace.specs.declared.row.Row.{Row}
 use Rattle.mv_keyspace.specs.Table.{Cell, Table, records, entries_of, place, place_all}
 use Rattle.mv_keyspace.proofs.TableLemmas.{records-place}
+use Rattle.mv_keyspace.proofs.TableMembers.{is_sorted-records}
 use Rattle.mv_keyspace.specs.Row.{cell_of_row, records_of, records_of_table, table_of, numbers_of}
 
 pub length_map : {X Y : Type 0} (f : X → Y) (xs : List X) → length (map f xs) ≡ length xs
@@ -45,6 +46,11 @@ sorted_placed position table [] sorted = sorted
 sorted_placed position table (change ∷ changes) sorted =
     sorted_placed position (place position table change) changes
     (ap (is_sorted record_cmp) (records-place position table change) ∙ is_sorted-play (records table) (change_of change) sorted)
+
+-- a change keeps the order of a table
+pub placed-sorted : (position : ℕ) (table : Table) (change : PlacedChange) → IsTrue (is_sorted record_cmp table) → IsTrue (is_sorted record_cmp (place position table change))
+placed-sorted position table change sorted =
+    sym (is_sorted-records (place position table change)) ∙ sorted_placed position table (change ∷ []) (is_sorted-records table ∙ sorted)
 
 -- rows that became those after changes are in the order of records
 pub in_order-placed : (position : ℕ) (rows after : List Row) (changes : List PlacedChange) → table_of after ≡ place_all position (table_of rows) changes → IsTrue (is_sorted record_cmp (records_of rows)) → IsTrue (is_sorted record_cmp (records_of after))

@@ -123,3 +123,10 @@ ended-few c rows =
     let both = length-filter_both (λ (row : RecordId × Cell). ends_record c row.0) (λ row. not (ends_record c row.0)) (λ row. refl) (table_of rows) in
     let all = length_map entry_of rows in
     omega (arith, both, all)
+
+pub length-made : (position : ℕ) (puts : List Put) (rows : List Row) → table_of rows ≡ rows_of_puts position puts → length rows ≡ length puts
+length-made position puts rows is =
+    let same = ap (λ (t : Table). length t) is in
+    let all = length_map entry_of rows in
+    let made = length_map {Y = RecordId × Cell} (λ (put : Put). (put.id, cell_of_put position put)) puts in
+    omega (arith, same, all, made)

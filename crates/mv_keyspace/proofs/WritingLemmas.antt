@@ -1,21 +1,25 @@
 -- The slot of a key, once another is written in its place.
-use Rattle.std.proofs.Common.{◌≡◌, ℕ, ◌+◌, Bool, true, false, cond, List, [], ◌∷◌, ◌++◌, Option, Some, None, IsSome, refl, sym, ap, ap₂, subst, ◌∙◌, arith}
+use Rattle.std.proofs.Common.{◌≡◌, ℕ, ◌+◌, Bool, true, false, cond, length, ◌≤◌, List, [], ◌∷◌, ◌++◌, Option, Some, None, IsSome, refl, sym, ap, ap₂, subst, ◌∙◌, arith}
 use Rattle.std.specs.List.Sorted.{IsStrictlySortedBy}
 use Rattle.std.specs.Map.{keys_of, set_value}
 use Rattle.std.specs.BTreeMap.{is_at}
 use Rattle.std.specs.Ordering.{is_eq}
+use Rattle.std.specs.Cmp.{tied_itself}
+use Rattle.std.specs.Cmp.Lexicographic.{nat_list_cmp_total}
+use Rattle.mv_keyspace.proofs.PlayingLemmas.{ended-few}
 use Rattle.std.specs.declared.cmp.Ordering.{Ordering}
 use Rattle.std.specs.declared.cmp.Ordering.TheVariants.{Less, Equal, Greater}
-use Rattle.kv_types.specs.Keyspace.{bytes_cmp}
+use Rattle.kv_types.specs.Keyspace.{key_of, bytes_cmp}
 use Rattle.kv_types.proofs.OrderLemmas.{bytes_cmp_equal}
 use Rattle.model.specs.declared.group.PlacedChange.{PlacedChange}
-use Rattle.model.specs.Group.{change_of}
+use Rattle.model.specs.Group.{change_of, put_of}
+use Rattle.model.specs.declared.group.PlacedChange.TheVariants as placed
 use Rattle.mv_keyspace.specs.declared.row.Row.{Row}
 use Rattle.mv_keyspace.specs.declared.slot.Slot.{Slot}
 use Rattle.mv_keyspace.specs.Keys.{changed_key}
 use Rattle.mv_keyspace.specs.Row.{ended_rows, table_of}
 use Rattle.mv_keyspace.specs.Table.{Table, place}
-use Rattle.mv_keyspace.specs.Slots.{Slots, rows_in, slot_at, rows_of_slot, rows_at, awaited_of, awaited_at, AreOfKey, AreSlots}
+use Rattle.mv_keyspace.specs.Slots.{Slots, rows_in, slot_at, rows_of_slot, rows_at, awaited_of, awaited_at, awaits_of, AreOfKey, AreSlots}
 use Rattle.mv_keyspace.proofs.SlotLemmas.{Around, around, own-at, slots-written, table_of-append}
 use Rattle.mv_keyspace.proofs.PlacingLemmas.{place-between, ended-within, own-placed}
 
@@ -123,3 +127,32 @@ module _ (key q : List ℕ) (es after : Slots) (other : Slot) (updates : slot_at
       by : (b : Bool) → is_at (bytes_cmp key) q ≡ b → awaited_at q after ≡ awaited_at q es
       by true is = let a = awaited-by true is in let k = at-key None missing is in omega (arith, a, k, zero)
       by false is = awaited-by false is
+
+-- ---- a change of the key
+
+-- it ends no more rows than the key has
+pub ended-few_at : (key : List ℕ) (es : Slots) (c : PlacedChange) → AreSlots es → changed_key (change_of c) ≡ Some key → length (ended_rows (change_of c) (table_of (rows_in es))) ≤ length (rows_at key es)
+ended-few_at key es c slots is =
+    let own = around key es slots in
+    let same = ap (λ rows. length (ended_rows (change_of c) (table_of rows))) own.rows in
+    let parts = ap (λ (t : Table). length (ended_rows (change_of c) t)) (table_of-parts own.before (rows_at key es) own.after) in
+    let within = ap (λ (t : Table). length t) (ended-within key (change_of c) (table_of own.before) (table_of (rows_at key es)) (table_of own.after) is own.lower own.upper) in
+    let few = ended-few (change_of c) (rows_at key es) in
+    omega (arith, same, parts, within, few)
+
+same_Some : (x y : List ℕ) → Some x ≡ Some y → x ≡ y
+same_Some x y e = cc
+
+none_awaited : (b : Bool) (n : ℕ) → n ≡ 0 → cond b n 0 ≡ 0
+none_awaited true n zero = zero
+none_awaited false n zero = refl
+
+-- it makes rows of the key only
+pub awaits-at : (key q : List ℕ) (c : PlacedChange) → changed_key (change_of c) ≡ Some key → cond (is_at (bytes_cmp key) q) (length (put_of c)) 0 ≡ awaits_of q c
+awaits-at key q (placed.Put put) is = ap (λ k. cond (is_at (bytes_cmp k) q) 1 0) (sym (same_Some (key_of put.id) key is))
+awaits-at key q (placed.Drop id) is = none_awaited (is_at (bytes_cmp key) q) 0 refl
+awaits-at key q (placed.DropKey other) is = none_awaited (is_at (bytes_cmp key) q) 0 refl
+awaits-at key q placed.Clear is = none_awaited (is_at (bytes_cmp key) q) 0 refl
+
+pub awaits-own : (key : List ℕ) (c : PlacedChange) → changed_key (change_of c) ≡ Some key → length (put_of c) ≡ awaits_of key c
+awaits-own key c is = ap (λ o. cond (is_eq o) (length (put_of c)) 0) (sym (tied_itself nat_list_cmp_total key)) ∙ awaits-at key key c is

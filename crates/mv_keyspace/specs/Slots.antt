@@ -1,5 +1,5 @@
 -- The rows of a map with one slot a key.
-use Rattle.std.specs.Prelude.{◌≡◌, ℕ, List, [], ◌∷◌, ◌++◌, Option, Some, None}
+use Rattle.std.specs.Prelude.{◌≡◌, ℕ, ◌+◌, cond, List, [], ◌∷◌, ◌++◌, length, Option, Some, None, IsSome}
 use Rattle.std.specs.List.{AllByRecursion}
 use Rattle.std.specs.List.Sorted.{IsStrictlySortedBy}
 use Rattle.std.specs.Map.{keys_of, lookup}
@@ -7,8 +7,12 @@ use Rattle.std.specs.BTreeMap.{is_at}
 use Rattle.kv_types.specs.Keyspace.{key_of, bytes_cmp}
 use Rattle.mv_keyspace.specs.declared.row.Row.{Row}
 use Rattle.mv_keyspace.specs.declared.slot.Slot.{Slot}
-use Rattle.mv_keyspace.specs.Row.{table_of}
-use Rattle.mv_keyspace.specs.Table.{Table}
+use Rattle.model.specs.declared.group.PlacedChange.{PlacedChange}
+use Rattle.model.specs.declared.group.PlacedChange.TheVariants as placed
+use Rattle.model.specs.Group.{change_of}
+use Rattle.mv_keyspace.specs.Keys.{changed_key}
+use Rattle.mv_keyspace.specs.Row.{ended_rows, table_of}
+use Rattle.mv_keyspace.specs.Table.{Table, place}
 
 -- the keys in order, each with its slot
 abbrev pub Slots : Type 0
@@ -46,3 +50,29 @@ AreOfKey key = AllByRecursion (λ row. key_of row.0 ≡ key)
 pub record AreSlots (es : Slots) : Type 0 where
   pub sorted : IsStrictlySortedBy bytes_cmp (keys_of es)
   pub own : AllByRecursion (λ (e : List ℕ × Slot). AreOfKey e.0 (table_of e.1.rows.items)) es
+
+-- how many rows of a key a change makes
+abbrev pub awaits_of : List ℕ → PlacedChange → ℕ
+awaits_of key (placed.Put put) = cond (is_at (bytes_cmp (key_of put.id)) key) 1 0
+awaits_of key (placed.Drop id) = 0
+awaits_of key (placed.DropKey other) = 0
+awaits_of key placed.Clear = 0
+
+-- and how many the changes make
+abbrev pub awaits : List ℕ → List PlacedChange → ℕ
+awaits key [] = 0
+awaits key (change ∷ changes) = awaits_of key change + awaits key changes
+
+-- each change is of one key
+abbrev pub AreKeyed : List PlacedChange → Type 0
+AreKeyed = AllByRecursion (λ change. IsSome (changed_key (change_of change)))
+
+-- how many entries the changes end that are made at one position
+abbrev pub ends : ℕ → Table → List PlacedChange → ℕ
+ends position table [] = 0
+ends position table (change ∷ changes) = length (ended_rows (change_of change) table) + ends position (place position table change) changes
+
+-- how many rows of this table each of the changes would end, summed
+abbrev pub ends_at_once : Table → List PlacedChange → ℕ
+ends_at_once table [] = 0
+ends_at_once table (change ∷ changes) = length (ended_rows (change_of change) table) + ends_at_once table changes

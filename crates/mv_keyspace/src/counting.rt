@@ -48,7 +48,7 @@ pub(crate) fn count_with(rows: &[Row], others: u64, change: &PlacedChange) -> u6
 }
 
 /// The key that a change touches, or `None` where it touches all.
-fn key_changed(change: &PlacedChange) -> Option<&Key>
+pub(crate) fn key_changed(change: &PlacedChange) -> Option<&Key>
     ensures { option_copied result ≡ changed_key (change_of change.now) }
 {
     match change {

@@ -1,6 +1,7 @@
 //! The keyspace that a node keeps in memory: each live record, and the entry that holds it.
 #![tactic(auto)]
 
+mod by_key;
 mod counting;
 mod ending;
 mod key_bytes;
