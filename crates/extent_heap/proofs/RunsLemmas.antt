@@ -1,9 +1,10 @@
 -- Facts on lists of runs.
-use Rattle.std.proofs.Common.{◌≡◌, ℕ, ◌+◌, ◌<◌, ◌≤◌, ◌==◌, max, Bool, true, false, ◌||◌, IsTrue, if◌then◌else◌, List, [], ◌∷◌, ◌++◌, length, Option, None, Some, MatchOption, refl, sym, ap, subst, ◌∙◌, append_assoc, arith}
+use Rattle.std.proofs.Common.{◌≡◌, ℕ, ◌+◌, ◌-◌, ◌/◌, ◌<◌, ◌≤◌, ◌==◌, max, Bool, true, false, ◌||◌, IsTrue, if◌then◌else◌, List, [], ◌∷◌, ◌++◌, length, Option, None, Some, MatchOption, refl, sym, ap, subst, ◌∙◌, append_assoc, arith}
+use Rattle.std.proofs.Math.Nat.{div-eq_of_lt}
 use Rattle.std.proofs.lemmas.Bool.Decides.{nat_tests}
 use Rattle.kv_types.specs.declared.place.Extent.{Extent}
 use Rattle.extent_heap.specs.Extents.{is_line_of}
-use Rattle.extent_heap.specs.Runs.{has_line, AreRuns, longest, total, some_run, IsFirstFit}
+use Rattle.extent_heap.specs.Runs.{has_line, AreRuns, longest, pieces, total, some_run, IsFirstFit}
 
 -- ---- the longest run
 
@@ -25,6 +26,25 @@ fit_behind lines left run right runs (Some r) is short shorter fit = record {
   shorter = let before = fit.shorter in omega (arith, longest_fork left run fit.before);
   fits = fit.fits;
 }
+
+-- ---- extents that can be cut from the runs
+
+pieces-append : (lines : ℕ) (xs ys : List Extent) → pieces lines (xs ++ ys) ≡ pieces lines xs + pieces lines ys
+pieces-append lines [] ys = omega arith
+pieces-append lines (x ∷ xs) ys = omega (arith, pieces-append lines xs ys)
+
+-- none from runs that are all too short
+pub none_short : (lines : ℕ) (xs : List Extent) → longest xs < lines → pieces lines xs ≡ 0
+none_short lines [] short = refl
+none_short lines (x ∷ xs) short =
+    let rest = none_short lines xs (omega arith) in
+    let own : x.lines / lines ≡ 0 = div-eq_of_lt (omega arith) in
+    omega (arith, rest, own)
+
+-- those before the fork are counted first, then its own, then those behind it
+pub lacks_fork : (lines wanted : ℕ) (left : List Extent) (run : Extent) (right : List Extent)
+    → ((wanted - pieces lines left) - run.lines / lines) - pieces lines right ≡ wanted - pieces lines (left ++ run ∷ right)
+lacks_fork lines wanted left run right = omega (arith, pieces-append lines left (run ∷ right))
 
 -- ---- parts of a list of runs
 

@@ -1,10 +1,10 @@
 -- What a heap has left to hand out, and what a call takes from it (this project's profile of write-behind logging: extents are first fit,
 -- entries lowest first).
-use Rattle.std.specs.Prelude.{◌≡◌, ℕ, zero, suc, ◌+◌, ◌-◌, ◌<◌, ◌≤◌, Bool, false, not, ◌&&◌, ◌||◌, nat_eq, if◌then◌else◌, IsTrue, List}
+use Rattle.std.specs.Prelude.{◌≡◌, ℕ, zero, suc, ◌+◌, ◌-◌, ◌<◌, ◌≤◌, Bool, false, not, ◌&&◌, ◌||◌, nat_eq, nat_le, if◌then◌else◌, IsTrue, List}
 use Rattle.kv_types.specs.declared.place.EntryNo.{EntryNo}
 use Rattle.kv_types.specs.declared.place.Extent.{Extent}
 use Rattle.extent_heap.specs.Extents.{is_line_of}
-use Rattle.extent_heap.specs.Runs.{has_line, AreRuns, some_run}
+use Rattle.extent_heap.specs.Runs.{has_line, pieces, AreRuns, some_run}
 
 -- The free lines and the free entries, as runs; where both end; and how many extents were handed out and not yet given back.
 pub record Room : Type 0 where
@@ -99,6 +99,12 @@ pub record GivesEntry (old : Room) (entry : EntryNo) (new : Room) : Type 0 where
   pub end_line : new.end_line ≡ old.end_line
   pub held : new.held ≡ old.held
   pub still_room : IsRoom new
+
+-- ---- both
+
+-- so many entries are free, and so many extents of this many lines can be cut from the free runs
+abbrev pub has_room : ℕ → ℕ → Room → Bool
+has_room count lines room = nat_le count (pieces 1 room.entries) && nat_le count (pieces lines room.lines)
 
 -- ---- new rooms
 

@@ -1,5 +1,5 @@
 -- Runs of lines in order, no two of which touch.
-use Rattle.std.specs.Prelude.{◌≡◌, ℕ, ◌+◌, ◌^◌, ◌<◌, ◌≤◌, ◌==◌, max, Bool, false, not, ◌&&◌, ◌||◌, IsTrue, if◌then◌else◌, List, [], ◌∷◌, ◌++◌}
+use Rattle.std.specs.Prelude.{◌≡◌, ℕ, ◌+◌, ◌/◌, ◌^◌, ◌<◌, ◌≤◌, ◌==◌, max, Bool, false, not, ◌&&◌, ◌||◌, IsTrue, if◌then◌else◌, List, [], ◌∷◌, ◌++◌}
 use Rattle.kv_types.specs.declared.place.Extent.{Extent}
 use Rattle.extent_heap.specs.Extents.{is_line_of}
 
@@ -22,6 +22,11 @@ longest (run ∷ runs) = max run.lines (longest runs)
 abbrev pub total : List Extent → ℕ
 total [] = 0
 total (run ∷ runs) = run.lines + total runs
+
+-- how many extents of so many lines can be cut from the runs
+abbrev pub pieces : ℕ → List Extent → ℕ
+pieces lines [] = 0
+pieces lines (run ∷ runs) = run.lines / lines + pieces lines runs
 
 -- the run, if it has a line
 abbrev pub some_run : Extent → List Extent

@@ -3,7 +3,7 @@ ghost use Rattle.std.specs.Prelude.{◌≡◌, ℕ, ◌+◌, ◌^◌, ◌<◌, �
 ghost use Rattle.std.specs.Vec.{vec_capacity};
 ghost use Rattle.extent_heap.specs.Extents.{entry_run};
 ghost use Rattle.extent_heap.specs.Runs.{some_run};
-ghost use Rattle.extent_heap.specs.Room.{Room, fresh_room, is_free_line, is_free_entry, IsFreeRun, free_lines_below, ClaimsExtent, TakesExtent, GivesExtent, IsOut, ClaimsEntry, TakesEntry, GivesEntry, IsOutEntry};
+ghost use Rattle.extent_heap.specs.Room.{Room, fresh_room, has_room, is_free_line, is_free_entry, IsFreeRun, free_lines_below, ClaimsExtent, TakesExtent, GivesExtent, IsOut, ClaimsEntry, TakesEntry, GivesEntry, IsOutEntry};
 
 use crate::runs;
 use crate::spare::Spare;
@@ -128,6 +128,14 @@ impl ExtentHeap {
         ensures { result ≡ free_lines_below self.now (self.now).end_line }
     {
         self.free
+    }
+
+    /// Whether so many entries are free, and so many extents of this many lines can be cut from the free runs.
+    pub fn has_room(&self, count: u64, lines: u64) -> bool
+        requires { 0 < lines }
+        ensures { result ≡ has_room count lines self.now }
+    {
+        self.entries.lacking(1, count) == 0 && self.lines.lacking(lines, count) == 0
     }
 
     /// Hands out the lowest free entry. `Refusal::Full` if none is free, and then nothing changed.

@@ -2,8 +2,8 @@
 //!
 //! The tree is a treap (Seidel and Aragon, "Randomized search trees", 1996): no fork has a lower rank than those below it, and ranks are spread as
 //! if by chance. So it is some 2 log2(runs) deep. Nothing but the time that a call takes rests on the ranks.
-ghost use Rattle.std.specs.Prelude.{◌≡◌, ◌<◌, [], ◌∷◌, ◌++◌, MatchOption};
-ghost use Rattle.extent_heap.specs.Runs.{longest, IsFirstFit};
+ghost use Rattle.std.specs.Prelude.{◌≡◌, ◌-◌, ◌<◌, [], ◌∷◌, ◌++◌, MatchOption};
+ghost use Rattle.extent_heap.specs.Runs.{longest, pieces, IsFirstFit};
 ghost use Rattle.extent_heap.specs.Split.{IsSplit};
 
 use kv_types::Extent;
@@ -203,6 +203,28 @@ impl Tree {
                 } else {
                     fork.right.first_fit(lines)
                 }
+            }
+        }
+    }
+
+    /// How many of so many extents of this many lines cannot be cut from the runs. It looks no further once there are enough.
+    #[tactic(auto, using(crate::proofs::RunsLemmas::none_short))]
+    pub(crate) fn lacking(&self, lines: u64, wanted: u64) -> u64
+        requires { 0 < lines }
+        ensures { result ≡ wanted - pieces lines self.now }
+    {
+        if wanted == 0 {
+            return 0;
+        }
+        if self.longest() < lines {
+            return wanted;
+        }
+        match &self.root {
+            None => wanted,
+            Some(fork) => {
+                let before = fork.left.lacking(lines, wanted);
+                let here = before.saturating_sub(fork.run.lines / lines);
+                fork.right.lacking(lines, here)
             }
         }
     }
