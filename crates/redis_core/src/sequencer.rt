@@ -1,5 +1,6 @@
 //! The sequencer: one list of calls for all seats, and the groups of what they changed.
 ghost use Rattle.std.specs.Prelude.{◌≡◌, ◌≢◌, ◌+◌, ◌<◌, ◌≤◌, ◌↔◌, ◌⊎◌, ◌++◌, ◌∷◌, [], List, true, false, length, vec_capacity, replicate, Some, None, IsTrue, IfOk, IfErr, IsErrOf, OnOk, OnErr};
+ghost use Rattle.extent_heap.specs.Room.{has_room};
 ghost use Rattle.kv_types.specs.declared.item.Item.{Item};
 ghost use Rattle.kv_types.specs.declared.reply.Held.{Held};
 ghost use Rattle.kv_types.specs.declared.place.EntryNo.{EntryNo};
@@ -120,6 +121,14 @@ impl<K: Keyspace> Sequencer<K> {
         ensures { IsTrue result ↔ ((self.now).waiting ≢ []) }
     {
         !self.waiting.is_empty()
+    }
+
+    /// Whether so many entries are free, and so many extents of this many lines can be cut from what is free.
+    pub fn has_room(&self, count: u64, lines: u64) -> bool
+        requires { 0 < lines }
+        ensures { result ≡ has_room count lines (self.now).room }
+    {
+        self.store.has_room(count, lines)
     }
 
     /// The position of the list of calls: how many of them changed something.

@@ -1,5 +1,6 @@
 //! What the calls are run on: the keyspace, the heap and the sessions.
-ghost use Rattle.std.specs.Prelude.{◌≡◌, ◌≤◌, ℕ, List, [], length, vec_capacity, false, None, Some, IfOk, IfErr, OnOk, OnErr, IsErrOf};
+ghost use Rattle.std.specs.Prelude.{◌≡◌, ◌<◌, ◌≤◌, ℕ, List, [], length, vec_capacity, false, None, Some, IfOk, IfErr, OnOk, OnErr, IsErrOf};
+ghost use Rattle.extent_heap.specs.Room.{has_room};
 ghost use Rattle.multi_watch.specs.Session.{idle_session};
 ghost use Rattle.multi_watch.specs.Admission.{act_now, step, session_after_refusal};
 ghost use Rattle.multi_watch.specs.Sessions.{session_at, HasRoom};
@@ -60,6 +61,14 @@ impl<K: Keyspace> Store<K> {
         ensures { result ≡ is_closed_at (self.now).sessions seat.now }
     {
         self.seats.is_closed(seat)
+    }
+
+    /// Whether so many entries are free, and so many extents of this many lines can be cut from what is free.
+    pub(crate) fn has_room(&self, count: u64, lines: u64) -> bool
+        requires { 0 < lines }
+        ensures { result ≡ has_room count lines (self.now).room }
+    {
+        self.heap.has_room(count, lines)
     }
 
     /// Opens a seat with an idle session.
