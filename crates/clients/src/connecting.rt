@@ -6,6 +6,7 @@ ghost use Rattle.pipes.specs.declared.limits.TheConstants.{MAX_SEATS};
 
 use crate::cards::Cards;
 use crate::ends::{Asks, Tells};
+use crate::look_ahead::LookAhead;
 use crate::outbox::Outbox;
 use crate::post::Post;
 use crate::reader::RequestReader;
@@ -61,7 +62,7 @@ pub fn new_connection(
     requires marks { mark.marks ≡ arc_value marks.now }
     ensures seat { IfOk result (λ made. made.arrival.seat ≡ seat) }
     ensures number { IfOk result (λ made. (made.reader.post.number ≡ seat) × (made.writer.post.number ≡ seat)) }
-    ensures requests { IfOk result (λ made. AreEndsOfOne made.reader.items made.arrival.requests.items) }
+    ensures requests { IfOk result (λ made. AreEndsOfOne made.reader.items made.arrival.requests.items.inlet) }
     ensures replies { IfOk result (λ made. AreEndsOfOne made.arrival.replies.replies made.writer.replies) }
     ensures returned { IfErr result (λ back. back ≡ seat) }
 {
@@ -102,7 +103,7 @@ fn make_parts(
     requires marks { mark.marks ≡ arc_value marks.now }
     requires number { number < MAX_SEATS }
     ensures number { IfOk result (λ made. (made.reader.post.number ≡ number) × (made.writer.post.number ≡ number)) }
-    ensures requests { IfOk result (λ made. AreEndsOfOne made.reader.items made.asks.items) }
+    ensures requests { IfOk result (λ made. AreEndsOfOne made.reader.items made.asks.items.inlet) }
     ensures replies { IfOk result (λ made. AreEndsOfOne made.tells.replies made.writer.replies) }
 {
     let requests = RingPipe::<Item>::new(alloc)?;
@@ -128,7 +129,7 @@ fn make_parts(
     };
     Ok(Parts {
         asks: Asks {
-            items: requests.inlet,
+            items: LookAhead::new(requests.inlet),
             reader: reader_bell,
             line,
         },

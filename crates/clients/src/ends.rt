@@ -1,4 +1,5 @@
 //! What the thread that serves has of a connection.
+use crate::look_ahead::LookAhead;
 use kv_types::{Held, Item};
 use pipes::{RingInlet, RingOutlet};
 use std::sync::Arc;
@@ -7,8 +8,8 @@ use wakes::{Bell, Line};
 /// Where a connection's requests come out.
 #[derive(Drop)]
 pub struct Asks {
-    /// The items that the connection's bytes ask for.
-    pub items: RingInlet<Item>,
+    /// The items that the connection's bytes ask for, the next of which can be looked at.
+    pub items: LookAhead<Item, RingInlet<Item>>,
     /// Wakes the reader: to be rung after items were taken, where `line.reader_waits` was set.
     pub reader: Bell,
     /// What the connection's threads tell one another.
