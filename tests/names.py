@@ -106,5 +106,6 @@ REPEATED = {
     "stored": "what is kept: bytes as a copy for a keyspace, a store in a device's history",
     "take": "takes out what comes first",
     "text": "what a client is sent: of an error, a misuse or a status",
+    "has_room": "whether there is room for so many versions: in a heap, and in the heap of a sequencer and of a primary",
     "turn": "does the one step that is due: of the sequencer, and of the committer",
 }

@@ -3,3 +3,4 @@ pub mod FreedQueue
 pub mod LeadsLemmas
 pub mod TurnedLemmas
 pub mod ClosedLemmas
+pub mod SettledLemmas

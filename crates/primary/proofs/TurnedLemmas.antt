@@ -1,8 +1,9 @@
 -- What a turn of the committer leaves of a primary.
-use Rattle.std.proofs.Common.{◌≡◌, ◌⊎◌, ℕ, ◌<◌, Bool, List, [], ◌∷◌, ◌++◌, map, Option, Some, None, Result, Ok, Err, IfOk, refl, sym, ap, subst, ◌∙◌, inl, inr, append-nil}
+use Rattle.std.proofs.Common.{◌≡◌, ◌⊎◌, ℕ, ◌<◌, Bool, List, [], ◌∷◌, ◌++◌, map, Option, Some, None, Result, Ok, Err, IfOk, IsErrOf, refl, sym, ap, subst, ◌∙◌, inl, inr, append-nil, append_assoc}
 use Rattle.pmem.specs.Device.{State}
 use Rattle.kv_types.specs.declared.place.EntryNo.{EntryNo}
 use Rattle.kv_types.specs.declared.refusal.Refusal.{Refusal}
+use Rattle.kv_types.specs.declared.refusal.Refusal.TheVariants.{Memory}
 use Rattle.model.specs.declared.group.Group.{Group}
 use Rattle.model.specs.declared.work.FreeList.{FreeList}
 use Rattle.model.specs.declared.work.Work.{Work}
@@ -14,9 +15,9 @@ use Rattle.wbl_engine.specs.declared.freeing.Freed.{Freed as Places}
 use Rattle.wbl_engine.specs.Contents.{IsDurable, Same}
 use Rattle.wbl_engine.specs.Freeing.{Clears}
 use Rattle.wbl_engine.proofs.WithoutLemmas.{consistent_cleared, consistent_without, was_there}
-use Rattle.redis_core.specs.Sequencing.{Sequencing}
+use Rattle.redis_core.specs.Sequencing.{Expects, IsAheadOf, Sequencing}
 use Rattle.group_commit.specs.Committing.{Commits, raised, ready_again}
-use Rattle.group_commit.specs.Group.{AreWork, groups_of, lists_of}
+use Rattle.group_commit.specs.Group.{AreWork, after_groups, after_work, groups_of, lists_of}
 use Rattle.group_commit.specs.Working.{ClearsGap, FreesFirst, IsDrained, StaysIdle, TakesLists, TurnsReady, entries_of_lists}
 use Rattle.group_commit.specs.declared.committer.Committer.{Committer}
 use Rattle.group_commit.specs.declared.stage.Done.{Done}
@@ -27,11 +28,11 @@ use Rattle.group_commit.proofs.FreedLemmas.{AreEnded-first}
 use Rattle.group_commit.proofs.GroupsLemmas.{Same-is}
 use Rattle.group_commit.proofs.WorkLemmas.{AreWork-behind, EndsLists-none, TakesLists-items, groups_of-lists, lists_of-lists}
 use Rattle.pipes.specs.Waiting.{Waiting, LocalTakes}
-use Rattle.primary.specs.Leading.{AreLaid, Leads}
+use Rattle.primary.specs.Leading.{AreLaid, AreOfEpoch, Leads, entries_told, extents_told}
 use Rattle.primary.specs.Standing.{StandsOver, notices_of}
 use Rattle.primary.proofs.AheadLemmas.{laid-group}
 use Rattle.primary.proofs.FreedQueue.{Leads-aside, Leads-cleared, Leads-freed}
-use Rattle.primary.proofs.LeadsLemmas.{leads-after}
+use Rattle.primary.proofs.LeadsLemmas.{gives-work, leads-after}
 
 -- ---- versions that are left lie as they lay
 
@@ -64,6 +65,23 @@ drained room before between after lists aside contents s notices takes (inl (som
 drained room before between after lists aside contents s notices takes (inr (full, nothing, same)) leads =
     subst (λ (xs : List FreeList). Leads contents after.items xs s notices) (sym (ap (λ (xs : List FreeList). aside ++ xs) nothing ∙ append-nil aside))
     (subst (λ (items : List Work). Leads contents items aside s notices) (sym (ap (λ (pipe : Waiting Work). pipe.items) same)) leads)
+
+-- where more may wait, those that were taken stand aside
+set_aside : (before between : Waiting Work) (lists aside : List FreeList) (contents : Contents) (s : Sequencing) (notices : List Places) → TakesLists LocalTakes before lists between
+    → Leads contents before.items aside s notices → Leads contents between.items (aside ++ lists) s notices
+set_aside before between lists aside contents s notices takes leads =
+    let all = subst (λ (xs : List Work). Leads contents xs aside s notices) (TakesLists-items before between lists takes) leads in
+    let same : after_work contents (map work.Free lists ++ between.items) ≡ after_work contents between.items = ap (after_groups contents) (groups_of-lists lists between.items) in
+    record {
+      work_is = AreWork-behind contents lists between.items all.work_is;
+      epochs = subst (AreOfEpoch contents.current.epoch) (groups_of-lists lists between.items) all.epochs;
+      stands = subst (IsAheadOf s) same all.stands;
+      expects = subst (λ (c : Contents). Expects s c (entries_told notices) (extents_told notices)) same all.expects;
+      aside_ended = (gives-work contents before aside s notices leads).lists lists between takes;
+      listed = subst (λ (c : Contents). AreEnded c (entries_of_lists ((aside ++ lists) ++ lists_of between.items) ++ s.ended)) same
+          (subst (λ (xs : List FreeList). AreEnded (after_work contents (map work.Free lists ++ between.items)) (entries_of_lists xs ++ s.ended))
+          (ap (λ (xs : List FreeList). aside ++ xs) (lists_of-lists lists between.items) ∙ sym (append_assoc aside lists (lists_of between.items))) all.listed);
+    }
 
 -- an answer
 abbrev the_ok : Done → Result Done Refusal
@@ -180,6 +198,38 @@ module _ {E : Type 0} (device : E → State) (contents : E → Contents) (is_fau
         | inr (inr (inr (inr refuses))) ↦ absurd (ok_not_err came refuses.2.answer)
       ]
 
+  -- ---- a turn that may take a group, where memory was refused
+
+  -- the engine did not move
+  unmoved : (old new : Committer E) (before after : Waiting Work) (aside : List FreeList) (s : Sequencing) → new.engine ≡ old.engine → new.aside.items ≡ aside
+      → Leads (contents old.engine) after.items aside s [] → Over old before s [] → Over new after s []
+  unmoved old new before after aside s same aside_is leads over =
+      subst (λ (xs : List FreeList). StandsOver (device new.engine) (contents new.engine) after.items xs s []) (sym aside_is)
+      (subst (λ (e : E). StandsOver (device e) (contents e) after.items aside s []) (sym same)
+      (record { leads = leads; consistent = over.consistent; laid = over.laid; durable = over.durable }))
+
+  ready-again : (old new : Committer E) (before after : Waiting Work) (room remote : ℕ) (s : Sequencing)
+      → TurnsReady device contents is_faulted LocalTakes old before room remote (Err Memory) new after → Over old before s [] → Over new after s []
+  ready-again old new before after room remote s turned over =
+      let c = contents old.engine in
+      let lists = turned.lists in
+      elim turned.came [
+        | inl took ↦ absurd (elim took.3.causes [ inl e ↦ cc | inr e ↦ cc ])
+        | inr (inl frees) ↦
+            unmoved old new before after (frees.1 ∷ frees.2) s (frees.5.memory refl) frees.5.kept
+            (subst (λ (xs : List FreeList). Leads c after.items xs s []) frees.3
+            (drained room before turned.between after lists old.aside.items c s [] turned.takes frees.0 over.leads)) over
+        | inr (inr (inl clears)) ↦
+            unmoved old new before after [] s (clears.3.memory refl) clears.3.aside
+            (subst (λ (xs : List FreeList). Leads c after.items xs s []) clears.2
+            (drained room before turned.between after lists old.aside.items c s [] turned.takes (inl (clears.0, inl clears.1)) over.leads)) over
+        | inr (inr (inr (inl idle))) ↦ absurd (ok_not_err done.Idle (sym idle.1.answer))
+        | inr (inr (inr (inr refuses))) ↦
+            unmoved old new before after (old.aside.items ++ lists) s refuses.2.engine refuses.2.aside_is
+            (subst (λ (pipe : Waiting Work). Leads c pipe.items (old.aside.items ++ lists) s []) (sym refuses.1)
+            (set_aside before turned.between lists old.aside.items c s [] turned.takes over.leads)) over
+      ]
+
   -- ---- any turn
 
   -- what the committer's clauses say of a turn that came to this
@@ -218,6 +268,22 @@ module _ {E : Type 0} (device : E → State) (contents : E → Contents) (is_fau
       → Over old before s [] → IfOk result (λ came. Over new after s (notices_of came))
   turn-told old new before after room remote (Ok came) s turned over = turn-stands old new before after room remote came s turned over
   turn-told old new before after room remote (Err refusal) s turned over = tt
+
+  again-stands : (old new : Committer E) (before after : Waiting Work) (room remote : ℕ) (s : Sequencing) → Turned old new before after room remote (Err Memory)
+      → Over old before s [] → Over new after s []
+  again-stands old new before after room remote s turned over =
+      elim old.stage as (λ st. old.stage ≡ st → Over new after s []) [
+        | stage.Ready ↦ λ is. ready-again old new before after room remote s (turned.ready is) over
+        | stage.Durable group ↦ λ is. absurd (ok_not_err done.Raised (sym (turned.durable group is).0))
+        | stage.Shown group ↦ λ is. absurd (elim (turned.shown group is).1 [ inl handed ↦ ok_not_err done.Handed (sym handed.0) | inr idle ↦ ok_not_err done.Idle (sym idle.0) ])
+      ] refl
+
+  -- where memory was refused the step can be taken again
+  pub turn-again : (old new : Committer E) (before after : Waiting Work) (room remote : ℕ) (result : Result Done Refusal) (s : Sequencing) → Turned old new before after room remote result
+      → Over old before s [] → IsErrOf result Memory → Over new after s []
+  turn-again old new before after room remote result s turned over refused =
+      let is : result ≡ Err Memory = refused in
+      again-stands old new before after room remote s (subst (λ (r : Result Done Refusal). Turned old new before after room remote r) is turned) over
 
   -- ---- the position of a commit
 

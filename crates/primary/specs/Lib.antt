@@ -2,3 +2,4 @@ pub mod Leading
 pub mod Closing
 pub mod Resuming
 pub mod Standing
+pub mod Settled

@@ -28,8 +28,12 @@ pub struct Opened<E, K: Keyspace> {
     pub primary: Primary<E, K>,
     /// What a standby is told that is behind the position at which the primary was opened.
     pub opening: Opening,
+    /// The position of the image's record.
+    pub position: u64,
     /// The epoch of the image's record.
     pub epoch: u64,
+    /// How many keys it holds.
+    pub keys: u64,
 }
 
 /// Opens a primary's image again: its keyspace, its heap and what a standby is told are made of the versions that are there.
@@ -63,13 +67,20 @@ fn assemble<E: Durable + Drop, K: Keyspace + Drop>(
     requires counted { (E.contents engine).current.position < COUNTER_LIMIT }
     ensures stands { IfOk result (λ opened. Stands E.device E.contents opened.primary) }
 {
-    let (keyspace, room, ended) = read_versions(alloc, engine.lines(), versions)?;
+    let (keyspace, room, ended): (K, Rebuilt, Vec<RecordId>) = read_versions(
+        alloc,
+        engine.lines(),
+        versions,
+    )?;
     let at = (engine.position(), engine.record().epoch);
+    let keys = keyspace.count_keys();
     let Resumed { sequencer, opening } = resume(alloc, keyspace, room, ended, at, hash_builder)?;
     Ok(Opened {
         primary: Primary::new(alloc, sequencer, engine)?,
         opening,
+        position: at.0,
         epoch: at.1,
+        keys,
     })
 }
 

@@ -1,5 +1,6 @@
 //! A primary: its sequencer, its committer, and the queue between them.
-ghost use Rattle.std.specs.Prelude.{◌≡◌, ◌<◌, ◌++◌, ◌∷◌, [], ℕ, List, true, false, length, Some, None, IfOk, IfErr, OnOk, OnErr};
+ghost use Rattle.std.specs.Prelude.{◌≡◌, ◌↔◌, ◌<◌, ◌++◌, ◌∷◌, [], ℕ, List, true, false, length, Some, None, IfOk, IfErr, IsErrOf, OnOk, OnErr};
+ghost use Rattle.extent_heap.specs.Room.{has_room};
 ghost use Rattle.kv_types.specs.declared.item.Item.{Item};
 ghost use Rattle.kv_types.specs.declared.reply.Held.{Held};
 ghost use Rattle.kv_types.specs.declared.reply.Reply.{Reply};
@@ -15,6 +16,7 @@ ghost use Rattle.redis_core.specs.Turn.{Answers, OnServed, OnIdle, OnBlocked, On
 ghost use Rattle.group_commit.specs.declared.stage.Done.TheVariants as done;
 ghost use Rattle.primary.specs.Leading.{AreLaid, Leads};
 ghost use Rattle.primary.specs.Resuming.{IsOver};
+ghost use Rattle.primary.specs.Settled.{IsSettled};
 ghost use Rattle.primary.specs.Standing.{Stands, StandsOver, notices_of};
 
 use crate::closing::close_next;
@@ -76,6 +78,25 @@ impl<E: Durable, K: Keyspace> Primary<E, K> {
         ensures { result ≡ (E.contents self.now.committer.engine).current.epoch }
     {
         self.committer.epoch()
+    }
+
+    /// Whether so many entries are free, and so many extents of this many lines can be cut from what is free.
+    pub fn has_room(&self, count: u64, lines: u64) -> bool
+        requires { 0 < lines }
+        ensures { result ≡ has_room count lines (self.now.sequencer).room }
+    {
+        self.sequencer.has_room(count, lines)
+    }
+
+    /// Whether something is on its way that may make room: changes that wait for a group, and may have ended versions; ended versions that wait to be
+    /// listed; groups and free lists that wait for the committer; lists that stand aside; gaps.
+    pub fn is_room_coming(&self) -> bool
+        ensures { result ≡ false ↔ IsSettled (E.contents self.now.committer.engine) self.now.work.items self.now.committer.aside.items self.now.sequencer }
+    {
+        let is_open = self.sequencer.has_open() | self.sequencer.has_ended();
+        let is_queued = !self.work.is_empty();
+        let is_kept = self.committer.has_aside() | self.committer.has_gap();
+        is_open | is_queued | is_kept
     }
 
     /// Opens a seat for the connection that was given it, as `Sequencer::open_seat` does.
@@ -140,7 +161,7 @@ impl<E: Durable, K: Keyspace> Primary<E, K> {
     ///
     /// # Errors
     ///
-    /// As at `Committer::turn`.
+    /// As at `Committer::turn`. After `Memory` the step can be taken again.
     pub fn commit<O: Outlet<Item = Group>>(
         &mut self,
         alloc: Global,
@@ -150,6 +171,7 @@ impl<E: Durable, K: Keyspace> Primary<E, K> {
         requires stands { Stands E.device E.contents self.old }
         requires may { (group : Group) → O.may_offer link.old group }
         ensures stands { OnOk result (Stands E.device E.contents self.new) }
+        ensures again { IsErrOf result Refusal.Memory → Stands E.device E.contents self.new }
         // what it says to be durable is
         ensures committed { IfOk result (λ came. (position : ℕ) → came ≡ done.Committed position → position ≡ (E.contents self.new.committer.engine).current.position) }
         ensures same { O.is_same link.old link.new }
@@ -170,6 +192,7 @@ impl<E: Durable, K: Keyspace> Primary<E, K> {
         requires may { (group : Group) → O.may_offer link.old group }
         ensures told { IfOk result (λ came. StandsOver (E.device self.new.committer.engine) (E.contents self.new.committer.engine) self.new.work.items
             self.new.committer.aside.items self.new.sequencer (notices_of came)) }
+        ensures again { IsErrOf result Refusal.Memory → Stands E.device E.contents self.new }
         ensures committed { IfOk result (λ came. (position : ℕ) → came ≡ done.Committed position → position ≡ (E.contents self.new.committer.engine).current.position) }
         ensures same { O.is_same link.old link.new }
     {

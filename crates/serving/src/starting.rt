@@ -71,6 +71,7 @@ pub fn run<
         primary,
         opening,
         epoch,
+        ..
     } = opened;
     let position = primary.durable_position();
     match new_threading(alloc, position, opening, epoch, address) {

@@ -1,6 +1,6 @@
 use Rattle.std.proofs.Common.{[], inl, inr}
 use Rattle.primary.proofs.LeadsLemmas.{gives-work}
-use Rattle.primary.proofs.TurnedLemmas.{Turned, turn-committed, turn-told}
+use Rattle.primary.proofs.TurnedLemmas.{Turned, turn-again, turn-committed, turn-told}
 use Rattle.primary.proofs.primary.Primary.take_step.Goals as goal
 
 pub turn-requires-clause-lawful : goal.turn-requires-clause-lawful
@@ -31,3 +31,15 @@ returns-clause-committed g c =
       durable = λ group is. let told = turned.durable group is in (told.0, told.1, told.2);
       shown = λ group is. let told = turned.shown group is in (told.0, elim told.1 [ inl handed ↦ inl (handed.0, handed.1) | inr idle ↦ inr (idle.0, idle.1) ]);
     })
+
+pub returns-clause-again : goal.returns-clause-again
+returns-clause-again g c =
+    let E = g.E.Durable in
+    let p = c.args.self.now in
+    let turned = c.turn.ensures in
+    turn-again E.device E.contents E.is_faulted p.committer c.turn.new.self p.work c.turn.new.work (g.O.Outlet.known_room c.turn.new.link) c.args.remote c.turn.result p.sequencer
+    (record {
+      ready = λ is. (turned.ready is).2;
+      durable = λ group is. let told = turned.durable group is in (told.0, told.1, told.2);
+      shown = λ group is. let told = turned.shown group is in (told.0, elim told.1 [ inl handed ↦ inl (handed.0, handed.1) | inr idle ↦ inr (idle.0, idle.1) ]);
+    }) c.requires.stands
