@@ -1,0 +1,341 @@
+"""The pair as two processes over sockets: a primary and a standby over images in a folder of their own, with clients, kills and starts
+again. All that a test starts ends with it, also where the test fails, takes too long or is killed itself."""
+
+import contextlib
+import os
+import pathlib
+import random
+import resource
+import select
+import signal
+import socket
+import subprocess
+import sys
+import tempfile
+import time
+
+import common
+from spelling import spell
+
+LINES = 65_536
+HOST = "127.0.0.1"
+# What is waited for comes within this time on a machine that is busy; else the test has failed.
+PATIENCE = 60
+# A test that takes longer has failed, and all that it started is ended.
+MOST_SECONDS = 150
+# Ports below those that the system gives to sockets that name none.
+PORTS = range(10_000, 32_000)
+# Descriptors of a primary: one for each connection, and some more.
+DESCRIPTORS = 2_048
+
+# A program that starts a node: it ends with the process that started it, and may have so many descriptors.
+LAUNCH = """
+import ctypes, os, resource, signal, sys
+parent, descriptors = map(int, sys.argv[1:3])
+ctypes.CDLL(None).prctl(1, signal.SIGKILL)
+if os.getppid() != parent:
+    sys.exit("it was left alone")
+resource.setrlimit(resource.RLIMIT_NOFILE, (descriptors, max(descriptors, resource.getrlimit(resource.RLIMIT_NOFILE)[1])))
+os.execv(sys.argv[3], sys.argv[3:])
+"""
+
+
+def allow_descriptors(count):
+    """Lets this process have so many descriptors, where it may; whether it may."""
+    soft, hard = resource.getrlimit(resource.RLIMIT_NOFILE)
+    if soft != resource.RLIM_INFINITY and soft < count:
+        with contextlib.suppress(ValueError, OSError):
+            resource.setrlimit(resource.RLIMIT_NOFILE, (min(count, hard) if hard != resource.RLIM_INFINITY else count, hard))
+    soft, _ = resource.getrlimit(resource.RLIMIT_NOFILE)
+    return soft == resource.RLIM_INFINITY or soft >= count
+
+
+class TakesTooLong(Exception):
+    """What was waited for did not come."""
+
+
+def wait_until(holds, what, seconds=PATIENCE):
+    """Waits until this holds, and returns what it returned."""
+    end = time.monotonic() + seconds
+    while True:
+        found = holds()
+        if found:
+            return found
+        if time.monotonic() > end:
+            raise TakesTooLong(what)
+        time.sleep(0.005)
+
+
+class Port:
+    """A port that no other test takes while this one lives: a name of the system's, held by this process, stands for it."""
+
+    def __init__(self):
+        while True:
+            self.number = random.choice(PORTS)
+            self.claim = socket.socket(socket.AF_UNIX)
+            try:
+                self.claim.bind(f"\0wbl-port-{self.number}")
+                with socket.socket() as tried:
+                    tried.setsockopt(socket.SOL_SOCKET, socket.SO_REUSEADDR, 1)
+                    tried.bind((HOST, self.number))
+                return
+            except OSError:
+                self.claim.close()
+
+    def address(self):
+        return f"{HOST}:{self.number}"
+
+    def close(self):
+        self.claim.close()
+
+
+class Ended(Exception):
+    """The other side has closed the connection."""
+
+
+class Client:
+    """One connection. What is sent and what comes are bytes; each wait has its bound."""
+
+    def __init__(self, port, seconds=PATIENCE):
+        self.socket = socket.create_connection((HOST, port), timeout=seconds)
+        self.socket.setsockopt(socket.IPPROTO_TCP, socket.TCP_NODELAY, 1)
+        self.come = bytearray()
+
+    def __enter__(self):
+        return self
+
+    def __exit__(self, *_):
+        self.close()
+
+    def close(self):
+        self.socket.close()
+
+    def send(self, data):
+        self.socket.sendall(data)
+
+    def ask(self, *words):
+        """The reply to one request, as its bytes."""
+        self.send(spell(*words))
+        return self.reply()
+
+    def ask_all(self, rows):
+        """The replies to many requests that are sent in one piece."""
+        self.send(b"".join(spell(*row) for row in rows))
+        return [self.reply() for _ in rows]
+
+    def reply(self):
+        """The bytes of the next reply."""
+        end = self._end_of_reply(0)
+        return self._take(end)
+
+    def _end_of_reply(self, at):
+        """Where the reply that begins here ends."""
+        end = self._end_of_line(at)
+        kind, count = self.come[at:at + 1], self.come[at + 1:end - 2]
+        if kind == b"$" and int(count) >= 0:
+            end += int(count) + 2
+            self._need(end)
+        for _ in range(int(count) if kind == b"*" else 0):
+            end = self._end_of_reply(end)
+        return end
+
+    def _end_of_line(self, at):
+        while (place := self.come.find(b"\r\n", at)) < 0:
+            self._receive()
+        return place + 2
+
+    def _need(self, length):
+        while len(self.come) < length:
+            self._receive()
+
+    def _receive(self):
+        piece = self.socket.recv(1 << 18)
+        if not piece:
+            raise Ended(f"with {bytes(self.come[:200])!r} left")
+        self.come += piece
+
+    def _take(self, length):
+        taken = bytes(self.come[:length])
+        del self.come[:length]
+        return taken
+
+    def read(self, length):
+        """The next bytes, exactly so many."""
+        self._need(length)
+        return self._take(length)
+
+    def read_all(self):
+        """All bytes until the other side closes its sending side."""
+        with contextlib.suppress(Ended):
+            while True:
+                self._receive()
+        return self._take(len(self.come))
+
+    def end_sending(self):
+        self.socket.shutdown(socket.SHUT_WR)
+
+    def is_silent(self, seconds=0.2):
+        """Whether nothing has come and nothing comes within this time."""
+        return not self.come and not select.select([self.socket], [], [], seconds)[0]
+
+
+class Node:
+    """A primary or a standby: the image, how the program is called over it, and its process while it runs."""
+
+    def __init__(self, role, folder, lines, *options):
+        self.role, self.image = role, folder / f"{role}.img"
+        self.words = [role, "--image", str(self.image), *options]
+        self.output, self.errors = folder / f"{role}.out", folder / f"{role}.err"
+        self.process = None
+        self.format(lines)
+
+    def format(self, lines):
+        words = ["format", "--image", str(self.image), "--lines", str(lines), "--role", self.role]
+        finished = common.run_program("server", words, seconds=PATIENCE)
+        if finished.status:
+            raise AssertionError(finished)
+
+    def start(self, descriptors=DESCRIPTORS):
+        """Starts the process over the image as it is. It ends with this process, whatever becomes of it."""
+        launch = [sys.executable, "-ISc", LAUNCH, str(os.getpid()), str(descriptors), common.program("server"), *self.words]
+        with open(self.output, "ab") as output, open(self.errors, "ab") as errors:
+            self.process = subprocess.Popen(launch, stdin=subprocess.DEVNULL, stdout=output, stderr=errors)
+
+    def is_running(self):
+        return self.process is not None and self.process.poll() is None
+
+    def send(self, number):
+        """Sends the process a signal, if it runs."""
+        if self.is_running():
+            self.process.send_signal(number)
+
+    def freeze(self):
+        """Stops the process where it is. It is stopped when this returns."""
+        self.send(signal.SIGSTOP)
+        wait_until(lambda: self._state() in "TZX", "a process that was stopped")
+
+    def thaw(self):
+        self.send(signal.SIGCONT)
+
+    def _state(self):
+        text = pathlib.Path("/proc", str(self.process.pid), "stat").read_text(encoding="latin-1")
+        return text.rpartition(")")[2].split()[0]
+
+    def end(self, number=signal.SIGKILL):
+        """Ends the process by this signal, and returns its status."""
+        self.send(number)
+        return self.wait()
+
+    def wait(self):
+        """The status of the process, once it has ended."""
+        return self.process.wait(PATIENCE)
+
+    def close(self):
+        if self.process is not None:
+            self.process.kill()
+            self.process.wait()
+
+    def inspect(self):
+        """What `inspect` tells of the image: a number or a word by its name. The process must have ended."""
+        finished = common.run_program("server", ["inspect", "--image", str(self.image)], seconds=PATIENCE)
+        if finished.status:
+            raise AssertionError(finished)
+        rows = [line.split(" ", 1) for line in finished.output.decode().splitlines()]
+        return {name: int(value) if value.isdigit() else value for name, value in rows}
+
+
+class Pair:
+    """A primary and a standby over two new images, both running, and the clients of it."""
+
+    def __init__(self, lines=LINES, descriptors=DESCRIPTORS, folder=None):
+        self.parts = contextlib.ExitStack()
+        try:
+            self._make(lines, descriptors, folder)
+        except BaseException:
+            self.close()
+            raise
+
+    def _make(self, lines, descriptors, folder):
+        self.folder = pathlib.Path(self.parts.enter_context(tempfile.TemporaryDirectory(prefix="wbl-pair-", dir=folder)))
+        self.door, self.link = (self.parts.enter_context(contextlib.closing(Port())) for _ in range(2))
+        self.descriptors = descriptors
+        self.standby = self._node("standby", lines, "--listen", self.link.address())
+        self.primary = self._node("primary", lines, "--listen", self.door.address(), "--link", self.link.address())
+        self.standby.start()
+        self.primary.start(descriptors)
+        self.wait()
+
+    def _node(self, role, lines, *options):
+        return self.parts.enter_context(contextlib.closing(Node(role, self.folder, lines, *options)))
+
+    def __enter__(self):
+        return self
+
+    def __exit__(self, *_):
+        self.close()
+
+    def close(self):
+        self.parts.close()
+
+    def client(self, seconds=PATIENCE):
+        """A connection, which is closed with the pair. It is refused while nobody listens."""
+        return self.parts.enter_context(contextlib.closing(Client(self.door.number, seconds)))
+
+    def is_open(self):
+        """Whether somebody listens at the primary's address."""
+        if not self.primary.is_running():
+            raise AssertionError(f"the primary ended: {self.primary.errors.read_bytes()!r}")
+        with contextlib.suppress(OSError), Client(self.door.number):
+            return True
+        return False
+
+    def wait(self):
+        """Waits until the primary listens, and a request is answered: so the standby has told what it holds."""
+        wait_until(self.is_open, "a primary that listens")
+        with Client(self.door.number) as client:
+            found = client.ask("PING")
+            if found != b"+PONG\r\n":
+                raise AssertionError(found)
+
+    def restart(self, *nodes):
+        """Kills these nodes, and starts them again on their images."""
+        for node in nodes:
+            node.end()
+        for node in nodes:
+            node.start(self.descriptors)
+
+    def end(self):
+        """Ends both nodes."""
+        for node in (self.primary, self.standby):
+            node.end()
+
+    def inspect(self):
+        """What both images hold, the primary's first. Both nodes must have ended."""
+        return self.primary.inspect(), self.standby.inspect()
+
+
+class PairCases(common.Cases):
+    """Tests over a pair. Each is ended where it takes too long."""
+
+    def setUp(self):
+        def stop(*_):
+            raise TakesTooLong(f"the test: more than {MOST_SECONDS} seconds")
+
+        before = signal.signal(signal.SIGALRM, stop)
+        self.addCleanup(signal.signal, signal.SIGALRM, before)
+        signal.setitimer(signal.ITIMER_REAL, MOST_SECONDS)
+        self.addCleanup(signal.setitimer, signal.ITIMER_REAL, 0)
+
+    def pair(self, **options):
+        """A pair that ends with the test."""
+        made = Pair(**options)
+        self.addCleanup(made.close)
+        return made
+
+    def assert_positions(self, pair):
+        """Both nodes end, and both images open: the standby is at most where the primary is. Returns both positions."""
+        pair.end()
+        primary, standby = pair.inspect()
+        self.assertEqual((primary["role"], standby["role"]), ("primary", "standby"))
+        self.assertLessEqual(standby["position"], primary["position"])
+        return primary["position"], standby["position"]
