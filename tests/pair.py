@@ -180,21 +180,26 @@ class Client:
         return not self.come and not select.select([self.socket], [], [], seconds)[0]
 
 
+def run(*words):
+    """What the program prints where it does this."""
+    finished = common.run_program("server", words, seconds=PATIENCE)
+    if finished.status:
+        raise AssertionError(f"{words}: {finished}")
+    return finished.output
+
+
 class Node:
     """A primary or a standby: the image, how the program is called over it, and its process while it runs."""
 
-    def __init__(self, role, folder, lines, *options):
-        self.role, self.image = role, folder / f"{role}.img"
-        self.words = [role, "--image", str(self.image), *options]
-        self.output, self.errors = folder / f"{role}.out", folder / f"{role}.err"
+    def __init__(self, role, image, *options):
+        self.role, self.image = role, image
+        self.words = [role, "--image", str(image), *options]
+        self.output, self.errors = image.with_suffix(f".{role}.out"), image.with_suffix(f".{role}.err")
         self.process = None
-        self.format(lines)
 
     def format(self, lines):
-        words = ["format", "--image", str(self.image), "--lines", str(lines), "--role", self.role]
-        finished = common.run_program("server", words, seconds=PATIENCE)
-        if finished.status:
-            raise AssertionError(finished)
+        """Makes the image a new one."""
+        run("format", "--image", str(self.image), "--lines", str(lines), "--role", self.role)
 
     def start(self, descriptors=DESCRIPTORS):
         """Starts the process over the image as it is. It ends with this process, whatever becomes of it."""
@@ -238,10 +243,7 @@ class Node:
 
     def inspect(self):
         """What `inspect` tells of the image: a number or a word by its name. The process must have ended."""
-        finished = common.run_program("server", ["inspect", "--image", str(self.image)], seconds=PATIENCE)
-        if finished.status:
-            raise AssertionError(finished)
-        rows = [line.split(" ", 1) for line in finished.output.decode().splitlines()]
+        rows = [line.split(" ", 1) for line in run("inspect", "--image", str(self.image)).decode().splitlines()]
         return {name: int(value) if value.isdigit() else value for name, value in rows}
 
 
@@ -259,15 +261,22 @@ class Pair:
     def _make(self, lines, descriptors, folder):
         self.folder = pathlib.Path(self.parts.enter_context(tempfile.TemporaryDirectory(prefix="wbl-pair-", dir=folder)))
         self.door, self.link = (self.parts.enter_context(contextlib.closing(Port())) for _ in range(2))
-        self.descriptors = descriptors
-        self.standby = self._node("standby", lines, "--listen", self.link.address())
-        self.primary = self._node("primary", lines, "--listen", self.door.address(), "--link", self.link.address())
-        self.standby.start()
-        self.primary.start(descriptors)
+        self.descriptors, self.lines = descriptors, lines
+        self.standby = self.standby_over(self.folder / "standby.img")
+        self.primary = self.primary_over(self.folder / "primary.img")
+        for node in (self.standby, self.primary):
+            node.format(lines)
+            node.start(descriptors)
         self.wait()
 
-    def _node(self, role, lines, *options):
-        return self.parts.enter_context(contextlib.closing(Node(role, self.folder, lines, *options)))
+    def primary_over(self, image):
+        """A primary over this image, at the address where clients come."""
+        node = Node("primary", image, "--listen", self.door.address(), "--link", self.link.address())
+        return self.parts.enter_context(contextlib.closing(node))
+
+    def standby_over(self, image):
+        """A standby over this image, at the address where the primary sends."""
+        return self.parts.enter_context(contextlib.closing(Node("standby", image, "--listen", self.link.address())))
 
     def __enter__(self):
         return self
@@ -338,5 +347,6 @@ class PairCases(common.Cases):
         pair.end()
         primary, standby = pair.inspect()
         self.assertEqual((primary["role"], standby["role"]), ("primary", "standby"))
+        self.assertEqual(primary["epoch"], standby["epoch"])
         self.assertLessEqual(standby["position"], primary["position"])
         return primary["position"], standby["position"]
