@@ -5,6 +5,7 @@ import contextlib
 import os
 import pathlib
 import random
+import re
 import resource
 import select
 import signal
@@ -191,9 +192,9 @@ def run(*words):
 class Node:
     """A primary or a standby: the image, how the program is called over it, and its process while it runs."""
 
-    def __init__(self, role, image, *options):
-        self.role, self.image = role, image
-        self.words = [role, "--image", str(image), *options]
+    def __init__(self, role, image, port, *options):
+        self.role, self.image, self.port = role, image, port
+        self.words = [role, "--image", str(image), "--listen", port.address(), *options]
         self.output, self.errors = image.with_suffix(f".{role}.out"), image.with_suffix(f".{role}.err")
         self.process = None
 
@@ -209,6 +210,13 @@ class Node:
 
     def is_running(self):
         return self.process is not None and self.process.poll() is None
+
+    def is_listening(self):
+        """Whether somebody listens at its address, as the system's table says: a connection would be one more."""
+        if not self.is_running():
+            raise AssertionError(f"the {self.role} has ended: {self.errors.read_bytes()!r}")
+        table = pathlib.Path("/proc/net/tcp").read_text(encoding="ascii")
+        return re.search(rf":{self.port.number:04X} 0+:0+ 0A ", table) is not None
 
     def send(self, number):
         """Sends the process a signal, if it runs."""
@@ -271,12 +279,12 @@ class Pair:
 
     def primary_over(self, image):
         """A primary over this image, at the address where clients come."""
-        node = Node("primary", image, "--listen", self.door.address(), "--link", self.link.address())
+        node = Node("primary", image, self.door, "--link", self.link.address())
         return self.parts.enter_context(contextlib.closing(node))
 
     def standby_over(self, image):
         """A standby over this image, at the address where the primary sends."""
-        return self.parts.enter_context(contextlib.closing(Node("standby", image, "--listen", self.link.address())))
+        return self.parts.enter_context(contextlib.closing(Node("standby", image, self.link)))
 
     def __enter__(self):
         return self
@@ -291,17 +299,10 @@ class Pair:
         """A connection, which is closed with the pair. It is refused while nobody listens."""
         return self.parts.enter_context(contextlib.closing(Client(self.door.number, seconds)))
 
-    def is_open(self):
-        """Whether somebody listens at the primary's address."""
-        if not self.primary.is_running():
-            raise AssertionError(f"the primary ended: {self.primary.errors.read_bytes()!r}")
-        with contextlib.suppress(OSError), Client(self.door.number):
-            return True
-        return False
-
     def wait(self):
-        """Waits until the primary listens, and a request is answered: so the standby has told what it holds."""
-        wait_until(self.is_open, "a primary that listens")
+        """Waits until both listen, and a request is answered."""
+        for node in (self.standby, self.primary):
+            wait_until(node.is_listening, f"a {node.role} that listens")
         with Client(self.door.number) as client:
             found = client.ask("PING")
             if found != b"+PONG\r\n":
