@@ -29,7 +29,7 @@ PORTS = range(10_000, 32_000)
 # Descriptors of a primary: one for each connection, and some more.
 DESCRIPTORS = 2_048
 
-# A program that starts a node: it ends with the process that started it, and may have so many descriptors.
+# What starts a program so that it ends with the process that started it, and may have so many descriptors.
 LAUNCH = """
 import ctypes, os, resource, signal, sys
 parent, descriptors = map(int, sys.argv[1:3])
@@ -181,6 +181,12 @@ class Client:
         return not self.come and not select.select([self.socket], [], [], seconds)[0]
 
 
+def launch(words, descriptors=DESCRIPTORS, **options):
+    """Starts a program that ends with this process, whatever becomes of it."""
+    first = [sys.executable, "-ISc", LAUNCH, str(os.getpid()), str(descriptors)]
+    return subprocess.Popen([*first, *words], stdin=subprocess.DEVNULL, **options)
+
+
 def run(*words):
     """What the program prints where it does this."""
     finished = common.run_program("server", words, seconds=PATIENCE)
@@ -203,10 +209,9 @@ class Node:
         run("format", "--image", str(self.image), "--lines", str(lines), "--role", self.role)
 
     def start(self, descriptors=DESCRIPTORS):
-        """Starts the process over the image as it is. It ends with this process, whatever becomes of it."""
-        launch = [sys.executable, "-ISc", LAUNCH, str(os.getpid()), str(descriptors), common.program("server"), *self.words]
+        """Starts the process over the image as it is."""
         with open(self.output, "ab") as output, open(self.errors, "ab") as errors:
-            self.process = subprocess.Popen(launch, stdin=subprocess.DEVNULL, stdout=output, stderr=errors)
+            self.process = launch([common.program("server"), *self.words], descriptors, stdout=output, stderr=errors)
 
     def is_running(self):
         return self.process is not None and self.process.poll() is None
