@@ -8,6 +8,7 @@ import socket
 import struct
 import subprocess
 import threading
+import time
 
 import common
 import worked_cases as worked
@@ -177,6 +178,23 @@ class Leaving(Manners):
                 self.assert_bytes(client.read_all(), OK + worked.NO_STAR)
                 client.close()
         self.assert_serves()
+
+    def test_what_comes_behind_a_fault_is_let_go(self):
+        """The side that is at fault may go on sending for a while: it is not told that the connection is reset."""
+        def may_go_on():
+            with Client(self.nodes.door.number) as client:
+                client.send(b"P")
+                self.assert_bytes(client.read_all(), worked.NO_STAR)
+                try:
+                    for _ in range(3):
+                        time.sleep(0.05)
+                        client.send(1_000 * b"x")
+                except OSError:
+                    return False
+                return True
+
+        # (on a machine that is busy a second may pass between two pieces, which ends it)
+        self.assertTrue(any(may_go_on() for _ in range(5)))
 
     def test_the_text_of_a_fault_waits_for_what_was_asked_before(self):
         client = self.nodes.client()

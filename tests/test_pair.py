@@ -256,6 +256,18 @@ class Sizes(PairCases):
         found = self.client.ask_all([("MULTI",), ("HGETALL", "h"), ("DEL", "h"), ("HGETALL", "h"), ("EXEC",)])[-1]
         self.assert_bytes(found, array([array(list(map(bulk, pairs))), integer(1), array([])]))
 
+    def test_frames_and_free_lists_of_2000_changes(self):
+        """Transactions that write 2,000 keys, and one that removes them all, again and again: more than the image holds at one time."""
+        keys = [f"k{at:04}" for at in range(2_000)]
+        for turn in range(8):
+            rows = [("MSET", *(word for key in keys[at:at + 500] for word in (key, f"{turn}"))) for at in range(0, 2_000, 500)]
+            self.assertEqual(self.client.ask_all([("MULTI",), *rows, ("EXEC",)])[-1], array(4 * [OK]))
+            self.assert_bytes(self.client.ask("MGET", *keys[::2]), array(1_000 * [bulk(b"%d" % turn)]))
+            if turn % 3 == 2:
+                self.assertEqual(self.client.ask("FLUSHDB"), OK)
+        self.assertEqual(self.client.ask("DBSIZE"), integer(2_000))
+        self.assertEqual(self.assert_positions(self.nodes), (10, 10))
+
     def test_a_reply_above_a_mebibyte(self):
         """32 fields of 65,536 bytes: two MiB in one reply."""
         for at in range(32):
