@@ -291,6 +291,27 @@ class Ends(Manners):
         self.nodes.wait()
         self.assert_serves()
 
+    def test_an_image_that_is_made_longer_under_its_node(self):
+        """The next fence fails, and the node ends: nothing more is answered. Over a file of its length again it goes on."""
+        for node in (self.nodes.standby, self.nodes.primary):
+            with self.case("longer", role=node.role):
+                size = node.image.stat().st_size
+                os.truncate(node.image, size + 64)
+                with Client(self.nodes.door.number) as client:
+                    client.send(spell("SET", node.role, "1"))
+                    self.assertEqual(node.wait(), 1)
+                    self.assertEqual(node.errors.read_bytes(), b"refusal 1: device fault\n")
+                    if node is self.nodes.primary:
+                        self.assert_bytes(client.read_all(), b"")
+                    else:
+                        self.assertTrue(client.is_silent(0.5))
+                    os.truncate(node.image, size)
+                    node.start()
+                    self.nodes.wait()
+                    if node is self.nodes.standby:
+                        self.assertEqual(client.reply(), OK)
+                self.assert_serves()
+
     def test_a_wrong_command_line_with_input_still_open(self):
         """Nothing is read where the words are none: the program ends while its input is open."""
         for words in (["primary"], ["nosuch"], ["--help"], ["format", "--image"], ["standby", "--image", "x", "--listen"]):
