@@ -36,7 +36,8 @@ parent, descriptors = map(int, sys.argv[1:3])
 ctypes.CDLL(None).prctl(1, signal.SIGKILL)
 if os.getppid() != parent:
     sys.exit("it was left alone")
-resource.setrlimit(resource.RLIMIT_NOFILE, (descriptors, max(descriptors, resource.getrlimit(resource.RLIMIT_NOFILE)[1])))
+most = resource.getrlimit(resource.RLIMIT_NOFILE)[1]
+resource.setrlimit(resource.RLIMIT_NOFILE, (descriptors if most == resource.RLIM_INFINITY else min(descriptors, most), most))
 signal.signal(signal.SIGINT, signal.SIG_DFL)
 os.execv(sys.argv[3], sys.argv[3:])
 """
@@ -356,3 +357,18 @@ class PairCases(common.Cases):
         self.assertEqual(primary["epoch"], standby["epoch"])
         self.assertLessEqual(standby["position"], primary["position"])
         return primary["position"], standby["position"]
+
+
+class ServingCases(PairCases):
+    """Tests over a pair of which others than the client that is tried are to be served."""
+
+    def setUp(self):
+        super().setUp()
+        self.nodes = self.pair()
+
+    def assert_serves(self, count=20):
+        """Another connection writes and reads."""
+        with Client(self.nodes.door.number) as client:
+            for at in range(count):
+                self.assertEqual(client.ask("SET", "other", f"{at}"), b"+OK\r\n")
+                self.assertEqual(client.ask("GET", "other"), b"$%d\r\n%d\r\n" % (len(f"{at}"), at))

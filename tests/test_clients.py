@@ -6,7 +6,6 @@ import re
 import subprocess
 import tempfile
 
-import common
 from pair import PairCases
 from plain_replies import OK, bulk, integer
 

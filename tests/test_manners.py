@@ -12,7 +12,7 @@ import time
 
 import common
 import worked_cases as worked
-from pair import PATIENCE, Client, Ended, PairCases, Port, allow_descriptors, wait_until
+from pair import PATIENCE, Client, Ended, Port, ServingCases, allow_descriptors, wait_until
 from plain_replies import OK, array, bulk, integer
 from spelling import spell
 from worked_cases import GET_A, NULL, ONE, PONG, SET_A
@@ -25,22 +25,7 @@ NO_SEAT = b"-ERR max number of clients reached\r\n"
 LONGEST = 65_536 * b"v"
 
 
-class Manners(PairCases):
-    """Tests over a pair, of which others than the client that is tried are to be served."""
-
-    def setUp(self):
-        super().setUp()
-        self.nodes = self.pair()
-
-    def assert_serves(self, count=20):
-        """Another connection writes and reads."""
-        with Client(self.nodes.door.number) as client:
-            for at in range(count):
-                self.assertEqual(client.ask("SET", "other", f"{at}"), OK)
-                self.assertEqual(client.ask("GET", "other"), bulk(b"%d" % at))
-
-
-class Seats(Manners):
+class Seats(ServingCases):
     def enter(self):
         """A connection that has a seat, or None where there was none for it."""
         client = self.nodes.client()
@@ -76,7 +61,7 @@ class Seats(Manners):
         self.assert_serves()
 
 
-class Slow(Manners):
+class Slow(ServingCases):
     def test_a_client_that_never_reads(self):
         """It is given its own replies up to what sockets hold, and all of them once it reads."""
         client = self.nodes.client()
@@ -153,7 +138,7 @@ class Slow(Manners):
             self.assertEqual(found, list(range(10 * turn + 1, 10 * turn + 11)))
 
 
-class Leaving(Manners):
+class Leaving(ServingCases):
     def test_a_client_that_closes_its_sending_side(self):
         client = self.nodes.client()
         client.send(500 * spell("INCR", "n"))
@@ -234,7 +219,7 @@ class Leaving(Manners):
         self.assert_serves()
 
 
-class Ends(Manners):
+class Ends(ServingCases):
     """The ends of a node, and nodes that cannot begin."""
 
     def assert_no_torn_line(self, node):
@@ -326,57 +311,7 @@ class Ends(Manners):
                 self.assertTrue(ran.stderr.endswith(b"\n"))
 
 
-class Links(Manners):
-    """Who else comes to the standby's address, and standbys that hold something else."""
-
-    def test_strangers_at_the_address_of_the_standby(self):
-        """Bytes that are no frame end that link alone, and the primary's is opened again."""
-        self.assert_serves(5)
-        for data in (b"", b"PING\r\n", b"\x03", bytes(17), 1_000_000 * b"\xff", spell("SET", "a", "1")):
-            with self.case("stranger", data=data[:8]):
-                self.nodes.primary.end()
-                with contextlib.suppress(OSError), Client(self.nodes.link.number) as stranger:
-                    stranger.send(data)
-                self.nodes.primary.start()
-                self.nodes.wait()
-                self.assert_serves(5)
-
-    def test_a_stranger_that_waits_in_line(self):
-        """It is not heard while the primary has the link."""
-        with Client(self.nodes.link.number) as stranger:
-            stranger.send(b"\x01")
-            self.assert_serves()
-            self.assertTrue(stranger.is_silent(0))
-
-    def test_a_standby_that_was_formatted_since(self):
-        """It lacks what the primary no longer has apart, so it acknowledges nothing, until the primary opens its image again."""
-        self.assert_serves(5)
-        self.nodes.standby.end()
-        self.nodes.standby.format(65_536)
-        self.nodes.standby.start()
-        client = self.nodes.client()
-        client.send(SET_A + GET_A)
-        self.assertTrue(client.is_silent(1.5))
-        self.nodes.restart(self.nodes.primary)
-        self.nodes.wait()
-        with Client(self.nodes.door.number) as again:
-            self.assertEqual(again.ask("MGET", "other", "a"), array([bulk(b"4"), ONE]))
-        first, second = self.assert_positions(self.nodes)
-        self.assertEqual(first, second)
-
-    def test_a_standby_that_is_ahead(self):
-        """A primary that was formatted since finds a standby that holds more than it: nothing that rests on the standby is answered."""
-        self.assert_serves(5)
-        self.nodes.primary.end()
-        self.nodes.primary.format(65_536)
-        self.nodes.primary.start()
-        self.nodes.wait()
-        client = self.nodes.client()
-        client.send(SET_A)
-        self.assertTrue(client.is_silent(1.5))
-
-
-class Beside(Manners):
+class Beside(ServingCases):
     def test_a_mix_of_all(self):
         """Clients that write, others that never read, half requests, faults and resets side by side: the writers count right."""
         ended = threading.Event()

@@ -1,0 +1,63 @@
+"""The link of the pair: who else comes to the standby's address, and nodes whose images do not go together."""
+
+import contextlib
+
+from pair import LINES, Client, ServingCases
+from plain_replies import array, bulk
+from spelling import spell
+from worked_cases import GET_A, ONE, SET_A
+
+PROGRAMS = ["server"]
+IS_SLOW = True
+
+
+class Links(ServingCases):
+    """A pair whose link others disturb, and pairs of images that do not go together."""
+
+    def test_strangers_at_the_address_of_the_standby(self):
+        """Bytes that are no frame end that link alone, and the primary's is opened again."""
+        self.assert_serves(5)
+        for data in (b"", b"PING\r\n", b"\x03", bytes(17), 1_000_000 * b"\xff", spell("SET", "a", "1")):
+            with self.case("stranger", data=data[:8]):
+                self.nodes.primary.end()
+                with contextlib.suppress(OSError), Client(self.nodes.link.number) as stranger:
+                    stranger.send(data)
+                self.nodes.primary.start()
+                self.nodes.wait()
+                self.assert_serves(5)
+
+    def test_a_stranger_that_waits_in_line(self):
+        """It is not heard while the primary has the link."""
+        # (which it has, once a write is answered)
+        self.assert_serves(1)
+        with Client(self.nodes.link.number) as stranger:
+            stranger.send(b"\x01")
+            self.assert_serves()
+            self.assertTrue(stranger.is_silent(0))
+
+    def test_a_standby_that_was_formatted_since(self):
+        """It lacks what the primary no longer has apart, so it acknowledges nothing, until the primary opens its image again."""
+        self.assert_serves(5)
+        self.nodes.standby.end()
+        self.nodes.standby.format(LINES)
+        self.nodes.standby.start()
+        client = self.nodes.client()
+        client.send(SET_A + GET_A)
+        self.assertTrue(client.is_silent(1.5))
+        self.nodes.restart(self.nodes.primary)
+        self.nodes.wait()
+        with Client(self.nodes.door.number) as again:
+            self.assertEqual(again.ask("MGET", "other", "a"), array([bulk(b"4"), ONE]))
+        first, second = self.assert_positions(self.nodes)
+        self.assertEqual(first, second)
+
+    def test_a_standby_that_is_ahead(self):
+        """A primary that was formatted since finds a standby that holds more than it: nothing that rests on the standby is answered."""
+        self.assert_serves(5)
+        self.nodes.primary.end()
+        self.nodes.primary.format(LINES)
+        self.nodes.primary.start()
+        self.nodes.wait()
+        client = self.nodes.client()
+        client.send(SET_A)
+        self.assertTrue(client.is_silent(1.5))
