@@ -23,6 +23,8 @@ ANSWERS = 10
 class Crashes(PairCases):
     """Rounds of load and kills over one pair, whose images are opened again each time."""
 
+    ON_DISK = True
+
     def setUp(self):
         # (more rounds take longer)
         pair.MOST_SECONDS = max(pair.MOST_SECONDS, 30 * ROUNDS)

@@ -278,6 +278,8 @@ class Sizes(PairCases):
 class Room(PairCases):
     """What a command replaced or removed gives its room back, however fast the commands come."""
 
+    ON_DISK = True
+
     CLIENTS, PIPELINE, ROUNDS = 50, 16, 40
 
     def overwrite(self, pair, key_of):
