@@ -3,6 +3,7 @@
 
 mod following;
 mod link_end;
+mod log;
 mod opening;
 mod outgoing;
 mod reading;
@@ -13,6 +14,7 @@ mod watch;
 
 pub use following::{follow, serve_link};
 pub use link_end::LinkEnd;
+pub use log::{Log, Lost, News};
 pub use outgoing::Outgoing;
 pub use receiver::AckReceiver;
 pub use remote_mark::RemoteMark;

@@ -1,8 +1,10 @@
 //! The thread that opens the link to the standby and sends on it.
+use crate::log::{Log, Lost, News};
 use crate::opening::read_opening;
 use crate::outgoing::Outgoing;
 use crate::receiver::AckReceiver;
 use crate::watch::Watch;
+use kv_types::Refusal;
 use model::Group;
 use pipes::RingInlet;
 use std::alloc::Global;
@@ -49,21 +51,24 @@ pub struct LinkSender {
 /// A connection whose standby said where it is.
 #[derive(Drop)]
 struct Opened {
+    /// Where the standby is.
+    position: u64,
     stream: Arc<TcpStream>,
     theirs: Arc<TcpStream>,
     decoder: Decoder,
 }
 
 impl LinkSender {
-    /// Keeps the link open until somebody asks to stop: opens it, sends on it while it lasts, and opens it again after a pause.
-    pub fn run<R: Threads + Wait + Clock + Net<Stream = TcpStream> + Copy + Send + 'static>(
-        self,
-        rt: R,
-        alloc: Global,
-        receiver: AckReceiver,
-    ) {
+    /// Keeps the link open until somebody asks to stop: opens it, sends on it while it lasts, and opens it again after a pause. It tells when a link is
+    /// open and when it is lost, and of several in a row that do not come up it tells the first.
+    pub fn run<
+        R: Threads + Wait + Clock + Net<Stream = TcpStream> + Copy + Send + 'static,
+        W: Write + Drop,
+    >(self, rt: R, alloc: Global, receiver: AckReceiver, log: Log<W>) {
         let mut own = self;
         let mut receiver = receiver;
+        let mut log = log;
+        let mut is_up = true;
         let mut pauses = FIRST_PAUSES;
         for _ in rt.forever() {
             let (next, has_stopped) = own.has_stopped();
@@ -71,9 +76,12 @@ impl LinkSender {
             if has_stopped {
                 return;
             }
-            let (next, next_receiver, got_on) = own.serve_link(&rt, alloc, receiver);
+            let (next, next_receiver, got_on, came_up) = own.serve_link(
+                &rt, alloc, receiver, &mut log, is_up,
+            );
             own = next;
             receiver = next_receiver;
+            is_up = came_up;
             if got_on {
                 pauses = FIRST_PAUSES;
             }
@@ -82,37 +90,72 @@ impl LinkSender {
         }
     }
 
-    /// Serves one link. Answers whether the standby acknowledged more than before.
-    fn serve_link<R: Threads + Wait + Clock + Net<Stream = TcpStream>>(
+    /// Serves one link. Answers whether the standby acknowledged more than before, and whether the link came up.
+    fn serve_link<R: Threads + Wait + Clock + Net<Stream = TcpStream>, W: Write>(
         self,
         rt: &R,
         alloc: Global,
         receiver: AckReceiver,
-    ) -> (LinkSender, AckReceiver, bool) {
+        log: &mut Log<W>,
+        was_up: bool,
+    ) -> (LinkSender, AckReceiver, bool, bool) {
         let mut own = self;
-        let known = own.outgoing.known();
         let (receiver, opened) = own.open(rt, alloc, receiver);
-        let Some(
-            Opened {
-                stream,
-                theirs,
-                decoder,
-            },
-        ) = opened
-        else {
-            return (own, receiver, false);
-        };
+        match opened {
+            Ok(opened) => {
+                let (own, receiver, got_on) = own.keep_up(rt, alloc, receiver, opened, log);
+                (own, receiver, got_on, true)
+            }
+            Err(why) => {
+                if was_up {
+                    let address = own.address.as_str();
+                    log.say(News::NoLink { address, why });
+                }
+                (own, receiver, false, false)
+            }
+        }
+    }
+
+    /// Sends on a link that is open while it lasts. Answers whether the standby acknowledged more than before.
+    fn keep_up<R: Threads + Wait + Clock, W: Write>(
+        self,
+        rt: &R,
+        alloc: Global,
+        receiver: AckReceiver,
+        opened: Opened,
+        log: &mut Log<W>,
+    ) -> (LinkSender, AckReceiver, bool) {
+        let own = self;
+        let known = own.outgoing.known();
+        let Opened {
+            position,
+            stream,
+            theirs,
+            decoder,
+        } = opened;
+        log.say(News::LinkOpen {
+            address: own.address.as_str(),
+            position,
+        });
         own.is_broken.take();
         match thread::spawn(rt, move || receiver.run(alloc, theirs, decoder)) {
             Ok(child) => {
-                let own = own.send_all(rt, alloc, &mut &*stream);
+                let (own, why) = own.send_all(rt, alloc, &mut &*stream);
                 let _ = stream.shutdown(Shutdown::Both);
+                log.say(News::LinkLost {
+                    address: own.address.as_str(),
+                    why,
+                });
                 let got_on = own.outgoing.known() > known;
                 (own, child.join(rt), got_on)
             }
             Err(error) => {
                 // where the connection has ended, the receiver comes back at once
                 let _ = stream.shutdown(Shutdown::Both);
+                log.say(News::LinkLost {
+                    address: own.address.as_str(),
+                    why: Lost::Refused(Refusal::Memory),
+                });
                 (own, (error.value)(), false)
             }
         }
@@ -124,54 +167,65 @@ impl LinkSender {
         rt: &R,
         alloc: Global,
         receiver: AckReceiver,
-    ) -> (AckReceiver, Option<Opened>) {
+    ) -> (AckReceiver, Result<Opened, Lost>) {
         let Ok(stream) = dial(rt, &self.address) else {
-            return (receiver, None);
+            return (receiver, Err(Lost::Unreachable));
         };
         let Some((ack, decoder)) = read_opening(alloc, &mut &stream) else {
-            return (receiver, None);
+            return (receiver, Err(Lost::Silent));
         };
         let (receiver, heard) = receiver.hear(ack);
-        if heard.is_err() || self.outgoing.open_at(alloc, ack.position).is_err() {
-            return (receiver, None);
+        if let Err(refusal) = heard {
+            return (receiver, Err(Lost::Refused(refusal)));
         }
-        (receiver, share(alloc, stream, decoder).ok())
+        if let Err(refusal) = self.outgoing.open_at(alloc, ack.position) {
+            return (receiver, Err(Lost::Refused(refusal)));
+        }
+        match share(alloc, stream, decoder, ack.position) {
+            Ok(opened) => (receiver, Ok(opened)),
+            Err(_) => (receiver, Err(Lost::Ended)),
+        }
     }
 
-    /// Sends what is due until the link breaks or somebody asks to stop.
-    fn send_all<R: Wait + Clock, O: Write>(self, rt: &R, alloc: Global, to: &mut O) -> LinkSender {
+    /// Sends what is due until the link breaks or somebody asks to stop. Answers why it ended.
+    fn send_all<R: Wait + Clock, O: Write>(
+        self,
+        rt: &R,
+        alloc: Global,
+        to: &mut O,
+    ) -> (LinkSender, Lost) {
         let mut own = self;
         let mut idle = Idle::new(own.spin);
         let mut out = Vec::new(alloc);
-        if own.outgoing.put_delta(&mut out).is_err() {
-            return own;
+        if let Err(refusal) = own.outgoing.put_delta(&mut out) {
+            return (own, Lost::Refused(refusal));
         }
         for _ in rt.forever() {
             let (next, has_stopped) = own.has_stopped();
             own = next;
-            if has_stopped || own.is_broken.is_set() {
-                return own;
+            if has_stopped {
+                return (own, Lost::Stopping);
+            }
+            if own.is_broken.is_set() {
+                return (own, Lost::Ended);
             }
             own = own.note_acknowledged(alloc);
-            if own
-                .outgoing
-                .put_frames(alloc, &mut own.groups, &mut out)
-                .is_err()
-            {
-                return own;
+            if let Err(refusal) = own.outgoing.put_frames(alloc, &mut own.groups, &mut out) {
+                return (own, Lost::Refused(refusal));
             }
             if out.is_empty() {
                 idle.wait(rt, &own.sleeper);
             } else {
+                // the groups were taken, so there is room for more, whatever becomes of the frames
+                own.node.ring();
                 if to.write_all(&out).is_err() {
-                    return own;
+                    return (own, Lost::Unwritten);
                 }
                 out.clear();
-                own.node.ring();
                 idle.busy();
             }
         }
-        own
+        (own, Lost::Stopping)
     }
 
     /// Lets the frames go that the standby has acknowledged.
@@ -251,11 +305,12 @@ fn dial<R: Net<Stream = TcpStream>>(rt: &R, address: &String) -> io::Result<TcpS
 }
 
 /// The connection for two threads. An acknowledgement may come at any time from now on.
-fn share(alloc: Global, stream: TcpStream, decoder: Decoder) -> io::Result<Opened> {
+fn share(alloc: Global, stream: TcpStream, decoder: Decoder, position: u64) -> io::Result<Opened> {
     stream.set_read_timeout(None)?;
     let stream = Arc::new(alloc, stream)?;
     let theirs = Arc::try_clone(&stream)?;
     Ok(Opened {
+        position,
         stream,
         theirs,
         decoder,

@@ -9,7 +9,7 @@ use std::sync::Wait;
 use std::time::{Clock, Duration};
 
 /// How long a thread sleeps at most, in milliseconds. One that is idle looks again after this time, though nobody woke it.
-pub const LONGEST_SLEEP_MILLISECONDS: u64 = 100;
+pub const LONGEST_SLEEP_MILLISECONDS: u64 = 1_000;
 
 /// A thread's own end of its bell, at which it sleeps. A clause sees which thread it is.
 #[derive(Drop)]

@@ -1,0 +1,115 @@
+//! What a node tells of itself, a line at a time.
+use kv_types::Refusal;
+use std::alloc::Global;
+use std::fmt;
+use std::io::Write;
+
+/// Tells what a node does. A line is written whole by one call of the writer; one that cannot be written, or for which memory is refused, is let go.
+#[derive(Drop)]
+pub struct Log<W> {
+    alloc: Global,
+    to: W,
+}
+
+/// What happened.
+#[derive(Clone, Copy)]
+pub enum News<'a> {
+    /// An image was opened, with its record at this position, of this epoch, and holds so many keys.
+    Opened {
+        position: u64,
+        epoch: u64,
+        keys: u64,
+    },
+    /// Who connects at this address is served.
+    Listening {
+        address: &'a str,
+    },
+    /// The standby at this address said that it is at this position.
+    LinkOpen {
+        address: &'a str,
+        position: u64,
+    },
+    /// A link to this address was open, and is no more.
+    LinkLost {
+        address: &'a str,
+        why: Lost,
+    },
+    /// No link to this address comes up.
+    NoLink {
+        address: &'a str,
+        why: Lost,
+    },
+    /// The node has stopped.
+    Stopped {
+        why: Refusal,
+    },
+}
+
+/// Why there is no link.
+#[derive(Clone, Copy)]
+pub enum Lost {
+    /// Nobody takes a connection there.
+    Unreachable,
+    /// Nobody said there where a standby is.
+    Silent,
+    /// Where the standby is, or one of its acknowledgements, or a step of this side was refused so.
+    Refused(Refusal),
+    /// The connection ended, or what came on it was no acknowledgement that counts.
+    Ended,
+    /// A write failed.
+    Unwritten,
+    /// The node was asked to stop.
+    Stopping,
+}
+
+impl<W: Write> Log<W> {
+    /// One that writes its lines there.
+    pub fn new(alloc: Global, to: W) -> Log<W> {
+        Log { alloc, to }
+    }
+
+    /// Tells this.
+    pub fn say(&mut self, news: News<'_>) {
+        let mut line = Vec::new(self.alloc);
+        if writeln!(line, "{news}").is_ok() {
+            let _ = self.to.write_all(&line);
+        }
+    }
+}
+
+impl<'a> fmt::Display for News<'a> {
+    fn fmt<W: fmt::Write>(&self, f: &mut fmt::Formatter<W>) -> fmt::Result {
+        match self {
+            News::Opened {
+                position,
+                epoch,
+                keys,
+            } => {
+                write!(
+                    f,
+                    "opened at position {position}, epoch {epoch}, with {keys} keys"
+                )
+            }
+            News::Listening { address } => write!(f, "listening on {address}"),
+            News::LinkOpen { address, position } => {
+                write!(f, "link open to {address} at position {position}")
+            }
+            News::LinkLost { address, why } => write!(f, "link to {address} lost: {why}"),
+            News::NoLink { address, why } => write!(f, "no link to {address}: {why}"),
+            News::Stopped { why } => write!(f, "stopped: {why}"),
+        }
+    }
+}
+
+impl fmt::Display for Lost {
+    fn fmt<W: fmt::Write>(&self, f: &mut fmt::Formatter<W>) -> fmt::Result {
+        match self {
+            Lost::Unreachable => f.write_str("nobody takes a connection"),
+            Lost::Silent => f.write_str("no standby says where it is"),
+            Lost::Refused(refusal) => write!(f, "{refusal}"),
+            Lost::Ended => f.write_str("the connection ended"),
+            Lost::Unwritten => f.write_str("a write failed"),
+            Lost::Stopping => f.write_str("this node stops"),
+        }
+    }
+}
