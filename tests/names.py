@@ -106,6 +106,9 @@ REPEATED = {
     "stored": "what is kept: bytes as a copy for a keyspace, a store in a device's history",
     "take": "takes out what comes first",
     "text": "what a client is sent: of an error, a misuse or a status",
+    "Ended": "nothing more comes: of a seat that is closed, and of a connection between the nodes",
+    "Refused": "why a link ended: to the standby, and to the primary that tells it",
+    "Stopping": "the node is to stop: to a writer, and to the link",
     "has_room": "whether there is room for so many versions: in a heap, and in the heap of a sequencer and of a primary",
     "turn": "does the one step that is due: of the sequencer, and of the committer",
 }

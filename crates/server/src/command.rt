@@ -26,7 +26,7 @@ use std::time::Clock;
 const DONE: u8 = 0;
 
 /// Does what the words ask for, the first of which is the program's name, and returns the exit status. Without any further word, serves one
-/// connection over the reader and the writer. What went wrong is told to `errors`.
+/// connection over the reader and the writer. What went wrong is told to `errors`, and so is what a node does.
 pub fn command<
     S: RandomSource
         + Threads
@@ -39,7 +39,7 @@ pub fn command<
     I: Images,
     R: Read,
     W: Write,
-    E: Write,
+    E: Write + Copy + Send + Drop + 'static,
 >(
     rt: &S,
     alloc: Global,
@@ -47,15 +47,16 @@ pub fn command<
     images: &I,
     reader: &mut R,
     writer: &mut W,
-    errors: &mut E,
+    errors: E,
 ) -> u8
     ensures status { result ≤ 2 }
     ensures served { length words.now ≤ 1 → result ≡ 0
         → IsServed (R.remaining reader.old) (W.contents writer.old) (W.contents writer.new) }
 {
-    match run(rt, alloc, words, images, reader, writer) {
+    let mut errors = errors;
+    match run(rt, alloc, words, images, reader, writer, errors) {
         Ok(()) => DONE,
-        Err(failure) => tell(&failure, errors),
+        Err(failure) => tell(&failure, &mut errors),
     }
 }
 
@@ -82,6 +83,7 @@ fn run<
     I: Images,
     R: Read,
     W: Write,
+    E: Write + Copy + Send + Drop + 'static,
 >(
     rt: &S,
     alloc: Global,
@@ -89,6 +91,7 @@ fn run<
     images: &I,
     reader: &mut R,
     writer: &mut W,
+    errors: E,
 ) -> Result<(), Failure>
     ensures { length words.now ≤ 1 → OnOk result (IsServed (R.remaining reader.old) (W.contents writer.old) (W.contents writer.new)) }
 {
@@ -102,12 +105,12 @@ fn run<
             image,
             old_primary_stopped,
         } => promote(alloc, images, image, old_primary_stopped, writer),
-        Task::Standby { image, listen } => stand_by(rt, alloc, images, image, listen),
+        Task::Standby { image, listen } => stand_by(rt, alloc, images, image, listen, errors),
         Task::Primary {
             image,
             listen,
             link,
-        } => serve_clients(rt, alloc, images, image, listen, link),
+        } => serve_clients(rt, alloc, images, image, listen, link, errors),
     }
 }
 

@@ -35,7 +35,7 @@ fn main(rt: HostRuntime) -> ExitCode {
             &Files::of(&rt),
             &mut rt.stdin(),
             &mut rt.stdout(),
-            &mut rt.stderr(),
+            rt.stderr(),
         ),
         Err(failure) => tell(&failure, &mut rt.stderr()),
     };

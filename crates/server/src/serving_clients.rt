@@ -2,11 +2,13 @@
 use crate::failure::Failure;
 use crate::images::Images;
 use crate::serve::ServeError;
+use links::{Log, News};
 use mv_keyspace::ListKeyspace;
 use primary::{Opened, open};
 use serving::run;
 use std::alloc::Global;
 use std::hash::RandomState;
+use std::io::Write;
 use std::net::{Net, TcpListener, TcpStream};
 use std::random::RandomSource;
 use std::sync::Wait;
@@ -15,7 +17,7 @@ use std::time::Clock;
 use wbl_engine::WblEngine;
 
 /// Opens the image of this name as a primary's, and serves clients at the address `listen`, with the standby at the address `link`, until the engine
-/// refuses a step, or the address cannot be listened at. It does not return otherwise.
+/// refuses a step, or the address cannot be listened at. It does not return otherwise. What it does is told to `errors`, a line at a time.
 pub fn serve_clients<
     N: RandomSource
         + Threads
@@ -26,16 +28,35 @@ pub fn serve_clients<
         + Send
         + 'static,
     I: Images,
->(rt: &N, alloc: Global, images: &I, name: &str, listen: &str, link: &str) -> Result<(), Failure> {
+    E: Write + Copy + Send + Drop + 'static,
+>(
+    rt: &N,
+    alloc: Global,
+    images: &I,
+    name: &str,
+    listen: &str,
+    link: &str,
+    errors: E,
+) -> Result<(), Failure> {
+    let mut log = Log::new(alloc, errors);
     let device = images.open(name)?;
     let hash_builder = match RandomState::new(rt) {
         Ok(hash_builder) => hash_builder,
         Err(error) => return Err(Failure::Stopped(ServeError::Random(error))),
     };
     let opened: Opened<WblEngine<I::Device>, ListKeyspace> = open(alloc, device, hash_builder)?;
+    log.say(News::Opened {
+        position: opened.position,
+        epoch: opened.epoch,
+        keys: opened.keys,
+    });
     let Ok(listener) = TcpListener::bind(rt, listen) else {
         return Err(Failure::CannotListen);
     };
+    log.say(News::Listening { address: listen });
     let address = String::from_str(alloc, link)?;
-    Err(Failure::from(run(*rt, alloc, opened, listener, address)))
+    let links = Log::new(alloc, errors);
+    let why = run(*rt, alloc, opened, listener, address, links);
+    log.say(News::Stopped { why });
+    Err(Failure::from(why))
 }

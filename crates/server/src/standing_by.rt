@@ -2,29 +2,47 @@
 use crate::failure::Failure;
 use crate::images::Images;
 use crate::opening::open_standby;
-use links::follow;
-use mv_keyspace::ListKeyspace;
+use links::{Log, News, follow};
+use mv_keyspace::{Keyspace, ListKeyspace};
 use standby::Standby;
 use std::alloc::Global;
+use std::io::Write;
 use std::net::{Net, TcpListener, TcpStream};
-use wbl_engine::WblEngine;
+use wbl_engine::{Durable, WblEngine};
 
 /// Opens the image of this name as a standby's, and takes one link at a time at this address until one stops the node, or the address cannot be
-/// listened at. It does not return otherwise.
-pub fn stand_by<N: Net<Listener = TcpListener, Stream = TcpStream>, I: Images>(
+/// listened at. It does not return otherwise. What it does is told to `errors`, a line at a time.
+pub fn stand_by<N: Net<Listener = TcpListener, Stream = TcpStream>, I: Images, E: Write + Drop>(
     net: &N,
     alloc: Global,
     images: &I,
     name: &str,
     listen: &str,
+    errors: E,
 ) -> Result<(), Failure> {
+    let mut log = Log::new(alloc, errors);
     let device = images.open(name)?;
     let mut node: Standby<WblEngine<I::Device>, ListKeyspace> = open_standby(alloc, device)?;
+    log.say(opened(&node));
     let Ok(listener) = TcpListener::bind(net, listen) else {
         return Err(Failure::CannotListen);
     };
+    log.say(News::Listening { address: listen });
     match follow(alloc, &mut node, &listener) {
-        Ok(refusal) => Err(Failure::from(refusal)),
+        Ok(why) => {
+            log.say(News::Stopped { why });
+            Err(Failure::from(why))
+        }
         Err(_) => Err(Failure::CannotListen),
+    }
+}
+
+/// What a node tells whose image was opened.
+fn opened<E: Durable, K: Keyspace>(node: &Standby<E, K>) -> News<'static> {
+    let at = node.ack();
+    News::Opened {
+        position: at.position,
+        epoch: at.epoch,
+        keys: node.keyspace.count_keys(),
     }
 }

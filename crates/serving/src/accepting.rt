@@ -13,14 +13,17 @@ use std::net::{TcpListener, TcpStream};
 use std::sync::{Arc, Mutex, Wait};
 use std::thread;
 use std::thread::{JoinHandle, Threads};
-use std::time::Clock;
-use wakes::{Bell, ReadyList, Sleeper};
+use std::time::{Clock, Duration};
+use wakes::{Bell, ReadyList};
 
 /// Where connections get their seats, and wait until the node's thread takes them in.
 pub type Door = Mutex<Entrance<Asks, Tells>>;
 
 /// What a client is told that finds all seats taken.
 const NO_SEAT: &[u8] = b"-ERR max number of clients reached\r\n";
+
+/// How long it rests where there are no more descriptors, in milliseconds.
+const PAUSE_MILLISECONDS: u64 = 100;
 
 /// A thread of a connection that has ended, by the connection's place.
 #[derive(Clone, Copy, Debug)]
@@ -60,8 +63,6 @@ pub struct Acceptor {
     cards: Arc<Cards>,
     /// Wakes the node's thread.
     node: Bell,
-    /// Where it rests when there are no more descriptors.
-    sleeper: Sleeper,
     /// How often a writer gives way before it sleeps.
     spin: u32,
 }
@@ -74,7 +75,6 @@ impl Acceptor {
         ready: Arc<ReadyList>,
         cards: Arc<Cards>,
         node: Bell,
-        sleeper: Sleeper,
         spin: u32,
     ) -> Acceptor
         requires { seat.marks ≡ arc_value marks }
@@ -84,7 +84,6 @@ impl Acceptor {
             ready,
             cards,
             node,
-            sleeper,
             spin,
         }
     }
@@ -107,7 +106,7 @@ impl Acceptor {
             reap(&rt, &exits, &mut running);
             match stream {
                 Ok(stream) => acceptor.admit(rt, alloc, stream, door, &exits, &mut running),
-                Err(_) => acceptor.sleeper.sleep(&rt),
+                Err(_) => thread::sleep(&rt, Duration::from_millis(PAUSE_MILLISECONDS)),
             }
         }
     }

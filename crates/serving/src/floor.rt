@@ -1,7 +1,11 @@
 //! The connections that are open, as the node's thread knows them.
+ghost use Rattle.std.specs.Prelude.{ℕ};
 ghost use Rattle.primary.specs.Standing.{Stands};
+ghost use Rattle.wakes.specs.Waiting.{MayWait};
 
 use crate::accepting::Door;
+use crate::guest::Guest;
+use crate::local_mark::LocalMark;
 use crate::turns::{Served, take_turns};
 use clients::{Asks, Tells};
 use lobby::Arrival;
@@ -11,7 +15,7 @@ use primary::Primary;
 use std::alloc::{AllocError, Global};
 use std::collections::VecDeque;
 use std::sync::{Arc, Wait};
-use wakes::{DueIn, ReadyList};
+use wakes::{Bell, DueIn, ReadyList};
 use wbl_engine::Durable;
 
 /// How many seats that somebody called for are served before the node's thread looks at its queue again.
@@ -20,9 +24,11 @@ const MOST_CALLS: usize = 64;
 /// The connections that are open, each at the place of its seat's number, and who is to be served.
 #[derive(Drop)]
 pub struct Floor {
-    places: Vec<Option<Arrival<Asks, Tells>>>,
-    /// Seats that were not done when they were served last.
+    places: Vec<Option<Guest>>,
+    /// Seats that were not done when they were served last, each once. Who has waited longest is first.
     again: VecDeque<usize>,
+    /// Whether a request that was looked at in this round waits for room that is on its way.
+    is_short: bool,
     door: Arc<Door>,
     ready: Arc<ReadyList>,
     due: DueIn,
@@ -43,6 +49,7 @@ impl Floor {
         Ok(Floor {
             places: no_places(alloc)?,
             again: VecDeque::with_capacity(alloc, MAX_SEATS)?,
+            is_short: false,
             door,
             ready,
             due,
@@ -67,26 +74,25 @@ impl Floor {
             self.let_go(rt, arrival);
             return true;
         }
-        self.put(number, arrival);
-        self.serve_again(number);
+        self.serve_again(number, Guest::new(arrival));
         true
     }
 
-    /// Serves those that were not done, and those that somebody called for. `known` is the position up to which both nodes hold the list. Answers
-    /// whether something was done.
+    /// Serves those that were not done, and those that somebody called for. Answers whether something was done.
     pub fn serve<R: Wait, E: Durable, K: Keyspace>(
         &mut self,
         rt: &R,
         alloc: Global,
         primary: &mut Primary<E, K>,
-        known: u64,
-    ) -> bool
+        mark: LocalMark,
+    ) -> (LocalMark, bool)
         requires { Stands E.device E.contents primary.old }
         ensures { Stands E.device E.contents primary.new }
     {
-        let again = self.serve_unfinished(rt, alloc, primary, known);
-        let called = self.serve_called(rt, alloc, primary, known);
-        again || called
+        self.is_short = false;
+        let (mark, again) = self.serve_unfinished(rt, alloc, primary, mark);
+        let (mark, called) = self.serve_called(rt, alloc, primary, mark);
+        (mark, again || called)
     }
 
     fn serve_unfinished<R: Wait, E: Durable, K: Keyspace>(
@@ -94,19 +100,22 @@ impl Floor {
         rt: &R,
         alloc: Global,
         primary: &mut Primary<E, K>,
-        known: u64,
-    ) -> bool
+        mark: LocalMark,
+    ) -> (LocalMark, bool)
         requires { Stands E.device E.contents primary.old }
         ensures { Stands E.device E.contents primary.new }
     {
+        let mut mark = mark;
         let mut any = false;
         for _ in 0..self.again.len() {
             let Some(number) = self.again.pop_front() else {
-                return any;
+                return (mark, any);
             };
-            any |= self.serve_place(rt, alloc, primary, known, number);
+            let (next, did) = self.serve_place(rt, alloc, primary, mark, number);
+            mark = next;
+            any |= did;
         }
-        any
+        (mark, any)
     }
 
     fn serve_called<R: Wait, E: Durable, K: Keyspace>(
@@ -114,64 +123,83 @@ impl Floor {
         rt: &R,
         alloc: Global,
         primary: &mut Primary<E, K>,
-        known: u64,
-    ) -> bool
+        mark: LocalMark,
+    ) -> (LocalMark, bool)
         requires { Stands E.device E.contents primary.old }
         ensures { Stands E.device E.contents primary.new }
     {
+        let mut mark = mark;
+        let mut any = false;
         for _ in 0..MOST_CALLS {
             let Some(number) = self.ready.next(rt) else {
-                return false;
+                return (mark, any);
             };
-            self.serve_place(rt, alloc, primary, known, number);
+            // one that is served again soon anyway keeps its place in that list
+            if !self.is_again(number) {
+                let (next, did) = self.serve_place(rt, alloc, primary, mark, number);
+                mark = next;
+                any |= did;
+            }
         }
-        true
+        (mark, true)
     }
 
-    /// Serves the connection at a place, if one is there. Answers whether it was answered anything, or is over.
+    /// Serves the connection at a place, if one is there. Answers whether it was answered anything, took all turns that it may, or is over.
     fn serve_place<R: Wait, E: Durable, K: Keyspace>(
         &mut self,
         rt: &R,
         alloc: Global,
         primary: &mut Primary<E, K>,
-        known: u64,
+        mark: LocalMark,
         number: usize,
-    ) -> bool
+    ) -> (LocalMark, bool)
         requires { Stands E.device E.contents primary.old }
         ensures { Stands E.device E.contents primary.new }
     {
-        let Some(arrival) = self.lift(number) else {
-            return false;
+        let Some(guest) = self.lift(number) else {
+            return (mark, false);
         };
-        let mut arrival = arrival;
-        let (any, served) = take_turns(alloc, primary, &mut arrival);
-        if any {
-            self.wake(&arrival, primary.position(), known);
-        }
+        let mut guest = guest;
+        let mut is_short = self.is_short;
+        let (any, served) = take_turns(alloc, primary, &mut guest, &mut is_short);
+        self.is_short = is_short;
+        let mark = if any {
+            self.wake(mark, &guest.arrival, primary.position())
+        } else {
+            mark
+        };
         match served {
             Served::Over => {
-                primary.close_seat(&arrival.seat);
-                self.let_go(rt, arrival);
-                true
+                primary.close_seat(&guest.arrival.seat);
+                self.let_go(rt, guest.arrival);
+                (mark, true)
             }
             Served::Busy => {
-                self.put(number, arrival);
-                self.serve_again(number);
-                true
+                self.serve_again(number, guest);
+                (mark, true)
+            }
+            Served::Waits => {
+                self.serve_again(number, guest);
+                (mark, any)
             }
             Served::Idle => {
-                self.put(number, arrival);
-                any
+                self.put(number, guest);
+                (mark, any)
             }
         }
     }
 
     /// Wakes the reader, if it waits for room, and the writer, now or once its replies are covered.
-    fn wake(&mut self, arrival: &Arrival<Asks, Tells>, position: u64, known: u64) {
+    fn wake(
+        &mut self,
+        mark: LocalMark,
+        arrival: &Arrival<Asks, Tells>,
+        position: u64,
+    ) -> LocalMark {
         if arrival.requests.line.reader_waits.take() {
             arrival.requests.reader.ring();
         }
-        self.due.wake_at(position, known, &arrival.replies.writer);
+        wake_writer(&mut self.due, mark, position, &arrival.replies.writer)
     }
 
     /// Tells the threads of a connection that it is over, and gives its seat back.
@@ -187,26 +215,57 @@ impl Floor {
         self.door.lock(rt).leave(seat);
     }
 
-    fn lift(&mut self, number: usize) -> Option<Arrival<Asks, Tells>> {
+    /// Takes the connection at a place out of it, to be served.
+    fn lift(&mut self, number: usize) -> Option<Guest> {
         match self.places.get_mut(number) {
             Some(place) => place.take(),
             None => None,
         }
     }
 
-    fn put(&mut self, number: usize, arrival: Arrival<Asks, Tells>) {
+    fn put(&mut self, number: usize, guest: Guest) {
         if let Some(place) = self.places.get_mut(number) {
-            *place = Some(arrival);
+            *place = Some(Guest {
+                is_again: false,
+                ..guest
+            });
         }
     }
 
     // (there is room for each seat; one that found none would be served when somebody calls)
-    fn serve_again(&mut self, number: usize) {
-        let _ = self.again.push_back(number);
+    fn serve_again(&mut self, number: usize, guest: Guest) {
+        let is_again = self.again.push_back(number).is_ok();
+        if let Some(place) = self.places.get_mut(number) {
+            *place = Some(Guest { is_again, ..guest });
+        }
+    }
+
+    fn is_again(&self, number: usize) -> bool {
+        match self.places.get(number) {
+            Some(Some(guest)) => guest.is_again,
+            _ => false,
+        }
     }
 }
 
-fn no_places(alloc: Global) -> Result<Vec<Option<Arrival<Asks, Tells>>>, AllocError> {
+/// Has a writer woken once both marks are at the position. A mark may have risen after it was read and before the writer stood in the list, where nobody saw
+/// it then: so the marks are read once more.
+fn wake_writer(due: &mut DueIn, mark: LocalMark, position: u64, writer: &Bell) -> LocalMark
+    ensures { (known : ℕ) × MayWait due.old position known writer.now due.new }
+{
+    let (mark, known) = mark.known();
+    due.wake_at(position, known, writer);
+    if position <= known {
+        return mark;
+    }
+    let (mark, now) = mark.known();
+    if position <= now {
+        writer.ring();
+    }
+    mark
+}
+
+fn no_places(alloc: Global) -> Result<Vec<Option<Guest>>, AllocError> {
     let mut places = Vec::with_capacity(alloc, MAX_SEATS)?;
     for _ in 0..MAX_SEATS {
         places.push(None)?;

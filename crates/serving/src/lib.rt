@@ -3,7 +3,9 @@
 
 mod accepting;
 mod floor;
+mod guest;
 mod local_mark;
+mod needs;
 mod node;
 mod starting;
 mod turns;

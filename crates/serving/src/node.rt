@@ -32,7 +32,7 @@ pub struct Node {
     pub idle: Idle,
 }
 
-/// Serves the connections until the engine refuses a step: `Fault` or `Exhausted`, or `Memory` where there was none for a step of the committer.
+/// Serves the connections until the engine refuses a step, by `Fault` or `Exhausted`.
 pub fn serve<R: Wait + Clock, E: Durable + Drop, K: Keyspace + Drop>(
     rt: &R,
     alloc: Global,
@@ -51,11 +51,11 @@ pub fn serve<R: Wait + Clock, E: Durable + Drop, K: Keyspace + Drop>(
         mut idle,
     } = node;
     for _ in rt.forever() {
-        let (next, seen) = mark.look();
-        let known = seen.local.min(seen.remote);
         let mut is_busy = floor.admit(rt, alloc, &mut primary);
-        is_busy |= floor.serve(rt, alloc, &mut primary, known);
+        let (next, did) = floor.serve(rt, alloc, &mut primary, mark);
+        is_busy |= did;
         is_busy |= close_all(alloc, &mut primary);
+        let (next, seen) = next.look();
         let (next, stepped) = commit_all(
             alloc,
             &mut primary,
@@ -121,7 +121,7 @@ fn commit_all<E: Durable, K: Keyspace>(
 }
 
 /// Takes the step of the committer that is due, shows by the local mark what a commit made durable, and calls the link where a group was handed on.
-/// Answers whether it did something.
+/// Answers whether it did something. Where memory is refused nothing is lost, and the step is tried again later.
 fn commit<E: Durable, K: Keyspace>(
     alloc: Global,
     primary: &mut Primary<E, K>,
@@ -138,6 +138,7 @@ fn commit<E: Durable, K: Keyspace>(
             let mark = show(mark, &done);
             (mark, Ok(goes_on(&done, link)))
         }
+        Err(Refusal::Memory) => (mark, Ok(false)),
         Err(refusal) => (mark, Err(refusal)),
     }
 }

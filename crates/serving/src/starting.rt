@@ -9,7 +9,7 @@ use crate::local_mark::LocalMark;
 use crate::node::{Node, serve};
 use clients::Cards;
 use kv_types::Refusal;
-use links::{AckReceiver, LinkSender, Outgoing, RemoteMark, Watch};
+use links::{AckReceiver, LinkSender, Log, Outgoing, RemoteMark, Watch};
 use lobby::Entrance;
 use marks::{Committer, MarkSeat, Marks, Reader};
 use model::Group;
@@ -18,6 +18,7 @@ use pipes::RingPipe;
 use primary::{Opened, Primary};
 use standby_stream::{Link, Opening};
 use std::alloc::Global;
+use std::io::Write;
 use std::net::{Net, TcpListener, TcpStream};
 use std::sync::{Arc, Mutex, Wait};
 use std::thread;
@@ -53,7 +54,7 @@ struct Seats {
 /// Serves clients at this listener, and sends to the standby at this address, until the engine refuses a step. The threads that it started end with
 /// the program.
 ///
-/// The answer is why: `Fault` or `Exhausted` of the engine, or `Memory` where there was none to begin with, for a thread, or for a step of the committer.
+/// The answer is why: `Fault` or `Exhausted` of the engine, or `Memory` where there was none to begin with, or for a thread. What becomes of the link is told.
 pub fn run<
     R: Threads
         + Wait
@@ -64,7 +65,15 @@ pub fn run<
         + 'static,
     E: Durable + Drop,
     K: Keyspace + Drop,
->(rt: R, alloc: Global, opened: Opened<E, K>, listener: TcpListener, address: String) -> Refusal
+    W: Write + Send + Drop + 'static,
+>(
+    rt: R,
+    alloc: Global,
+    opened: Opened<E, K>,
+    listener: TcpListener,
+    address: String,
+    log: Log<W>,
+) -> Refusal
     requires { Stands E.device E.contents opened.primary }
 {
     let Opened {
@@ -75,7 +84,7 @@ pub fn run<
     } = opened;
     let position = primary.durable_position();
     match new_threading(alloc, position, opening, epoch, address) {
-        Ok(threading) => start(rt, alloc, threading, listener, primary),
+        Ok(threading) => start(rt, alloc, threading, listener, primary, log),
         Err(refusal) => refusal,
     }
 }
@@ -91,12 +100,14 @@ fn start<
         + 'static,
     E: Durable + Drop,
     K: Keyspace + Drop,
+    W: Write + Send + Drop + 'static,
 >(
     rt: R,
     alloc: Global,
     threading: Threading,
     listener: TcpListener,
     primary: Primary<E, K>,
+    log: Log<W>,
 ) -> Refusal
     requires { Stands E.device E.contents primary }
 {
@@ -107,12 +118,26 @@ fn start<
         acceptor,
         door,
     } = threading;
-    let sending = thread::spawn(&rt, move || sender.run(rt, alloc, receiver));
+    let is_sending = start_sender(rt, alloc, sender, receiver, log);
     let is_accepting = start_acceptor(rt, alloc, acceptor, listener, door);
-    if sending.is_err() || !is_accepting {
+    if !is_sending || !is_accepting {
         return Refusal::Memory;
     }
     serve(&rt, alloc, node, primary)
+}
+
+/// Starts the thread of the link's sender. Answers whether it did.
+fn start_sender<
+    R: Threads
+        + Wait
+        + Clock
+        + Net<Listener = TcpListener, Stream = TcpStream>
+        + Copy
+        + Send
+        + 'static,
+    W: Write + Send + Drop + 'static,
+>(rt: R, alloc: Global, sender: LinkSender, receiver: AckReceiver, log: Log<W>) -> bool {
+    thread::spawn(&rt, move || sender.run(rt, alloc, receiver, log)).is_ok()
 }
 
 /// Starts the acceptor's thread. Answers whether it did.
@@ -205,10 +230,9 @@ fn new_acceptor(
 ) -> Result<Acceptor, Refusal>
     requires { root.marks ≡ arc_value marks }
 {
-    let (sleeper, _) = bell(alloc)?;
     let cards = Arc::new(alloc, Cards::new(alloc)?)?;
     let ready = Arc::try_clone(ready)?;
-    Ok(Acceptor::new(marks, root, ready, cards, node, sleeper, SPIN))
+    Ok(Acceptor::new(marks, root, ready, cards, node, SPIN))
 }
 
 fn new_receiver(

@@ -1,8 +1,11 @@
 //! The turns that one connection gets in a row.
+ghost use Rattle.std.specs.Prelude.{◌≡◌, max, nat_lt, not, ◌&&◌, ◌||◌, false, true};
+ghost use Rattle.extent_heap.specs.Room.{has_room};
+ghost use Rattle.primary.specs.Settled.{IsStill, room_of};
 ghost use Rattle.primary.specs.Standing.{Stands};
 
-use clients::{Asks, Tells};
-use lobby::Arrival;
+use crate::guest::Guest;
+use crate::needs::{Asked, Need, asked_by};
 use mv_keyspace::Keyspace;
 use primary::Primary;
 use redis_core::Turn;
@@ -15,35 +18,72 @@ const MOST_TURNS: usize = 64;
 /// How serving a connection ended.
 #[derive(Clone, Copy, Debug, PartialEq, Eq)]
 pub(crate) enum Served {
-    /// It took as many turns as it may, or a group has to be closed first: it is to be served again.
+    /// It took as many turns as it may: it is to be served again.
     Busy,
+    /// A group has to be closed first, or room is on its way: it is to be served again.
+    Waits,
     /// Nothing is there to be done until somebody calls.
     Idle,
     /// The connection is over.
     Over,
 }
 
-/// Serves a connection. Answers whether it was answered anything, and how that ended.
+/// Serves a connection. Answers whether it was answered anything, and how that ended. `is_short` is whether a request waits for room that is on its
+/// way; then no other is taken that needs room, so that the oldest gets what comes.
 pub(crate) fn take_turns<E: Durable, K: Keyspace>(
     alloc: Global,
     primary: &mut Primary<E, K>,
-    arrival: &mut Arrival<Asks, Tells>,
+    guest: &mut Guest,
+    is_short: &mut bool,
 ) -> (bool, Served)
     requires { Stands E.device E.contents primary.old }
     ensures { Stands E.device E.contents primary.new }
 {
     let mut any = false;
     for _ in 0..MOST_TURNS {
-        let is_read = arrival.requests.line.is_read.is_set();
-        match take_turn(alloc, primary, arrival) {
-            Turn::Served => any = true,
-            Turn::GroupFull => return (any, Served::Busy),
+        let is_read = guest.arrival.requests.line.is_read.is_set();
+        let asked = look_ahead(guest);
+        if waits_for_room(primary, guest.queued.need(asked), *is_short) {
+            *is_short = true;
+            return (any, Served::Waits);
+        }
+        match take_turn(alloc, primary, guest) {
+            Turn::Served => {
+                guest.queued.note(asked);
+                any = true;
+            }
+            Turn::GroupFull => return (any, Served::Waits),
             Turn::Blocked => return (any, Served::Idle),
             Turn::Ended => return (any, Served::Over),
             Turn::Idle => return (any, idle_or_over(is_read)),
         }
     }
     (any, Served::Busy)
+}
+
+/// What the connection's next item asks of the room.
+fn look_ahead(guest: &mut Guest) -> Asked {
+    guest.arrival.requests.items.look();
+    match guest.arrival.requests.items.next() {
+        Some(item) => asked_by(item),
+        None => Asked::AtMost(Need::NONE),
+    }
+}
+
+/// Whether a request that may need so much room has to wait: there may be none for it, or an older one waits, and some is on its way.
+fn waits_for_room<E: Durable, K: Keyspace>(
+    primary: &Primary<E, K>,
+    need: Need,
+    is_short: bool,
+) -> bool
+    // it waits only where something is under way
+    ensures waits { result ≡ true → ¬ IsStill E.contents primary.now }
+    // where something is, it is taken only if no older one waits and there is room for it
+    ensures taken { result ≡ false → ¬ IsStill E.contents primary.now
+        → (nat_lt 0 need.count && (is_short || not (has_room need.count (max need.lines 1) (room_of primary.now)))) ≡ false }
+{
+    let is_tight = need.count > 0 && (is_short || !primary.has_room(need.count, need.lines.max(1)));
+    is_tight && primary.is_room_coming()
 }
 
 // Nothing more comes where all was read before the turn that found nothing.
@@ -55,28 +95,29 @@ fn idle_or_over(is_read: bool) -> Served {
 fn take_turn<E: Durable, K: Keyspace>(
     alloc: Global,
     primary: &mut Primary<E, K>,
-    arrival: &mut Arrival<Asks, Tells>,
+    guest: &mut Guest,
 ) -> Turn
     requires { Stands E.device E.contents primary.old }
     ensures { Stands E.device E.contents primary.new }
 {
-    let turn = try_turn(alloc, primary, arrival);
+    let turn = try_turn(alloc, primary, guest);
     if turn != Turn::Blocked {
         return turn;
     }
-    arrival.requests.line.server_waits.set();
-    arrival.replies.writer.ring();
-    try_turn(alloc, primary, arrival)
+    guest.arrival.requests.line.server_waits.set();
+    guest.arrival.replies.writer.ring();
+    try_turn(alloc, primary, guest)
 }
 
 fn try_turn<E: Durable, K: Keyspace>(
     alloc: Global,
     primary: &mut Primary<E, K>,
-    arrival: &mut Arrival<Asks, Tells>,
+    guest: &mut Guest,
 ) -> Turn
     requires { Stands E.device E.contents primary.old }
     ensures { Stands E.device E.contents primary.new }
 {
+    let arrival = &mut guest.arrival;
     primary.turn(
         alloc,
         &arrival.seat,
