@@ -13,7 +13,7 @@ import worked_cases as worked
 from limits import LIMITS
 
 MOST_LINES = 250
-MOST_LINES_OF = {"README.md": 125, "docs/DECISIONS.md": 270, "docs/worked-cases.md": 280}
+MOST_LINES_OF = {"README.md": 125, "docs/DECISIONS.md": 280, "docs/worked-cases.md": 280}
 MOST_LINES_OF_A_DECISION = 3
 
 README, DECISIONS, CRATES = (common.ROOT / name for name in ("README.md", "docs/DECISIONS.md", "docs/crates.md"))

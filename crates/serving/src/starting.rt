@@ -14,7 +14,7 @@ use lobby::Entrance;
 use marks::{Committer, MarkSeat, Marks, Reader};
 use model::Group;
 use mv_keyspace::Keyspace;
-use pipes::RingPipe;
+use pipes::{RingOutlet, RingPipe};
 use primary::{Opened, Primary};
 use standby_stream::{Link, Opening};
 use std::alloc::Global;
@@ -24,7 +24,7 @@ use std::sync::{Arc, Mutex, Wait};
 use std::thread;
 use std::thread::Threads;
 use std::time::Clock;
-use wakes::{Bell, DueOut, Flag, Idle, ReadyList, bell, due_list};
+use wakes::{Bell, DueIn, DueOut, Flag, Idle, ReadyList, bell, due_list};
 use wbl_engine::Durable;
 
 /// How often a thread gives way to others before it sleeps.
@@ -49,6 +49,26 @@ struct Seats {
     remote: RemoteMark,
     watch: Watch,
     ghost of_these: { root.marks ≡ arc_value marks },
+}
+
+/// What the threads of the link own, and the node's ends of what lies between.
+#[derive(Drop)]
+struct LinkEnds {
+    sender: LinkSender,
+    receiver: AckReceiver,
+    /// Writers wait here until the marks cover them.
+    due: DueIn,
+    groups: RingOutlet<Group>,
+    /// The bell of the link's sender.
+    link: Bell,
+}
+
+/// Where connections come in, and who serves them.
+#[derive(Drop)]
+struct House {
+    floor: Floor,
+    acceptor: Acceptor,
+    door: Arc<Door>,
 }
 
 /// Serves clients at this listener, and sends to the standby at this address, until the engine refuses a step. The threads that it started end with
@@ -165,37 +185,87 @@ fn new_threading(
         remote,
         watch,
     } = new_seats(alloc, position)?;
-    let (node_sleeper, node_bell) = bell(alloc)?;
-    let (link_sleeper, link_bell) = bell(alloc)?;
-    let (due_in, due_out) = due_list(alloc)?;
-    let groups = RingPipe::<Group>::new(alloc)?;
-    let door: Arc<Door> = Arc::new(alloc, Mutex::new(Entrance::new(alloc)?))?;
-    let ready = Arc::new(alloc, ReadyList::new(alloc, node_bell.another()?)?)?;
-    let is_broken = Arc::new(alloc, Flag::new())?;
-    let acceptor = new_acceptor(alloc, marks, root, &ready, node_bell.another()?)?;
-    let receiver = new_receiver(remote, due_out, epoch, &link_bell, &node_bell, &is_broken)?;
-    let sender = LinkSender {
-        address,
-        outgoing: Outgoing::new(Link::new(alloc, epoch)?, opening),
-        groups: groups.inlet,
-        sleeper: link_sleeper,
-        node: node_bell,
-        is_broken,
-        watch,
-        spin: SPIN,
-    };
+    let (sleeper, own) = bell(alloc)?;
+    let outgoing = Outgoing::new(Link::new(alloc, epoch)?, opening);
+    let LinkEnds {
+        sender,
+        receiver,
+        due,
+        groups,
+        link,
+    } = new_link(alloc, outgoing, epoch, address, remote, watch, &own)?;
+    let House {
+        floor,
+        acceptor,
+        door,
+    } = new_house(alloc, marks, root, due, &own)?;
     let node = Node {
-        floor: Floor::new(alloc, Arc::try_clone(&door)?, ready, due_in)?,
+        floor,
         mark: local,
-        groups: groups.outlet,
-        link: link_bell,
-        sleeper: node_sleeper,
+        groups,
+        link,
+        sleeper,
         idle: Idle::new(SPIN),
     };
     Ok(Threading {
         node,
         sender,
         receiver,
+        acceptor,
+        door,
+    })
+}
+
+/// The threads of the link, and the node's ends of what lies between.
+fn new_link(
+    alloc: Global,
+    outgoing: Outgoing,
+    epoch: u64,
+    address: String,
+    remote: RemoteMark,
+    watch: Watch,
+    node: &Bell,
+) -> Result<LinkEnds, Refusal> {
+    let (sleeper, link) = bell(alloc)?;
+    let (due, due_out) = due_list(alloc)?;
+    let groups = RingPipe::<Group>::new(alloc)?;
+    let is_broken = Arc::new(alloc, Flag::new())?;
+    let receiver = new_receiver(remote, due_out, epoch, &link, node, &is_broken)?;
+    let sender = LinkSender {
+        address,
+        outgoing,
+        groups: groups.inlet,
+        sleeper,
+        node: node.another()?,
+        is_broken,
+        watch,
+        spin: SPIN,
+    };
+    Ok(LinkEnds {
+        sender,
+        receiver,
+        due,
+        groups: groups.outlet,
+        link,
+    })
+}
+
+/// Where connections come in: the door, who opens it, and who serves behind it.
+fn new_house(
+    alloc: Global,
+    marks: Arc<Marks>,
+    root: MarkSeat,
+    due: DueIn,
+    node: &Bell,
+) -> Result<House, Refusal>
+    requires { root.marks ≡ arc_value marks }
+{
+    let door: Arc<Door> = Arc::new(alloc, Mutex::new(Entrance::new(alloc)?))?;
+    let ready = Arc::new(alloc, ReadyList::new(alloc, node.another()?)?)?;
+    let acceptor = new_acceptor(alloc, marks, root, &ready, node.another()?)?;
+    let floor = Floor::new(alloc, Arc::try_clone(&door)?, ready, due)?;
+    Ok(House {
+        floor,
         acceptor,
         door,
     })
