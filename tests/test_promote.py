@@ -12,7 +12,7 @@ from common import Cases, run_program
 from plain_image import PRIMARY, STANDBY, Words, Writer
 from plain_keyspace import DropKey, Put
 from test_images import DONE, FAILED, LINE_BYTES, LINES, MISUSED, format_words, image_bytes, told, words_of
-from test_probe_damage import BASE, ENTRIES_ALONE, ENTRIES_TOGETHER, RECORDS, SUPERBLOCKS
+from damaged_images import BASE, ENTRIES_ALONE, ENTRIES_TOGETHER, RECORDS, SUPERBLOCKS
 
 PROGRAMS = ["server"]
 
