@@ -25,6 +25,11 @@ PROGRAMS = {
 
 # A program that takes longer has failed.
 SECONDS = 300
+# What a node tells while it runs (docs/server.md, "What a node tells").
+NEWS = re.compile(
+    rb"(?:opened at position \d+, epoch \d+, with \d+ keys|listening on \S+|link open to \S+ at position \d+"
+    rb"|(?:link to \S+ lost|no link to \S+|stopped): [^\n]+)\n"
+)
 
 
 class MissingProgram(Exception):
@@ -58,6 +63,11 @@ def run_program(crate, words=(), stdin=b"", seconds=SECONDS, **options):
     options.setdefault("stderr", subprocess.PIPE)
     ended = subprocess.run([program(crate), *words], timeout=seconds, **source, **options)
     return Finished(ended.returncode, ended.stdout or b"", ended.stderr or b"")
+
+
+def without_news(errors):
+    """What a node wrote to standard error but for what it told while it ran: why it ended."""
+    return b"".join(line for line in errors.splitlines(keepends=True) if not NEWS.fullmatch(line))
 
 
 def run_in_pieces(crate, pieces, seconds=SECONDS):

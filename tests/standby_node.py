@@ -8,7 +8,7 @@ import subprocess
 import time
 
 import plain_image
-from common import SECONDS, program
+from common import SECONDS, program, without_news
 from plain_image import PRIMARY, STANDBY, WORDS_OF_LINE, Words
 from plain_keyspace import Clear, Drop, DropKey, Put
 from plain_wire import Group
@@ -78,7 +78,7 @@ class Node:
             if self.is_there():
                 return
             self.child.kill()
-            if self.child.communicate()[1] != CANNOT_LISTEN:
+            if without_news(self.child.communicate()[1]) != CANNOT_LISTEN:
                 break
         raise AssertionError(f"it does not stand by: status {self.child.returncode}")
 
@@ -112,7 +112,7 @@ class Node:
     def ended(self):
         """How it ended by itself."""
         output, errors = self.child.communicate(timeout=SECONDS)
-        return self.child.returncode, output, errors
+        return self.child.returncode, output, without_news(errors)
 
     def __enter__(self):
         return self
@@ -131,7 +131,8 @@ class StandingBy(Images):
         return [ROLES[self.ROLE], "--image", str(path), "--listen", NOWHERE, *links]
 
     def open_again(self, path):
-        self.assertEqual(self.run_words(self.opening_words(path)), (FAILED, b"", CANNOT_LISTEN))
+        status, output, errors = self.run_words(self.opening_words(path))
+        self.assertEqual((status, output, without_news(errors)), (FAILED, b"", CANNOT_LISTEN))
 
     def assert_opened(self, before, after):
         """The second words are those of an image that was opened again with the first: docs/image.md, "Reopening"."""

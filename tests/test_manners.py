@@ -247,7 +247,7 @@ class Ends(ServingCases):
 
     def assert_refused(self, words, text):
         finished = common.run_program("server", words, seconds=PATIENCE)
-        self.assertEqual(finished, (1, b"", text))
+        self.assertEqual(finished._replace(errors=common.without_news(finished.errors)), (1, b"", text))
 
     def test_a_second_process_on_the_same_image(self):
         fault = b"refusal 1: device fault\n"
@@ -263,6 +263,27 @@ class Ends(ServingCases):
                     with self.case("refused", words=words[0], role=role):
                         self.assert_refused(words, fault)
         self.assert_serves()
+
+    def wait_for(self, node, lines):
+        """Waits until these are the lines that a node told last."""
+        end = time.monotonic() + PATIENCE
+        while not node.errors.read_bytes().endswith(lines):
+            self.assertLess(time.monotonic(), end, node.errors.read_bytes())
+            time.sleep(0.02)
+
+    def test_what_a_node_tells(self):
+        """docs/server.md, "What a node tells"."""
+        primary, standby, link = self.nodes.primary, self.nodes.standby, self.nodes.link.address().encode()
+        self.wait_for(standby, b"opened at position 0, epoch 1, with 0 keys\nlistening on %s\n" % link)
+        self.wait_for(primary, b"link open to %s at position 0\n" % link)
+        self.assertIn(b"opened at position 0, epoch 1, with 0 keys\nlistening on ", primary.errors.read_bytes())
+        with Client(self.nodes.door.number) as client:
+            self.assertEqual(client.ask("SET", "a", "1"), OK)
+        standby.end()
+        self.wait_for(primary, b"link to %s lost: the connection ended\nno link to %s: nobody takes a connection\n" % (link, link))
+        standby.start()
+        self.wait_for(standby, b"opened at position 1, epoch 1, with 1 keys\nlistening on %s\n" % link)
+        self.wait_for(primary, b"link open to %s at position 1\n" % link)
 
     def test_an_address_that_is_taken(self):
         self.nodes.primary.end()
@@ -285,7 +306,7 @@ class Ends(ServingCases):
                 with Client(self.nodes.door.number) as client:
                     client.send(spell("SET", node.role, "1"))
                     self.assertEqual(node.wait(), 1)
-                    self.assertEqual(node.errors.read_bytes(), b"refusal 1: device fault\n")
+                    self.assertEqual(common.without_news(node.errors.read_bytes()), b"refusal 1: device fault\n")
                     if node is self.nodes.primary:
                         self.assert_bytes(client.read_all(), b"")
                     else:

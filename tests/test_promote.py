@@ -8,7 +8,7 @@ import pathlib
 import tempfile
 
 import plain_image
-from common import Cases, run_program
+from common import Cases, run_program, without_news
 from plain_image import PRIMARY, STANDBY, Words, Writer
 from plain_keyspace import DropKey, Put
 from test_images import DONE, FAILED, LINE_BYTES, LINES, MISUSED, format_words, image_bytes, told, words_of
@@ -153,7 +153,8 @@ class Promoting(Promotions):
             words = ["--image", str(path), "--listen", nowhere]
             self.assert_refused(run_program("server", ["standby", *words]), 16)
             self.assert_bytes(path.read_bytes(), image_bytes(LINES, standby.words))
-            self.assertEqual(run_program("server", ["primary", *words, "--link", nowhere]), (FAILED, b"", b"cannot listen\n"))
+            status, output, errors = run_program("server", ["primary", *words, "--link", nowhere])
+            self.assertEqual((status, output, without_news(errors)), (FAILED, b"", b"cannot listen\n"))
             standby.reopen()
             self.assert_bytes(path.read_bytes(), image_bytes(LINES, standby.words))
 
