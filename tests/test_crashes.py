@@ -1,7 +1,7 @@
 """Kills of the two processes under writers: nothing that was answered is lost, no transaction is there in part, no counter goes back, and both
 images open.
 
-WBL_ROUNDS says how many rounds each test makes, 3 if it is left out."""
+WBL_ROUNDS says how many rounds each test makes, 20 if it is left out."""
 
 import os
 import random
@@ -15,7 +15,7 @@ from pair import PairCases, run
 PROGRAMS = ["server"]
 IS_SLOW = True
 
-ROUNDS = int(os.environ.get("WBL_ROUNDS", "3"))
+ROUNDS = int(os.environ.get("WBL_ROUNDS", "20"))
 # What each writer is answered, on the average, before a kill.
 ANSWERS = 10
 
