@@ -48,7 +48,9 @@ class Commands(common.Cases):
     def test_other_pages(self):
         for page in pages.PAGES:
             for line, lines in pages.blocks(page):
-                if re.search(r"(^|\| )bin/wbl-\w+", lines[0]) and page != README and "[" not in lines[0]:
+                # (what connects needs a server: tests/test_cli.py)
+                is_alone = "[" not in lines[0] and "--connect" not in lines[0]
+                if re.search(r"(^|\| )bin/wbl-\w+", lines[0]) and page != README and is_alone:
                     with self.case("command", page=pages.name_of(page), line=line):
                         self.assertNotEqual(self.run_command(lines[0]), "")
 
