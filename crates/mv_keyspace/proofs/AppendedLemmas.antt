@@ -19,7 +19,7 @@ puts_of-append prefix changes = flat_map-append put_of prefix changes
 
 -- ---- a number is in a list or it is not
 
-only : (x i : ℕ) → Contains (x ∷ []) i → x ≡ i
+pub only : (x i : ℕ) → Contains (x ∷ []) i → x ≡ i
 only x i m = ⊎_elim (λ (none : Contains [] i). absurd (omega (arith, none.1))) (λ (same : x ≡ i). same) (Contains-push_cases [] x i m)
 
 is_in : (xs : List ℕ) (i : ℕ) → Contains xs i ⊎ (¬ Contains xs i)
@@ -69,7 +69,7 @@ lawful-prefix position table [] changes lawful fresh = (lawful, fresh)
 lawful-prefix position table (c ∷ prefix) changes lawful fresh =
     lawful-prefix position (place position table c) prefix changes (lawful-place position c (prefix ++ changes) table lawful fresh) (fresh-place position c (prefix ++ changes) table lawful fresh)
 
-fresh-first : (table : Table) (puts more : List Put) → AreFresh table (puts ++ more) → AreFresh table puts
+pub fresh-first : (table : Table) (puts more : List Put) → AreFresh table (puts ++ more) → AreFresh table puts
 fresh-first table [] more fresh = tt
 fresh-first table (put ∷ puts) more fresh = (fresh.0, λ t. fresh.1 (put_at-first put.entry.0 puts more t), fresh-first table puts more fresh.2)
 

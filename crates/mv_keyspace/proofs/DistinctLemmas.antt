@@ -29,6 +29,10 @@ pub distinct-none : IsDistinct nat_eq []
 unfolding IsDistinct
 distinct-none = tt
 
+pub distinct-one : (x : ℕ) → IsDistinct nat_eq (x ∷ [])
+unfolding IsDistinct
+distinct-one x = (tt, tt)
+
 distinct-more : (x : ℕ) (xs : List ℕ) → AllByRecursion (λ y. nat_eq x y ≡ false) xs → IsDistinct nat_eq xs → IsDistinct nat_eq (x ∷ xs)
 unfolding IsDistinct
 distinct-more x xs others distinct = (others, distinct)

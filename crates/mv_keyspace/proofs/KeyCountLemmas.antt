@@ -168,3 +168,7 @@ keys-without c key s is not_there = keys-changed c key s is ∙ ap (λ b. cond b
 
 pub keys-without_all : (c : Change) (s : Keyspace) → changed_key c ≡ None → length (keys_beside c s) ≡ 0
 keys-without_all c s is = ap (λ k. length (keys_of (where_key record_cmp (is_of_other k) s))) is ∙ ap (λ t. length (keys_of t)) (none_other s) ∙ ap (λ keys. length keys) keys_none
+
+-- the key has records or not, as it is told
+pub keys-told : (c : Change) (key : List ℕ) (s : Keyspace) (has : Bool) → changed_key c ≡ Some key → has ≡ has_key s key → length (keys_of s) ≡ cond has 1 0 + length (keys_beside c s)
+keys-told c key s has is told = keys-changed c key s is ∙ ap (λ b. cond b 1 0 + length (keys_beside c s)) (sym told)

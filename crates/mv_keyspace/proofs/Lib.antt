@@ -16,3 +16,5 @@ pub mod PlacingLemmas
 pub mod WritingLemmas
 pub mod ReadingLemmas
 pub mod RoomLemmas
+pub mod FillingLemmas
+pub mod ClearingLemmas

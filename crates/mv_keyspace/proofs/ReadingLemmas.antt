@@ -1,5 +1,5 @@
 -- What is read of a key among all rows is what is read of it among its own.
-use Rattle.std.proofs.Common.{◌≡◌, ℕ, suc, ◌+◌, ◌≤◌, Bool, true, false, cond, ◌||◌, List, [], ◌∷◌, ◌++◌, length, Option, Some, None, refl, sym, ap, ◌∙◌, arith}
+use Rattle.std.proofs.Common.{◌≡◌, ℕ, ◌+◌, ◌≤◌, Bool, true, false, cond, ◌||◌, List, [], ◌∷◌, ◌++◌, length, Option, Some, None, refl, sym, ap, ◌∙◌, arith}
 use Rattle.std.proofs.lemmas.Bool.{false_from_ne_true}
 use Rattle.std.specs.Cmp.{tied_itself}
 use Rattle.std.specs.Cmp.Lexicographic.{nat_list_cmp_total}
@@ -12,10 +12,11 @@ use Rattle.kv_types.proofs.OrderLemmas.{key_itself, same_record}
 use Rattle.kv_types.proofs.LookUpLemmas.{is_same}
 use Rattle.cmd_core.specs.Contents.{fields_of, has_key, keys_of, same_bytes}
 use Rattle.cmd_core.specs.Record.{field_at}
-use Rattle.cmd_core.proofs.RecordsLemmas.{fields_more, has_more, keys_more, keys_none, with_field}
+use Rattle.cmd_core.proofs.RecordsLemmas.{fields_more, has_more, has_none, keys_more, keys_none, with_field}
 use Rattle.mv_keyspace.specs.declared.row.Row.{Row}
+use Rattle.mv_keyspace.specs.declared.slot.Slot.{Slot}
 use Rattle.mv_keyspace.specs.Row.{records_of, table_of}
-use Rattle.mv_keyspace.specs.Slots.{Slots, rows_at, rows_in, AreOfKey, AreSlots}
+use Rattle.mv_keyspace.specs.Slots.{Slots, rows_at, rows_in, rows_of_slot, slot_at, AreOfKey, AreSlots}
 use Rattle.mv_keyspace.proofs.SlotLemmas.{AllStand, around, slots-tail}
 use Rattle.mv_keyspace.proofs.PlacingLemmas.{apart-keys, not_tied_greater, not_tied_less}
 
@@ -65,6 +66,13 @@ fields_of-own key es slots =
     no_field : (order : Ordering) → (order ≡ Equal → ⊥) → (id : RecordId) → bytes_cmp key (key_of id) ≡ order → field_at id key ≡ None
     no_field order apart (Str own) at = refl
     no_field order apart (Field own field) at = ap (λ b. cond b (Some field) None) (apart-keys order key own at apart)
+
+-- the key has records where its slot has some of it
+pub has-found : (key : List ℕ) (es : Slots) (slot : Slot) → AreSlots es → slot_at key es ≡ Some slot → has_key (records_of slot.rows.items) key ≡ has_key (records_of (rows_in es)) key
+has-found key es slot slots found = ap (λ s. has_key (records_of (rows_of_slot s)) key) (sym found) ∙ sym (has_key-own key es slots)
+
+pub has-missing : (key : List ℕ) (es : Slots) → AreSlots es → slot_at key es ≡ None → false ≡ has_key (records_of (rows_in es)) key
+has-missing key es slots missing = sym (has_key-own key es slots ∙ ap (λ s. has_key (records_of (rows_of_slot s)) key) missing ∙ has_none key)
 
 -- ---- how many keys there are
 

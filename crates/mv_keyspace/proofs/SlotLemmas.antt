@@ -1,11 +1,11 @@
 -- Where the rows of a key stand among those of all slots.
-use Rattle.std.proofs.Common.{◌≡◌, ℕ, Bool, true, false, cond, List, [], ◌∷◌, ◌++◌, Option, Some, None, IsSome, IsTrue, refl, sym, ap, subst, ◌∙◌, append_assoc}
-use Rattle.std.proofs.lemmas.List.{map-append, append-nil}
+use Rattle.std.proofs.Common.{◌≡◌, ℕ, Bool, true, false, cond, List, [], ◌∷◌, ◌++◌, Some, None, IsSome, refl, sym, ap, subst, ◌∙◌, append_assoc}
+use Rattle.std.proofs.lemmas.List.{map-append}
 use Rattle.std.specs.List.{AllByRecursion}
 use Rattle.std.specs.List.Sorted.{IsStrictlySortedBy}
-use Rattle.std.specs.Map.{keys_of, lookup, set_value, remove_entry}
+use Rattle.std.specs.Map.{keys_of, set_value, remove_entry}
 use Rattle.std.specs.BTreeMap.{is_at, insert_entry}
-use Rattle.std.specs.Ordering.{is_eq, match_ordering, ordering_reverse}
+use Rattle.std.specs.Ordering.{is_eq, match_ordering}
 use Rattle.std.specs.Cmp.Lexicographic.{nat_list_cmp_total}
 use Rattle.std.specs.declared.cmp.Ordering.{Ordering}
 use Rattle.std.specs.declared.cmp.Ordering.TheVariants.{Less, Equal, Greater}
@@ -46,6 +46,10 @@ tied_later key first (k ∷ keys) tied rise = (nat_list_cmp_total.congr key firs
 
 pub slots-tail : (e : List ℕ × Slot) (es : Slots) → AreSlots (e ∷ es) → AreSlots es
 slots-tail e es slots = record { sorted = sorted_tail bytes_cmp e.0 (keys_of es) slots.sorted; own = slots.own.1 }
+
+-- no slots are in order
+pub slots-none : (es : Slots) → es ≡ [] → IsStrictlySortedBy bytes_cmp (keys_of es) → AreSlots es
+slots-none es none sorted = record { sorted = sorted; own = subst (AllByRecursion (λ (e : List ℕ × Slot). AreOfKey e.0 (table_of e.1.rows.items))) (sym none) tt }
 
 later-stand : (key : List ℕ) (es : Slots) → AllByRecursion (λ k. bytes_cmp key k ≡ Less) (keys_of es) → AllByRecursion (λ (e : List ℕ × Slot). AreOfKey e.0 (table_of e.1.rows.items)) es → AllStand Less key (table_of (rows_in es))
 later-stand key [] less own = tt

@@ -1,5 +1,5 @@
 -- The slot of a key, once another is written in its place.
-use Rattle.std.proofs.Common.{◌≡◌, ℕ, ◌+◌, Bool, true, false, cond, length, ◌≤◌, List, [], ◌∷◌, ◌++◌, Option, Some, None, IsSome, refl, sym, ap, ap₂, subst, ◌∙◌, arith}
+use Rattle.std.proofs.Common.{◌≡◌, ℕ, ◌+◌, Bool, true, false, cond, length, ◌≤◌, List, [], ◌++◌, Option, Some, None, IsSome, refl, sym, ap, subst, ◌∙◌, arith}
 use Rattle.std.specs.List.Sorted.{IsStrictlySortedBy}
 use Rattle.std.specs.Map.{keys_of, set_value}
 use Rattle.std.specs.BTreeMap.{is_at}
@@ -31,13 +31,13 @@ some_found key es slot found = subst IsSome (sym found) refl
 
 -- the slot is that of the key
 module _ (key : List ℕ) (es : Slots) (slot : Slot) (slots : AreSlots es) (found : slot_at key es ≡ Some slot) where
-  abbrev own : Around key es
+  abbrev pub own : Around key es
   own = around key es slots
 
-  rows-found : rows_in es ≡ own.before ++ (slot.rows.items ++ own.after)
+  pub rows-found : rows_in es ≡ own.before ++ (slot.rows.items ++ own.after)
   rows-found = own.rows ∙ ap (λ s. own.before ++ (rows_of_slot s ++ own.after)) found
 
-  of-key : AreOfKey key (table_of slot.rows.items)
+  pub of-key : AreOfKey key (table_of slot.rows.items)
   of-key = subst (λ s. AreOfKey key (table_of (rows_of_slot s))) found (own-at key es slots.own)
 
   pub ended-found : (c : PlacedChange) → changed_key (change_of c) ≡ Some key → ended_rows (change_of c) (table_of (rows_in es)) ≡ ended_rows (change_of c) (table_of slot.rows.items)
@@ -48,7 +48,7 @@ module _ (key : List ℕ) (es : Slots) (slot : Slot) (slots : AreSlots es) (foun
 
   -- another slot was written
   module _ (other : Slot) (after : Slots) (is : after ≡ set_value (is_at (bytes_cmp key)) es other) (sorted : IsStrictlySortedBy bytes_cmp (keys_of after)) where
-    rows-written : rows_in after ≡ own.before ++ (other.rows.items ++ own.after)
+    pub rows-written : rows_in after ≡ own.before ++ (other.rows.items ++ own.after)
     rows-written = ap rows_in is ∙ own.written other (some_found key es slot found)
 
     pub same-rows : other.rows.items ≡ slot.rows.items → rows_in after ≡ rows_in es
@@ -121,12 +121,12 @@ module _ (key q : List ℕ) (es after : Slots) (other : Slot) (updates : slot_at
       by true is = let a = awaited-by true is in let k = at-key (Some slot) found is in omega (arith, a, k, less)
       by false is = let a = awaited-by false is in omega (arith, a)
 
-  pub awaited-made : slot_at key es ≡ None → other.awaited ≡ 0 → awaited_at q after ≡ awaited_at q es
-  awaited-made missing zero = by (is_at (bytes_cmp key) q) refl
+  pub awaited-made : (n : ℕ) → slot_at key es ≡ None → other.awaited ≡ n → awaited_at q after ≡ awaited_at q es + cond (is_at (bytes_cmp key) q) n 0
+  awaited-made n missing one = by (is_at (bytes_cmp key) q) refl
     where
-      by : (b : Bool) → is_at (bytes_cmp key) q ≡ b → awaited_at q after ≡ awaited_at q es
-      by true is = let a = awaited-by true is in let k = at-key None missing is in omega (arith, a, k, zero)
-      by false is = awaited-by false is
+      by : (b : Bool) → is_at (bytes_cmp key) q ≡ b → awaited_at q after ≡ awaited_at q es + cond b n 0
+      by true is = let a = awaited-by true is in let k = at-key None missing is in omega (arith, a, k, one)
+      by false is = let a = awaited-by false is in omega (arith, a)
 
 -- ---- a change of the key
 

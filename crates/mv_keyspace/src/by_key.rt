@@ -1,13 +1,12 @@
 //! The changes of a command or of a frame, each made on the slot of its key.
-ghost use Rattle.std.specs.Prelude.{◌≡◌, ℕ, ◌+◌, ◌<◌, ◌≤◌, ◌^◌, ◌++◌, List, Some, length, IfErr, IfOk, OnErr, OnOk, IsSome, vec_len, vec_capacity};
+ghost use Rattle.std.specs.Prelude.{◌≡◌, ℕ, ◌+◌, ◌<◌, ◌≤◌, ◌^◌, ◌++◌, List, cond, length, IsTrue, IfErr, IfOk, OnErr, OnOk, IsSome, vec_len, vec_capacity};
 ghost use Rattle.std.specs.Vec.Iter.{into_iter_items};
 ghost use Rattle.kv_types.specs.declared.place.EntryNo.{EntryNo};
 ghost use Rattle.kv_types.specs.declared.refusal.Refusal.TheVariants.{Memory};
-ghost use Rattle.kv_types.specs.declared.change.Change.{Change};
 ghost use Rattle.cmd_core.specs.Contents.{keys_of};
 ghost use Rattle.model.specs.Group.{change_of, put_of};
 ghost use Rattle.model.specs.declared.group.Put.{Put};
-ghost use Rattle.mv_keyspace.specs.Keys.{changed_key, keys_beside};
+ghost use Rattle.mv_keyspace.specs.Keys.{changed_key};
 ghost use Rattle.mv_keyspace.specs.Table.{entries_of, place, place_all, puts_of, AreEnded, AreFresh, IsLawful};
 ghost use Rattle.mv_keyspace.specs.Row.{ended_rows, numbers_of, records_of, rows_of_puts, table_of};
 ghost use Rattle.mv_keyspace.specs.Slots.{AreKeyed, AreSlots, awaited_at, awaits, awaits_of, ends, ends_at_once, rows_in};
@@ -16,7 +15,7 @@ use crate::counting::key_changed;
 use crate::making::stage;
 use crate::row::Row;
 use crate::slot::Slot;
-use crate::slots::{change_slot, expect_row, has_rows, rows_at, settle};
+use crate::slots::{change_slot, expect_row, rows_at, settle};
 use kv_types::{EntryNo, Key, RecordId, Refusal};
 use model::PlacedChange;
 use std::alloc::Global;
@@ -53,7 +52,7 @@ pub(crate) fn change_keys(
     match expect_rows(alloc, slots, changes) {
         Ok(()) => {
             let count = play(slots, keys, changes, staged, ended);
-            settle_all(slots, changes);
+            settle_dropped(slots, changes);
             Ok(count)
         }
         Err(refusal) => {
@@ -83,7 +82,7 @@ fn expect_rows(
     Ok(())
 }
 
-/// Takes the slots out that the changes left without a row.
+/// Lets the slots of the changes await no row any more, and takes those out that have none.
 fn settle_all(slots: &mut BTreeMap<Key, Slot>, changes: &[PlacedChange])
     requires { AreSlots slots.old.entries }
     ensures slots { AreSlots slots.new.entries }
@@ -92,6 +91,21 @@ fn settle_all(slots: &mut BTreeMap<Key, Slot>, changes: &[PlacedChange])
     for change in changes {
         if let Some(key) = key_changed(change) {
             settle(slots, key);
+        }
+    }
+}
+
+/// Takes the slots out that the changes left without a row. A put leaves none so, and what its slot awaited has come.
+fn settle_dropped(slots: &mut BTreeMap<Key, Slot>, changes: &[PlacedChange])
+    requires { AreSlots slots.old.entries }
+    ensures slots { AreSlots slots.new.entries }
+    ensures rows { rows_in slots.new.entries ≡ rows_in slots.old.entries }
+{
+    for change in changes {
+        match change {
+            PlacedChange::Drop(id) => settle(slots, id.key()),
+            PlacedChange::DropKey(key) => settle(slots, key),
+            _ => {}
         }
     }
 }
@@ -191,39 +205,20 @@ fn make_one(
 {
     match key_changed(change) {
         Some(key) => {
-            let others = count_others(slots, keys, key);
-            change_slot(slots, key, change, staged, ended);
-            count_with(slots, others, key)
+            let _slots = slots.len();
+            let (had, has) = change_slot(slots, key, change, staged, ended);
+            count_after(keys, had, has)
         }
         None => unreachable!(),
     }
 }
 
-/// How many keys there are beside this one, where there are `keys` in all.
-fn count_others(slots: &BTreeMap<Key, Slot>, keys: u64, key: &Key) -> u64
-    requires slots { AreSlots slots.now.entries }
-    requires counted { keys ≡ length (keys_of (records_of (rows_in slots.now.entries))) }
-    ensures value { (change : Change) → changed_key change ≡ Some key.now → result ≡ length (keys_beside change (records_of (rows_in slots.now.entries))) }
-    ensures bound { result < 2 ^ 63 }
+/// How many keys there are after a change of one, where there were `keys` before it. The key had records then or not, and has some now or not.
+fn count_after(keys: u64, had: bool, has: bool) -> u64
+    requires some { IsTrue had → 1 ≤ keys }
+    requires bound { keys < 2 ^ 63 }
+    ensures { result + cond had 1 0 ≡ keys + cond has 1 0 }
 {
-    let _slots = slots.len();
-    if has_rows(slots, key.as_slice()) {
-        keys - 1
-    } else {
-        keys
-    }
-}
-
-/// How many keys there are, where there are `others` beside this one.
-fn count_with(slots: &BTreeMap<Key, Slot>, others: u64, key: &Key) -> u64
-    requires slots { AreSlots slots.now.entries }
-    requires others { (change : Change) × (changed_key change ≡ Some key.now) × (others ≡ length (keys_beside change (records_of (rows_in slots.now.entries)))) }
-    requires bound { others < 2 ^ 63 }
-    ensures { result ≡ length (keys_of (records_of (rows_in slots.now.entries))) }
-{
-    if has_rows(slots, key.as_slice()) {
-        others + 1
-    } else {
-        others
-    }
+    let others = if had { keys - 1 } else { keys };
+    if has { others + 1 } else { others }
 }

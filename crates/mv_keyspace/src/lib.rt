@@ -2,13 +2,16 @@
 #![tactic(auto)]
 
 mod by_key;
+mod clearing;
 mod counting;
 mod ending;
+mod filling;
 mod key_bytes;
 mod keyspace;
 mod list_keyspace;
 mod loading;
 mod making;
+mod mv_keyspace;
 mod putting;
 mod row;
 mod sharing;
@@ -17,4 +20,5 @@ mod slots;
 
 pub use keyspace::Keyspace;
 pub use list_keyspace::ListKeyspace;
+pub use mv_keyspace::MvKeyspace;
 pub use row::Row;

@@ -1,8 +1,9 @@
 //! The records of one key, as the map keeps them.
-ghost use Rattle.std.specs.Prelude.{◌≡◌, ℕ, ◌+◌, ◌≤◌, ◌++◌, List, [], length, IsTrue, OnOk, vec_len, vec_capacity};
+ghost use Rattle.std.specs.Prelude.{◌≡◌, ℕ, ◌+◌, ◌<◌, ◌≤◌, ◌^◌, ◌++◌, List, [], ◌∷◌, length, IsTrue, OnOk, vec_len, vec_capacity};
 ghost use Rattle.std.specs.Vec.Iter.{into_iter_items};
 ghost use Rattle.std.specs.FinMap.Entries.{is_sorted};
 ghost use Rattle.kv_types.specs.Keyspace.{record_cmp};
+ghost use Rattle.cmd_core.specs.Contents.{has_key};
 ghost use Rattle.model.specs.declared.group.Put.{Put};
 ghost use Rattle.model.specs.Group.{change_of, put_of};
 ghost use Rattle.mv_keyspace.specs.Table.{entries_of, place};
@@ -10,7 +11,8 @@ ghost use Rattle.mv_keyspace.specs.Row.{ended_rows, numbers_of, records_of, rows
 
 use crate::making::make_change;
 use crate::row::Row;
-use kv_types::EntryNo;
+use cmd_core::has_in_order;
+use kv_types::{EntryNo, Key};
 use model::PlacedChange;
 use std::alloc::{AllocError, Global};
 use std::vec::IntoIter;
@@ -40,9 +42,17 @@ impl Slot {
 
     pub(crate) fn rows(&self) -> &[Row]
         ensures rows { result.now ≡ self.now.rows.items }
+        ensures few { length result.now < 2 ^ 63 }
         ensures order { IsTrue (is_sorted record_cmp (records_of self.now.rows.items)) }
     {
         &self.rows
+    }
+
+    /// Whether there is a record of a key.
+    pub(crate) fn has(&self, key: &Key) -> bool
+        ensures { result ≡ has_key (records_of self.now.rows.items) key.now }
+    {
+        has_in_order(&self.rows, key.as_slice())
     }
 
     /// Makes room for one row more than are awaited. A first row has no room beside it, as most keys have one.
@@ -57,6 +67,16 @@ impl Slot {
         }
         self.awaited += 1;
         Ok(())
+    }
+
+    /// Puts a row that is awaited behind the others.
+    pub(crate) fn put_last(&mut self, row: Row)
+        requires order { IsTrue (is_sorted record_cmp (records_of (self.old.rows.items ++ row ∷ []))) }
+        requires awaited { 1 ≤ self.old.awaited }
+        ensures { self.new.rows.items ≡ self.old.rows.items ++ row ∷ [] }
+    {
+        self.awaited -= 1;
+        self.rows.push(row).unwrap();
     }
 
     /// Awaits no row any more.

@@ -1,5 +1,5 @@
 //! The records of all keys, one slot a key.
-ghost use Rattle.std.specs.Prelude.{◌≡◌, ℕ, ◌+◌, ◌≤◌, ◌++◌, List, [], ◌∷◌, cond, length, IsTrue, OnOk, IfErr, IsSome, Some, vec_len, vec_capacity};
+ghost use Rattle.std.specs.Prelude.{◌≡◌, ℕ, ◌+◌, ◌<◌, ◌≤◌, ◌^◌, ◌++◌, List, [], ◌∷◌, cond, length, IsTrue, OnOk, IfErr, None, Some, vec_len, vec_capacity};
 ghost use Rattle.std.specs.BTreeMap.{is_at};
 ghost use Rattle.std.specs.Vec.Iter.{into_iter_items};
 ghost use Rattle.std.specs.FinMap.Entries.{is_sorted};
@@ -16,7 +16,6 @@ ghost use Rattle.mv_keyspace.specs.Slots.{AreSlots, awaited_at, rows_at, rows_in
 use crate::key_bytes::KeyBytes;
 use crate::row::Row;
 use crate::slot::Slot;
-use cmd_core::has_in_order;
 use kv_types::{EntryNo, Key, Refusal};
 use model::PlacedChange;
 use std::alloc::Global;
@@ -26,41 +25,12 @@ use std::vec::IntoIter;
 /// The rows of a key.
 pub(crate) fn rows_at<'a>(slots: &'a BTreeMap<Key, Slot>, key: &[u8]) -> &'a [Row]
     ensures rows { result.now ≡ rows_at key.now slots.now.entries }
+    ensures few { length result.now < 2 ^ 63 }
     ensures order { IsTrue (is_sorted record_cmp (records_of result.now)) }
 {
     match slots.get(KeyBytes(key)) {
         Some(slot) => slot.rows(),
         None => &[],
-    }
-}
-
-/// Whether there is a record of a key.
-pub(crate) fn has_rows(slots: &BTreeMap<Key, Slot>, key: &[u8]) -> bool
-    requires { AreSlots slots.now.entries }
-    ensures { result ≡ has_key (records_of (rows_in slots.now.entries)) key.now }
-{
-    has_in_order(rows_at(slots, key), key)
-}
-
-/// Makes the slot of a key where there is none.
-pub(crate) fn make_slot(
-    alloc: Global,
-    slots: &mut BTreeMap<Key, Slot>,
-    key: &Key,
-) -> Result<(), Refusal>
-    requires { AreSlots slots.old.entries }
-    ensures slots { AreSlots slots.new.entries }
-    ensures rows { rows_in slots.new.entries ≡ rows_in slots.old.entries }
-    ensures awaited { (q : List ℕ) → awaited_at q slots.new.entries ≡ awaited_at q slots.old.entries }
-    ensures made { OnOk result (IsSome (slot_at key.now slots.new.entries)) }
-    ensures cause { IfErr result (λ refusal. refusal ≡ Memory) }
-{
-    match slots.get(key) {
-        Some(_) => Ok(()),
-        None => match slots.insert(key.clone()?, Slot::new(alloc)) {
-            Ok(_) => Ok(()),
-            Err(_) => Err(Refusal::Memory),
-        },
     }
 }
 
@@ -76,10 +46,26 @@ pub(crate) fn expect_row(
     ensures awaited { OnOk result ((q : List ℕ) → awaited_at q slots.new.entries ≡ awaited_at q slots.old.entries + cond (is_at (bytes_cmp key.now) q) 1 0) }
     ensures cause { IfErr result (λ refusal. refusal ≡ Memory) }
 {
-    make_slot(alloc, slots, key)?;
     match slots.get_mut(key) {
         Some(slot) => Ok(slot.expect_row()?),
-        None => unreachable!(),
+        None => make_slot(alloc, slots, key),
+    }
+}
+
+/// Makes the slot of a key that has none, with room for one row.
+fn make_slot(alloc: Global, slots: &mut BTreeMap<Key, Slot>, key: &Key) -> Result<(), Refusal>
+    requires slots { AreSlots slots.old.entries }
+    requires missing { slot_at key.now slots.old.entries ≡ None }
+    ensures slots { AreSlots slots.new.entries }
+    ensures rows { rows_in slots.new.entries ≡ rows_in slots.old.entries }
+    ensures awaited { OnOk result ((q : List ℕ) → awaited_at q slots.new.entries ≡ awaited_at q slots.old.entries + cond (is_at (bytes_cmp key.now) q) 1 0) }
+    ensures cause { IfErr result (λ refusal. refusal ≡ Memory) }
+{
+    let mut slot = Slot::new(alloc);
+    slot.expect_row()?;
+    match slots.insert(key.clone()?, slot) {
+        Ok(_) => Ok(()),
+        Err(_) => Err(Refusal::Memory),
     }
 }
 
@@ -110,14 +96,14 @@ fn settle_slot(slots: &mut BTreeMap<Key, Slot>, key: &Key) -> bool
     }
 }
 
-/// Makes one change of a key, as `Slot::change` does.
+/// Makes one change of a key, as `Slot::change` does. Says whether the key had records before it, and whether it has some after it.
 pub(crate) fn change_slot(
     slots: &mut BTreeMap<Key, Slot>,
     key: &Key,
     change: &PlacedChange,
     staged: &mut IntoIter<Row>,
     ended: &mut Vec<EntryNo>,
-)
+) -> (bool, bool)
     requires slots { AreSlots slots.old.entries }
     requires key { changed_key (change_of change.now) ≡ Some key.now }
     requires staged { (position : ℕ) × (later : List Put) × (table_of (into_iter_items staged.old) ≡ rows_of_puts position (put_of change.now ++ later)) }
@@ -129,9 +115,15 @@ pub(crate) fn change_slot(
     ensures ended { numbers_of ended.new.items ≡ numbers_of ended.old.items ++ entries_of (ended_rows (change_of change.now) (table_of (rows_in slots.old.entries))) }
     ensures awaited { (q : List ℕ) → awaited_at q slots.new.entries + cond (is_at (bytes_cmp key.now) q) (length (put_of change.now)) 0 ≡ awaited_at q slots.old.entries }
     ensures capacity_for_ended { vec_capacity ended.old ≤ vec_capacity ended.new }
+    ensures had { result.0 ≡ has_key (records_of (rows_in slots.old.entries)) key.now }
+    ensures has { result.1 ≡ has_key (records_of (rows_in slots.new.entries)) key.now }
 {
     match slots.get_mut(key) {
-        Some(slot) => slot.change(change, staged, ended),
-        None => {}
+        Some(slot) => {
+            let had = slot.has(key);
+            slot.change(change, staged, ended);
+            (had, slot.has(key))
+        }
+        None => (false, false),
     }
 }

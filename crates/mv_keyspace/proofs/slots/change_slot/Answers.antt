@@ -1,13 +1,15 @@
-use Rattle.std.proofs.Common.{◌≡◌, ◌+◌, ◌≤◌, [], ◌++◌, List, length, sym, ap, ◌∙◌, arith}
+use Rattle.std.proofs.Common.{◌++◌, List, length, sym, ap, ◌∙◌, arith}
 use Rattle.std.proofs.lemmas.List.{append-nil}
 use Rattle.std.specs.Option.{option_copied_mut}
+use Rattle.cmd_core.specs.Contents.{has_key}
 use Rattle.model.specs.declared.group.Put.{Put}
-use Rattle.model.specs.Group.{change_of, put_of}
-use Rattle.mv_keyspace.specs.Row.{numbers_of, rows_of_puts, table_of}
+use Rattle.model.specs.Group.{put_of}
+use Rattle.mv_keyspace.specs.Row.{numbers_of, records_of, rows_of_puts, table_of}
 use Rattle.mv_keyspace.specs.Slots.{awaited_of, rows_in}
 use Rattle.mv_keyspace.specs.Table.{Table, entries_of}
 use Rattle.mv_keyspace.proofs.PlacingLemmas.{none-made, place-none}
 use Rattle.mv_keyspace.proofs.WritingLemmas.{awaited-less, some_found, ended-found, ended-missing, placed-missing, placed-rows, placed-slots}
+use Rattle.mv_keyspace.proofs.ReadingLemmas.{has-found, has-missing}
 use Rattle.mv_keyspace.proofs.slots.change_slot.Goals as goal
 
 pub change-requires-clause-awaited : goal.change-requires-clause-awaited
@@ -59,3 +61,26 @@ pub returns-in-None-clause-ended : goal.returns-in-None-clause-ended
 returns-in-None-clause-ended c =
     let missing = sym c.get_mut.ensures.value ∙ ap option_copied_mut c.in-None.is in
     sym (ap (λ t. numbers_of c.args.ended.now.items ++ entries_of t) (ended-missing c.args.key.now c.args.slots.now.entries c.requires.slots missing c.args.change.now c.requires.key) ∙ append-nil (numbers_of c.args.ended.now.items))
+
+pub returns-in-Some-clause-had : goal.returns-in-Some-clause-had
+returns-in-Some-clause-had c = c.has-had.ensures ∙ has-found c.args.key.now c.args.slots.now.entries c.in-Some.slot.now c.requires.slots (sym c.in-Some.ensures.value)
+
+pub returns-in-Some-clause-has : goal.returns-in-Some-clause-has
+returns-in-Some-clause-has c =
+    let key = c.args.key.now in
+    let es = c.args.slots.now.entries in
+    let slot = c.change.new.self in
+    let after = (c.get_mut.follows.lender slot).entries in
+    let wrote = c.get_mut.follows.holds slot in
+    let found = sym c.in-Some.ensures.value in
+    let staged = c.requires.staged in
+    let slots = placed-slots key es c.in-Some.slot.now c.requires.slots found slot after wrote.0 wrote.4 staged.0 c.args.change.now c.requires.key (c.change.ensures.table staged.0 staged.1 staged.2).0 in
+    c.has.ensures ∙ has-found key after slot slots (wrote.3 (some_found key es c.in-Some.slot.now found)).1
+
+pub returns-in-None-clause-had : goal.returns-in-None-clause-had
+returns-in-None-clause-had c = has-missing c.args.key.now c.args.slots.now.entries c.requires.slots (sym c.get_mut.ensures.value ∙ ap option_copied_mut c.in-None.is)
+
+pub returns-in-None-clause-has : goal.returns-in-None-clause-has
+returns-in-None-clause-has c =
+    has-missing c.args.key.now c.args.slots.now.entries c.requires.slots (sym c.get_mut.ensures.value ∙ ap option_copied_mut c.in-None.is)
+    ∙ ap (λ m. has_key (records_of (rows_in m.entries)) c.args.key.now) (sym c.get_mut.follows.holds-at-none)
