@@ -1,3 +1,2 @@
-pub mod Acknowledging
 pub mod Sending
 pub mod Serving

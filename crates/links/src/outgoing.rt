@@ -4,13 +4,13 @@ ghost use Rattle.kv_types.specs.declared.refusal.Refusal.TheVariants.{Memory, Po
 ghost use Rattle.model.specs.declared.group.Group.{Group as Item};
 ghost use Rattle.standby.specs.declared.frame.Frame.{Frame as Kept};
 ghost use Rattle.standby_stream.specs.Delta.{IsDelta};
-ghost use Rattle.standby_stream.specs.Stream.{IsDue, Frames, TakesNext};
-ghost use Rattle.links.specs.Sending.{acknowledged, frame_text, delta_text};
+ghost use Rattle.standby_stream.specs.Stream.{IsDue, Frames, TakesNext, acknowledged};
+ghost use Rattle.links.specs.Sending.{frame_text, delta_text};
 
 use kv_types::Refusal;
 use model::Group;
 use pipes::Inlet;
-use standby::{Ack, Frame};
+use standby::Frame;
 use standby_stream::{Link, Opening, delta};
 use std::alloc::Global;
 use stream_codec::{Message, write_frame};
@@ -55,7 +55,7 @@ impl Outgoing {
         self.link.known()
     }
 
-    /// The link opens with a standby at this position. Where that is behind the opening a delta is due, and otherwise the standby acknowledges what it has;
+    /// The link opens with a standby at this position, which is no higher than the node's own. Where that is behind the opening a delta is due, and otherwise the standby acknowledges what it has;
     /// all frames that are kept then are sent again.
     ///
     /// # Errors
@@ -71,8 +71,7 @@ impl Outgoing {
         ensures opening { (self.new.opening ≡ self.old.opening) × (self.new.is_forgotten ≡ self.old.is_forgotten) }
     {
         if position >= self.opening.position {
-            let epoch = self.link.epoch();
-            self.link.on_ack(Ack { epoch, position });
+            self.link.reach(position);
             self.link.reopen(None);
             return Ok(());
         }
@@ -84,14 +83,13 @@ impl Outgoing {
         Ok(())
     }
 
-    /// The standby has acknowledged up to this position: the frames up to it go, and once it has reached the opening, what was told of that too.
+    /// The standby has acknowledged up to this position, which is no higher than the node's own: the frames up to it go, and once it has reached the opening, what was told of that too.
     pub fn note(&mut self, alloc: Global, position: u64)
         ensures link { self.new.link ≡ acknowledged position self.old.link }
         ensures opening { self.new.is_forgotten ≡ false → self.new.opening ≡ self.old.opening }
         ensures position { self.new.opening.position ≡ self.old.opening.position }
     {
-        let epoch = self.link.epoch();
-        self.link.on_ack(Ack { epoch, position });
+        self.link.reach(position);
         if self.link.known() >= self.opening.position && !self.is_forgotten {
             self.opening.forget(alloc);
             self.is_forgotten = true;

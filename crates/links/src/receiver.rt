@@ -1,12 +1,13 @@
 //! The thread that takes the standby's acknowledgements while one connection lasts.
 ghost use Rattle.std.specs.Prelude.{◌≡◌, ◌⊎◌, ◌↔◌, ◌≤◌, max, true, false, Err, OnOk, OnErr, IfErr};
 ghost use Rattle.kv_types.specs.declared.refusal.Refusal.TheVariants.{StandbyAhead, WrongEpoch};
-ghost use Rattle.links.specs.Acknowledging.{counts};
+ghost use Rattle.standby_stream.specs.Stream.{counts};
 
 use crate::reading::{new_block, read_messages};
 use crate::remote_mark::RemoteMark;
 use kv_types::Refusal;
 use standby::Ack;
+use standby_stream::counts;
 use std::alloc::Global;
 use std::io::Read;
 use std::net::TcpStream;
@@ -137,12 +138,4 @@ impl AckReceiver {
             (own, Err(Refusal::StandbyAhead))
         }
     }
-}
-
-/// Whether a primary of this epoch counts an acknowledgement as its own: one of its epoch, or of a lower one at position 0, where nothing was
-/// acknowledged yet.
-pub(crate) fn counts(epoch: u64, ack: Ack) -> bool
-    ensures { result ≡ counts epoch ack }
-{
-    ack.epoch == epoch || (ack.position == 0 && ack.epoch < epoch)
 }

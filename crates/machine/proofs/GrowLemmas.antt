@@ -9,7 +9,7 @@ use Rattle.machine.specs.declared.event.Event.{Event}
 use Rattle.machine.specs.declared.event.Event.TheVariants.{Enter, Feed, Offer, Turn, CloseGroup, Commit, RaiseLocal, Hand, Free, AcceptFreed, ClearGap, OpenLink, Send, Deliver, Apply, AckDelivered, RaiseRemote, Hold, Read, Release, Write, Leave, Crash, Reopen}
 use Rattle.machine.specs.declared.event.Mark.{Mark}
 use Rattle.machine.specs.declared.event.Mark.TheVariants.{Local, Remote}
-use Rattle.machine.specs.Event.{Inbound, Outbound, Connection, Frame, Acknowledgement, Work, Commits, Frees, Committer, Link, Standby, World, crashed_standby, reopened_primary, reopened_standby, with_primary, get_connection, changed_at, with_inbound, with_outbound, with_connections, on_inbound, on_outbound, with_call, with_committer, with_link, with_standby, with_acknowledged, spans_of, from_group, fed_with, offered_next, taken_first, with_made, called, with_ended, with_notices, with_gaps, committed_first, freed_first, raised_local, ready_again, handed, handed_to, due_delta, opened_link, acknowledgement_of, next_to_send, framed, delivered, without_first, Takes, told, knowing, raised_remote, held_first, having_read, having_released, written, left, option_items, Happens, Step, Run, start_with, last_world}
+use Rattle.machine.specs.Event.{Inbound, Outbound, Connection, Frame, Acknowledgement, Work, Commits, Frees, Committer, Link, Standby, World, crashed_standby, reopened_primary, reopened_standby, with_primary, get_connection, changed_at, with_inbound, with_outbound, with_connections, on_inbound, on_outbound, with_call, with_committer, with_link, with_standby, with_acknowledged, spans_of, from_group, fed_with, offered_next, taken_first, with_made, called, with_ended, with_notices, with_gaps, committed_first, freed_first, raised_local, ready_again, handed, handed_to, due_delta, opened_link, acknowledgement_of, next_to_send, framed, delivered, without_first, Takes, counts, told, knowing, raised_remote, held_first, having_read, having_released, written, left, option_items, Happens, Step, Run, start_with, last_world}
 use Rattle.machine.specs.Promise.{released_in}
 use Rattle.machine.specs.Sound.{IsChain, Sound}
 use Rattle.machine.specs.Law.{Grows}
@@ -137,11 +137,11 @@ grows-link w link =
       standby_position = g.standby_position;
     }
 
-grows-told : (w : World) (ack : Option Acknowledgement) → Grows w (with_link (told w.primary.epoch ack w.primary.link) w)
+grows-told : (w : World) (ack : Option Acknowledgement) → Grows w (with_link (told w.primary.epoch w.primary.committer.position ack w.primary.link) w)
 grows-told w None = grows-itself w
 grows-told w (Some ack) =
     let link = w.primary.link in
-    elim (nat_eq ack.epoch w.primary.epoch) as (λ b. Grows w (with_link (cond b (knowing ack.position link) link) w)) [
+    elim (counts w.primary.epoch w.primary.committer.position ack) as (λ b. Grows w (with_link (cond b (knowing ack.position link) link) w)) [
       | true ↦ grows-link w (knowing ack.position link)
       | false ↦ grows-itself w
     ]

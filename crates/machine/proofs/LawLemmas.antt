@@ -7,7 +7,7 @@ use Rattle.model.specs.Call.{is_nonempty, state_after, position_of}
 use Rattle.machine.specs.declared.event.Event.{Event}
 use Rattle.machine.specs.declared.event.Event.TheVariants.{Enter, Feed, Offer, Turn, CloseGroup, Commit, RaiseLocal, Hand, Free, AcceptFreed, ClearGap, OpenLink, Send, Deliver, Apply, AckDelivered, RaiseRemote, Hold, Read, Release, Write, Leave, Crash, Reopen}
 use Rattle.machine.specs.declared.event.TheConstants.{KEPT_GROUPS}
-use Rattle.machine.specs.Event.{World, Span, Frame, Acknowledgement, Link, next_to_send, told, knowing, nodes_run, may_happen, is_enabled, Happens, Step, Run, start_with, last_world}
+use Rattle.machine.specs.Event.{World, Span, Frame, Acknowledgement, Link, next_to_send, counts, told, knowing, nodes_run, may_happen, is_enabled, Happens, Step, Run, start_with, last_world}
 use Rattle.machine.specs.Sound.{IsFrameWithin, IsToldWithin, Sound, answers_from, answers_to}
 use Rattle.machine.specs.Law.{IsInOrder, FramesAreCommitted, AnswersBearPositions, RaisesNoRemote, NothingIsReleasedUnacknowledged, OnlyWhatWasMadeIsDelivered, WhoIsBehindGetsADelta}
 use Rattle.machine.proofs.AnswerLemmas.{answers_from-append, answers_to-push_own}
@@ -56,9 +56,9 @@ answers_bear_positions prefix call rest =
 
 -- ---- without RaiseRemote
 
-told-remote : (epoch : ℕ) (ack : Option Acknowledgement) (link : Link) → (told epoch ack link).remote ≡ link.remote
-told-remote epoch None link = refl
-told-remote epoch (Some ack) link = elim (nat_eq ack.epoch epoch) as (λ b. (cond b (knowing ack.position link) link).remote ≡ link.remote) [ true ↦ refl | false ↦ refl ]
+told-remote : (epoch own : ℕ) (ack : Option Acknowledgement) (link : Link) → (told epoch own ack link).remote ≡ link.remote
+told-remote epoch own None link = refl
+told-remote epoch own (Some ack) link = elim (counts epoch own ack) as (λ b. (cond b (knowing ack.position link) link).remote ≡ link.remote) [ true ↦ refl | false ↦ refl ]
 
 le_of : {m n : ℕ} → m ≡ n → m ≤ n
 le_of e = omega (arith, e)
@@ -80,7 +80,7 @@ remote-happens w OpenLink new none h = le_of (ap (λ x. x.primary.link.remote) h
 remote-happens w Send new none h = le_of (ap (λ x. x.primary.link.remote) h ∙ sent-remote w.primary.link.delta w.primary.link)
 remote-happens w (Deliver frame piece) new none h = le_of (ap (λ x. x.primary.link.remote) h)
 remote-happens w Apply new none h = le_of (ap (λ x. x.primary.link.remote) h.now)
-remote-happens w (AckDelivered a) new none h = le_of (ap (λ x. x.primary.link.remote) h ∙ told-remote w.primary.epoch (slice_get w.wire.acknowledgements a) w.primary.link)
+remote-happens w (AckDelivered a) new none h = le_of (ap (λ x. x.primary.link.remote) h ∙ told-remote w.primary.epoch w.primary.committer.position (slice_get w.wire.acknowledgements a) w.primary.link)
 remote-happens w RaiseRemote new none h = absurd none
 remote-happens w (Hold c) new none h = le_of (ap (λ x. x.primary.link.remote) h)
 remote-happens w (Read c mark) new none h = le_of (ap (λ x. x.primary.link.remote) h)

@@ -9,7 +9,7 @@ use Rattle.machine.specs.declared.event.Node.TheVariants as nodes
 use Rattle.machine.specs.declared.event.TheConstants.{PIPE_ITEMS}
 use Rattle.machine.specs.declared.event.Event.{Event}
 use Rattle.machine.specs.declared.event.Event.TheVariants.{Enter, Feed, Offer, Turn, CloseGroup, Commit, RaiseLocal, Hand, Free, AcceptFreed, ClearGap, OpenLink, Send, Deliver, Apply, AckDelivered, RaiseRemote, Hold, Read, Release, Write, Leave, Crash, Reopen}
-use Rattle.machine.specs.Event.{Span, Work, Commits, Frees, Acknowledgement, Link, Standby, World, connection_of, with_committer, with_link, with_standby, with_acknowledged, open_changes, has_room, spans_of, from_group, is_ready, nodes_run, may_commit, reached_lists, first_is_within, may_happen, is_enabled, with_ended, with_notices, with_gaps, closed_group, closed_list, Closes, committed_first, freed_first, freed, accepted, cleared, raised_local, ready_again, handed, handed_to, due_delta, opened_link, acknowledgement_of, sent_waiting, sent_group, sent_next, next_to_send, framed, sent, delivered, without_first, Applies, told, knowing, raised_remote, option_items, Happens, Step, asked, crashed, is_open, new_committer, Reopens}
+use Rattle.machine.specs.Event.{Span, Work, Commits, Frees, Acknowledgement, Link, Standby, World, connection_of, with_committer, with_link, with_standby, with_acknowledged, open_changes, has_room, spans_of, from_group, is_ready, nodes_run, may_commit, reached_lists, first_is_within, may_happen, is_enabled, with_ended, with_notices, with_gaps, closed_group, closed_list, Closes, committed_first, freed_first, freed, accepted, cleared, raised_local, ready_again, handed, handed_to, due_delta, opened_link, acknowledgement_of, sent_waiting, sent_group, sent_next, next_to_send, framed, sent, delivered, without_first, Applies, counts, told, knowing, raised_remote, option_items, Happens, Step, asked, crashed, is_open, new_committer, Reopens}
 use Rattle.machine.specs.Sound.{IsChain, IsFrameWithin, IsToldWithin, SoundOutbound, SoundOver, SoundCommitter, SoundStandby, Sound}
 use Rattle.machine.proofs.GroupLemmas.{chain-le, framed-within, frames_within-weaker}
 use Rattle.machine.proofs.OutboundLemmas.{outbound-marked}
@@ -249,11 +249,11 @@ sound-knowing w position le s =
       wire = s.wire;
     }
 
-sound-told : (w : World) (ack : Option Acknowledgement) → All (IsToldWithin w.primary.epoch w.standby.position) (option_items ack) → Sound w → Sound (with_link (told w.primary.epoch ack w.primary.link) w)
+sound-told : (w : World) (ack : Option Acknowledgement) → All (IsToldWithin w.primary.epoch w.standby.position) (option_items ack) → Sound w → Sound (with_link (told w.primary.epoch w.primary.committer.position ack w.primary.link) w)
 sound-told w None all s = s
 sound-told w (Some ack) all s =
     let link = w.primary.link in
-    elim (nat_eq ack.epoch w.primary.epoch) as (λ b. Sound (with_link (cond b (knowing ack.position link) link) w)) [
+    elim (counts w.primary.epoch w.primary.committer.position ack) as (λ b. Sound (with_link (cond b (knowing ack.position link) link) w)) [
       | true ↦ sound-knowing w ack.position (All-head (IsToldWithin w.primary.epoch w.standby.position) ack [] all).within s
       | false ↦ s
     ]

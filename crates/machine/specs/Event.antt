@@ -255,10 +255,15 @@ above position = filter (λ group. nat_lt position group.after)
 abbrev pub knowing : ℕ → Link → Link
 knowing position link = record link { kept = above position link.kept; again = above position link.again; known = max link.known position }
 
--- an acknowledgement of another epoch is ignored
-abbrev pub told : ℕ → Option Acknowledgement → Link → Link
-told epoch None link = link
-told epoch (Some ack) link = if nat_eq ack.epoch epoch then knowing ack.position link else link
+-- A primary of this epoch, whose record is at this position, counts the acknowledgement: it is of its epoch, or of a lower one and of position 0, at which
+-- nothing was acknowledged yet; and it is not above the record.
+abbrev pub counts : ℕ → ℕ → Acknowledgement → Bool
+counts epoch own ack = (nat_eq ack.epoch epoch || (nat_eq ack.position 0 && nat_lt ack.epoch epoch)) && nat_le ack.position own
+
+-- an acknowledgement that it does not count is refused, and changes nothing
+abbrev pub told : ℕ → ℕ → Option Acknowledgement → Link → Link
+told epoch own None link = link
+told epoch own (Some ack) link = if counts epoch own ack then knowing ack.position link else link
 
 abbrev pub raised_remote : Link → Link
 raised_remote link = record link { remote = link.known }
@@ -330,7 +335,7 @@ Happens w OpenLink new =
 Happens w Send new = new ≡ sent w
 Happens w (Deliver frame piece) new = new ≡ with_standby (delivered (option_items (slice_get w.wire.frames frame)) w.standby) w
 Happens w Apply new = Applies w new
-Happens w (AckDelivered a) new = new ≡ with_link (told w.primary.epoch (slice_get w.wire.acknowledgements a) w.primary.link) w
+Happens w (AckDelivered a) new = new ≡ with_link (told w.primary.epoch w.primary.committer.position (slice_get w.wire.acknowledgements a) w.primary.link) w
 Happens w RaiseRemote new = new ≡ with_link (raised_remote w.primary.link) w
 Happens w (Hold c) new = new ≡ on_outbound c held_first w
 Happens w (Read c mark) new = new ≡ on_outbound c (having_read mark w) w

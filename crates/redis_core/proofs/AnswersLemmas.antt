@@ -6,6 +6,7 @@ use Rattle.kv_types.specs.declared.change.Change.{Change}
 use Rattle.kv_types.specs.declared.item.Item.{Item}
 use Rattle.kv_types.specs.declared.item.Item.TheVariants.{Request, Fault}
 use Rattle.kv_types.specs.declared.item.ProtocolFault.{ProtocolFault}
+use Rattle.kv_types.specs.declared.item.ProtocolFault.TheVariants.{ExpectedArray, InvalidMultibulkLength, ExpectedBulk, InvalidBulkLength, ExpectedLineEnd}
 use Rattle.kv_types.specs.declared.reply.Reply.{Reply, Error, Array}
 use Rattle.kv_types.specs.Fault.{fault_message}
 use Rattle.kv_types.specs.Keyspace.{Keyspace, play_all}
@@ -30,7 +31,7 @@ use Rattle.redis_core.specs.Marking.{Marks}
 use Rattle.redis_core.specs.Sequencing.{Sequencing, MovesSeat, is_closed, state_of}
 use Rattle.redis_core.specs.Serving.{Runs, Acts, AnswersRequest, Finishes, RefusesMemory}
 use Rattle.redis_core.specs.Stored.{Stored, AreUnderWay}
-use Rattle.redis_core.specs.Turn.{AddsPart, Answers, AreFullOnly, Moves, call_of}
+use Rattle.redis_core.specs.Turn.{AddsPart, Answers, AreFullOnly, MayTell, Moves, call_of}
 use Rattle.redis_core.proofs.RefusalLemmas.{memory_not_full}
 use Rattle.redis_core.proofs.AdmissionLemmas.{answers-known, run-unmoved, run-words, run_all-requests}
 use Rattle.redis_core.proofs.RunningLemmas.{marks-none, ran-full, ran-stand, ran-made}
@@ -212,6 +213,7 @@ acts-refused old admission =
 -- what was answered, before its seat is closed, where the connection's own session is this afterwards
 pub record Answered (old : Sequencing) (seat : ℕ) (item : Item) (reply : Reply) (left : Session) (mid : Sequencing) : Type 0 where
   pub legal : MayAnswer (records old.table) (admission_at (state_of old) seat item) reply
+  pub told : (fault : ProtocolFault) → item ≡ Fault fault → MayTell fault reply
   pub full_only : (words : List (List ℕ)) → admission_at (state_of old) seat item ≡ Run words → reply ≡ full_reply → ¬ HasRoomFor old.room (outcome_of (records old.table) words).changes
   pub each_full_only : (requests : List (List (List ℕ))) (replies : List Reply) → admission_at (state_of old) seat item ≡ RunAll requests → reply ≡ Array replies
       → AreFullOnly (records old.table) old.room requests replies mid.room
@@ -294,6 +296,7 @@ module _ (old : Sequencing) (seat : ℕ) (item : Item) (reply : Reply) (left : S
   pub answers-open : closes item ≡ false → item_left ≡ left → new ≡ mid → Answers old seat item reply new
   answers-open stays same is = subst (Answers old seat item reply) (sym is) (record {
     legal = answered.legal;
+    told = answered.told;
     full_only = answered.full_only;
     each_full_only = answered.each_full_only;
     keyspace = keyspace_moved changes old mid answered.moves;
@@ -316,6 +319,7 @@ module _ (old : Sequencing) (seat : ℕ) (item : Item) (reply : Reply) (left : S
       let moves = moves_like changes old old mid new (like old) (seat-like mid seat None new over) answered.moves in
       record {
         legal = answered.legal;
+        told = answered.told;
         full_only = answered.full_only;
         each_full_only = λ requests replies e is.
             subst (λ (room : Room). AreFullOnly (records old.table) old.room requests replies room) (sym over.room) (answered.each_full_only requests replies e is);
@@ -364,6 +368,7 @@ answered-request old seat words reply mid answers =
     let keyspace = ap records seated.table in
     record {
       legal = subst (λ (s : Keyspace). MayAnswer s admission reply) keyspace answers.acts.legal;
+      told = λ fault e. cc;
       full_only = λ run e full. subst₂ (λ (s : Keyspace) room. ¬ HasRoomFor room (outcome_of s run).changes) keyspace seated.room (answers.acts.full_only run e full);
       each_full_only = λ requests replies e is.
           subst₂ (λ (s : Keyspace) room. AreFullOnly s room requests replies mid.room) keyspace seated.room (answers.acts.each_full_only requests replies e is);
@@ -382,11 +387,32 @@ there : (o : Option Session) → not (is_some o) ≡ false → o ≡ Some (sessi
 there None e = cc
 there (Some session) e = refl
 
+-- what a fault may be answered is what its connection may be told
+may-tell : (fault : ProtocolFault) (reply : Reply) → MayTell fault reply → (reply ≡ memory_reply) ⊎ (reply ≡ Error (fault_message fault))
+may-tell (ExpectedBulk byte) reply may = may
+may-tell ExpectedArray reply may = inr may
+may-tell InvalidMultibulkLength reply may = inr may
+may-tell InvalidBulkLength reply may = inr may
+may-tell ExpectedLineEnd reply may = inr may
+
+-- its text is one
+pub tells-text : (fault : ProtocolFault) (reply : Reply) → reply ≡ Error (fault_message fault) → MayTell fault reply
+tells-text (ExpectedBulk byte) reply text = inr text
+tells-text ExpectedArray reply text = text
+tells-text InvalidMultibulkLength reply text = text
+tells-text InvalidBulkLength reply text = text
+tells-text ExpectedLineEnd reply text = text
+
+abbrev TellsItem : Item → Reply → Type 0
+TellsItem (Fault fault) reply = MayTell fault reply
+TellsItem (Request words) reply = Unit {0}
+
 -- a fault is answered by itself
-pub answered-fault : (old : Sequencing) (seat : ℕ) (fault : ProtocolFault) (reply : Reply) → is_closed old seat ≡ false → (reply ≡ memory_reply) ⊎ (reply ≡ Error (fault_message fault))
+pub answered-fault : (old : Sequencing) (seat : ℕ) (fault : ProtocolFault) (reply : Reply) → is_closed old seat ≡ false → MayTell fault reply
     → Answered old seat (Fault fault) reply (session_at old.sessions seat) old
 answered-fault old seat fault reply seated may = record {
-  legal = may;
+  legal = may-tell fault reply may;
+  told = λ other same. subst (λ (item : Item). TellsItem item reply) same may;
   full_only = λ words e. cc;
   each_full_only = λ requests replies e. cc;
   moves = record { table = refl; room = refl; position = refl; waiting = refl };
@@ -414,7 +440,7 @@ replied-request old seat words reply mid answers = record {
   same = λ stays. ap (λ b. cond b idle_session (left_by (session_at old.sessions seat) words reply)) stays;
 }
 
-pub replied-fault : (old : Sequencing) (seat : ℕ) (fault : ProtocolFault) (reply : Reply) → is_closed old seat ≡ false → (reply ≡ memory_reply) ⊎ (reply ≡ Error (fault_message fault))
+pub replied-fault : (old : Sequencing) (seat : ℕ) (fault : ProtocolFault) (reply : Reply) → is_closed old seat ≡ false → MayTell fault reply
     → Replied old seat (Fault fault) reply old
 replied-fault old seat fault reply seated may = record {
   left = session_at old.sessions seat;

@@ -1,15 +1,19 @@
 -- What one turn of the sequencer does.
-use Rattle.std.specs.Prelude.{◌≡◌, ℕ, ◌+◌, nat_eq, map, List, [], ◌∷◌, ◌++◌, if◌then◌else◌}
+use Rattle.std.specs.Prelude.{◌≡◌, ◌⊎◌, ℕ, ◌+◌, nat_eq, map, List, [], ◌∷◌, ◌++◌, if◌then◌else◌}
 use Rattle.kv_types.specs.declared.change.Change.{Change}
 use Rattle.kv_types.specs.declared.item.Item.{Item}
-use Rattle.kv_types.specs.declared.reply.Reply.{Reply, Array}
+use Rattle.kv_types.specs.declared.item.Item.TheVariants.{Fault}
+use Rattle.kv_types.specs.declared.item.ProtocolFault.{ProtocolFault}
+use Rattle.kv_types.specs.declared.item.ProtocolFault.TheVariants.{ExpectedBulk}
+use Rattle.kv_types.specs.declared.reply.Reply.{Reply, Array, Error}
+use Rattle.kv_types.specs.Fault.{fault_message}
 use Rattle.kv_types.specs.Keyspace.{Keyspace, play_all}
 use Rattle.model.specs.declared.call.Call.{Call}
 use Rattle.model.specs.declared.group.Part.{Part}
 use Rattle.model.specs.declared.group.PlacedChange.{PlacedChange}
 use Rattle.multi_watch.specs.Admission.{Run, RunAll}
 use Rattle.multi_watch.specs.Sessions.{session_at}
-use Rattle.model.specs.Call.{MayReply, admission_at, after_call, changes_of, full_reply, is_changing, made}
+use Rattle.model.specs.Call.{MayReply, admission_at, after_call, changes_of, full_reply, is_changing, made, memory_reply}
 use Rattle.model.specs.Group.{change_of}
 use Rattle.model.specs.Command.{closes, outcome_of}
 use Rattle.extent_heap.specs.Room.{Room}
@@ -56,9 +60,16 @@ AreFullOnly s room (words ∷ requests) (reply ∷ replies) left =
     (reply ≡ full_reply → ¬ HasRoomFor room (outcome_of s words).changes)
     × (between : Room) × TakesRoom room (made s words reply) between × AreFullOnly (play_all s (made s words reply)) between requests replies left
 
+-- what a fault may be answered: its text or, where that shows a byte and so takes memory, that there was none
+abbrev pub MayTell : ProtocolFault → Reply → Type 0
+MayTell (ExpectedBulk byte) reply = (reply ≡ memory_reply) ⊎ (reply ≡ Error (fault_message (ExpectedBulk byte)))
+MayTell fault reply = reply ≡ Error (fault_message fault)
+
 -- One legal entry of the list: the item with the reply that it got, called at what the sequencer held before it.
 pub record Answers (old : Sequencing) (seat : ℕ) (item : Item) (reply : Reply) (new : Sequencing) : Type 0 where
   pub legal : MayReply (state_of old) (call_of seat item reply)
+  -- a fault whose text takes no memory is answered by its text
+  pub told : (fault : ProtocolFault) → item ≡ Fault fault → MayTell fault reply
   -- a request that is run by itself is refused for want of room only where there is none
   pub full_only : (words : List (List ℕ)) → admission_at (state_of old) seat item ≡ Run words → reply ≡ full_reply
       → ¬ HasRoomFor old.room (outcome_of (records old.table) words).changes

@@ -6,7 +6,6 @@ ghost use Rattle.kv_types.specs.declared.reply.Held.{Held};
 ghost use Rattle.kv_types.specs.declared.place.EntryNo.{EntryNo};
 ghost use Rattle.kv_types.specs.declared.place.Extent.{Extent};
 ghost use Rattle.kv_types.specs.declared.reply.Reply.{Reply, Array};
-ghost use Rattle.kv_types.specs.Fault.{fault_message};
 ghost use Rattle.multi_watch.specs.Session.{idle_session};
 ghost use Rattle.multi_watch.specs.Admission.{act_now};
 ghost use Rattle.multi_watch.specs.Sessions.{HasRoom};
@@ -19,7 +18,7 @@ ghost use Rattle.placing.specs.Left.{IsBeside};
 ghost use Rattle.placing.specs.Place.{HasRoomFor};
 ghost use Rattle.redis_core.specs.Sequencing.{Expects, IsAheadOf, MovesSeat, TakesBack, Underlies, is_closed, starts};
 ghost use Rattle.redis_core.specs.Serving.{Acts, AnswersRequest, Finishes, RefusesMemory, Runs};
-ghost use Rattle.redis_core.specs.Turn.{Answers, OnServed, OnIdle, OnBlocked, OnGroupFull, OnEnded, OnUnserved};
+ghost use Rattle.redis_core.specs.Turn.{Answers, MayTell, OnServed, OnIdle, OnBlocked, OnGroupFull, OnEnded, OnUnserved};
 
 use crate::error::{memory_reply, refusal_reply};
 use crate::seats::Seats;
@@ -316,9 +315,9 @@ impl<K: Keyspace> Sequencer<K> {
     }
 }
 
-/// The reply to a protocol fault.
+/// The reply to a protocol fault: its text or, where that shows a byte and memory for it was refused, the memory reply.
 fn fault_reply(alloc: Global, fault: ProtocolFault) -> Reply
-    ensures { (result ≡ memory_reply) ⊎ (result ≡ Reply.Error (fault_message fault)) }
+    ensures { MayTell fault result }
 {
     match fault.message(alloc) {
         Ok(text) => Reply::Error(text),

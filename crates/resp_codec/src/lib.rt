@@ -16,6 +16,8 @@ pub use laws::in_any_pieces;
 pub use parser::Parser;
 pub use replies::write_reply;
 pub use reply_item::ReplyItem;
-pub use reply_laws::{replies_are_held, replies_are_read_back, replies_in_any_pieces};
+pub use reply_laws::{
+    replies_are_bounded, replies_are_held, replies_are_read_back, replies_in_any_pieces,
+};
 pub use reply_limits::{REPLY_LIMITS, ReplyLimits};
 pub use reply_parser::ReplyParser;

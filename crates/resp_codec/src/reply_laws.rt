@@ -30,3 +30,11 @@ pub fn replies_in_any_pieces()
     ensures all { (bytes : List ℕ) (given : List ReplyItem) (held : Option (List ℕ)) →
         ReachesReplies bytes given held → replies_ahead held ≡ [] → HoldsReplies REPLY_LIMITS bytes given }
 {}
+
+/// How long a reply may be that is read: an array within seven others may hold replies and one within eight is empty, an array has 4,294,967,295
+/// replies at most, and a bulk string 536,870,912 bytes.
+pub fn replies_are_bounded()
+    ensures depth { REPLY_LIMITS.depth ≡ 8 }
+    ensures elements { REPLY_LIMITS.elements ≡ 4294967295 }
+    ensures bulk_bytes { REPLY_LIMITS.bulk_bytes ≡ 536870912 }
+{}

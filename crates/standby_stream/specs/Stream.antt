@@ -1,8 +1,9 @@
 -- What a link to a standby holds, and what its calls do to it (this project's profile).
-use Rattle.std.specs.Prelude.{◌≡◌, ℕ, ◌+◌, ◌<◌, ◌≤◌, Bool, true, false, nat_le, if◌then◌else◌, List, [], ◌∷◌, ◌++◌, length, Option, Some, None}
+use Rattle.std.specs.Prelude.{◌≡◌, ℕ, ◌+◌, ◌-◌, ◌<◌, ◌≤◌, max, Bool, true, false, ◌||◌, ◌&&◌, nat_eq, nat_lt, nat_le, if◌then◌else◌, List, [], ◌∷◌, ◌++◌, length, Option, Some, None}
 use Rattle.model.specs.declared.group.Group.{Group}
 use Rattle.model.specs.Group.{changes_of_group, last_position}
 use Rattle.pipes.specs.declared.limits.TheConstants.{KEPT_GROUPS}
+use Rattle.standby.specs.declared.frame.Ack.{Ack}
 use Rattle.standby.specs.declared.frame.Frame.{Frame}
 
 -- what a link holds
@@ -71,3 +72,15 @@ Frames old (Some group) given new =
 abbrev pub above : ℕ → List Frame → List Frame
 above position [] = []
 above position (frame ∷ frames) = if nat_le frame.after position then above position frames else frame ∷ frames
+
+-- a primary of this epoch counts the acknowledgement as its own: it is of its epoch, or of a lower one and of position 0, at which nothing was acknowledged yet
+abbrev pub counts : ℕ → Ack → Bool
+counts epoch ack = nat_eq ack.epoch epoch || (nat_eq ack.position 0 && nat_lt ack.epoch epoch)
+
+-- the link once the standby has acknowledged up to this position
+abbrev pub acknowledged : ℕ → Stream → Stream
+acknowledged position stream = record stream {
+  kept = above position stream.kept;
+  next = stream.next - (length stream.kept - length (above position stream.kept));
+  known = max stream.known position;
+}

@@ -7,5 +7,5 @@ mod link;
 mod opening;
 
 pub use laws::{deltas_lead_on, ended_are_read};
-pub use link::Link;
+pub use link::{Link, counts};
 pub use opening::{Opening, delta, records_ended};

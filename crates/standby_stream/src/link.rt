@@ -1,9 +1,10 @@
 //! The link: which frame is sent next, and which are kept.
-ghost use Rattle.std.specs.Prelude.{◌≡◌, ◌≢◌, ◌+◌, ◌-◌, ◌<◌, ◌≤◌, false, length, max, slice_get, Option, Some, None, Ok, IfOk, IfErr, IfSome};
+ghost use Rattle.std.specs.Prelude.{◌≡◌, ◌+◌, ◌<◌, ◌≤◌, true, false, length, slice_get, Option, Some, None, Ok, Err, IfOk, IfErr, IfSome};
+ghost use Rattle.kv_types.specs.declared.refusal.Refusal.TheVariants.{StandbyAhead, WrongEpoch};
 ghost use Rattle.std.specs.VecDeque.{deque_capacity};
 ghost use Rattle.model.specs.declared.group.Group.{Group};
 ghost use Rattle.pipes.specs.declared.limits.TheConstants.{KEPT_GROUPS};
-ghost use Rattle.standby_stream.specs.Stream.{TakesNext, IsFull, IsDue, Adds, Frames, new_stream, above};
+ghost use Rattle.standby_stream.specs.Stream.{TakesNext, IsFull, IsDue, Adds, Frames, new_stream, above, acknowledged, counts};
 
 use crate::frame_of::frame_of;
 use kv_types::Refusal;
@@ -127,21 +128,34 @@ impl Link {
         &self.kept[index]
     }
 
-    /// Drops the oldest kept frames, as far as they end at the acknowledged position or below it. An acknowledgement of another epoch is none.
-    pub fn on_ack(&mut self, ack: Ack)
-        ensures own { ack.epoch ≡ (self.old).epoch → self.new ≡ record self.old {
-          kept = above ack.position (self.old).kept;
-          next = (self.old).next - (length (self.old).kept - length (above ack.position (self.old).kept));
-          known = max (self.old).known ack.position;
-        } }
-        ensures other { ack.epoch ≢ (self.old).epoch → self.new ≡ self.old }
+    /// Takes an acknowledgement, on a node whose own position is `own`: what the link keeps up to there goes, as at `reach`.
+    ///
+    /// # Errors
+    ///
+    /// `WrongEpoch` for one that does not count as of this epoch, `StandbyAhead` for one above the node's own position. The link is as it was.
+    pub fn on_ack(&mut self, ack: Ack, own: u64) -> Result<(), Refusal>
+        ensures stale { counts (self.old).epoch ack ≡ false → (result ≡ Err WrongEpoch) × (self.new ≡ self.old) }
+        ensures ahead { counts (self.old).epoch ack ≡ true → own < ack.position → (result ≡ Err StandbyAhead) × (self.new ≡ self.old) }
+        ensures counted { counts (self.old).epoch ack ≡ true → ack.position ≤ own → (result ≡ Ok tt) × (self.new ≡ acknowledged ack.position self.old) }
     {
-        if ack.epoch != self.epoch {
-            return;
+        if !counts(self.epoch, ack) {
+            return Err(Refusal::WrongEpoch);
         }
-        let dropped = drop_known(&mut self.kept, ack.position);
+        if ack.position > own {
+            return Err(Refusal::StandbyAhead);
+        }
+        self.reach(ack.position);
+        Ok(())
+    }
+
+    /// The standby has acknowledged up to this position, and whoever calls has seen to it that this is no higher than the node's own: the oldest kept
+    /// frames go, as far as they end there or below it.
+    pub fn reach(&mut self, position: u64)
+        ensures { self.new ≡ acknowledged position self.old }
+    {
+        let dropped = drop_known(&mut self.kept, position);
         self.next = self.next.saturating_sub(dropped);
-        self.known = self.known.max(ack.position);
+        self.known = self.known.max(position);
     }
 
     /// The highest position that was acknowledged, 0 before the first.
@@ -175,6 +189,14 @@ impl Link {
         self.pending = None;
         Ok(true)
     }
+}
+
+/// Whether a primary of this epoch counts an acknowledgement as its own: one of its epoch, or of a lower one at position 0, where nothing was
+/// acknowledged yet.
+pub fn counts(epoch: u64, ack: Ack) -> bool
+    ensures { result ≡ counts epoch ack }
+{
+    ack.epoch == epoch || (ack.position == 0 && ack.epoch < epoch)
 }
 
 /// Takes the next group, unless there is one that was taken before.
