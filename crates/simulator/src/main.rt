@@ -1,4 +1,4 @@
-//! Plays a list of events over a pair of simulated nodes, and prints the outcome.
+//! Plays a list of events over a pair of simulated nodes, and prints each as it happens and the outcome at the end.
 #![tactic(auto)]
 
 mod cause;
@@ -48,9 +48,9 @@ fn run(rt: &HostRuntime) -> Result<(), SimulatorError> {
         .map_err(SimulatorError::Read)?;
     let script = read_script(alloc, &text)?;
     let hash_builder = RandomState::new(rt).map_err(SimulatorError::Random)?;
-    let trace = play(alloc, &options, &script, hash_builder)?;
     let mut out = BufWriter::new(alloc, rt.stdout())?;
-    report(alloc, &mut out, &options, &script, &trace)?;
+    let played = play(alloc, &mut out, &options, &script, hash_builder)?;
+    report(alloc, &mut out, &options, script.schedule.lines(), played)?;
     out.flush()?;
     Ok(())
 }

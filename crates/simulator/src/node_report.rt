@@ -17,9 +17,10 @@ pub fn write_nodes<W: Write>(
     alloc: Global,
     out: &mut W,
     options: &Options,
-    devices: &[SimPmem],
+    primary: &SimPmem,
+    standby: &SimPmem,
 ) -> Result<(), SimulatorError> {
-    let nodes = read_nodes(alloc, devices)?;
+    let nodes = read_nodes(alloc, primary, standby)?;
     write_positions(out, &nodes)?;
     if options.map {
         write_maps(out, &nodes)?;
@@ -33,12 +34,14 @@ pub fn write_nodes<W: Write>(
 /// A node's name, and what its device holds.
 type NodeImage = (&'static str, DeviceImage);
 
-fn read_nodes(alloc: Global, devices: &[SimPmem]) -> Result<Vec<NodeImage>, AllocError> {
-    let mut nodes = Vec::new(alloc);
-    for (node, device) in [Node::Primary, Node::Standby].iter().zip(devices) {
-        nodes.push((name_of(*node), read_device(alloc, device)?))?;
-    }
-    Ok(nodes)
+fn read_nodes(
+    alloc: Global,
+    primary: &SimPmem,
+    standby: &SimPmem,
+) -> Result<Vec<NodeImage>, AllocError> {
+    let first = (name_of(Node::Primary), read_device(alloc, primary)?);
+    let second = (name_of(Node::Standby), read_device(alloc, standby)?);
+    Ok(vec![in alloc; first, second]?)
 }
 
 fn write_positions<W: Write>(out: &mut W, nodes: &[NodeImage]) -> io::Result<()> {

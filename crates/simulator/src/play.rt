@@ -1,33 +1,55 @@
-//! Playing a script over two simulated devices.
-ghost use Rattle.std.specs.Prelude.{◌≡◌, ◌%◌, ◌<◌, ◌≤◌, length, map, IfOk, slice_index, vec_len};
+//! Playing a script over two simulated devices, one event at a time.
+ghost use Rattle.std.specs.Prelude.{◌≡◌, ◌%◌, ◌<◌, length, map, IfOk, slice_index};
 ghost use Rattle.std.specs.List.{range_with_len};
+ghost use Rattle.world.specs.Pair.{HasWorld};
 
+use crate::error::SimulatorError;
 use crate::options::Options;
+use crate::report::write_event;
+use crate::schedule::Schedule;
 use crate::script::{Failure, Script};
+use kv_types::Refusal;
 use machine::{Event, Node};
 use pmem::{Crashing, Pmem, SimPmem};
 use std::alloc::{AllocError, Global};
 use std::hash::RandomState;
-use world::{Trace, run};
+use std::io::Write;
+use world::{EarlyEnd, Pair, Parts, Stepper};
 
-/// Plays the events over two new devices. Where the run ends early, the crashes that are left of them still happen to the devices. An error if memory
-/// was refused to the simulator, or to one of its devices, which then does not know all that a crash may leave.
-pub fn play(
+/// What was played.
+#[derive(Drop)]
+pub struct Played {
+    /// Where it ended before its last event, if it did.
+    pub ended: Option<EarlyEnd>,
+    /// What the pair left.
+    pub parts: Parts<SimPmem>,
+}
+
+/// Plays the events over two new devices, and prints each that was reached before the next one happens. Where the run ends early, the crashes that
+/// are left of them still happen to the devices. `Memory` if memory was refused to the simulator, or to one of its devices, which then does not know
+/// all that a crash may leave; `Write` if an event could not be printed.
+pub fn play<W: Write>(
     alloc: Global,
+    out: &mut W,
     options: &Options,
     script: &Script,
     hash_builder: RandomState,
-) -> Result<Trace<SimPmem>, AllocError> {
-    let devices = new_devices(alloc, options, script.failures.as_slice())?;
-    let mut trace = run(alloc, devices, script.schedule.events(), hash_builder);
-    if trace.devices.iter().any(|device| device.starved()) {
-        return Err(AllocError);
+) -> Result<Played, SimulatorError> {
+    let (primary, standby) = new_devices(alloc, options, script.failures.as_slice())?;
+    let schedule = &script.schedule;
+    let mut played = play_over(alloc, out, primary, standby, schedule, hash_builder)?;
+    if played.parts.primary.starved() || played.parts.standby.starved() {
+        return Err(SimulatorError::Memory);
     }
-    let reached = trace.done.len();
-    if let Some(unplayed) = script.schedule.events().get(reached..) {
-        crash_devices(alloc, &mut trace.devices, unplayed)?;
+    let reached = match played.ended {
+        None => schedule.events().len(),
+        Some(EarlyEnd::AtFormatting(_)) => 0,
+        Some(EarlyEnd::AtEvent(number, _)) => number,
+    };
+    if let Some(unplayed) = schedule.events().get(reached..) {
+        crash_devices(alloc, &mut played.parts, unplayed)?;
     }
-    Ok(trace)
+    Ok(played)
 }
 
 /// The primary's device and the standby's, which fail as told.
@@ -35,9 +57,7 @@ fn new_devices(
     alloc: Global,
     options: &Options,
     failures: &[Failure],
-) -> Result<Vec<SimPmem>, AllocError>
-    ensures { IfOk result (λ devices. 2 ≤ vec_len devices) }
-{
+) -> Result<(SimPmem, SimPmem), AllocError> {
     let mut primary = new_device(alloc, options.primary_lines)?;
     let mut standby = new_device(alloc, options.standby_lines)?;
     for failure in failures {
@@ -46,31 +66,80 @@ fn new_devices(
             Node::Standby => standby.fail_at(failure.fence),
         }
     }
-    Ok(vec![in alloc; primary, standby]?)
+    Ok((primary, standby))
+}
+
+/// Formats the devices, and plays the events over them. Room for calls is made by the turns.
+fn play_over<W: Write>(
+    alloc: Global,
+    out: &mut W,
+    primary: SimPmem,
+    standby: SimPmem,
+    schedule: &Schedule,
+    hash_builder: RandomState,
+) -> Result<Played, SimulatorError> {
+    match Pair::open(alloc, primary, standby, 0, hash_builder) {
+        Ok(pair) => {
+            let mut pair = pair;
+            let ended = play_each(out, &mut pair, schedule);
+            let parts = pair.into_parts();
+            Ok(Played {
+                ended: ended?,
+                parts,
+            })
+        }
+        Err((refusal, primary, standby)) => Ok(unplayed(alloc, refusal, primary, standby)),
+    }
+}
+
+/// The outcome where the devices could not be formatted.
+fn unplayed(alloc: Global, refusal: Refusal, primary: SimPmem, standby: SimPmem) -> Played {
+    Played {
+        ended: Some(EarlyEnd::AtFormatting(refusal)),
+        parts: Parts {
+            calls: Vec::new(alloc),
+            connections: Vec::new(alloc),
+            frames: Vec::new(alloc),
+            acknowledgements: Vec::new(alloc),
+            primary,
+            standby,
+        },
+    }
+}
+
+/// Lets the events happen, and prints each before the next one happens.
+fn play_each<W: Write, S: Stepper>(
+    out: &mut W,
+    stepper: &mut S,
+    schedule: &Schedule,
+) -> Result<Option<EarlyEnd>, SimulatorError>
+    requires world { HasWorld (S.parts stepper.old) }
+{
+    let events = schedule.events().iter().zip(schedule.lines());
+    for (number, (event, line)) in events.enumerate() {
+        match stepper.step(event) {
+            Ok(did) => write_event(out, number, *line, did)?,
+            Err(refusal) => return Ok(Some(EarlyEnd::AtEvent(number, refusal))),
+        }
+    }
+    Ok(None)
 }
 
 /// Crashes the devices that these events crash, one after another.
 fn crash_devices(
     alloc: Global,
-    devices: &mut Vec<SimPmem>,
+    parts: &mut Parts<SimPmem>,
     events: &[Event],
 ) -> Result<(), AllocError> {
     for event in events {
         if let Event::Crash(node, picks) = event {
-            if let Some(device) = devices.get_mut(index_of(*node)) {
-                crash_device(alloc, device, picks.as_slice())?;
+            match node {
+                Node::Primary => crash_device(alloc, &mut parts.primary, picks.as_slice())?,
+                Node::Standby => crash_device(alloc, &mut parts.standby, picks.as_slice())?,
             }
         }
     }
     Ok(())
-}
-
-/// The index of a node's device among those of a run.
-fn index_of(node: Node) -> usize {
-    match node {
-        Node::Primary => 0,
-        Node::Standby => 1,
-    }
 }
 
 /// A new device with `lines` lines. Its words are counted in 64 bits, so 2^61 lines or more are refused.

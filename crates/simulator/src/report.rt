@@ -1,53 +1,49 @@
-//! Printing the outcome of a run.
+//! Printing an event, and the outcome of a run.
 use crate::error::SimulatorError;
 use crate::node_report::write_nodes;
 use crate::options::Options;
+use crate::play::Played;
 use crate::quoted::Quoted;
-use crate::script::Script;
-use crate::wire_report::write_messages;
+use crate::wire_report::{write_acknowledgements, write_frames};
+use connections::Connection;
 use kv_types::{Item, Refusal, Reply};
 use model::Call;
-use pmem::SimPmem;
 use resp_codec::write_reply;
 use std::alloc::{AllocError, Global};
 use std::io;
 use std::io::Write;
-use world::{EarlyEnd, Trace};
+use world::{EarlyEnd, Parts};
 
-/// Prints the events, the calls, the released bytes, the frames, the acknowledgements, what both nodes hold and how the run ended.
+/// Prints the calls, the released bytes, the frames, the acknowledgements, what both nodes hold and how the run of the events of these lines ended.
 pub fn report<W: Write>(
     alloc: Global,
     out: &mut W,
     options: &Options,
-    script: &Script,
-    trace: &Trace<SimPmem>,
+    lines: &[u64],
+    played: Played,
 ) -> Result<(), SimulatorError> {
-    let lines = script.schedule.lines();
-    write_events(out, lines, trace.done.as_slice())?;
-    write_calls(alloc, out, trace.calls.as_slice())?;
-    for (number, bytes) in trace.released.iter().enumerate() {
-        let quoted = Quoted(bytes.as_slice());
-        writeln!(out, "connection {number}: released {quoted}")?;
-    }
-    write_messages(alloc, out, "frame", trace.frames.as_slice())?;
-    write_messages(
-        alloc,
-        out,
-        "acknowledgement",
-        trace.acknowledgements.as_slice(),
-    )?;
-    write_nodes(alloc, out, options, trace.devices.as_slice())?;
-    write_end(out, lines, trace.ended)?;
+    let Played { ended, parts } = played;
+    let Parts {
+        calls,
+        connections,
+        frames,
+        acknowledgements,
+        primary,
+        standby,
+    } = parts;
+    write_calls(alloc, out, calls.as_slice())?;
+    write_released(out, connections)?;
+    write_frames(alloc, out, frames.as_slice())?;
+    write_acknowledgements(alloc, out, acknowledgements.as_slice())?;
+    write_nodes(alloc, out, options, &primary, &standby)?;
+    write_end(out, lines, ended)?;
     Ok(())
 }
 
-/// Each event that was reached, with its line.
-fn write_events<W: Write>(out: &mut W, lines: &[u64], done: &[bool]) -> io::Result<()> {
-    for (number, (line, did)) in lines.iter().zip(done).enumerate() {
-        let outcome = if *did { "done" } else { "not enabled" };
-        writeln!(out, "event {number}, line {line}: {outcome}")?;
-    }
-    Ok(())
+/// An event that was reached, with its line.
+pub fn write_event<W: Write>(out: &mut W, number: usize, line: u64, did: bool) -> io::Result<()> {
+    let outcome = if did { "done" } else { "not enabled" };
+    writeln!(out, "event {number}, line {line}: {outcome}")
 }
 
 fn write_calls<W: Write>(alloc: Global, out: &mut W, calls: &[Call]) -> Result<(), SimulatorError> {
@@ -58,6 +54,16 @@ fn write_calls<W: Write>(alloc: Global, out: &mut W, calls: &[Call]) -> Result<(
         let text = text_of(alloc, &call.reply)?;
         let reply = Quoted(text.as_slice());
         writeln!(out, " -> {reply}")?;
+    }
+    Ok(())
+}
+
+/// The bytes that were released to each connection.
+fn write_released<W: Write>(out: &mut W, connections: Vec<Connection>) -> io::Result<()> {
+    for (number, connection) in connections.into_iter().enumerate() {
+        let bytes = connection.into_released();
+        let quoted = Quoted(bytes.as_slice());
+        writeln!(out, "connection {number}: released {quoted}")?;
     }
     Ok(())
 }

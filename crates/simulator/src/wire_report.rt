@@ -5,21 +5,78 @@ use std::io;
 use std::io::Write;
 use stream_codec::{Decoder, Message};
 
-/// Each of these messages, by this name: what it tells, and its bytes.
-pub fn write_messages<W: Write>(
+/// The frames that end above all that were sent before them: of a group's frame one, however often it was sent.
+pub fn write_frames<W: Write>(
+    alloc: Global,
+    out: &mut W,
+    frames: &[Vec<u8>],
+) -> Result<(), SimulatorError> {
+    let mut number: u64 = 0;
+    let mut last = 0;
+    for bytes in frames {
+        let messages = read_messages(alloc, bytes.as_slice())?;
+        let after = end_of(messages.as_slice());
+        if last < after {
+            write_messages(
+                alloc,
+                out,
+                "frame",
+                number,
+                messages.as_slice(),
+                bytes.as_slice(),
+            )?;
+            number = number.saturating_add(1);
+            last = after;
+        }
+    }
+    Ok(())
+}
+
+/// The acknowledgements, in the order in which they were made.
+pub fn write_acknowledgements<W: Write>(
+    alloc: Global,
+    out: &mut W,
+    acknowledgements: &[Vec<u8>],
+) -> Result<(), SimulatorError> {
+    let mut number: u64 = 0;
+    for bytes in acknowledgements {
+        let messages = read_messages(alloc, bytes.as_slice())?;
+        write_messages(
+            alloc,
+            out,
+            "acknowledgement",
+            number,
+            messages.as_slice(),
+            bytes.as_slice(),
+        )?;
+        number = number.saturating_add(1);
+    }
+    Ok(())
+}
+
+/// The position after the changes of the last frame among these messages; 0 if there is none.
+fn end_of(messages: &[Message]) -> u64 {
+    match messages.last() {
+        Some(Message::Group(frame)) => frame.after,
+        _ => 0,
+    }
+}
+
+/// What was sent in one piece, by this name and number: what it tells, and its bytes.
+fn write_messages<W: Write>(
     alloc: Global,
     out: &mut W,
     name: &str,
-    messages: &[Vec<u8>],
+    number: u64,
+    messages: &[Message],
+    bytes: &[u8],
 ) -> Result<(), SimulatorError> {
-    for (number, bytes) in messages.iter().enumerate() {
-        write!(out, "{name} {number}: ")?;
-        for message in read_messages(alloc, bytes.as_slice())? {
-            write_message(out, &message)?;
-        }
-        let digits = hex::encode(alloc, bytes.as_slice())?;
-        writeln!(out, "bytes {digits}")?;
+    write!(out, "{name} {number}: ")?;
+    for message in messages {
+        write_message(out, message)?;
     }
+    let digits = hex::encode(alloc, bytes)?;
+    writeln!(out, "bytes {digits}")?;
     Ok(())
 }
 

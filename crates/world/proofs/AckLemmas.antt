@@ -7,7 +7,7 @@ use Rattle.machine.specs.Event.{Link as Machine, Span, above, knowing}
 use Rattle.machine.specs.Sound.{IsChain}
 use Rattle.pipes.specs.Waiting.{Waiting}
 use Rattle.standby.specs.declared.frame.Frame.{Frame}
-use Rattle.standby_stream.specs.Stream.{Stream, above as frames_above}
+use Rattle.standby_stream.specs.Stream.{Stream, above as frames_above, acknowledged}
 use Rattle.world.specs.Link.{AreFramesOf, LinkRefines}
 use Rattle.world.proofs.FrameLemmas.{length-frames}
 
@@ -80,18 +80,9 @@ frames-above epoch calls position from (frame ∷ frames) (group ∷ groups) to 
       (subst (λ (fs : List Frame). AreFramesOf epoch calls fs (above position groups)) (sym goes) (frames-above epoch calls position group.after frames groups to are.1 chain.2))
 ]
 
--- the link knows this position
-abbrev pub known_at : ℕ → Stream → Stream
-known_at position code =
-    record code {
-      kept = frames_above position code.kept;
-      next = code.next - (length code.kept - length (frames_above position code.kept));
-      known = max code.known position;
-    }
-
 pub knows : (calls : List Call) (code : Stream) (handed : Waiting Group) (remote position : ℕ) (machine : Machine) (from to : ℕ) → LinkRefines calls code handed remote machine
     → IsChain from machine.kept to
-    → LinkRefines calls (known_at position code) handed remote (knowing position machine)
+    → LinkRefines calls (acknowledged position code) handed remote (knowing position machine)
 knows calls code handed remote position machine from to stands chain =
     let kept = frames-above code.epoch calls position from code.kept machine.kept to stands.kept chain in
     let count = length-frames code.epoch calls code.kept machine.kept stands.kept in

@@ -81,7 +81,7 @@ first_of : (epoch : ℕ) (calls : List Call) (frame : Frame) (others : List Fram
 first_of epoch calls frame others [] are = absurd are
 first_of epoch calls frame others (span ∷ spans) are = record { span = span; spans = spans; all = refl; epoch_is = are.0.epoch_is; is = are.0.has; rest = are.1 }
 
-starts_with : (items : List Frame) (frame : Frame) → 0 < length items → frame ≡ get_or items 0 frame → items ≡ frame ∷ drop 1 items
+pub starts_with : (items : List Frame) (frame : Frame) → 0 < length items → frame ≡ get_or items 0 frame → items ≡ frame ∷ drop 1 items
 starts_with [] frame some e = absurd (omega arith)
 starts_with (first ∷ rest) frame some e = ap (λ f. f ∷ rest) (sym e)
 

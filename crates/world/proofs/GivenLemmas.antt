@@ -17,7 +17,7 @@ use Rattle.world.specs.Step.{CallsBy, released_by}
 
 -- ---- calls
 
-told-calls : (w : World) (ack : Option Acknowledgement) → (with_link (told w.primary.epoch ack w.primary.link) w).primary.calls ≡ w.primary.calls
+told-calls : (w : World) (ack : Option Acknowledgement) → (with_link (told w.primary.epoch w.primary.committer.position ack w.primary.link) w).primary.calls ≡ w.primary.calls
 told-calls w ack = refl
 
 of_calls : (w then new : World) → new ≡ then → then.primary.calls ≡ w.primary.calls → new.primary.calls ≡ w.primary.calls
@@ -119,7 +119,7 @@ quiet w then new e silent c = ap (λ (x : World). released_in x c) e ∙ silent 
 none : (w : World) → Silent w w
 none w c = refl
 
-told-silent : (w : World) (ack : Option Acknowledgement) → Silent w (with_link (told w.primary.epoch ack w.primary.link) w)
+told-silent : (w : World) (ack : Option Acknowledgement) → Silent w (with_link (told w.primary.epoch w.primary.committer.position ack w.primary.link) w)
 told-silent w ack c = refl
 
 released-happens : (w : World) (event : Event) (new : World) → Happens w event new → (c : ℕ) → released_in new c ≡ released_in w c ++ released_by w event true c

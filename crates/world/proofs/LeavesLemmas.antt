@@ -1,8 +1,9 @@
 -- What an event leaves as it was.
-use Rattle.std.proofs.Common.{◌≡◌, Bool, false, Result, Ok, Err, ap, ◌∙◌, true≢false}
+use Rattle.std.proofs.Common.{◌≡◌, Bool, true, false, Result, Ok, Err, IfOk, refl, ap, ◌∙◌, true≢false}
 use Rattle.kv_types.specs.declared.refusal.Refusal.{Refusal}
 use Rattle.pmem.specs.Device.{State}
 use Rattle.group_commit.specs.declared.committer.Committer.{Committer}
+use Rattle.world.specs.Effect.{OnDid}
 use Rattle.world.specs.Step.{has_begun}
 
 -- the device of a committer that became another one over the same engine
@@ -13,3 +14,9 @@ engine-stays {E} device before after then is same = ap (λ (k : Committer E). de
 pub not-begun : (result : Result Bool Refusal) → has_begun result ≡ false → result ≡ Ok false
 not-begun (Ok did) idle = ap Ok idle
 not-begun (Err refusal) idle = absurd (true≢false idle)
+
+-- what an event does where it did its step
+pub on-did : {P Q : Type 0} (result : Result Bool Refusal) → IfOk result (λ did. did ≡ true → Q) → (Q → P) → OnDid result P
+on-did (Ok true) does leads = leads (does refl)
+on-did (Ok false) does leads = tt
+on-did (Err refusal) does leads = tt

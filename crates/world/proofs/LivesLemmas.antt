@@ -48,7 +48,7 @@ pub record SameLives (old new : World) : Type 0 where
 of : (old then new : World) → new ≡ then → SameLives old then → SameLives old new
 of old then new e same = subst (SameLives old) (sym e) same
 
-told-lives : (w : World) (ack : Option Acknowledgement) → SameLives w (with_link (told w.primary.epoch ack w.primary.link) w)
+told-lives : (w : World) (ack : Option Acknowledgement) → SameLives w (with_link (told w.primary.epoch w.primary.committer.position ack w.primary.link) w)
 told-lives w ack = record { restarts = refl; primary = refl; standby = refl; epoch = refl }
 
 taken-life : (frame : Frame) (old new : Standby) (told : List Acknowledgement) → Takes frame old new told → new.life ≡ old.life

@@ -53,6 +53,7 @@ use Rattle.world.specs.Cause.{EndsBy, asks_memory, IsAtLimit, RestsAtLimit}
 use Rattle.world.specs.Committing.{AreContentsAt, EngineStands, Leads, NearOnly, OpensAt, OpensAtEither, StageRefines, entries_told, extents_told, next_primary}
 use Rattle.world.specs.GroupSpan.{AreWorkOf, positions_of_lists}
 use Rattle.world.specs.Pair.{Does, IsCut, Pair, PairRefines, PartsRefine, Steps}
+use Rattle.world.specs.Effect.{ClearsOldest, FreesOldest}
 use Rattle.world.specs.Queue.{has_group, is_first_within, is_ready_now, link_has_room, may_clear_now, may_commit_now, may_free_now, reached_now}
 use Rattle.world.specs.Recalling.{Remembers}
 use Rattle.connections.specs.Session.{SeatsFollow, SequencerRefines, seats_of}
@@ -663,6 +664,30 @@ module _ {E : Type 0} (device : E → State) (contents : E → Contents) (is_fau
         | inr refused ↦ absurd (let no = refused.0 in cc)
       ]
 
+  -- it freed the first list that it had reached, and tells of that
+  pub free-effect : (before after : Committer E) (waiting waiting' : Waiting Work) (notices : List Freed) (handed handed' : Waiting Group) (places : Freed) (answer : Done) (notices' : List Freed) → answer ≡ done.Freed places → notices' ≡ notices ++ places ∷ []
+      → may_free_now before.stage before.aside.items waiting.items handed.items remote ≡ true → handed'.items ≡ handed.items
+      → TurnsReady device contents is_faulted LocalTakes before waiting (PIPE_ITEMS - length handed'.items) remote (Ok answer) after waiting'
+      → FreesOldest (reached_now before.aside.items waiting.items handed.items) (contents before.engine) notices (contents after.engine) notices'
+  free-effect before after waiting waiting' notices handed handed' places answer notices' is pushed may offered turns =
+      elim (came-free before waiting notices handed may after waiting' (Ok answer)
+      (subst (λ (items : List Group). TurnsReady device contents is_faulted LocalTakes before waiting (PIPE_ITEMS - length items) remote (Ok answer) after waiting') offered turns)) [
+        | inl frees ↦
+            let told = frees.frees.answer in
+            let same : told.0 ≡ places = let one = sym told.1 ∙ is in cc in
+            record {
+              list = frees.list;
+              rest = frees.rest;
+              lists_are = frees.drains.reached ∙ frees.is;
+              freed = frees.frees.moved;
+              places = places;
+              told = pushed;
+              entries = ap (λ (p : Freed). p.entries.items) (sym same) ∙ told.2;
+              extents = ap (λ (p : Freed). p.extents.items) (sym same) ∙ told.3;
+            }
+        | inr refused ↦ absurd (let no = refused.0 in cc)
+      ]
+
   -- it was refused
   pub free-ends : (before after : Committer E) (waiting waiting' : Waiting Work) (notices : List Freed) (handed handed' : Waiting Group) (refusal : Refusal)
       → before.stage ≡ Ready → may_free_now before.stage before.aside.items waiting.items handed.items remote ≡ true → handed'.items ≡ handed.items
@@ -842,7 +867,7 @@ module _ {E : Type 0} (device : E → State) (contents : E → Contents) (is_fau
           ends first second w stands limit =
               let told = one.clears.exhausted (ap Err limit) in
               let same : new.device ≡ from.device = ap device told.1 in
-              let at : (image : Image) → IsImage from.device.words image → IsAtLimit (next_primary w - w.primary.committer.position) image =
+              let at : (image : Image) → IsImage from.device.words image → IsAtLimit (next_primary w - w.primary.committer.position) (next_primary w - w.primary.committer.position) image =
               λ image is. record { current = from.contents.current; has_record = (stands.parts.engine.durable image is).has_record; reached = inr (inr told.0) } in
               cut-for first second events.ClearGap refusal from new w (nodes-refine stands) (tells sessions) (enabled-is (own-runs stands events.ClearGap refl) ∙ clear_may first second w stands)
               (subst (λ (r : Refusal). EndsBy r events.ClearGap (Led first second from new w)) (sym limit) (
@@ -879,6 +904,26 @@ module _ {E : Type 0} (device : E → State) (contents : E → Contents) (is_fau
       elim (came-clear before waiting [] handed may after waiting' (Ok answer)
       (subst (λ (items : List Group). TurnsReady device contents is_faulted LocalTakes before waiting (PIPE_ITEMS - length items) remote (Ok answer) after waiting') offered turns)) [
         | inl one ↦ (one.clears.answer.0, one.clears.answer.1)
+        | inr refused ↦ absurd (let no = refused.0 in cc)
+      ]
+
+  -- it cleared the oldest, and tells of that
+  pub clear-effect : (before after : Committer E) (waiting waiting' : Waiting Work) (notices : List Freed) (handed handed' : Waiting Group) (places : Freed) (answer : Done) (notices' : List Freed) → answer ≡ done.Cleared places → notices' ≡ notices ++ places ∷ []
+      → may_clear_now before.stage before.aside.items waiting.items handed.items (length (contents before.engine).current.gaps.items) ≡ true → handed'.items ≡ handed.items
+      → TurnsReady device contents is_faulted LocalTakes before waiting (PIPE_ITEMS - length handed'.items) remote (Ok answer) after waiting'
+      → ClearsOldest (contents before.engine) notices (contents after.engine) notices'
+  clear-effect before after waiting waiting' notices handed handed' places answer notices' is pushed may offered turns =
+      elim (came-clear before waiting notices handed may after waiting' (Ok answer)
+      (subst (λ (items : List Group). TurnsReady device contents is_faulted LocalTakes before waiting (PIPE_ITEMS - length items) remote (Ok answer) after waiting') offered turns)) [
+        | inl one ↦
+            let told = one.clears.answer in
+            let same : told.0 ≡ places = let both = sym told.1 ∙ is in cc in
+            record {
+              places = places;
+              told = pushed;
+              cleared = subst (λ (p : Freed). Clears (contents before.engine) p.entries.items (contents after.engine)) same told.3;
+              extents = ap (λ (p : Freed). p.extents.items) (sym same) ∙ told.2;
+            }
         | inr refused ↦ absurd (let no = refused.0 in cc)
       ]
 

@@ -1,6 +1,6 @@
 -- What the events of the link and its acknowledgements do to the pair, of what they do to its parts.
-use Rattle.std.proofs.Common.{◌≡◌, inl, ℕ, ◌≤◌, Bool, true, false, nat_lt, List, [], ◌∷◌, ◌++◌, length, take, ◌||◌, ◌&&◌, inr, slice_get, Option, Some, None, Result, Ok, Err, Vec, Global, ◌<◌, refl, sym, ap, ap₂, subst, ◌∙◌, arith, true≢false, cond, eq-eqb, All}
-use Rattle.std.proofs.lemmas.Bool.{cases_lt, lt-ltb, le-ltb, ltb-false}
+use Rattle.std.proofs.Common.{◌≡◌, inl, ℕ, ◌≤◌, Bool, true, false, nat_eq, nat_lt, List, [], ◌∷◌, ◌++◌, length, take, ◌||◌, ◌&&◌, inr, slice_get, Option, Some, None, Result, Ok, Err, Vec, Global, ◌<◌, refl, sym, ap, ap₂, subst, ◌∙◌, arith, true≢false, cond, eq-eqb, All}
+use Rattle.std.proofs.lemmas.Bool.{cases_lt, lt-ltb, le-leb, le-ltb, ltb-false}
 use Rattle.std.proofs.lemmas.Option.{slice_get_within}
 use Rattle.kv_types.specs.declared.refusal.Refusal.{Refusal}
 use Rattle.kv_types.specs.declared.refusal.Refusal.TheVariants.{Memory}
@@ -14,15 +14,16 @@ use Rattle.standby.specs.declared.frame.Ack.{Ack}
 use Rattle.standby.specs.declared.frame.Frame.{Frame}
 use Rattle.standby.specs.Following.{IsCopy}
 use Rattle.standby_stream.specs.declared.opening.Opening.{Opening}
-use Rattle.standby_stream.specs.Stream.{Stream}
+use Rattle.standby_stream.specs.Stream.{Stream, acknowledged, counts}
 use Rattle.redis_core.specs.Sequencing.{Sequencing}
 use Rattle.wbl_engine.specs.declared.freeing.Freed.{Freed}
 use Rattle.stream_codec.specs.Message.{Acknowledged, IsWithinLimits, sent_of_ack, sent_of_frame, sent_text}
 use Rattle.machine.specs.declared.event.TheConstants.{KEPT_GROUPS}
 use Rattle.machine.specs.declared.event.Event.TheVariants as events
-use Rattle.machine.specs.Event.{World, Primary, Link as MachineLink, Frame as Sent, Span, Acknowledgement, may_happen, next_to_send, framed, sent, sent_next, option_items, knowing, raised_remote, told, with_link, with_sent}
+use Rattle.machine.specs.Event.{World, Primary, Link as MachineLink, counts as machine_counts, Frame as Sent, Span, Acknowledgement, may_happen, next_to_send, framed, sent, sent_next, option_items, knowing, raised_remote, told, with_link, with_sent}
 use Rattle.std.proofs.lemmas.List.Elements.{All-head}
 use Rattle.machine.specs.Sound.{IsToldWithin, Sound}
+use Rattle.machine.proofs.GroupLemmas.{chain-le}
 use Rattle.machine.proofs.StandbyLemmas.{all-at}
 use Rattle.world.proofs.LivesLemmas.{enabled-is, nodes-refine, own-runs}
 use Rattle.world.specs.Link.{IsFrameOf, AreFramesOf, IsFrameSent, IsAckSent, AreFramesSent, LinkRefines}
@@ -31,7 +32,7 @@ use Rattle.world.specs.Standby.{StandbyRefines, ArrivalsRefine, told_by}
 use Rattle.world.specs.Pair.{FreeingRefines, Pair, PartsRefine, Does}
 use Rattle.world.proofs.FrameLemmas.{AreFramesSent-push, IsFrameOf-copy, may_be_sent, ack_of_read, ack_of_number, length-acks}
 use Rattle.world.proofs.LinkLemmas.{Answers as LinkAnswers, sends}
-use Rattle.world.proofs.AckLemmas.{known_at, knows}
+use Rattle.world.proofs.AckLemmas.{knows}
 use Rattle.world.proofs.ArrivalLemmas.{ReadsAs, same_found}
 use Rattle.world.proofs.OpeningLemmas.{opening-forgotten}
 use Rattle.world.proofs.PairLemmas.{cut-same, goes-steps, none-added, tells, untouched}
@@ -274,7 +275,7 @@ raise-does old known did opening same is position kept =
 
 -- an acknowledgement arrives: its bytes are read
 pub ack-does : (old : Pair) (n : ℕ) (bytes : Vec ℕ Global) (ack : Ack) (link : Stream) → n < length old.arrivals.acknowledgements.items → slice_get old.arrivals.acknowledgements.items n ≡ Some bytes
-    → ReadsAs bytes.items (sent_of_ack ack) → (ack.epoch ≡ old.link.epoch → link ≡ known_at ack.position old.link)
+    → ReadsAs bytes.items (sent_of_ack ack) → (counts old.link.epoch ack ≡ true → ack.position ≤ old.contents.current.position → link ≡ acknowledged ack.position old.link)
     → Does old (events.AckDelivered n) (Ok true) (with_frames old.handed link old.remote old.frames old)
 ack-does old n bytes ack link within found reads learns =
     record {
@@ -283,20 +284,27 @@ ack-does old n bytes ack link within found reads learns =
           let of = ack_of_number old.arrivals.acknowledgements.items w.wire.acknowledgements n parts.arrivals.acknowledged within in
           let is : IsAckSent bytes.items of.one = subst (λ (b : Vec ℕ Global). IsAckSent b.items of.one) (same_found of.bytes_stand found) of.is in
           let there : slice_get w.wire.acknowledgements n ≡ Some (told_by ack) = of.stands ∙ ap Some (sym (ack_of_read ack of.one (reads (Acknowledged of.one.epoch of.one.position) is.may is.text))) in
-          let own : ack.epoch ≡ w.primary.epoch = told-epoch w.primary.epoch w.standby.position w.wire.acknowledgements n (told_by ack) stands.sound.wire.acknowledged there in
-          let learned : link ≡ known_at ack.position old.link = learns (own ∙ sym parts.epoch) in
-          let knows_now : told w.primary.epoch (slice_get w.wire.acknowledgements n) w.primary.link ≡ knowing ack.position w.primary.link =
-          ap (λ (o : Option Acknowledgement). told w.primary.epoch o w.primary.link) there ∙ ap (λ b. cond b (knowing ack.position w.primary.link) w.primary.link) (eq-eqb ack.epoch w.primary.epoch own) in
+          let one = told-one w.primary.epoch w.standby.position w.wire.acknowledgements n (told_by ack) stands.sound.wire.acknowledged there in
+          let own : ack.epoch ≡ w.primary.epoch = one.epoch_is in
+          let position = w.primary.committer.position in
+          let low : ack.position ≤ position = omega (arith, one.within, stands.sound.standby.behind, chain-le _ _ _ stands.sound.link.waiting) in
+          let lower = nat_eq ack.position 0 && nat_lt ack.epoch old.link.epoch in
+          let learned : link ≡ acknowledged ack.position old.link =
+          learns (ap (λ b. b || lower) (eq-eqb ack.epoch old.link.epoch (own ∙ sym parts.epoch))) (omega (arith, low, parts.engine.contents_at.at)) in
+          let counted : machine_counts w.primary.epoch position (told_by ack) ≡ true =
+          ap₂ (λ a b. (a || (nat_eq ack.position 0 && nat_lt ack.epoch w.primary.epoch)) && b) (eq-eqb ack.epoch w.primary.epoch own) (le-leb ack.position position low) in
+          let knows_now : told w.primary.epoch position (slice_get w.wire.acknowledgements n) w.primary.link ≡ knowing ack.position w.primary.link =
+          ap (λ (o : Option Acknowledgement). told w.primary.epoch position o w.primary.link) there ∙ ap (λ b. cond b (knowing ack.position w.primary.link) w.primary.link) counted in
           let chain = stands.sound.link in
-          let now : LinkRefines w.primary.calls link old.handed old.remote (told w.primary.epoch (slice_get w.wire.acknowledgements n) w.primary.link) =
+          let now : LinkRefines w.primary.calls link old.handed old.remote (told w.primary.epoch w.primary.committer.position (slice_get w.wire.acknowledgements n) w.primary.link) =
           subst (λ (l : MachineLink). LinkRefines w.primary.calls link old.handed old.remote l) (sym knows_now)
           (subst (λ (s : Stream). LinkRefines w.primary.calls s old.handed old.remote (knowing ack.position w.primary.link)) (sym learned)
           (knows w.primary.calls old.link old.handed old.remote ack.position w.primary.link chain.kept_from stands.sound.sent parts.link chain.kept)) in
-          goes-steps first second w (with_link (told w.primary.epoch (slice_get w.wire.acknowledgements n) w.primary.link) w) (events.AckDelivered n) true old
+          goes-steps first second w (with_link (told w.primary.epoch w.primary.committer.position (slice_get w.wire.acknowledgements n) w.primary.link) w) (events.AckDelivered n) true old
           (with_frames old.handed link old.remote old.frames old) refl refl stands.sound (own-runs stands (events.AckDelivered n) refl) stands.serves refl
           (record {
             done = sym (lt-ltb n (length w.wire.acknowledgements) (slice_get_within w.wire.acknowledgements n (told_by ack) there));
-            goes = λ did. link-alone first second old old.handed link old.remote w (told w.primary.epoch (slice_get w.wire.acknowledgements n) w.primary.link) parts
+            goes = λ did. link-alone first second old old.handed link old.remote w (told w.primary.epoch w.primary.committer.position (slice_get w.wire.acknowledgements n) w.primary.link) parts
                 (ap (λ (s : Stream). s.epoch) learned) now;
             stays = λ did. absurd (true≢false did);
           });
@@ -304,8 +312,8 @@ ack-does old n bytes ack link within found reads learns =
       calls = none-added _ _ refl;
     }
   where
-    told-epoch : (epoch position : ℕ) (told : List Acknowledgement) (i : ℕ) (one : Acknowledgement) → All (IsToldWithin epoch position) told → slice_get told i ≡ Some one → one.epoch ≡ epoch
-    told-epoch epoch position told i one all is = (All-head (IsToldWithin epoch position) one [] (subst (λ (o : Option Acknowledgement). All (IsToldWithin epoch position) (option_items o)) is (all-at (IsToldWithin epoch position) told i all))).epoch_is
+    told-one : (epoch position : ℕ) (told : List Acknowledgement) (i : ℕ) (one : Acknowledgement) → All (IsToldWithin epoch position) told → slice_get told i ≡ Some one → IsToldWithin epoch position one
+    told-one epoch position told i one all is = All-head (IsToldWithin epoch position) one [] (subst (λ (o : Option Acknowledgement). All (IsToldWithin epoch position) (option_items o)) is (all-at (IsToldWithin epoch position) told i all))
 
 pub ack-cut : (old : Pair) (n : ℕ) (bytes : Vec ℕ Global) (result : Result Bool Refusal) (refusal : Refusal) → result ≡ Err refusal → n < length old.arrivals.acknowledgements.items
     → slice_get old.arrivals.acknowledgements.items n ≡ Some bytes → ((ack : Acknowledgement) → IsAckSent bytes.items ack → refusal ≡ Memory) → Does old (events.AckDelivered n) result old

@@ -23,7 +23,7 @@ use Rattle.machine.proofs.GrowLemmas.{grows-step}
 use Rattle.machine.proofs.SoundEvents.{sound-step}
 use Rattle.world.proofs.LivesLemmas.{Runs, enabled-is, is_plain, lives-step, nodes-refine, serving}
 use Rattle.connections.specs.Going.{Goes}
-use Rattle.world.specs.Cause.{Stretch, Breaks, RestsAtLimit, EndsBy, Resting}
+use Rattle.world.specs.Cause.{Stretch, Breaks, RestsAtFrameLimit, EndsBy, Resting}
 use Rattle.world.specs.Committing.{NearOnly, Moves, next_standby}
 use Rattle.world.specs.Link.{IsFrameOf, AreFramesOf, LinkRefines, AreFramesSent}
 use Rattle.world.specs.Recalling.{OpeningLeads, RecallsEach, Remembers}
@@ -363,7 +363,7 @@ apply-steps first second old arrivals node w false follows stands applies =
 ends-apply : (refusal : Refusal) (P Q : Stretch → Stretch → Type 0) → ((last : Stretch) → P Resting last → Q Resting last) → EndsBy refusal events.Apply P → EndsBy refusal events.Apply Q
 ends-apply Memory P Q both ends = (ends.0, both Resting ends.1)
 ends-apply Fault P Q both ends = both Breaks ends
-ends-apply Exhausted P Q both ends = both RestsAtLimit ends
+ends-apply Exhausted P Q both ends = both RestsAtFrameLimit ends
 ends-apply refusal P Q both ends = absurd ends
 
 pub apply-acts : (old : Pair) (arrivals : Arrivals) (node : Node) (result : Result Bool Refusal) → old.standby_runs ≡ true

@@ -27,7 +27,7 @@ use Rattle.machine.proofs.PromiseLemmas.{released-held}
 use Rattle.machine.proofs.EveryRun.{promised-told}
 use Rattle.machine.proofs.RunLemmas.{run-push, last_world-push, sound-start}
 use Rattle.machine.proofs.SoundEvents.{sound-step}
-use Rattle.world.specs.Cause.{Stretch, UnformedBy, Breaks, RestsAtLimit, RestsBeforeReopening, EndsBy, Resting}
+use Rattle.world.specs.Cause.{Stretch, UnformedBy, Breaks, RestsAtFrameLimit, RestsAtLimit, RestsBeforeReopening, EndsBy, Resting}
 use Rattle.world.specs.Committing.{FormattingOnly, FromOnly, Moves, NearOnly, OpensAt, OpensAtEither, Rests, next_primary, next_from, next_standby}
 use Rattle.world.specs.declared.trace.EarlyEnd.{EarlyEnd}
 use Rattle.world.specs.declared.trace.EarlyEnd.TheVariants.{AtFormatting, AtEvent}
@@ -305,6 +305,9 @@ breaks-from holder calls p q old new le breaks = near-from holder calls p q old 
 limit-from : IsLast RestsAtLimit
 limit-from holder calls p q old new le rests = rests-from holder calls p old new rests.rests
 
+frame-limit-from : IsLast RestsAtFrameLimit
+frame-limit-from holder calls p q old new le rests = rests-from holder calls p old new rests.rests
+
 reopening-from : IsLast RestsBeforeReopening
 reopening-from holder calls p q old new le rests = rests-from holder calls p old new rests.rests
 
@@ -317,7 +320,7 @@ ends-as Fault Free P Q so ends = so Breaks Resting breaks-from resting-from ends
 ends-as Fault ClearGap P Q so ends = so Breaks Resting breaks-from resting-from ends
 ends-as Exhausted Commit P Q so ends = so RestsAtLimit Resting limit-from resting-from ends
 ends-as Exhausted ClearGap P Q so ends = so RestsAtLimit Resting limit-from resting-from ends
-ends-as Exhausted Apply P Q so ends = so Resting RestsAtLimit resting-from limit-from ends
+ends-as Exhausted Apply P Q so ends = so Resting RestsAtFrameLimit resting-from frame-limit-from ends
 ends-as Fault (Reopen node_of.Primary) P Q so ends = so Breaks Resting breaks-from resting-from ends
 ends-as Fault (Reopen node_of.Standby) P Q so ends = so Resting Breaks resting-from breaks-from ends
 ends-as Exhausted (Reopen node_of.Primary) P Q so ends = so RestsBeforeReopening Resting reopening-from resting-from ends

@@ -138,6 +138,12 @@ is_full refusal (inr (inr epoch)) (inr (inl memory)) = cc
 is_full refusal (inr (inr epoch)) (inr (inr (inl fault))) = cc
 is_full refusal (inr (inr epoch)) (inr (inr (inr exhausted))) = cc
 
+pub refused-full : {P : Type 0} (result : Result Ack Refusal) (refusal : Refusal) → result ≡ Err refusal → GoesOn refusal
+    → IfErr result (λ refusal. (refusal ≡ Full) ⊎ (refusal ≡ Memory) ⊎ (refusal ≡ Fault) ⊎ (refusal ≡ Exhausted)) → (result ≡ Err Full → P) → P
+refused-full result refusal is goes causes full =
+    let told = subst (λ (r : Result Ack Refusal). IfErr r (λ refusal. (refusal ≡ Full) ⊎ (refusal ≡ Memory) ⊎ (refusal ≡ Fault) ⊎ (refusal ≡ Exhausted))) is causes in
+    full (is ∙ ap Err (is_full refusal goes told))
+
 -- a standby that stands at the machine's position, and a frame of the list that it answers
 module _ (holder : Holder) (epoch : ℕ) (calls : List Call) (machine : Machine) (frame : Frame) (sent : Sent) (old new : Node) (sent_epoch : sent.epoch ≡ epoch) (own_epoch : epoch ≡ machine.epoch)
     (is : IsFrameOf epoch calls frame sent.span) (stands : StandbyStands holder epoch calls machine.position old) where
@@ -371,13 +377,13 @@ module _ (holder : Holder) (epoch : ℕ) (calls : List Call) (machine : Machine)
       above lt = ⊎_elim (joins lt) (λ (ne : span.before ≢ machine.position). still (answers.gap epoch_same (is_above lt) (is_apart ne)).1) (cases_eq span.before machine.position)
 
   -- a frame that would take a counter to the limit: it takes one stamp
-  frame-limit : machine.position < span.after → span.before ≡ machine.position → WouldExhaust old.contents.current frame → (image : Image) → IsImage old.device.words image → IsAtLimit (next - machine.position) image
+  frame-limit : machine.position < span.after → span.before ≡ machine.position → WouldExhaust old.contents.current frame → (image : Image) → IsImage old.device.words image → IsAtLimit 1 (next - machine.position) image
   frame-limit lt e would image at_image =
       record { current = old.contents.current; has_record = (stands.engine.durable image at_image).has_record; reached = reached (next - machine.position) (omega (arith, lt, next-joined e), omega (arith, lt, next-joined e, is.after, at)) would }
     where
       reached : (more : ℕ) → (0 < more) × (frame.after ≡ old.contents.current.position + more) → WouldExhaust old.contents.current frame
-          → (COUNTER_LIMIT ≤ old.contents.current.cp + more + 1 + STAMP_WINDOW) ⊎ (COUNTER_LIMIT ≤ old.contents.current.position + more) ⊎ (COUNTER_LIMIT ≤ old.contents.current.number + 1)
-      reached more some (inl stamps) = inl (omega (arith, stamps, some.0))
+          → (COUNTER_LIMIT ≤ old.contents.current.cp + 1 + 1 + STAMP_WINDOW) ⊎ (COUNTER_LIMIT ≤ old.contents.current.position + more) ⊎ (COUNTER_LIMIT ≤ old.contents.current.number + 1)
+      reached more some (inl stamps) = inl stamps
       reached more some (inr (inl position)) = inr (inl (omega (arith, position, some.1)))
       reached more some (inr (inr (inl number))) = inr (inr number)
       reached more some (inr (inr (inr epoch))) =
@@ -411,7 +417,7 @@ module _ (holder : Holder) (epoch : ℕ) (calls : List Call) (machine : Machine)
           subst Ends (sym exhausted)
           (record {
             rests = rests_now same;
-            limit = subst (λ (d : State). (image : Image) → IsImage d.words image → IsAtLimit (next - machine.position) image) (sym same) (frame-limit lt e told.0);
+            limit = subst (λ (d : State). (image : Image) → IsImage d.words image → IsAtLimit 1 (next - machine.position) image) (sym same) (frame-limit lt e told.0);
           })
 
       joins : machine.position < span.after → span.before ≡ machine.position → Ends refusal

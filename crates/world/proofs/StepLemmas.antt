@@ -4,7 +4,8 @@ use Rattle.std.specs.Vec.{vec_capacity}
 use Rattle.kv_types.specs.declared.refusal.Refusal.{Refusal}
 use Rattle.model.specs.Standing.{Holder}
 use Rattle.machine.specs.declared.event.Event.{Event}
-use Rattle.machine.specs.declared.event.Event.TheVariants.{Apply, OpenLink, Send, Turn}
+use Rattle.machine.specs.declared.event.Event.TheVariants.{AcceptFreed, Apply, ClearGap, CloseGroup, Crash, Free, OpenLink, Reopen, Send, Turn}
+use Rattle.machine.specs.declared.event.Node.TheVariants as node
 use Rattle.machine.specs.Event.{World}
 use Rattle.machine.proofs.PromiseLemmas.{released-held}
 use Rattle.connections.specs.Session.{AddsOne, released_of}
@@ -14,6 +15,7 @@ use Rattle.connections.proofs.SessionLemmas.{released-told}
 use Rattle.world.specs.Headline.{start}
 use Rattle.world.specs.Link.{AreAcksSent, AreFramesSent}
 use Rattle.world.specs.Pair.{Acts, Does, EitherRefines, HasRoom, HasWorld, IsCut, NodesRefine, Pair, PairRefines, Steps, takes_part}
+use Rattle.world.specs.Effect.{Effect}
 use Rattle.world.specs.Step.{AcksBy, CallsBy, FramesBy, Happened, IsRoomier, IsStep, LacksRoom, Leaves, Shows, Turns, WasCut, released_by}
 use Rattle.world.proofs.GivenLemmas.{calls-step, released-step}
 use Rattle.world.proofs.LivesLemmas.{nodes-refine, serves-as}
@@ -84,11 +86,23 @@ acks-still OpenLink acks = refl
 acks-still Apply acks = refl
 acks-still event acks = refl
 
+effect-still : (event : Event) (pair : Pair) → Effect event (Ok false) pair pair
+effect-still CloseGroup pair = tt
+effect-still Free pair = tt
+effect-still AcceptFreed pair = tt
+effect-still ClearGap pair = tt
+effect-still Apply pair = tt
+effect-still (Crash node.Primary picks) pair = tt
+effect-still (Crash node.Standby picks) pair = tt
+effect-still (Reopen node.Primary) pair = tt
+effect-still (Reopen node.Standby) pair = tt
+effect-still event pair = tt
+
 -- its nodes do not run
 pub idle-is : {old : Pair} {event : Event} {took : Bool} → took ≡ takes_part old.primary_runs old.standby_runs event → took ≡ false → IsStep old event (Ok false) old
 idle-is {old} {event} {took} takes idle =
     is-step old event (Ok false) old (idle-step takes idle)
-    (record { primary = λ idle. refl; standby = λ idle. refl; frames = frames-still event old.frames; acknowledgements = acks-still event old.arrivals.acknowledgements.items })
+    (record { primary = λ idle. refl; standby = λ idle. refl; frames = frames-still event old.frames; acknowledgements = acks-still event old.arrivals.acknowledgements.items; effect = effect-still event old })
 
 -- the primary takes part alone
 pub own-is : {old new : Pair} {event event' : Event} {result : Result Bool Refusal} {took : Bool} → event ≡ event' → took ≡ takes_part old.primary_runs old.standby_runs event → took ≡ true

@@ -46,16 +46,22 @@ pub record Breaks (holder : Holder) (calls : List Call) (position next : ℕ) (o
   pub leaves : NearOnly holder calls position next old new
   pub failures : old.failures < new.failures
 
--- the changes of `more` positions would take a counter of the image's record to the limit: its stamps, its position, or its number
-pub record IsAtLimit (more : ℕ) (image : Image) : Type 0 where
+-- so many stamps, or `more` positions, or one record more would take a counter of the image's record to the limit
+pub record IsAtLimit (stamps more : ℕ) (image : Image) : Type 0 where
   pub current : Record
   pub has_record : HasRecord current image
-  pub reached : (COUNTER_LIMIT ≤ current.cp + more + 1 + STAMP_WINDOW) ⊎ (COUNTER_LIMIT ≤ current.position + more) ⊎ (COUNTER_LIMIT ≤ current.number + 1)
+  pub reached : (COUNTER_LIMIT ≤ current.cp + stamps + 1 + STAMP_WINDOW) ⊎ (COUNTER_LIMIT ≤ current.position + more) ⊎ (COUNTER_LIMIT ≤ current.number + 1)
 
--- Each crash between these two states leaves an image that stands at this position of the list, no fence failed, and a counter is at its limit.
+-- Each crash between these two states leaves an image that stands at this position of the list, no fence failed, and a counter is at its limit, with a stamp for
+-- each position.
 pub record RestsAtLimit (holder : Holder) (calls : List Call) (position next : ℕ) (old new : State) : Type 0 where
   pub rests : Rests holder calls position old new
-  pub limit : (image : Image) → IsImage new.words image → IsAtLimit (next - position) image
+  pub limit : (image : Image) → IsImage new.words image → IsAtLimit (next - position) (next - position) image
+
+-- the same, with one stamp for all of them, as a frame takes
+pub record RestsAtFrameLimit (holder : Holder) (calls : List Call) (position next : ℕ) (old new : State) : Type 0 where
+  pub rests : Rests holder calls position old new
+  pub limit : (image : Image) → IsImage new.words image → IsAtLimit 1 (next - position) image
 
 -- Each crash between these two states leaves an image that stands at this position of the list, no fence failed, and the reopening of the image would take a counter
 -- of its record to the limit.
@@ -94,7 +100,7 @@ EndsBy Fault ClearGap Leads = Leads Breaks Resting
 EndsBy Exhausted ClearGap Leads = Leads RestsAtLimit Resting
 EndsBy Fault Apply Leads = Leads Resting Breaks
 EndsBy Exhausted Commit Leads = Leads RestsAtLimit Resting
-EndsBy Exhausted Apply Leads = Leads Resting RestsAtLimit
+EndsBy Exhausted Apply Leads = Leads Resting RestsAtFrameLimit
 EndsBy Fault (Reopen node.Primary) Leads = Leads Breaks Resting
 EndsBy Fault (Reopen node.Standby) Leads = Leads Resting Breaks
 EndsBy Exhausted (Reopen node.Primary) Leads = Leads RestsBeforeReopening Resting

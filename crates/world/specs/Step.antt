@@ -14,6 +14,8 @@ use Rattle.machine.specs.Promise.{IsReleased, released_in}
 use Rattle.connections.specs.Session.{AddsOne, SessionsRefine, released_of}
 use Rattle.connections.specs.declared.sessions.Sessions.{Sessions}
 use Rattle.world.specs.Committing.{Opens}
+pub use Rattle.world.specs.Effect.{AddsMessage}
+use Rattle.world.specs.Effect.{Effect}
 use Rattle.world.specs.Link.{AreAcksSent, AreFramesSent}
 use Rattle.world.specs.Pair.{Does, HasRoom, IsCut, NodesRefine, Pair, Steps}
 
@@ -40,10 +42,6 @@ abbrev pub has_begun : Result Bool Refusal → Bool
 has_begun (Ok did) = did
 has_begun (Err refusal) = true
 
--- the bytes of one message came behind those of all before
-abbrev pub AddsMessage : List (Vec ℕ Global) → List (Vec ℕ Global) → Type 0
-AddsMessage old new = (bytes : Vec ℕ Global) × (new ≡ old ++ bytes ∷ [])
-
 -- what an event does to the frames that were sent: Send sends one, and no other event any
 abbrev pub FramesBy : Event → Result Bool Refusal → List (Vec ℕ Global) → List (Vec ℕ Global) → Type 0
 FramesBy Send (Ok true) old new = AddsMessage old new
@@ -61,6 +59,8 @@ pub record Leaves (event : Event) (result : Result Bool Refusal) (old new : Pair
   pub standby : (touches_standby event && has_begun result) ≡ false → new.standby.device ≡ old.standby.device
   pub frames : FramesBy event result old.frames new.frames
   pub acknowledgements : AcksBy event result old.arrivals.acknowledgements.items new.arrivals.acknowledgements.items
+  -- and what it does where it did its step
+  pub effect : Effect event result old new
 
 -- ---- what can be seen of a pair
 

@@ -9,6 +9,7 @@ ghost use Rattle.standby.specs.Following.{Follows};
 ghost use Rattle.connections.specs.Going.{Goes};
 ghost use Rattle.world.specs.Cause.{EndsBy};
 ghost use Rattle.world.specs.Committing.{NearOnly, next_standby};
+ghost use Rattle.world.specs.Effect.{AnswersFirst, OnDid};
 ghost use Rattle.world.specs.Link.{AreFramesSent};
 ghost use Rattle.world.specs.Step.{AcksBy, AddsMessage};
 ghost use Rattle.world.specs.Standby.{StandbyStands, ArrivalsRefine, AppliesFirst, node_at, told_by};
@@ -115,6 +116,9 @@ impl Arrivals {
             → (may_happen w Apply ≡ true)
             × EndsBy refusal Apply (λ _ last. last holder w.primary.calls w.standby.position (next_standby w) (E.device standby.old.engine) (E.device standby.new.engine))) }
         ensures acknowledged { AcksBy Apply result self.old.acknowledgements.items self.new.acknowledgements.items }
+        ensures answered { OnDid result (AnswersFirst self.old.delivered.items self.old.acknowledgements.items self.new.acknowledgements.items
+            (node_at (E.device standby.old.engine) (E.contents standby.old.engine) (E.is_faulted standby.old.engine) (K.table standby.old.keyspace) standby.old.heap standby.old.ended.items)
+            (node_at (E.device standby.new.engine) (E.contents standby.new.engine) (E.is_faulted standby.new.engine) (K.table standby.new.keyspace) standby.new.heap standby.new.ended.items)) }
         ensures untouched { result ≡ Ok false → E.device standby.new.engine ≡ E.device standby.old.engine }
         // at any moment of the call
         ensures moments { (holder : Holder) (w : World) → Sound w

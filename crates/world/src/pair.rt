@@ -362,7 +362,8 @@ impl<E: Restarting, K: Keyspace + Drop> Pair<E, K> {
         let Message::Ack(ack) = decode(self.alloc, bytes.as_slice(), 0)? else {
             return Err(Refusal::FrameFault);
         };
-        self.link.on_ack(ack);
+        // one that is refused changes nothing
+        let _ = self.link.on_ack(ack, self.committer.position());
         Ok(true)
     }
 

@@ -8,17 +8,19 @@ use Rattle.machine.specs.declared.event.Event.TheVariants.{Apply}
 use Rattle.machine.specs.Event.{World, Frame as Sent, Acknowledgement, without_first}
 use Rattle.machine.specs.Sound.{Sound}
 use Rattle.standby.specs.declared.frame.Ack.{Ack}
+use Rattle.standby.specs.declared.frame.Frame.{Frame}
 use Rattle.standby.specs.declared.standby.Standby.{Standby}
 use Rattle.standby.specs.Following.{HasFreed}
 use Rattle.world.specs.declared.arrivals.Arrivals.{Arrivals}
 use Rattle.world.specs.Cause.{EndsBy}
 use Rattle.world.specs.Committing.{NearOnly, next_from, next_standby}
 use Rattle.world.specs.Standby.{Node, ArrivalsRefine, StandbyStands, told_by}
-use Rattle.world.proofs.StandbyLemmas.{Answers, IsKept, IsKept-freed, IsKept-same, OnErr-weaken, takes_ok, takes_refused, frame-ends, frame-moments, StandbyStands-still}
+use Rattle.world.proofs.StandbyLemmas.{Answers, IsKept, IsKept-freed, IsKept-same, OnErr-weaken, takes_ok, takes_refused, refused-full, frame-ends, frame-moments, StandbyStands-still}
 use Rattle.world.proofs.EngineLemmas.{Opens-engine, rests-same}
 use Rattle.world.specs.Link.{AreAcksSent}
 use Rattle.world.proofs.FrameLemmas.{AreAcksSent-push}
-use Rattle.world.proofs.ArrivalLemmas.{FirstFrame, first-frame, applies}
+use Rattle.world.specs.Effect.{AnswersFirst}
+use Rattle.world.proofs.ArrivalLemmas.{FirstFrame, first-frame, applies, starts_with}
 use Rattle.world.proofs.arrivals.Arrivals.apply.Given.{Over}
 use Rattle.world.proofs.arrivals.Arrivals.apply.Goals as goal
 use Rattle.world.proofs.arrivals.Arrivals.apply.Goals.{After-on_frame, in-Ok, in-Err}
@@ -170,3 +172,22 @@ returns-clause-acknowledged g c =
           )
       | in-Err w ↦ inr (ap (λ (a : Arrivals). a.acknowledgements.items) w.self-is ∙ c.in_ok-reserve.ensures.items)
     ]
+
+pub returns-clause-answered : goal.returns-clause-answered
+returns-clause-answered g c =
+    let frame = c.in-Some.frame.now in
+    let items = c.args.self.now.delivered.items in
+    let old = c.args.self.now.acknowledgements.items in
+    let new = c.match-on_frame.self.acknowledgements.items in
+    subst (λ (frames : List Frame). AnswersFirst frames old new (node g c.args.standby.now) (node g c.on_frame.new.self))
+    (sym (starts_with items frame c.in-Some.ensures.item.3.0 c.in-Some.ensures.lookup))
+    (λ next. elim c.match-on_frame.branch [
+      | in-Ok w ↦
+          inl (
+            w.encode_ack.result,
+            ap (λ (a : Arrivals). a.acknowledgements.items) w.self-is ∙ w.push_reserved.ensures.items ∙ ap (λ (texts : List (Vec ℕ Global)). texts ++ w.encode_ack.result ∷ []) c.in_ok-reserve.ensures.items,
+          )
+      | in-Err w ↦
+          refused-full c.on_frame.result w.in-Err.refusal w.in-Err.is (w.goes_on.ensures.0 w.if-goes_on.true) (c.on_frame.ensures.causes next)
+          (λ full. let told = c.on_frame.ensures.full full in inr (record { room = told.0; freed = told.1.none }))
+    ])

@@ -1,4 +1,4 @@
-use Rattle.std.proofs.Common.{arith}
+use Rattle.std.proofs.Common.{arith, refl}
 use Rattle.world.proofs.PairFreeing.{accept-does, accept-none, no_notices}
 use Rattle.world.proofs.pair.Pair.accept_freed.Goals as goal
 
@@ -14,3 +14,12 @@ returns-clause-does g c =
     accept-does _ c.accept_freed.new.self c.in-Some.freed c.pop_front.new.self.items c.in-Some.ensures.items
     (rw (c.deref.ensures.value, c.deref-2.ensures.value) at c.accept_freed.ensures.back)
     (rw (c.deref.ensures.value, c.deref-2.ensures.value) at c.accept_freed.ensures.stands)
+
+pub returns-clause-leaves : goal.returns-clause-leaves
+returns-clause-leaves g c = record {
+  primary = λ idle. refl;
+  standby = λ idle. refl;
+  frames = refl;
+  acknowledgements = refl;
+  effect = record { notice = c.in-Some.freed; notices_are = c.in-Some.ensures.items; back = (rw (c.deref.ensures.value, c.deref-2.ensures.value) at c.accept_freed.ensures.back) };
+}

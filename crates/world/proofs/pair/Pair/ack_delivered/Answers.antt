@@ -34,4 +34,5 @@ returns-clause-does g c =
     let within = subst (λ (acks : List (Vec ℕ Global)). c.args.ack < length acks) c.deref.ensures.value (ltb-true c.args.ack (length c.deref.result.now) (sym c.in-Some.ensures.lookup.0)) in
     let found = found-there c.deref.result.now _ c.args.ack bytes c.deref.ensures.value c.in-Some.ensures.lookup.0 c.in-Some.ensures.lookup.1 in
     ack-does _ c.args.ack bytes c.in-Ack.ack c.on_ack.new.self within found
-    (λ sent may text. ap sent_of (sym c.in-Ack.is) ∙ c.in_ok-ack.ensures.read sent may (c.as_slice.ensures.value ∙ text)) c.on_ack.ensures.own
+    (λ sent may text. ap sent_of (sym c.in-Ack.is) ∙ c.in_ok-ack.ensures.read sent may (c.as_slice.ensures.value ∙ text))
+    (λ counts low. (c.on_ack.ensures.counted counts (subst (λ (own : ℕ). c.in-Ack.ack.position ≤ own) (sym c.position.ensures) low)).1)

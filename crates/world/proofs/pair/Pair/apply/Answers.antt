@@ -25,4 +25,5 @@ returns-clause-leaves g c = record {
   standby = λ idle. c.apply.ensures.untouched (not-begun c.apply.result idle);
   frames = refl;
   acknowledgements = c.apply.ensures.acknowledged;
+  effect = c.apply.ensures.answered;
 }

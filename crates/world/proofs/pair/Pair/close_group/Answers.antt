@@ -1,3 +1,5 @@
+use Rattle.std.proofs.Common.{refl}
+use Rattle.world.proofs.LeavesLemmas.{on-did}
 use Rattle.world.proofs.PairClosing.{close-does}
 use Rattle.world.proofs.pair.Pair.close_group.Goals as goal
 
@@ -5,3 +7,12 @@ pub returns-clause-does : goal.returns-clause-does
 returns-clause-does g c =
     let closes = c.close_next.ensures in
     close-does _ c.close_next.new.work c.close_next.new.sequencer c.close_next.result closes.closed closes.none closes.cause closes.refused
+
+pub returns-clause-leaves : goal.returns-clause-leaves
+returns-clause-leaves g c = record {
+  primary = λ idle. refl;
+  standby = λ idle. refl;
+  frames = refl;
+  acknowledgements = refl;
+  effect = on-did c.close_next.result c.close_next.ensures.closed (λ closes. closes.1);
+}

@@ -1,3 +1,5 @@
+use Rattle.std.proofs.Common.{ℕ, List, ap, refl, ◌∙◌}
+use Rattle.pmem.specs.Crash.{picked}
 use Rattle.world.proofs.PairCrash.{primary-crashed, primary-crashes}
 use Rattle.world.proofs.pair.Pair.crash_primary.Goals as goal
 
@@ -21,3 +23,18 @@ returns-clause-does g c =
       moments = crashed.moments;
     })
     (λ w stand. ended.goes w.primary.connections w.primary.calls stand) ended.unseated ended.calls
+
+pub returns-clause-leaves : goal.returns-clause-leaves
+returns-clause-leaves g c =
+    let crashed = c.crash.ensures in
+    record {
+      primary = λ idle. cc;
+      standby = λ idle. refl;
+      frames = refl;
+      acknowledgements = refl;
+      effect = record {
+        settled = crashed.settled;
+        image = crashed.image;
+        picked_are = λ fed word. crashed.picked fed word ∙ ap (λ (picks : List ℕ). picked (g.E.Durable.device c.args.self.now.committer.engine).words picks word) c.as_slice.ensures.value;
+      };
+    }

@@ -1,3 +1,5 @@
+use Rattle.std.proofs.Common.{ℕ, List, Vec, Global, ap, refl, ◌∙◌}
+use Rattle.pmem.specs.Crash.{picked}
 use Rattle.world.proofs.PairCrash.{standby-crashed, standby-crashes}
 use Rattle.world.proofs.pair.Pair.crash_standby.Goals as goal
 
@@ -29,3 +31,18 @@ returns-clause-does g c =
       moments = crashed.moments;
     })
     c.crash-2.ensures.delivered c.crash-2.ensures.acknowledgements
+
+pub returns-clause-leaves : goal.returns-clause-leaves
+returns-clause-leaves g c =
+    let crashed = c.crash.ensures in
+    record {
+      primary = λ idle. refl;
+      standby = λ idle. cc;
+      frames = refl;
+      acknowledgements = ap (λ (v : Vec (Vec ℕ Global) Global). v.items) c.crash-2.ensures.acknowledgements;
+      effect = record {
+        settled = crashed.settled;
+        image = crashed.image;
+        picked_are = λ fed word. crashed.picked fed word ∙ ap (λ (picks : List ℕ). picked (g.E.Durable.device c.args.self.now.standby.engine).words picks word) c.as_slice.ensures.value;
+      };
+    }

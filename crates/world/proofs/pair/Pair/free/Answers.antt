@@ -1,8 +1,8 @@
-use Rattle.std.proofs.Common.{◌++◌, ◌∷◌, [], Err, ap, sym, ◌∙◌}
+use Rattle.std.proofs.Common.{◌++◌, ◌∷◌, [], Err, ap, refl, sym, ◌∙◌}
 use Rattle.std.proofs.lemmas.Result.{err_from_is_err_and}
 use Rattle.world.specs.Standby.{node_at}
 use Rattle.world.proofs.LivesLemmas.{serves-as}
-use Rattle.world.proofs.PairFreeing.{free-does, free-ends, free-idle, free-ready, free-roomless, free-told}
+use Rattle.world.proofs.PairFreeing.{free-does, free-effect, free-ends, free-idle, free-ready, free-roomless, free-told}
 use Rattle.primary.proofs.LeadsLemmas.{gives-work}
 use Rattle.world.proofs.pair.Pair.free.Goals as goal
 use Rattle.world.proofs.pair.Pair.free.Goals.{in-Freed, in_default}
@@ -53,5 +53,30 @@ returns-clause-does g c =
           (w.push_back_reserved.ensures.items ∙ ap (λ xs. xs ++ w.in-Freed.freed ∷ []) c.reserve.ensures.items) ready may turned.0 turned.2)
       | in_default w ↦
           let told = free-told E.device E.contents E.is_faulted pair.sessions pair.sequencer pair.link pair.opening pair.remote pair.frames.items pair.arrivals (node_at (E.device pair.standby.engine) (E.contents pair.standby.engine) (E.is_faulted pair.standby.engine) (g.K.Keyspace.table pair.standby.keyspace) pair.standby.heap pair.standby.ended.items) pair.primary_runs pair.standby_runs pair.committer c.turn.new.self pair.work c.turn.new.work pair.handed c.turn.new.link c.in_ok-done.done may turned.0 turned.2 in
+          absurd (w.in_default.not-Freed told.0 told.1)
+    ]
+
+pub returns-clause-leaves : goal.returns-clause-leaves
+returns-clause-leaves g c =
+    let E = g.E.Durable in
+    let pair = c.args.self.now in
+    let may = sym c.may_free.ensures ∙ c.if-not-may_free.false in
+    let ready = free-ready pair.committer.stage pair.committer.aside.items pair.work.items pair.handed.items pair.remote may in
+    let turned = c.in_ok-done.ensures.ready ready in
+    let standby = node_at (E.device pair.standby.engine) (E.contents pair.standby.engine) (E.is_faulted pair.standby.engine) (g.K.Keyspace.table pair.standby.keyspace) pair.standby.heap pair.standby.ended.items in
+    elim c.match-done.branch [
+      | in-Freed w ↦
+          rw w.self-is
+          (record {
+            primary = λ idle. cc;
+            standby = λ idle. refl;
+            frames = refl;
+            acknowledgements = refl;
+            effect = free-effect E.device E.contents E.is_faulted pair.sessions pair.sequencer pair.link pair.opening pair.remote pair.frames.items pair.arrivals standby pair.primary_runs pair.standby_runs pair.committer c.turn.new.self pair.work c.turn.new.work pair.notices.items pair.handed c.turn.new.link
+                w.in-Freed.freed c.in_ok-done.done w.push_back_reserved.new.self.items w.in-Freed.is
+                (w.push_back_reserved.ensures.items ∙ ap (λ xs. xs ++ w.in-Freed.freed ∷ []) c.reserve.ensures.items) may turned.0 turned.2;
+          })
+      | in_default w ↦
+          let told = free-told E.device E.contents E.is_faulted pair.sessions pair.sequencer pair.link pair.opening pair.remote pair.frames.items pair.arrivals standby pair.primary_runs pair.standby_runs pair.committer c.turn.new.self pair.work c.turn.new.work pair.handed c.turn.new.link c.in_ok-done.done may turned.0 turned.2 in
           absurd (w.in_default.not-Freed told.0 told.1)
     ]

@@ -38,7 +38,7 @@ returns-in_err-done-clause-leaves g c =
       | inl handed ↦ engine-stays device committer c.turn.new.self _ handed.1 refl
       | inr idle ↦ engine-stays device committer c.turn.new.self _ idle.1 refl
     ] in
-    record { primary = λ idle. same; standby = λ idle. refl; frames = refl; acknowledgements = refl }
+    record { primary = λ idle. same; standby = λ idle. refl; frames = refl; acknowledgements = refl; effect = tt }
 
 pub returns-clause-leaves : goal.returns-clause-leaves
 returns-clause-leaves g c =
@@ -49,4 +49,4 @@ returns-clause-leaves g c =
       | inl handed ↦ engine-stays device committer c.turn.new.self _ handed.1 refl
       | inr idle ↦ engine-stays device committer c.turn.new.self _ idle.1 refl
     ] in
-    record { primary = λ idle. same; standby = λ idle. refl; frames = refl; acknowledgements = refl }
+    record { primary = λ idle. same; standby = λ idle. refl; frames = refl; acknowledgements = refl; effect = tt }

@@ -33,10 +33,10 @@ pub returns-in_err-done-clause-leaves : goal.returns-in_err-done-clause-leaves
 returns-in_err-done-clause-leaves g c =
     let durable = sym c.stage.ensures ∙ c.in-Durable.is in
     let same = engine-stays g.E.Durable.device c.args.self.now.committer c.turn.new.self _ (c.turn.ensures.durable c.in-Durable.field-0 durable).1 refl in
-    record { primary = λ idle. same; standby = λ idle. refl; frames = refl; acknowledgements = refl }
+    record { primary = λ idle. same; standby = λ idle. refl; frames = refl; acknowledgements = refl; effect = tt }
 
 pub returns-clause-leaves : goal.returns-clause-leaves
 returns-clause-leaves g c =
     let durable = sym c.stage.ensures ∙ c.in-Durable.is in
     let same = engine-stays g.E.Durable.device c.args.self.now.committer c.turn.new.self _ (c.turn.ensures.durable c.in-Durable.field-0 durable).1 refl in
-    record { primary = λ idle. same; standby = λ idle. refl; frames = refl; acknowledgements = refl }
+    record { primary = λ idle. same; standby = λ idle. refl; frames = refl; acknowledgements = refl; effect = tt }

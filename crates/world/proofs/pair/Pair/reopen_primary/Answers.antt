@@ -1,4 +1,4 @@
-use Rattle.std.proofs.Common.{Err, ap, sym, subst}
+use Rattle.std.proofs.Common.{Err, ap, refl, sym, subst}
 use Rattle.std.proofs.lemmas.Result.{err_from_is_err_and}
 use Rattle.pmem.specs.Crash.{image_of}
 use Rattle.model.specs.declared.record.Role.TheVariants.{Primary}
@@ -28,3 +28,6 @@ returns-clause-does g c =
     primary-reopens _ _ _ _ (E.device committer.engine) (E.contents committer.engine) (E.is_faulted committer.engine) _ _ _ c.if-self.false
     (record { reopens = told.reopens; durable = told.durable; sound = told.sound; failures = told.failures (λ fault. cc); moments = told.moments })
     (record { over = told.sequencer; ready = told.ready.0; local = told.ready.2; no_work = told.work; none_aside = told.ready.1; none_told = c.clear.ensures.items; none_handed = told.handed; link_is = told.link; opened_at = told.opening.0; tells = told.opening.1; image = image_of (E.device committer.engine).words; shows = told.shows })
+
+pub returns-clause-leaves : goal.returns-clause-leaves
+returns-clause-leaves g c = record { primary = λ idle. cc; standby = λ idle. refl; frames = refl; acknowledgements = refl; effect = (c.in_ok-sequencer.ensures.reopens, c.in_ok-sequencer.ensures.sequencer) }

@@ -52,3 +52,6 @@ returns-clause-does g c =
       epoch = (E.contents standby.engine).current.epoch;
     })
     c.if-self.false (record { reopens = told.reopens; durable = told.durable; sound = told.sound; failures = told.failures (λ fault. cc); moments = told.moments }) told.follows refl
+
+pub returns-clause-leaves : goal.returns-clause-leaves
+returns-clause-leaves g c = record { primary = λ idle. refl; standby = λ idle. cc; frames = refl; acknowledgements = refl; effect = c.in_ok-restart.ensures.reopens }

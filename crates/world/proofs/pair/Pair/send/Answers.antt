@@ -23,14 +23,14 @@ returns-clause-does g c =
 pub returns-in_default-clause-leaves : goal.returns-in_default-clause-leaves
 returns-in_default-clause-leaves g c =
     let leaves = c.send_group.ensures.leaves in
-    record { primary = leaves.primary; standby = leaves.standby; frames = leaves.frames; acknowledgements = leaves.acknowledgements }
+    record { primary = leaves.primary; standby = leaves.standby; frames = leaves.frames; acknowledgements = leaves.acknowledgements; effect = tt }
 
 pub returns-in_err-pass-clause-leaves : goal.returns-in_err-pass-clause-leaves
 returns-in_err-pass-clause-leaves g c =
     let exit = err_from_is_err_and c.from_residual.result c.from_residual.ensures.1 in
-    rw exit.1 (record { primary = λ idle. refl; standby = λ idle. refl; frames = c.in_err-pass.ensures.kept; acknowledgements = refl })
+    rw exit.1 (record { primary = λ idle. refl; standby = λ idle. refl; frames = c.in_err-pass.ensures.kept; acknowledgements = refl; effect = tt })
 
 pub returns-clause-leaves : goal.returns-clause-leaves
 returns-clause-leaves g c =
     let passed = c.in_ok-pass.ensures.passes in
-    record { primary = λ idle. refl; standby = λ idle. refl; frames = (passed.0, passed.3); acknowledgements = refl }
+    record { primary = λ idle. refl; standby = λ idle. refl; frames = (passed.0, passed.3); acknowledgements = refl; effect = tt }

@@ -1,0 +1,94 @@
+-- What an event has to do beside its step of the machine: to what has ended and to what tells of it, to a frame, and to an image that crashes or is opened again.
+use Rattle.std.specs.Prelude.{◌≡◌, ◌⊎◌, ℕ, Bool, true, false, List, [], ◌∷◌, ◌++◌, Vec, Result, Ok}
+use Rattle.std.specs.Global.{Global}
+use Rattle.kv_types.specs.declared.refusal.Refusal.{Refusal}
+use Rattle.pmem.specs.Device.{State, newest_at}
+use Rattle.pmem.specs.Crash.{IsImage, IsSettled, image_of, picked}
+use Rattle.model.specs.declared.work.FreeList.{FreeList}
+use Rattle.model.specs.declared.record.Role.TheVariants as Role
+use Rattle.model.specs.Group.{Contents}
+use Rattle.placing.specs.Place.{HasRoomFor}
+use Rattle.wbl_engine.specs.declared.freeing.Freed.{Freed}
+use Rattle.wbl_engine.specs.Contents.{Same}
+use Rattle.wbl_engine.specs.Freeing.{Clears, after_free, extents_of}
+use Rattle.redis_core.specs.Sequencing.{Sequencing, TakesBack}
+use Rattle.primary.specs.Closing.{ClosesOne}
+use Rattle.primary.specs.Resuming.{IsOver}
+use Rattle.standby.specs.declared.frame.Frame.{Frame}
+use Rattle.standby.specs.Following.{IsTakenNext}
+use Rattle.standby.specs.Restarting.{IsReopened}
+use Rattle.machine.specs.declared.event.Event.{Event}
+use Rattle.machine.specs.declared.event.Event.TheVariants.{AcceptFreed, Apply, ClearGap, CloseGroup, Crash, Free, Reopen}
+use Rattle.machine.specs.declared.event.Node.TheVariants as node
+use Rattle.world.specs.Pair.{Pair}
+use Rattle.world.specs.Queue.{reached_now}
+use Rattle.world.specs.Standby.{Node}
+
+-- a fact that holds where an event did its step
+abbrev pub OnDid : Result Bool Refusal → Type 0 → Type 0
+OnDid (Ok true) P = P
+OnDid result P = Unit {0}
+
+-- the bytes of one message came behind those of all before
+abbrev pub AddsMessage : List (Vec ℕ Global) → List (Vec ℕ Global) → Type 0
+AddsMessage old new = (bytes : Vec ℕ Global) × (new ≡ old ++ bytes ∷ [])
+
+-- ---- what has ended
+
+-- All of the first of these free lists was freed, and nothing else, and a notice of that waits behind the others.
+pub record FreesOldest (lists : List FreeList) (old : Contents) (notices : List Freed) (new : Contents) (notices' : List Freed) : Type 0 where
+  pub list : FreeList
+  pub rest : List FreeList
+  pub lists_are : lists ≡ list ∷ rest
+  pub freed : Same (after_free list.entries.items old) new
+  pub places : Freed
+  pub told : notices' ≡ notices ++ places ∷ []
+  pub entries : places.entries.items ≡ list.entries.items
+  pub extents : places.extents.items ≡ extents_of old.versions list.entries.items
+
+-- The oldest gap of the record was cleared, and a notice of the entries that were begun in it waits behind the others.
+pub record ClearsOldest (old : Contents) (notices : List Freed) (new : Contents) (notices' : List Freed) : Type 0 where
+  pub places : Freed
+  pub told : notices' ≡ notices ++ places ∷ []
+  pub cleared : Clears old places.entries.items new
+  pub extents : places.extents.items ≡ []
+
+-- What the oldest notice tells is free in the sequencer's heap again.
+pub record TakesOldest (old : Sequencing) (notices : List Freed) (new : Sequencing) (notices' : List Freed) : Type 0 where
+  pub notice : Freed
+  pub notices_are : notices ≡ notice ∷ notices'
+  pub back : TakesBack old notice.entries.items notice.extents.items new
+
+-- ---- a frame
+
+-- a standby has no room for the puts of the frame, and nothing that has ended is left to free
+pub record IsFullFor (frame : Frame) (node : Node) : Type 0 where
+  pub room : ¬ HasRoomFor node.room frame.changes.items
+  pub freed : node.ended ≡ []
+
+-- the standby took the first frame that came: one that comes next it acknowledges, unless it has no room for it
+abbrev pub AnswersFirst : List Frame → List (Vec ℕ Global) → List (Vec ℕ Global) → Node → Node → Type 0
+AnswersFirst [] told told' old new = Unit {0}
+AnswersFirst (frame ∷ frames) told told' old new = IsTakenNext old.contents.current frame → AddsMessage told told' ⊎ IsFullFor frame new
+
+-- ---- a crash
+
+-- Each word has the candidate that the picks name, where the device had the memory to do so, and some candidate of its own in any case.
+pub record LeavesPicked (picks : List ℕ) (old new : State) : Type 0 where
+  pub settled : IsSettled new.words
+  pub image : IsImage old.words (image_of new.words)
+  pub picked_are : new.starved ≡ false → (word : ℕ) → newest_at new word ≡ picked old.words picks word
+
+-- ---- any event
+
+abbrev pub Effect : Event → Result Bool Refusal → Pair → Pair → Type 0
+Effect CloseGroup result old new = OnDid result (ClosesOne old.sequencer old.committing.waiting new.sequencer new.committing.waiting)
+Effect Free result old new = OnDid result (FreesOldest (reached_now old.committing.aside old.committing.waiting.items old.handed.items) old.contents old.notices new.contents new.notices)
+Effect AcceptFreed result old new = OnDid result (TakesOldest old.sequencer old.notices new.sequencer new.notices)
+Effect ClearGap result old new = OnDid result (ClearsOldest old.contents old.notices new.contents new.notices)
+Effect Apply result old new = OnDid result (AnswersFirst old.arrivals.delivered.items old.arrivals.acknowledgements.items new.arrivals.acknowledgements.items old.standby new.standby)
+Effect (Crash node.Primary picks) result old new = OnDid result (LeavesPicked picks.items old.device new.device)
+Effect (Crash node.Standby picks) result old new = OnDid result (LeavesPicked picks.items old.standby.device new.standby.device)
+Effect (Reopen node.Primary) result old new = OnDid result (IsReopened old.device.lines (image_of old.device.words) Role.Primary new.contents × IsOver new.contents new.sequencer)
+Effect (Reopen node.Standby) result old new = OnDid result (IsReopened old.standby.device.lines (image_of old.standby.device.words) Role.Standby new.standby.contents)
+Effect event result old new = Unit {0}
