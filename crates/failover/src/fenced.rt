@@ -41,11 +41,11 @@ pub fn operator_fence(epoch: u64) -> Fenced
 
 /// Ends a primary: it is consumed, so it does nothing more. Gives its device back, unchanged.
 pub fn fence<E: Durable, K: Keyspace + Drop>(primary: Primary<E, K>) -> (Fenced, E::Device)
-    ensures fenced { result.0 ≡ (E.contents primary.committer.engine).current.epoch }
-    ensures device { E.Device.state result.1 ≡ E.device primary.committer.engine }
+    ensures fenced { result.0 ≡ (E.contents primary.back.committer.engine).current.epoch }
+    ensures device { E.Device.state result.1 ≡ E.device primary.back.committer.engine }
 {
     let fenced = Fenced {
-        epoch: primary.epoch(),
+        epoch: primary.back.epoch(),
     };
-    (fenced, primary.into_device())
+    (fenced, primary.back.into_device())
 }

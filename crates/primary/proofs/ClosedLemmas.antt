@@ -15,7 +15,7 @@ use Rattle.redis_core.specs.Sequencing.{Sequencing}
 use Rattle.redis_core.specs.Turn.{OnServed, OnUnserved}
 use Rattle.pipes.specs.Waiting.{Waiting}
 use Rattle.primary.specs.Closing.{ClosesOne, MayClose}
-use Rattle.primary.specs.Leading.{AreLaid, Leads}
+use Rattle.primary.specs.Leading.{AreLaid, KeepsLead, Leads}
 use Rattle.primary.specs.Resuming.{IsOver}
 use Rattle.primary.specs.Standing.{StandsOver}
 use Rattle.primary.proofs.LeadsLemmas.{Leads-group, Leads-list}
@@ -53,6 +53,16 @@ ended-same turn.Idle old new A B served unserved a b = b unserved
 ended-same turn.Blocked old new A B served unserved a b = b unserved
 ended-same turn.GroupFull old new A B served unserved a b = b unserved
 ended-same turn.Ended old new A B served unserved a b = b unserved
+
+-- a sequencer that keeps its lead has kept all that stood
+pub kept-stands : (device : State) (contents : Contents) (items : List Work) (aside : List FreeList) (old new : Sequencing) → KeepsLead old new
+    → StandsOver device contents items aside old [] → StandsOver device contents items aside new []
+kept-stands device contents items aside old new keeps over = record {
+  leads = keeps contents items aside over.leads;
+  consistent = over.consistent;
+  laid = over.laid;
+  durable = over.durable;
+}
 
 -- nothing waits at first
 pub starts-so : (device : State) (contents : Contents) (s : Sequencing) → IsOver contents s → IsConsistent contents → AreLaid contents → IsDurable device contents → StandsOver device contents [] [] s []

@@ -1,10 +1,10 @@
--- When nothing of a primary is under way.
+-- When nothing is under way in a part of a primary.
 use Rattle.std.proofs.Common.{◌≡◌, ◌≢◌, ◌↔◌, ◌==◌, Bool, true, false, not, ◌||◌, IsTrue, List, [], ◌∷◌, length, refl, sym, arith, eqb-true}
 use Rattle.model.specs.declared.work.FreeList.{FreeList}
 use Rattle.model.specs.declared.work.Work.{Work}
 use Rattle.model.specs.Group.{Contents}
 use Rattle.redis_core.specs.Sequencing.{Sequencing}
-use Rattle.primary.specs.Settled.{IsSettled}
+use Rattle.primary.specs.Settled.{HasNothingInHand, HasNothingOpen}
 
 or_left : (a b : Bool) → (a || b) ≡ false → a ≡ false
 or_left true b e = e
@@ -40,24 +40,26 @@ is_empty empty [] is none = ap_not empty is
     ap_not false e = sym e
 is_empty empty (x ∷ xs) is none = absurd (let no : (x ∷ xs) ≡ [] = none in cc)
 
-pub settled : (contents : Contents) (work : List Work) (aside : List FreeList) (s : Sequencing) (open' ended empty apart gap : Bool)
-    → IsTrue open' ↔ (s.waiting ≢ []) → IsTrue ended ↔ (s.ended ≢ []) → empty ≡ (length work == 0) → IsTrue apart ↔ (aside ≢ []) → IsTrue gap ↔ (contents.current.gaps.items ≢ [])
-    → (((open' || ended) || not empty) || (apart || gap)) ≡ false ↔ IsSettled contents work aside s
-settled contents work aside s open' ended empty apart gap open_is ended_is empty_is apart_is gap_is = (
+pub nothing-open : (s : Sequencing) (open' ended : Bool) → IsTrue open' ↔ (s.waiting ≢ []) → IsTrue ended ↔ (s.ended ≢ []) → (open' || ended) ≡ false ↔ HasNothingOpen s
+nothing-open s open' ended open_is ended_is = (
+  λ none. record {
+    no_changes = none_where open' s.waiting open_is (or_left open' ended none);
+    none_ended = none_where ended s.ended ended_is (or_right open' ended none);
+  },
+  λ is. or_none open' ended (unfound open' s.waiting open_is is.no_changes) (unfound ended s.ended ended_is is.none_ended),
+)
+
+pub nothing-in-hand : (contents : Contents) (work : List Work) (aside : List FreeList) (empty apart gap : Bool) → empty ≡ (length work == 0) → IsTrue apart ↔ (aside ≢ [])
+    → IsTrue gap ↔ (contents.current.gaps.items ≢ []) → (not empty || (apart || gap)) ≡ false ↔ HasNothingInHand contents work aside
+nothing-in-hand contents work aside empty apart gap empty_is apart_is gap_is = (
   λ none.
-      let front = or_left ((open' || ended) || not empty) (apart || gap) none in
-      let first = or_left (open' || ended) (not empty) front in
-      let last = or_right ((open' || ended) || not empty) (apart || gap) none in
+      let last = or_right (not empty) (apart || gap) none in
       record {
-        no_changes = none_where open' s.waiting open_is (or_left open' ended first);
-        none_ended = none_where ended s.ended ended_is (or_right open' ended first);
-        no_work = no_items empty work empty_is (or_right (open' || ended) (not empty) front);
+        no_work = no_items empty work empty_is (or_left (not empty) (apart || gap) none);
         none_aside = none_where apart aside apart_is (or_left apart gap last);
         no_gaps = none_where gap contents.current.gaps.items gap_is (or_right apart gap last);
       },
   λ is.
-      or_none ((open' || ended) || not empty) (apart || gap)
-      (or_none (open' || ended) (not empty) (or_none open' ended (unfound open' s.waiting open_is is.no_changes) (unfound ended s.ended ended_is is.none_ended))
-      (is_empty empty work empty_is is.no_work))
+      or_none (not empty) (apart || gap) (is_empty empty work empty_is is.no_work)
       (or_none apart gap (unfound apart aside apart_is is.none_aside) (unfound gap contents.current.gaps.items gap_is is.no_gaps)),
 )

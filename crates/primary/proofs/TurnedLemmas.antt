@@ -264,10 +264,10 @@ module _ {E : Type 0} (device : E → State) (contents : E → Contents) (is_fau
             ])
       ] refl
 
-  pub turn-told : (old new : Committer E) (before after : Waiting Work) (room remote : ℕ) (result : Result Done Refusal) (s : Sequencing) → Turned old new before after room remote result
-      → Over old before s [] → IfOk result (λ came. Over new after s (notices_of came))
-  turn-told old new before after room remote (Ok came) s turned over = turn-stands old new before after room remote came s turned over
-  turn-told old new before after room remote (Err refusal) s turned over = tt
+  pub told-for-all : (old new : Committer E) (before after : Waiting Work) (room remote : ℕ) (result : Result Done Refusal) → Turned old new before after room remote result
+      → IfOk result (λ came. (s : Sequencing) → Over old before s [] → Over new after s (notices_of came))
+  told-for-all old new before after room remote (Ok came) turned = λ s over. turn-stands old new before after room remote came s turned over
+  told-for-all old new before after room remote (Err refusal) turned = tt
 
   again-stands : (old new : Committer E) (before after : Waiting Work) (room remote : ℕ) (s : Sequencing) → Turned old new before after room remote (Err Memory)
       → Over old before s [] → Over new after s []

@@ -1,5 +1,5 @@
 -- What a primary's queue leads to: what waits for the committer, and what the sequencer's tables say.
-use Rattle.std.specs.Prelude.{◌≡◌, ◌≢◌, ℕ, ◌+◌, ◌≤◌, List, ◌++◌, Some}
+use Rattle.std.specs.Prelude.{◌≡◌, ◌≢◌, ℕ, ◌+◌, ◌≤◌, List, [], ◌++◌, Some}
 use Rattle.std.specs.List.{AllByRecursion, flat_map}
 use Rattle.kv_types.specs.declared.place.EntryNo.{EntryNo}
 use Rattle.kv_types.specs.declared.place.Extent.{Extent}
@@ -35,6 +35,10 @@ pub record Leads (contents : Contents) (waiting : List Work) (aside : List FreeL
   pub expects : Expects s (after_work contents waiting) (entries_told notices) (extents_told notices)
   pub aside_ended : AreEnded contents (entries_of_lists aside)
   pub listed : AreEnded (after_work contents waiting) (entries_of_lists (aside ++ lists_of waiting) ++ s.ended)
+
+-- a sequencer that was ahead of any work is ahead of it still
+abbrev pub KeepsLead : Sequencing → Sequencing → Type 0
+KeepsLead old new = (contents : Contents) (waiting : List Work) (aside : List FreeList) → Leads contents waiting aside old [] → Leads contents waiting aside new []
 
 -- ---- versions in the lines of the extents
 

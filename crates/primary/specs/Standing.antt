@@ -9,6 +9,7 @@ use Rattle.wbl_engine.specs.Contents.{IsDurable}
 use Rattle.redis_core.specs.Sequencing.{Sequencing}
 use Rattle.group_commit.specs.declared.stage.Done.{Done}
 use Rattle.group_commit.specs.declared.stage.Done.TheVariants as done
+use Rattle.primary.specs.declared.back.Back.{Back}
 use Rattle.primary.specs.declared.primary.Primary.{Primary}
 use Rattle.primary.specs.Leading.{AreLaid, Leads}
 
@@ -26,6 +27,10 @@ notices_of (done.Cleared places) = places ∷ []
 notices_of _ = []
 
 -- by what is known of an engine
-module _ {E K : Type 0} (device : E → State) (contents : E → Contents) where
-  abbrev pub Stands : Primary E K → Type 0
-  Stands p = StandsOver (device p.committer.engine) (contents p.committer.engine) p.work.items p.committer.aside.items p.sequencer []
+module _ {E : Type 0} (device : E → State) (contents : E → Contents) where
+  -- what is in hand leads to what this sequencer holds, once it is told of these notices
+  abbrev pub BackStands : Back E → Sequencing → List Freed → Type 0
+  BackStands back s notices = StandsOver (device back.committer.engine) (contents back.committer.engine) back.work.items back.committer.aside.items s notices
+
+  abbrev pub Stands : {K : Type 0} → Primary E K → Type 0
+  Stands p = BackStands p.back p.front.sequencer []

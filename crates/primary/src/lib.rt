@@ -1,12 +1,16 @@
-//! A primary's list, queue and committer, as one thread has them: what waits for the committer always leads to what the sequencer holds.
+//! A primary's list, queue and committer, in two parts that may be in threads of their own: what waits for the committer always leads to what the sequencer holds.
 #![tactic(auto)]
 
+mod back;
 mod closing;
+mod front;
 mod opening;
 mod primary;
 mod resuming;
 
+pub use back::Back;
 pub use closing::close_next;
+pub use front::Front;
 pub use opening::{Opened, open};
-pub use primary::Primary;
+pub use primary::{Primary, close, take_back};
 pub use resuming::{Resumed, resume};

@@ -1,22 +1,20 @@
 //! The connections that are open, as the node's thread knows them.
-ghost use Rattle.std.specs.Prelude.{ℕ};
-ghost use Rattle.primary.specs.Standing.{Stands};
+ghost use Rattle.std.specs.Prelude.{ℕ, ◌≤◌};
+ghost use Rattle.primary.specs.Leading.{KeepsLead};
 ghost use Rattle.wakes.specs.Waiting.{MayWait};
 
 use crate::accepting::Door;
 use crate::guest::Guest;
-use crate::local_mark::LocalMark;
 use crate::turns::{Served, take_turns};
-use clients::{Asks, Tells};
+use clients::{Asks, Sight, Tells};
 use lobby::Arrival;
 use mv_keyspace::Keyspace;
 use pipes::MAX_SEATS;
-use primary::Primary;
+use primary::Front;
 use std::alloc::{AllocError, Global};
 use std::collections::VecDeque;
 use std::sync::{Arc, Wait};
 use wakes::{Bell, DueIn, ReadyList};
-use wbl_engine::Durable;
 
 /// How many seats that somebody called for are served before the node's thread looks at its queue again.
 const MOST_CALLS: usize = 64;
@@ -57,20 +55,19 @@ impl Floor {
     }
 
     /// Takes in a connection that waits at the door. Answers whether there was one.
-    pub fn admit<R: Wait, E: Durable, K: Keyspace>(
+    pub fn admit<R: Wait, K: Keyspace>(
         &mut self,
         rt: &R,
         alloc: Global,
-        primary: &mut Primary<E, K>,
+        front: &mut Front<K>,
     ) -> bool
-        requires { Stands E.device E.contents primary.old }
-        ensures { Stands E.device E.contents primary.new }
+        ensures { KeepsLead front.old.sequencer front.new.sequencer }
     {
         let Some(arrival) = self.door.lock(rt).waiting() else {
             return false;
         };
         let number = arrival.seat.number();
-        if primary.open_seat(alloc, &arrival.seat).is_err() {
+        if front.open_seat(alloc, &arrival.seat).is_err() {
             self.let_go(rt, arrival);
             return true;
         }
@@ -78,128 +75,124 @@ impl Floor {
         true
     }
 
-    /// Serves those that were not done, and those that somebody called for. Answers whether something was done.
-    pub fn serve<R: Wait, E: Durable, K: Keyspace>(
+    /// Serves those that were not done, and those that somebody called for. Answers whether something was done. `is_working` is whether the committer has
+    /// something in hand that may make room.
+    pub fn serve<R: Wait, K: Keyspace>(
         &mut self,
         rt: &R,
         alloc: Global,
-        primary: &mut Primary<E, K>,
-        mark: LocalMark,
-    ) -> (LocalMark, bool)
-        requires { Stands E.device E.contents primary.old }
-        ensures { Stands E.device E.contents primary.new }
+        front: &mut Front<K>,
+        is_working: bool,
+        sight: Sight,
+    ) -> (Sight, bool)
+        ensures { KeepsLead front.old.sequencer front.new.sequencer }
     {
         self.is_short = false;
-        let (mark, again) = self.serve_unfinished(rt, alloc, primary, mark);
-        let (mark, called) = self.serve_called(rt, alloc, primary, mark);
-        (mark, again || called)
+        let (sight, again) = self.serve_unfinished(rt, alloc, front, is_working, sight);
+        let (sight, called) = self.serve_called(rt, alloc, front, is_working, sight);
+        (sight, again || called)
     }
 
-    fn serve_unfinished<R: Wait, E: Durable, K: Keyspace>(
+    fn serve_unfinished<R: Wait, K: Keyspace>(
         &mut self,
         rt: &R,
         alloc: Global,
-        primary: &mut Primary<E, K>,
-        mark: LocalMark,
-    ) -> (LocalMark, bool)
-        requires { Stands E.device E.contents primary.old }
-        ensures { Stands E.device E.contents primary.new }
+        front: &mut Front<K>,
+        is_working: bool,
+        sight: Sight,
+    ) -> (Sight, bool)
+        ensures { KeepsLead front.old.sequencer front.new.sequencer }
     {
-        let mut mark = mark;
+        let mut sight = sight;
         let mut any = false;
         for _ in 0..self.again.len() {
             let Some(number) = self.again.pop_front() else {
-                return (mark, any);
+                return (sight, any);
             };
-            let (next, did) = self.serve_place(rt, alloc, primary, mark, number);
-            mark = next;
+            let (next, did) = self.serve_place(rt, alloc, front, is_working, sight, number);
+            sight = next;
             any |= did;
         }
-        (mark, any)
+        (sight, any)
     }
 
-    fn serve_called<R: Wait, E: Durable, K: Keyspace>(
+    fn serve_called<R: Wait, K: Keyspace>(
         &mut self,
         rt: &R,
         alloc: Global,
-        primary: &mut Primary<E, K>,
-        mark: LocalMark,
-    ) -> (LocalMark, bool)
-        requires { Stands E.device E.contents primary.old }
-        ensures { Stands E.device E.contents primary.new }
+        front: &mut Front<K>,
+        is_working: bool,
+        sight: Sight,
+    ) -> (Sight, bool)
+        ensures { KeepsLead front.old.sequencer front.new.sequencer }
     {
-        let mut mark = mark;
+        let mut sight = sight;
         let mut any = false;
         for _ in 0..MOST_CALLS {
             let Some(number) = self.ready.next(rt) else {
-                return (mark, any);
+                return (sight, any);
             };
             // one that is served again soon anyway keeps its place in that list
             if !self.is_again(number) {
-                let (next, did) = self.serve_place(rt, alloc, primary, mark, number);
-                mark = next;
+                let (next, did) = self.serve_place(rt, alloc, front, is_working, sight, number);
+                sight = next;
                 any |= did;
             }
         }
-        (mark, true)
+        (sight, true)
     }
 
     /// Serves the connection at a place, if one is there. Answers whether it was answered anything, took all turns that it may, or is over.
-    fn serve_place<R: Wait, E: Durable, K: Keyspace>(
+    fn serve_place<R: Wait, K: Keyspace>(
         &mut self,
         rt: &R,
         alloc: Global,
-        primary: &mut Primary<E, K>,
-        mark: LocalMark,
+        front: &mut Front<K>,
+        is_working: bool,
+        sight: Sight,
         number: usize,
-    ) -> (LocalMark, bool)
-        requires { Stands E.device E.contents primary.old }
-        ensures { Stands E.device E.contents primary.new }
+    ) -> (Sight, bool)
+        ensures { KeepsLead front.old.sequencer front.new.sequencer }
     {
         let Some(guest) = self.lift(number) else {
-            return (mark, false);
+            return (sight, false);
         };
         let mut guest = guest;
         let mut is_short = self.is_short;
-        let (any, served) = take_turns(alloc, primary, &mut guest, &mut is_short);
+        let (any, served) = take_turns(alloc, front, is_working, &mut guest, &mut is_short);
         self.is_short = is_short;
-        let mark = if any {
-            self.wake(mark, &guest.arrival, primary.position())
+        let sight = if any {
+            self.wake(sight, &guest.arrival, front.position())
         } else {
-            mark
+            sight
         };
         match served {
             Served::Over => {
-                primary.close_seat(&guest.arrival.seat);
+                front.close_seat(&guest.arrival.seat);
                 self.let_go(rt, guest.arrival);
-                (mark, true)
+                (sight, true)
             }
             Served::Busy => {
                 self.serve_again(number, guest);
-                (mark, true)
+                (sight, true)
             }
             Served::Waits => {
                 self.serve_again(number, guest);
-                (mark, any)
+                (sight, any)
             }
             Served::Idle => {
                 self.put(number, guest);
-                (mark, any)
+                (sight, any)
             }
         }
     }
 
     /// Wakes the reader, if it waits for room, and the writer, now or once its replies are covered.
-    fn wake(
-        &mut self,
-        mark: LocalMark,
-        arrival: &Arrival<Asks, Tells>,
-        position: u64,
-    ) -> LocalMark {
+    fn wake(&mut self, sight: Sight, arrival: &Arrival<Asks, Tells>, position: u64) -> Sight {
         if arrival.requests.line.reader_waits.take() {
             arrival.requests.reader.ring();
         }
-        wake_writer(&mut self.due, mark, position, &arrival.replies.writer)
+        wake_writer(&mut self.due, sight, position, &arrival.replies.writer)
     }
 
     /// Tells the threads of a connection that it is over, and gives its seat back.
@@ -250,19 +243,27 @@ impl Floor {
 
 /// Has a writer woken once both marks are at the position. A mark may have risen after it was read and before the writer stood in the list, where nobody saw
 /// it then: so the marks are read once more.
-fn wake_writer(due: &mut DueIn, mark: LocalMark, position: u64, writer: &Bell) -> LocalMark
+fn wake_writer(due: &mut DueIn, sight: Sight, position: u64, writer: &Bell) -> Sight
     ensures { (known : ℕ) × MayWait due.old position known writer.now due.new }
 {
-    let (mark, known) = mark.known();
+    let (sight, known) = both_hold(sight);
     due.wake_at(position, known, writer);
     if position <= known {
-        return mark;
+        return sight;
     }
-    let (mark, now) = mark.known();
+    let (sight, now) = both_hold(sight);
     if position <= now {
         writer.ring();
     }
-    mark
+    sight
+}
+
+/// The position up to which both nodes hold the list, as the marks are now.
+fn both_hold(sight: Sight) -> (Sight, u64)
+    ensures { (result.1 ≤ result.0.seat.knows.local) × (result.1 ≤ result.0.seat.knows.remote) }
+{
+    let (sight, seen) = sight.look();
+    (sight, seen.local.min(seen.remote))
 }
 
 fn no_places(alloc: Global) -> Result<Vec<Option<Guest>>, AllocError> {

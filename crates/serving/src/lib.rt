@@ -2,7 +2,9 @@
 #![tactic(auto)]
 
 mod accepting;
+mod committing;
 mod floor;
+mod gathering;
 mod guest;
 mod local_mark;
 mod needs;

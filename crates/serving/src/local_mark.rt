@@ -1,9 +1,8 @@
 //! The local mark, and the seat that raises it.
-ghost use Rattle.std.specs.Prelude.{◌≡◌, ◌≤◌, max, true};
+ghost use Rattle.std.specs.Prelude.{◌≡◌, max, true};
 ghost use Rattle.std.specs.Arc.{arc_value};
 
 use marks::{MarkSeat, Marks};
-use reply_gate::Seen;
 use std::sync::Arc;
 use wbl_engine::Committed;
 
@@ -33,24 +32,5 @@ impl LocalMark {
         let LocalMark { marks, seat } = self;
         let seat = marks.raise_local(seat, committed);
         LocalMark { marks, seat }
-    }
-
-    /// Both marks as they are now. The local one is exactly what was raised here.
-    pub fn look(self) -> (LocalMark, Seen)
-        ensures local { (result.1.local ≡ self.seat.knows.local) × (result.0.seat.knows.local ≡ self.seat.knows.local) }
-        ensures remote { result.0.seat.knows.remote ≡ result.1.remote }
-    {
-        let LocalMark { marks, seat } = self;
-        let (seat, seen) = marks.read(seat);
-        (LocalMark { marks, seat }, seen)
-    }
-
-    /// The position up to which both nodes hold the list, as the marks are now.
-    pub fn known(self) -> (LocalMark, u64)
-        ensures local { result.0.seat.knows.local ≡ self.seat.knows.local }
-        ensures covered { (result.1 ≤ result.0.seat.knows.local) × (result.1 ≤ result.0.seat.knows.remote) }
-    {
-        let (mark, seen) = self.look();
-        (mark, seen.local.min(seen.remote))
     }
 }

@@ -1,28 +1,29 @@
 //! The node's thread: it serves the connections, commits what they changed, and frees what has ended.
-ghost use Rattle.std.specs.Prelude.{OnOk};
-ghost use Rattle.primary.specs.Standing.{Stands};
+ghost use Rattle.std.specs.Prelude.{[], OnOk};
+ghost use Rattle.primary.specs.Standing.{BackStands, Stands};
 
+use crate::committing::take_steps;
 use crate::floor::Floor;
+use crate::gathering::Gathering;
 use crate::local_mark::LocalMark;
-use group_commit::Done;
+use clients::Sight;
 use kv_types::Refusal;
 use model::Group;
 use mv_keyspace::Keyspace;
 use pipes::RingOutlet;
-use primary::Primary;
+use primary::{Back, Front, Primary, close, take_back};
 use std::alloc::Global;
 use std::sync::Wait;
 use std::time::Clock;
 use wakes::{Bell, Idle, Sleeper};
 use wbl_engine::Durable;
 
-/// How many steps the committer takes before the connections are served again.
-const MOST_STEPS: usize = 8;
-
 /// What the node's thread owns beside its primary.
 #[derive(Drop)]
 pub struct Node {
     pub floor: Floor,
+    /// How it reads the marks.
+    pub sight: Sight,
     pub mark: LocalMark,
     /// The groups that were committed go to the link here.
     pub groups: RingOutlet<Group>,
@@ -41,31 +42,41 @@ pub fn serve<R: Wait + Clock, E: Durable + Drop, K: Keyspace + Drop>(
 ) -> Refusal
     requires { Stands E.device E.contents primary }
 {
-    let mut primary = primary;
+    let Primary {
+        mut front,
+        mut back,
+    } = primary;
     let Node {
         mut floor,
+        mut sight,
         mut mark,
         mut groups,
         link,
         sleeper,
         mut idle,
     } = node;
+    let mut gathering = Gathering {
+        closed: front.position(),
+    };
     for _ in rt.forever() {
-        let mut is_busy = floor.admit(rt, alloc, &mut primary);
-        let (next, did) = floor.serve(rt, alloc, &mut primary, mark);
+        let is_working = back.is_room_coming();
+        let mut is_busy = floor.admit(rt, alloc, &mut front);
+        let (next, did) = floor.serve(rt, alloc, &mut front, is_working, sight);
         is_busy |= did;
-        is_busy |= close_all(alloc, &mut primary);
         let (next, seen) = next.look();
-        let (next, stepped) = commit_all(
+        sight = next;
+        is_busy |= close_due(alloc, &mut front, &mut back, &mut gathering, seen.remote);
+        let (next, did) = commit(
             alloc,
-            &mut primary,
-            next,
+            &mut front,
+            &mut back,
+            mark,
             &mut groups,
             &link,
             seen.remote,
         );
         mark = next;
-        match stepped {
+        match did {
             Ok(did) => is_busy |= did,
             Err(refusal) => return refusal,
         }
@@ -82,83 +93,49 @@ fn rest<R: Wait + Clock>(rt: &R, idle: &mut Idle, sleeper: &Sleeper, is_busy: bo
     }
 }
 
-/// Closes what waits as a group, and what has ended as a list. Answers whether there was any of it. Where memory is refused, it is tried again later.
-fn close_all<E: Durable, K: Keyspace>(alloc: Global, primary: &mut Primary<E, K>) -> bool
-    requires { Stands E.device E.contents primary.old }
-    ensures { Stands E.device E.contents primary.new }
+/// Closes what waits as a group, once that is due, and what has ended as a list. Answers whether there was any of it. Where memory is refused, it is tried
+/// again later.
+fn close_due<E: Durable, K: Keyspace>(
+    alloc: Global,
+    front: &mut Front<K>,
+    back: &mut Back<E>,
+    gathering: &mut Gathering,
+    remote: u64,
+) -> bool
+    requires { BackStands E.device E.contents back.old front.old.sequencer [] }
+    ensures { BackStands E.device E.contents back.new front.new.sequencer [] }
 {
-    let Ok(true) = primary.close(alloc) else {
+    let position = front.position();
+    if !gathering.is_due(position, remote) {
+        return false;
+    }
+    let Ok(true) = close(alloc, front, back) else {
         return false;
     };
-    let _ = primary.close(alloc);
+    gathering.closed = position;
+    let _ = close(alloc, front, back);
     true
 }
 
-/// Takes the committer's steps while one is due. Answers whether one was.
-fn commit_all<E: Durable, K: Keyspace>(
-    alloc: Global,
-    primary: &mut Primary<E, K>,
-    mark: LocalMark,
-    groups: &mut RingOutlet<Group>,
-    link: &Bell,
-    remote: u64,
-) -> (LocalMark, Result<bool, Refusal>)
-    requires { Stands E.device E.contents primary.old }
-    ensures { OnOk result.1 (Stands E.device E.contents primary.new) }
-{
-    let mut mark = mark;
-    let mut any = false;
-    for _ in 0..MOST_STEPS {
-        let (next, stepped) = commit(alloc, primary, mark, groups, link, remote);
-        mark = next;
-        match stepped {
-            Ok(true) => any = true,
-            Ok(false) => return (mark, Ok(any)),
-            Err(refusal) => return (mark, Err(refusal)),
-        }
-    }
-    (mark, Ok(any))
-}
-
-/// Takes the step of the committer that is due, shows by the local mark what a commit made durable, and calls the link where a group was handed on.
-/// Answers whether it did something. Where memory is refused nothing is lost, and the step is tried again later.
+/// Takes the committer's steps, and gives the front what they freed. Answers whether there was anything to do.
 fn commit<E: Durable, K: Keyspace>(
     alloc: Global,
-    primary: &mut Primary<E, K>,
+    front: &mut Front<K>,
+    back: &mut Back<E>,
     mark: LocalMark,
     groups: &mut RingOutlet<Group>,
     link: &Bell,
     remote: u64,
 ) -> (LocalMark, Result<bool, Refusal>)
-    requires { Stands E.device E.contents primary.old }
-    ensures { OnOk result.1 (Stands E.device E.contents primary.new) }
+    requires { BackStands E.device E.contents back.old front.old.sequencer [] }
+    ensures { OnOk result.1 (BackStands E.device E.contents back.new front.new.sequencer []) }
 {
-    match primary.commit(alloc, groups, remote) {
-        Ok(done) => {
-            let mark = show(mark, &done);
-            (mark, Ok(goes_on(&done, link)))
+    let (mark, stepped) = take_steps(alloc, back, mark, groups, link, remote);
+    match stepped {
+        Ok(stepped) => {
+            take_back(front, &stepped.last);
+            (mark, Ok(stepped.any))
         }
-        Err(Refusal::Memory) => (mark, Ok(false)),
         Err(refusal) => (mark, Err(refusal)),
-    }
-}
-
-// Raises the local mark to what a commit made durable.
-fn show(mark: LocalMark, done: &Done) -> LocalMark {
-    match done {
-        Done::Committed(committed) => mark.raise(committed),
-        _ => mark,
-    }
-}
-
-// Whether something was done. Where a group was handed on, the link is called.
-fn goes_on(done: &Done, link: &Bell) -> bool {
-    match done {
-        Done::Idle => false,
-        Done::Handed => {
-            link.ring();
-            true
-        }
-        _ => true,
     }
 }

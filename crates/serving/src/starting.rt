@@ -7,7 +7,7 @@ use crate::accepting::{Acceptor, Door};
 use crate::floor::Floor;
 use crate::local_mark::LocalMark;
 use crate::node::{Node, serve};
-use clients::Cards;
+use clients::{Cards, Sight};
 use kv_types::Refusal;
 use links::{AckReceiver, LinkSender, Log, Outgoing, RemoteMark, Watch};
 use lobby::Entrance;
@@ -30,6 +30,9 @@ use wbl_engine::Durable;
 /// How often a thread gives way to others before it sleeps.
 const SPIN: u32 = 30;
 
+/// How often the node's thread does, which all connections wait for.
+const NODE_SPIN: u32 = 500;
+
 /// What the threads of a primary own, each its own.
 #[derive(Drop)]
 struct Threading {
@@ -48,6 +51,7 @@ struct Seats {
     local: LocalMark,
     remote: RemoteMark,
     watch: Watch,
+    sight: Sight,
     ghost of_these: { root.marks ≡ arc_value marks },
 }
 
@@ -102,7 +106,7 @@ pub fn run<
         epoch,
         ..
     } = opened;
-    let position = primary.durable_position();
+    let position = primary.back.durable_position();
     match new_threading(alloc, position, opening, epoch, address) {
         Ok(threading) => start(rt, alloc, threading, listener, primary, log),
         Err(refusal) => refusal,
@@ -184,6 +188,7 @@ fn new_threading(
         local,
         remote,
         watch,
+        sight,
     } = new_seats(alloc, position)?;
     let (sleeper, own) = bell(alloc)?;
     let outgoing = Outgoing::new(Link::new(alloc, epoch)?, opening);
@@ -201,11 +206,12 @@ fn new_threading(
     } = new_house(alloc, marks, root, due, &own)?;
     let node = Node {
         floor,
+        sight,
         mark: local,
         groups,
         link,
         sleeper,
-        idle: Idle::new(SPIN),
+        idle: Idle::new(NODE_SPIN),
     };
     Ok(Threading {
         node,
@@ -278,16 +284,19 @@ fn new_seats(alloc: Global, position: u64) -> Result<Seats, Refusal> {
     let local = marks.split_seat::<Committer>(&mut root);
     let remote = marks.split_seat::<marks::Link>(&mut root);
     let watch = marks.split_seat::<Reader>(&mut root);
+    let sight = marks.split_seat::<Reader>(&mut root);
     let marks = Arc::new(alloc, marks)?;
     let local = LocalMark::new(Arc::try_clone(&marks)?, local);
     let remote = RemoteMark::new(Arc::try_clone(&marks)?, remote);
     let watch = Watch::new(Arc::try_clone(&marks)?, watch);
+    let sight = Sight::new(Arc::try_clone(&marks)?, sight);
     Ok(Seats {
         marks,
         root,
         local,
         remote,
         watch,
+        sight,
     })
 }
 

@@ -1,5 +1,5 @@
-use Rattle.primary.specs.Standing.{Stands}
+use Rattle.primary.specs.Leading.{KeepsLead}
 use Rattle.serving.proofs.floor.Floor.serve_called.Given as goal
 
 abbrev pub invariant-loop : goal.invariant-loop
-invariant-loop g l = Stands g.E.Durable.device g.E.Durable.contents l.primary
+invariant-loop g l = KeepsLead l.fn.front.sequencer l.front.sequencer

@@ -1,0 +1,9 @@
+use Rattle.primary.proofs.ClosedLemmas.{close-stands}
+use Rattle.primary.proofs.primary.close.Goals as goal
+
+pub returns-clause-stands : goal.returns-clause-stands
+returns-clause-stands g c = λ over.
+    let b = c.args.back.now in
+    let closed = c.close_next.ensures in
+    close-stands (g.E.Durable.device b.committer.engine) (g.E.Durable.contents b.committer.engine) b.committer.aside.items c.args.front.now.sequencer c.close_next.new.sequencer b.work c.close_next.new.work
+    c.close_next.result closed.closed closed.none closed.refused over

@@ -1,0 +1,77 @@
+//! What of a primary commits.
+ghost use Rattle.std.specs.Prelude.{◌≡◌, ◌↔◌, false, ℕ, [], IfOk, IsErrOf};
+ghost use Rattle.model.specs.declared.group.Group.{Group};
+ghost use Rattle.redis_core.specs.Sequencing.{Sequencing};
+ghost use Rattle.group_commit.specs.declared.stage.Done.TheVariants as done;
+ghost use Rattle.primary.specs.Settled.{HasNothingInHand};
+ghost use Rattle.primary.specs.Standing.{BackStands, notices_of};
+
+use group_commit::{Committer, Done};
+use kv_types::Refusal;
+use model::{Group, Work};
+use pipes::{LocalPipe, Outlet};
+use std::alloc::Global;
+use wbl_engine::Durable;
+
+/// A primary's committer, and the queue of what it is to do.
+#[derive(Drop)]
+pub struct Back<E> {
+    pub(crate) work: LocalPipe<Work>,
+    pub(crate) committer: Committer<E>,
+}
+
+impl<E: Durable> Back<E> {
+    /// The position up to which everything is durable on this node.
+    pub fn durable_position(&self) -> u64
+        ensures { result ≡ (E.contents self.now.committer.engine).current.position }
+    {
+        self.committer.position()
+    }
+
+    /// The epoch of its record: which primary of the pair it is.
+    pub fn epoch(&self) -> u64
+        ensures { result ≡ (E.contents self.now.committer.engine).current.epoch }
+    {
+        self.committer.epoch()
+    }
+
+    /// Whether something is in hand that may make room: groups and free lists that wait for the committer, lists that stand aside, gaps.
+    pub fn is_room_coming(&self) -> bool
+        ensures { result ≡ false ↔ HasNothingInHand (E.contents self.now.committer.engine) self.now.work.items self.now.committer.aside.items }
+    {
+        let is_queued = !self.work.is_empty();
+        let is_kept = self.committer.has_aside() | self.committer.has_gap();
+        is_queued | is_kept
+    }
+
+    /// Takes the step of the committer that is due, as `Committer::turn` does. Whatever sequencer is ahead of this before is so after it, once it is told
+    /// of what the step freed.
+    ///
+    /// # Errors
+    ///
+    /// As at `Committer::turn`. After `Memory` the step can be taken again.
+    pub fn commit<O: Outlet<Item = Group>>(
+        &mut self,
+        alloc: Global,
+        link: &mut O,
+        remote: u64,
+    ) -> Result<Done, Refusal>
+        requires stands { (s : Sequencing) × BackStands E.device E.contents self.old s [] }
+        requires may { (group : Group) → O.may_offer link.old group }
+        ensures told { IfOk result (λ came. (s : Sequencing) → BackStands E.device E.contents self.old s []
+            → BackStands E.device E.contents self.new s (notices_of came)) }
+        ensures again { IsErrOf result Refusal.Memory → (s : Sequencing) → BackStands E.device E.contents self.old s [] → BackStands E.device E.contents self.new s [] }
+        // what it says to be durable is
+        ensures committed { IfOk result (λ came. (position : ℕ) → came ≡ done.Committed position → position ≡ (E.contents self.new.committer.engine).current.position) }
+        ensures same { O.is_same link.old link.new }
+    {
+        self.committer.turn(alloc, &mut self.work, link, remote)
+    }
+
+    /// The engine's device, unchanged. What waits is dropped: this primary does nothing more.
+    pub fn into_device(self) -> E::Device
+        ensures { E.Device.state result ≡ E.device self.committer.engine }
+    {
+        self.committer.into_device()
+    }
+}
