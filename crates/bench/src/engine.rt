@@ -11,7 +11,7 @@ use crate::sets::frame_of;
 use extent_heap::ExtentHeap;
 use kv_types::Refusal;
 use model::{LAYOUT, MIN_LINES};
-use mv_keyspace::{Keyspace, ListKeyspace};
+use mv_keyspace::{Keyspace, MvKeyspace};
 use placing::Rebuilt;
 use pmem::SimPmem;
 use standby::Standby;
@@ -23,7 +23,7 @@ use wbl_engine::{Durable, Role, WblEngine};
 const GROUPS: [u64; 2] = [1, 64];
 
 /// A node over a device whose calls are counted.
-type Node = Standby<WblEngine<CountingPmem<SimPmem>>, ListKeyspace>;
+type Node = Standby<WblEngine<CountingPmem<SimPmem>>, MvKeyspace>;
 
 /// A room in which all entries and all lines of extents are free, and no version has ended.
 fn free_room(alloc: Global) -> Result<Rebuilt, Refusal>
@@ -47,7 +47,7 @@ fn free_room(alloc: Global) -> Result<Rebuilt, Refusal>
 /// A node over a new image.
 fn new_node(alloc: Global) -> Result<Node, Refusal>
     ensures follows { IfOk result (λ node. Follows (⟦<WblEngine<CountingPmem<SimPmem>> as Durable>⟧.contents node.engine)
-        (⟦<ListKeyspace as Keyspace>⟧.table node.keyspace) node.heap node.ended.items) }
+        (⟦<MvKeyspace as Keyspace>⟧.table node.keyspace) node.heap node.ended.items) }
     ensures durable { IfOk result (λ node. IsDurable (⟦<WblEngine<CountingPmem<SimPmem>> as Durable>⟧.device node.engine)
         (⟦<WblEngine<CountingPmem<SimPmem>> as Durable>⟧.contents node.engine)) }
     ensures sound { IfOk result (λ node. ⟦<WblEngine<CountingPmem<SimPmem>> as Durable>⟧.is_faulted node.engine ≡ false) }
@@ -57,7 +57,7 @@ fn new_node(alloc: Global) -> Result<Node, Refusal>
     match WblEngine::format(device, Role::Standby) {
         Ok(engine) => Ok(Standby {
             engine,
-            keyspace: ListKeyspace::new(alloc),
+            keyspace: MvKeyspace::new(alloc),
             heap: room.heap,
             ended: room.ended,
         }),

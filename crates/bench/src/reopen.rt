@@ -10,11 +10,12 @@ ghost use Rattle.wbl_engine.specs.Reopening.{Reopens};
 
 use crate::refused::print_refusal;
 use crate::sets::{key_of, value_of};
+use cmd_core::Lookup;
 use extent_heap::ExtentHeap;
 use heap_layout::{lines_for, write_entry};
 use kv_types::{EntryNo, Extent, RecordId, Refusal};
 use model::{LAYOUT, LINE_WORDS, MAX_LINES, MIN_LINES, Put, STAMP_WINDOW};
-use mv_keyspace::ListKeyspace;
+use mv_keyspace::MvKeyspace;
 use placing::{Rebuilt, rebuild};
 use pmem::{Crashing, Pmem, SimPmem, flush_lines, store_words};
 use std::alloc::Global;
@@ -153,7 +154,7 @@ fn rebuild_from(
     alloc: Global,
     lines: u64,
     versions: Versions,
-) -> Result<(ListKeyspace, Rebuilt), Refusal>
+) -> Result<(MvKeyspace, Rebuilt), Refusal>
     requires { (image : Image) × (role : NodeRole) × (contents : Contents)
         × Reopens lines image role contents versions.counted.items versions.gapped.items }
 {
@@ -161,7 +162,7 @@ fn rebuild_from(
     if !gapped.is_empty() {
         return Err(Refusal::Damaged);
     }
-    let mut keyspace = ListKeyspace::new(alloc);
+    let mut keyspace = MvKeyspace::new(alloc);
     let rebuilt = rebuild(alloc, &mut keyspace, lines, counted, &gapped)?;
     Ok((keyspace, rebuilt))
 }
@@ -178,14 +179,14 @@ struct Opened {
 fn print_made(
     rt: &impl Print,
     opened: Opened,
-    keyspace: &ListKeyspace,
+    keyspace: &MvKeyspace,
     heap: &ExtentHeap,
 ) -> io::Result<()> {
     println!(rt;
         "reopen: {} lines, position {}: {} records, {} lines are free",
         opened.lines,
         opened.position,
-        keyspace.len(),
+        keyspace.count_keys(),
         heap.free_lines()
     )
 }
@@ -216,7 +217,7 @@ fn times_of(
     rt: &(impl Print + Clock),
     opened: Opened,
     reopening: Duration,
-    keyspace: &ListKeyspace,
+    keyspace: &MvKeyspace,
     heap: &ExtentHeap,
 ) -> io::Result<Option<Times>> {
     let made = opened.start.elapsed(rt)?;

@@ -13,7 +13,7 @@ use crate::opening::open_standby;
 use crate::serve::ServeError;
 use failover::operator_fence;
 use kv_types::Refusal;
-use mv_keyspace::ListKeyspace;
+use mv_keyspace::MvKeyspace;
 use pmem::Pmem;
 use standby::Standby;
 use std::alloc::Global;
@@ -49,7 +49,7 @@ fn promote_image<P: Pmem + Drop, W: Write>(
     ensures told { IfOk result (λ left. TellsPromotion (P.state device).lines (image_of (P.state device).words) (P.state left)
         (W.contents writer.old) (W.contents writer.new)) }
 {
-    let standby: Standby<WblEngine<P>, ListKeyspace> = open_standby(alloc, device)?;
+    let standby: Standby<WblEngine<P>, MvKeyspace> = open_standby(alloc, device)?;
     let fenced = operator_fence(standby.epoch());
     let promoted = match failover::promote(standby, fenced) {
         Ok(promoted) => promoted,

@@ -3,7 +3,7 @@ use crate::failure::Failure;
 use crate::images::Images;
 use crate::serve::ServeError;
 use links::{Log, News};
-use mv_keyspace::ListKeyspace;
+use mv_keyspace::MvKeyspace;
 use primary::{Opened, open};
 use serving::run;
 use std::alloc::Global;
@@ -44,7 +44,7 @@ pub fn serve_clients<
         Ok(hash_builder) => hash_builder,
         Err(error) => return Err(Failure::Stopped(ServeError::Random(error))),
     };
-    let opened: Opened<WblEngine<I::Device>, ListKeyspace> = open(alloc, device, hash_builder)?;
+    let opened: Opened<WblEngine<I::Device>, MvKeyspace> = open(alloc, device, hash_builder)?;
     log.say(News::Opened {
         position: opened.position,
         epoch: opened.epoch,

@@ -3,7 +3,7 @@ use crate::failure::Failure;
 use crate::images::Images;
 use crate::opening::open_standby;
 use links::{Log, News, follow};
-use mv_keyspace::{Keyspace, ListKeyspace};
+use mv_keyspace::{Keyspace, MvKeyspace};
 use standby::Standby;
 use std::alloc::Global;
 use std::io::Write;
@@ -22,7 +22,7 @@ pub fn stand_by<N: Net<Listener = TcpListener, Stream = TcpStream>, I: Images, E
 ) -> Result<(), Failure> {
     let mut log = Log::new(alloc, errors);
     let device = images.open(name)?;
-    let mut node: Standby<WblEngine<I::Device>, ListKeyspace> = open_standby(alloc, device)?;
+    let mut node: Standby<WblEngine<I::Device>, MvKeyspace> = open_standby(alloc, device)?;
     log.say(opened(&node));
     let Ok(listener) = TcpListener::bind(net, listen) else {
         return Err(Failure::CannotListen);
