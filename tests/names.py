@@ -14,6 +14,7 @@ OUTSIDE = {
 
 # Public names that several items, calls or variants have, and why that is one meaning.
 REPEATED = {
+    "is_room_coming": "whether something is on its way that may make room, in each of the two parts of a primary",
     "Answer": "what a request is answered: by a command, and by a session",
     "Ack": "the standby says what is durable on it: what it says, and the frame that carries it",
     "Group": "changes that are made durable together: on a node, and as the frame that carries them",
@@ -63,6 +64,7 @@ REPEATED = {
     "closes": "the connection is over then: after a request, and after an item of it",
     "close_seat": "a connection has left its seat: to the sequencer, and to the primary that has it",
     "commit": "makes a group durable: the engine, and the primary that has one",
+    "counts": "it is taken as one of its own: a stamp by a record, an acknowledgement by a primary",
     "crash": "what is only in memory is lost: of a device what was not made durable, by itself, under its engine, and under a node's committer or standby; and all connections of a node",
     "enter": "a connection takes a seat",
     "epoch": "the epoch of the record: of the image under a committer or a primary, of a standby's and of a promoted one; of the frames of a link, and of a fence",

@@ -205,6 +205,8 @@ class Node:
         self.role, self.image, self.port = role, image, port
         self.words = [role, "--image", str(image), "--listen", port.address(), *options]
         self.output, self.errors = image.with_suffix(f".{role}.out"), image.with_suffix(f".{role}.err")
+        # the words of what starts the program, where something does
+        self.before = []
         self.process = None
 
     def format(self, lines):
@@ -214,7 +216,7 @@ class Node:
     def start(self, descriptors=DESCRIPTORS):
         """Starts the process over the image as it is."""
         with open(self.output, "ab") as output, open(self.errors, "ab") as errors:
-            self.process = launch([common.program("server"), *self.words], descriptors, stdout=output, stderr=errors)
+            self.process = launch([*self.before, common.program("server"), *self.words], descriptors, stdout=output, stderr=errors)
 
     def is_running(self):
         return self.process is not None and self.process.poll() is None
@@ -322,6 +324,17 @@ class Pair:
             node.end()
         for node in nodes:
             node.start(self.descriptors)
+
+    def fail_over(self):
+        """Kills both nodes, promotes the standby's image, and starts it as the primary, with a new standby behind it."""
+        self.end()
+        image, new = self.standby.image, self.folder / f"after-{self.standby.image.name}"
+        run("promote", "--image", str(image), "--old-primary-stopped")
+        self.primary, self.standby = self.primary_over(image), self.standby_over(new)
+        self.standby.format(self.lines)
+        for node in (self.standby, self.primary):
+            node.start(self.descriptors)
+        self.wait()
 
     def end(self):
         """Ends both nodes."""

@@ -8,6 +8,7 @@ import tempfile
 
 from pair import PairCases
 from plain_replies import OK, bulk, integer
+from spelling import spell
 
 PROGRAMS = ["server"]
 IS_SLOW = True
@@ -18,6 +19,8 @@ SECONDS, INSTALLING_SECONDS = 120, 600
 # What redis-benchmark asks for with 50 connections of 16 requests at a time: MSET of ten keys lets 8,000 versions wait.
 BENCHMARK_LINES = 262_144
 BENCHMARK_REQUESTS = 20_000
+# Requests of `redis-cli --pipe`, and lines of an image that has an entry for each.
+PIPE_REQUESTS, PIPE_LINES = 100_000, 1_048_576
 
 
 class OverClients(PairCases):
@@ -127,6 +130,21 @@ class RedisTools(OverClients):
             self.assertEqual(nodes.client().ask("SET", "a", "of another"), OK)
             output, _ = child.communicate(b"multi\nset a lost\nexec\nget a\n", SECONDS)
         self.assertEqual(output, b'OK\nQUEUED\n(nil)\n"of another"\n')
+
+    def test_redis_cli_pipe(self):
+        """100,000 SETs are executed, and then it ends with the fault that docs/clients.md tells of: its empty line is no request here. It catches a
+        pipeline that loses what stands before a fault."""
+        if not self.have("redis-tools"):
+            return
+        nodes = self.pair(lines=PIPE_LINES)
+        data = b"".join(spell("SET", f"k{at:06}", f"{at}") for at in range(PIPE_REQUESTS))
+        ran = subprocess.run(["redis-cli", "-p", str(nodes.door.number), "--pipe"], input=data, capture_output=True, timeout=SECONDS)
+        self.assertEqual((ran.returncode, ran.stderr), (1, b"ERR Protocol error: expected '*'\n"))
+        with nodes.client() as client:
+            self.assertEqual(client.ask("DBSIZE"), integer(PIPE_REQUESTS))
+            for at in (0, PIPE_REQUESTS // 2, PIPE_REQUESTS - 1):
+                self.assertEqual(client.ask("GET", f"k{at:06}"), bulk(b"%d" % at))
+        self.assertEqual(self.assert_positions(nodes), (PIPE_REQUESTS, PIPE_REQUESTS))
 
     def test_redis_benchmark(self):
         if not self.have("redis-tools"):

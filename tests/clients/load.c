@@ -1,7 +1,8 @@
 // load PORT CLIENTS PIPELINE SECONDS COMMAND KEYS WAIT: keeps CLIENTS connections busy with requests for a while, PIPELINE of them at a time on each,
-// and prints how many were answered, the seconds that it took, and the median and the 99th percentile of the microseconds from the sending of a batch to its last
-// reply. COMMAND is set, get, incr, hset or mset (of ten keys), over KEYS keys or fields drawn at random. With WAIT 1 each batch ends in WAIT 1 0, which
-// is answered once a replica has acknowledged it; it is not counted. Any error among the replies ends it with status 1.
+// and prints how many were answered, the seconds that it took, and the median and the 99th percentile of the microseconds from the sending of a
+// batch to its last reply. COMMAND is set, get, incr, hset or mset (of ten keys), over KEYS keys or fields drawn at random, or with KEYS 0 over
+// keys of which none comes twice, in an order that is none. With WAIT 1 each batch ends in WAIT 1 0, which is answered once a replica has
+// acknowledged it; it is not counted. Any error among the replies ends it with status 1.
 #include <arpa/inet.h>
 #include <errno.h>
 #include <netinet/in.h>
@@ -20,6 +21,9 @@
 #define MOST_PIPELINE 64
 #define MOST_SAMPLES 4000000
 #define BUFFER_BYTES 65536
+// Numbers of keys, and what scatters them: it has no divisor with the first.
+#define KEY_NUMBERS 1000000000000
+#define SCATTERING 387420489
 
 struct client {
     int socket;
@@ -29,7 +33,8 @@ struct client {
     uint64_t begun;
 };
 
-static int pipeline, keys, waits;
+static int pipeline, waits;
+static uint64_t keys, made;
 static const char *command;
 static uint32_t *samples;
 static size_t sample_count;
@@ -57,20 +62,27 @@ static void put(struct client *client, const char *format, ...) {
     client->out_length += (size_t)length;
 }
 
+static unsigned long long draw(void) {
+    if (keys == 0) {
+        return (unsigned long long)((unsigned __int128)made++ % KEY_NUMBERS * SCATTERING % KEY_NUMBERS);
+    }
+    return keys > 1 ? (unsigned long long)rand() % keys : 0;
+}
+
 static void put_request(struct client *client) {
-    int drawn = keys > 1 ? rand() % keys : 0;
+    unsigned long long drawn = strcmp(command, "mset") ? draw() : 0;
     if (!strcmp(command, "set")) {
-        put(client, "*3\r\n$3\r\nSET\r\n$16\r\nkey:%012d\r\n$3\r\nxxx\r\n", drawn);
+        put(client, "*3\r\n$3\r\nSET\r\n$16\r\nkey:%012llu\r\n$3\r\nxxx\r\n", drawn);
     } else if (!strcmp(command, "get")) {
-        put(client, "*2\r\n$3\r\nGET\r\n$16\r\nkey:%012d\r\n", drawn);
+        put(client, "*2\r\n$3\r\nGET\r\n$16\r\nkey:%012llu\r\n", drawn);
     } else if (!strcmp(command, "incr")) {
-        put(client, "*2\r\n$4\r\nINCR\r\n$20\r\ncounter:%012d\r\n", drawn);
+        put(client, "*2\r\n$4\r\nINCR\r\n$20\r\ncounter:%012llu\r\n", drawn);
     } else if (!strcmp(command, "hset")) {
-        put(client, "*4\r\n$4\r\nHSET\r\n$6\r\nmyhash\r\n$20\r\nelement:%012d\r\n$3\r\nxxx\r\n", drawn);
+        put(client, "*4\r\n$4\r\nHSET\r\n$6\r\nmyhash\r\n$20\r\nelement:%012llu\r\n$3\r\nxxx\r\n", drawn);
     } else {
         put(client, "*21\r\n$4\r\nMSET\r\n");
         for (int at = 0; at < 10; at++) {
-            put(client, "$16\r\nkey:%012d\r\n$3\r\nxxx\r\n", keys > 1 ? rand() % keys : 0);
+            put(client, "$16\r\nkey:%012llu\r\n$3\r\nxxx\r\n", draw());
         }
     }
 }
@@ -134,11 +146,16 @@ int main(int count, char **words) {
         return 2;
     }
     int clients = atoi(words[2]), live = 0;
-    pipeline = atoi(words[3]), command = words[5], keys = atoi(words[6]), waits = atoi(words[7]);
+    pipeline = atoi(words[3]), command = words[5], keys = (uint64_t)atol(words[6]), waits = atoi(words[7]);
     if (clients < 1 || clients > MOST_CLIENTS || pipeline < 1 || pipeline > MOST_PIPELINE) {
         fprintf(stderr, "load: at most %d clients and %d requests at a time\n", MOST_CLIENTS, MOST_PIPELINE);
         return 2;
     }
+    // (from the time on, no run makes a key of an earlier one, where it makes less than a million a second)
+    struct timespec today;
+    clock_gettime(CLOCK_REALTIME, &today);
+    made = (uint64_t)today.tv_sec * 1000000 + (uint64_t)today.tv_nsec / 1000;
+    srand((unsigned)made);
     struct client *all = calloc((size_t)clients, sizeof *all);
     samples = malloc(MOST_SAMPLES * sizeof *samples);
     int poll = epoll_create1(0);

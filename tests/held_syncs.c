@@ -1,0 +1,35 @@
+// Loaded before the C library (LD_PRELOAD), holds the syncs of a program while a file is there. It reads:
+//   HELD_FILE    the file; its name with `.begun` behind it is made when a sync is held
+#include <dlfcn.h>
+#include <fcntl.h>
+#include <stdio.h>
+#include <stdlib.h>
+#include <time.h>
+#include <unistd.h>
+
+static void hold(void) {
+    const char *file = getenv("HELD_FILE");
+    char begun[4200];
+    if (file == NULL || access(file, F_OK) != 0) {
+        return;
+    }
+    snprintf(begun, sizeof begun, "%s.begun", file);
+    close(open(begun, O_WRONLY | O_CREAT | O_CLOEXEC, 0666));
+    while (access(file, F_OK) == 0) {
+        nanosleep(&(struct timespec){0, 1000000}, NULL);
+    }
+}
+
+static int synced(const char *name, int file) {
+    int (*real)(int) = (int (*)(int))dlsym(RTLD_NEXT, name);
+    hold();
+    return real(file);
+}
+
+int fsync(int file) {
+    return synced("fsync", file);
+}
+
+int fdatasync(int file) {
+    return synced("fdatasync", file);
+}

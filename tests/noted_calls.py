@@ -1,0 +1,73 @@
+"""Programs whose calls on files are noted: which there were, in order, which of their syncs is made to fail, and what of an image was durable at
+each moment (noted_calls.c, which gcc makes a library of)."""
+
+import pathlib
+import shutil
+import subprocess
+import typing
+
+SOURCE = pathlib.Path(__file__).resolve().parent / "noted_calls.c"
+WORD, BLOCK = 8, 4_096
+OPTIONS = ["-shared", "-fPIC", "-O1", "-Wall", "-Wextra", "-Werror", "-D_GNU_SOURCE"]
+
+
+class Call(typing.NamedTuple):
+    """A call that has returned: its word, the path of its file as it was opened, its numbers, and whether it failed."""
+
+    word: str
+    path: str
+    numbers: tuple
+    failed: bool
+
+
+def library(folder):
+    """The library in this folder, which is made there, or None where there is no gcc."""
+    made = pathlib.Path(folder, "noted_calls.so")
+    if not shutil.which("gcc"):
+        return None
+    subprocess.run(["gcc", *OPTIONS, "-o", made, SOURCE, "-ldl"], check=True)
+    return made
+
+
+class Noting:
+    """How a program is started so that its calls are noted, and what was noted. `fails` is which of its syncs fails, and `torn` which of its
+    writes, 0 for none; `synced` is where what is durable of the image is kept: a copy of the image when this is made."""
+
+    def __init__(self, loaded, image, fails=0, torn=0, keeps=True):
+        self.image, self.log, self.synced = image, image.with_suffix(".calls"), image.with_suffix(".synced")
+        self.log.unlink(missing_ok=True)
+        settings = {"LD_PRELOAD": loaded, "NOTED_LOG": self.log, "NOTED_FAILS": fails, "NOTED_TORN": torn}
+        if keeps:
+            shutil.copyfile(image, self.synced)
+            settings |= {"NOTED_IMAGE": image, "NOTED_SYNCED": self.synced}
+        self.words = ["/usr/bin/env", *(f"{name}={value}" for name, value in settings.items())]
+
+    def calls(self):
+        """What was noted, in order. A line that is cut short is of a program that was killed in it."""
+        found, paths = [], {}
+        for line in self.log.read_text(encoding="utf-8").splitlines():
+            failed = line.endswith(" failed")
+            word, file, *rest = line.removesuffix(" failed").split(" ", 2)
+            if word in ("open", "made") and not failed:
+                paths[file] = rest[0]
+            path = rest[0] if word in ("open", "made") else paths.get(file, "")
+            numbers = () if word in ("open", "made") else tuple(map(int, " ".join(rest).split()))
+            found.append(Call(word, path, numbers, failed))
+        return found
+
+    def crash(self, draws=None):
+        """The system goes down with the program, which has ended: of the image there is left what was durable, and of the words that were not
+        those that are drawn, or none."""
+        durable = self.synced.read_bytes()
+        self.image.write_bytes(mixed(self.image.read_bytes(), durable, draws) if draws else durable)
+
+
+def mixed(left, durable, draws):
+    """What was durable with some of the words that are left otherwise: a share of them that is drawn too."""
+    found, share = bytearray(durable), draws.random()
+    for start in range(0, len(found), BLOCK):
+        if left[start:start + BLOCK] != durable[start:start + BLOCK]:
+            for at in range(start, min(start + BLOCK, len(found)), WORD):
+                if left[at:at + WORD] != durable[at:at + WORD] and draws.random() < share:
+                    found[at:at + WORD] = left[at:at + WORD]
+    return bytes(found)

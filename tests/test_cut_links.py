@@ -1,0 +1,115 @@
+"""A link that is cut again and again, at any byte of what goes either way, under writers. It catches a frame that is taken in part, or twice, a
+position that is told before it is held, and a link that is not opened again."""
+
+import contextlib
+import os
+import random
+import socket
+import threading
+import time
+
+import pair
+from load import WRITERS, Load
+from pair import HOST, PairCases, Port, wait_until
+from plain_replies import OK
+
+PROGRAMS = ["server"]
+IS_SLOW = True
+
+# How often the link is cut in each round, and how many rounds there are.
+CUTS, ROUNDS = 15, int(os.environ.get("WBL_ROUNDS", "1"))
+# An acknowledgement, and what the standby says first, has so many bytes; a frame of one SET some 40.
+SHORT, LONG = 60, 4_000
+PIECES = (1, 7, 50, 65_536)
+
+
+class CuttingLink:
+    """Stands between the primary and the standby. While it cuts, each connection lets through some bytes either way, a number that is drawn; the
+    rest is lost and both sides see the end."""
+
+    def __init__(self, standby, draws):
+        self.standby, self.draws, self.cuts, self.is_cutting = standby, draws, 0, False
+        self.port, self.door, self.open = Port(), socket.socket(), []
+        self.door.setsockopt(socket.SOL_SOCKET, socket.SO_REUSEADDR, 1)
+        self.door.bind((HOST, self.port.number))
+        self.door.listen()
+        threading.Thread(target=self._take_connections, daemon=True).start()
+
+    def close(self):
+        for end in [self.door, *self.open]:
+            shut(end)
+        self.port.close()
+
+    def cut(self):
+        """Begins to cut, the connection that there is first."""
+        self.is_cutting = True
+        for end in self.open[-2:]:
+            shut(end)
+
+    def _take_connections(self):
+        with contextlib.suppress(OSError):
+            while True:
+                primary, _ = self.door.accept()
+                try:
+                    standby = socket.create_connection((HOST, self.standby))
+                except OSError:
+                    primary.close()
+                    continue
+                self.open += [primary, standby]
+                for one, other in ((primary, standby), (standby, primary)):
+                    most = self._drawn_length() if self.is_cutting else None
+                    threading.Thread(target=self._pass_on, args=(one, other, most), daemon=True).start()
+
+    def _drawn_length(self):
+        """Mostly with some frames in it: a primary waits longer each time that nothing came of a link."""
+        return self.draws.randint(0, SHORT if self.draws.random() < 0.1 else LONG)
+
+    def _pass_on(self, one, other, most):
+        with contextlib.suppress(OSError):
+            while data := one.recv(self.draws.choice(PIECES)):
+                other.sendall(data if most is None else data[:most])
+                most = None if most is None else most - len(data)
+                if most is not None and most <= 0:
+                    self.cuts += 1
+                    break
+        shut(one)
+        shut(other)
+
+
+def shut(end):
+    """Ends a connection, also where another thread waits on it."""
+    with contextlib.suppress(OSError):
+        end.shutdown(socket.SHUT_RDWR)
+
+
+class CutLinks(PairCases):
+    def setUp(self):
+        # (more rounds take longer)
+        pair.MOST_SECONDS = max(pair.MOST_SECONDS, 60 * ROUNDS)
+        super().setUp()
+        self.nodes = self.pair()
+        self.between = CuttingLink(self.nodes.link.number, random.Random(f"cuts {time.time()}"))
+        self.addCleanup(self.between.close)
+        primary = self.nodes.primary
+        primary.end()
+        primary.words[primary.words.index("--link") + 1] = self.between.port.address()
+        primary.start()
+        wait_until(primary.is_listening, "a primary that listens")
+        with self.nodes.client() as client:
+            self.assertEqual(client.ask("FLUSHDB"), OK)
+
+    def test_under_writers(self):
+        load = Load(self.nodes)
+        for number in range(ROUNDS):
+            with self.case("round", number=number):
+                self.between.cuts = 0
+                load.start()
+                load.wait_for(WRITERS)
+                self.between.cut()
+                wait_until(lambda: self.between.cuts >= CUTS, f"{CUTS} cuts")
+                self.between.is_cutting = False
+                load.wait_for(10 * WRITERS)
+                load.end()
+                load.check(f"after round {number}")
+                self.assertEqual(load.answered(), load.asked())
+        self.assertEqual(self.assert_positions(self.nodes), (load.answered(), load.answered()))

@@ -1,0 +1,78 @@
+"""A sync that does not come back: what the nodes do meanwhile. A reply that leaves before its fence has come back fails here, and so does a primary that
+serves nobody while the standby's is held."""
+
+import pathlib
+import re
+import shutil
+import subprocess
+
+import common
+from pair import PairCases, spell, wait_until
+
+SOURCE = pathlib.Path(__file__).resolve().parent / "held_syncs.c"
+KEY = "k" * 500
+# What a reader takes in at most of a connection that is not served: a ring of items, one more, and a block of bytes.
+RING_ITEMS, BLOCK_BYTES = 256, 16 * 1_024
+REQUESTS = 700
+
+
+def untaken(port, client):
+    """How many bytes that came from this client the process at this port has not read."""
+    ours = client.socket.getsockname()[1]
+    table = pathlib.Path("/proc/net/tcp").read_text(encoding="ascii")
+    row = re.search(rf":{port:04X} \w+:{ours:04X} 01 (\w+):(\w+) ", table)
+    # (what the other end has not got yet stands in that end's row)
+    other = re.search(rf":{ours:04X} \w+:{port:04X} 01 (\w+):(\w+) ", table)
+    return int(row[2], 16) + int(other[1], 16)
+
+
+@common.unittest.skipUnless(shutil.which("gcc"), "there is no gcc")
+class Held(PairCases):
+    def held(self, role):
+        """A pair of which one node's syncs are held while the file is there that this returns beside it."""
+        nodes = self.pair()
+        library, file = nodes.folder / "held_syncs.so", nodes.folder / "held"
+        subprocess.run(["gcc", "-shared", "-fPIC", "-O1", "-Wall", "-Wextra", "-Werror", "-D_GNU_SOURCE", "-o", library, SOURCE, "-ldl"], check=True)
+        node = getattr(nodes, role)
+        node.end()
+        node.before = ["/usr/bin/env", f"LD_PRELOAD={library}", f"HELD_FILE={file}"]
+        node.start()
+        nodes.wait()
+        return nodes, file
+
+    def serves_while_held(self, role):
+        nodes, file = self.held(role)
+        with nodes.client() as first, nodes.client() as second:
+            self.assertEqual(second.ask("GET", KEY), b"$-1\r\n")
+            file.touch()
+            first.send(spell("SET", "k", "1"))
+            wait_until(lambda: file.with_suffix(".begun").exists(), "a sync that is held")
+            request = spell("GET", KEY)
+            second.send(request * REQUESTS)
+            most = (RING_ITEMS + 1) * len(request) + BLOCK_BYTES
+            wait_until(lambda: REQUESTS * len(request) - untaken(nodes.door.number, second) > most, "more taken than one that is not served takes")
+            self.assertTrue(second.is_silent() and first.is_silent())
+            file.unlink()
+            self.assertEqual(first.reply(), b"+OK\r\n")
+            self.assertEqual([second.reply() for _ in range(REQUESTS)], [b"$-1\r\n"] * REQUESTS)
+
+    def test_a_primary_serves_while_the_standby_s_sync_is_held(self):
+        """The second connection's requests are executed while the standby's sync for the first one's change has not come back, and answered after it has."""
+        self.serves_while_held("standby")
+
+    def test_nothing_leaves_while_the_primary_s_sync_is_held(self):
+        nodes, file = self.held("primary")
+        with nodes.client() as first, nodes.client() as second:
+            self.assertEqual(second.ask("GET", "k"), b"$-1\r\n")
+            file.touch()
+            first.send(spell("SET", "k", "1"))
+            wait_until(lambda: file.with_suffix(".begun").exists(), "a sync that is held")
+            second.send(spell("GET", "k"))
+            self.assertTrue(second.is_silent() and first.is_silent())
+            file.unlink()
+            self.assertEqual(first.reply(), b"+OK\r\n")
+            self.assertEqual(second.reply(), b"$1\r\n1\r\n")
+
+
+if __name__ == "__main__":
+    common.main()
