@@ -8,12 +8,23 @@ import pathlib
 import re
 import struct
 import subprocess
+import sys
 import termios
 import time
 import typing
 import unittest
 
 ROOT = pathlib.Path(__file__).resolve().parent.parent
+
+# The rooms of the suite. Their modules import one another by name alone, so no two modules have the same name.
+ROOMS = [
+    ROOT / "tests" / "models",  # the plain Redis, wire, image and machine that programs are compared with, and worked cases
+    ROOT / "tests" / "runs",  # programs over standard input: lists of events, requests
+    ROOT / "tests" / "images",  # images and devices that are formatted, damaged and opened again
+    ROOT / "tests" / "clients",  # nodes over sockets: pairs, clients of Redis, load, crashes
+    ROOT / "tests" / "pages",  # pages, releases and wrong bodies
+]
+sys.path[:0] = map(str, ROOMS)
 
 # By the name of a crate: the variable that names its program instead, and what builds it or unpacks its release.
 PROGRAMS = {

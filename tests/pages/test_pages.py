@@ -43,7 +43,7 @@ def folders_of(page):
     is_of_crate = page.parent.parent == sources.CRATES
     parts = (".", "specs", "proofs", "src") if is_of_crate else (".",)
     crates = [page.parent] if is_of_crate else [sources.CRATES / crate for crate in sources.crates()]
-    others = [page.parent, common.ROOT, sources.CRATES, common.ROOT / "tests"]
+    others = [page.parent, common.ROOT, sources.CRATES, common.ROOT / "tests", *common.ROOMS]
     return [*(crate / part for crate in crates for part in parts), *others]
 
 
@@ -199,8 +199,8 @@ class Crates(common.Cases):
         repeated = {name: places for name, places in sources.places_of_names().items() if len(places) > 1}
         for name in sorted(repeated.keys() | names.REPEATED.keys()):
             with self.case("public name", name=name, places=sorted(repeated.get(name, []))):
-                self.assertIn(name, names.REPEATED, "a name for two things, or one that tests/names.py should give a reason")
-                self.assertIn(name, repeated, "it is repeated no longer: take it out of tests/names.py")
+                self.assertIn(name, names.REPEATED, "a name for two things, or one that tests/pages/names.py should give a reason")
+                self.assertIn(name, repeated, "it is repeated no longer: take it out of tests/pages/names.py")
 
 
 class Limits(common.Cases):

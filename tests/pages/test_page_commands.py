@@ -48,7 +48,7 @@ class Commands(common.Cases):
     def test_other_pages(self):
         for page in pages.PAGES:
             for line, lines in pages.blocks(page):
-                # (what connects needs a server: tests/test_cli.py)
+                # (what connects needs a server: tests/clients/test_cli.py)
                 is_alone = "[" not in lines[0] and "--connect" not in lines[0]
                 if re.search(r"(^|\| )bin/wbl-\w+", lines[0]) and page != README and is_alone:
                     with self.case("command", page=pages.name_of(page), line=line):

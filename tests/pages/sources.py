@@ -1,8 +1,5 @@
 """What the sources name: the crates with what they depend on, their public names, their constants, and all words of their
-code.
-
-    python3 tests/sources.py    prints the public names by crate
-"""
+code."""
 
 import functools
 import re
@@ -79,7 +76,7 @@ def shown(crate):
 
 def script_names():
     """The names of the scripts beside the crates."""
-    return {file.name for folder in ("bin", "tests") for file in (common.ROOT / folder).iterdir()}
+    return {file.name for folder in ("bin", "tests") for file in (common.ROOT / folder).rglob("*")}
 
 
 def text_at(place, folders):
@@ -175,12 +172,3 @@ def value(crate, name):
 def below(crate):
     """The crate and all that it depends on."""
     return [crate, *(it for use in crates()[crate] if use in crates() for it in below(use))]
-
-
-def main():
-    for crate in crates():
-        print(f"{crate}: {' '.join(sorted(public_names(crate))) or 'none'}")
-
-
-if __name__ == "__main__":
-    main()

@@ -1,4 +1,4 @@
-"""Clients as Debian has them, each on a pair of its own: what docs/clients.md says of them. Each program of tests/clients checks what it is
+"""Clients as Debian has them, each on a pair of its own: what docs/clients.md says of them. Each program of tests/clients/programs checks what it is
 answered, and prints how much it checked."""
 
 import pathlib
@@ -13,7 +13,7 @@ from spelling import spell
 PROGRAMS = ["server"]
 IS_SLOW = True
 
-CLIENTS = pathlib.Path(__file__).resolve().parent / "clients"
+CLIENTS = pathlib.Path(__file__).resolve().parent / "programs"
 # A client that takes longer has failed; so has an installation.
 SECONDS, INSTALLING_SECONDS = 120, 600
 # What redis-benchmark asks for with 50 connections of 16 requests at a time: MSET of ten keys lets 8,000 versions wait.
