@@ -125,16 +125,6 @@ def public_names(crate):
     return found
 
 
-def places_of_names():
-    """By public name, without its type, where it is declared: as `crate` an item, as `crate::Type` a call or a variant."""
-    places = {}
-    for crate in crates():
-        for name in public_names(crate):
-            owner, _, last = name.rpartition("::")
-            places.setdefault(last, set()).add(f"{crate}::{owner}" if owner else crate)
-    return places
-
-
 @functools.cache
 def constants(crate):
     """The texts of a crate's constants by name."""

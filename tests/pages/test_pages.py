@@ -6,17 +6,11 @@ import re
 import subprocess
 
 import common
-import names
 import pages
 import sources
 import worked_cases as worked
-from limits import LIMITS
 
-MOST_LINES = 250
-MOST_LINES_OF = {"README.md": 125, "docs/DECISIONS.md": 280, "docs/worked-cases.md": 280}
-MOST_LINES_OF_A_DECISION = 3
-
-README, DECISIONS, CRATES = (common.ROOT / name for name in ("README.md", "docs/DECISIONS.md", "docs/crates.md"))
+README, CRATES = (common.ROOT / name for name in ("README.md", "docs/crates.md"))
 CASES = common.ROOT / "docs" / "worked-cases.md"
 
 # What the table of crates leaves out, as it says.
@@ -24,12 +18,56 @@ UNNAMED_USES = {"kv_types"}
 
 NAME = re.compile(r"([A-Za-z_][\w'-]*)((?:::[A-Za-z_]\w*)*)(?:\([^()]*\)|::<\w+>)?")
 TEST = re.compile(r"(test_\w+)\.([A-Z]\w+)(?:\.(test_\w+))?")
+NUMBER = re.compile(r"(\d{1,3}(?:,\d{3})+|\d+)(?:\^(\d+))?")
+
+# Names that pages may give though no source has them: calls and definitions that they say come later, which go from here once they are there; and what
+# belongs to Redis, to the toolchain or to the system, or stands for a word of the reader.
+LATER = ["IsFenced", "Promotes", "pin", "raise_round", "rejoin"]
+OUTSIDE = {
+    "DBSIZE", "FLUSHDB", "QUIT", "HELLO", "Clone", "Copy", "bytes::BufMut", "io::Write", "slab", "indexmap", "clap", "crossbeam_utils", "KEY", "WBLIMG01",
+}
+
+# By crate and constant the pages that state it: README, a page of docs/ or the README of a crate.
+LIMITS = [
+    ("kv_types", "REQUEST_LIMITS.words", "README protocol commands"),
+    ("kv_types", "REQUEST_LIMITS.word_bytes", "README protocol commands"),
+    ("kv_types", "MAX_KEY_BYTES", "README protocol commands replication"),
+    ("kv_types", "MAX_VALUE_BYTES", "README protocol commands replication"),
+    ("model", "MAX_CHANGE_TEXT_BYTES", "README protocol commands worked-cases"),
+    ("model", "MAX_PARTS", "promises architecture image replication simulator crates/redis_core"),
+    ("model", "MIN_LINES", "README image replication crates/pmem_file"),
+    ("model", "MAX_LINES", "README image replication crates/pmem_file"),
+    ("model", "COUNTER_LIMIT", "README commands promises replication"),
+    ("model", "MAGIC", "image"),
+    ("model", "LAYOUT.version", "image"),
+    ("model", "MAX_GAPS", "image"),
+    ("model", "STAMP_WINDOW", "image"),
+    ("multi_watch", "MAX_QUEUED_REQUESTS", "README protocol commands"),
+    ("machine", "OPEN_CHANGES", "README promises simulator"),
+    ("machine", "KEPT_GROUPS", "promises replication simulator"),
+    ("pipes", "MAX_SEATS", "README protocol commands promises replication simulator crates/lobby crates/pipes"),
+    ("pipes", "PIPE_ITEMS", "promises replication simulator crates/pipes"),
+    ("pmem_file", "LINES_A_WRITE", "crates/pmem_file"),
+    ("simulator", "USUAL_LINES", "simulator"),
+    ("simulator", "MOST_EVENTS", "simulator"),
+    ("server", "IMAGE_LINES", "image worked-cases crates/server"),
+    ("server", "MOST_VERSIONS", "README image worked-cases crates/server"),
+    ("server", "PIECE_BYTES", "crates/server"),
+    ("server", "SHORTEST_REQUEST", "crates/server"),
+    ("server", "MOST_CHANGES", "crates/server"),
+    ("server", "ROUND_ITEMS", "crates/server"),
+    ("server", "STRETCH_ROUNDS", "crates/server"),
+]
 
 
-def numbers(text):
-    """The number that a page writes as 4096, 65,536 or 2^31."""
-    base, _, power = text.replace(",", "").partition("^")
-    return int(base) ** int(power or 1)
+def numbers_on(page):
+    """The numbers that a page states, as 4096, 65,536 or 2^31."""
+    return {int(base.replace(",", "")) ** int(power or 1) for base, power in NUMBER.findall(pages.text_of(page))}
+
+
+def page_of(name):
+    """The page that the table of limits names so."""
+    return common.ROOT / (f"{name}/README.md" if "/" in name else "README.md" if name == "README" else f"docs/{name}.md")
 
 
 def scope_of(page):
@@ -81,7 +119,7 @@ class Names(common.Cases):
             known = tests.union(sources.script_names(), sources.crates(), *map(sources.words, scope_of(page)))
             for code in sorted(set(pages.codes(page))):
                 found = NAME.fullmatch(code)
-                if not found or code in names.LATER or code in names.OUTSIDE:
+                if not found or code in LATER or code in OUTSIDE:
                     continue
                 with self.case("name", page=pages.name_of(page), name=code):
                     self.assert_named(found[1], found[2], known)
@@ -98,7 +136,7 @@ class Names(common.Cases):
             for cited, place in pages.citations(page):
                 text = sources.text_at(place, folders_of(page))
                 for name in [] if text is None else cited:
-                    if name in names.LATER or name in sources.crates() or not NAME.fullmatch(name):
+                    if name in LATER or name in sources.crates() or not NAME.fullmatch(name):
                         continue
                     with self.case("cited", page=pages.name_of(page), name=name, place=place):
                         self.assertRegex(text, rf"(?<![\w-]){re.escape(name)}(?![\w-])")
@@ -154,7 +192,7 @@ class Names(common.Cases):
             print(f"the toolchain here is {kit}, of the logic that README.md names, and README.md names other kits", flush=True)
 
     def test_names_that_come_later_are_not_there_yet(self):
-        for name in names.LATER:
+        for name in LATER:
             with self.case("later", name=name):
                 self.assertTrue(any(name in pages.codes(page) for page in pages.PAGES), "no page names it")
                 there = [crate for crate in sources.crates() if name in sources.words(crate) | sources.calls(crate)]
@@ -188,43 +226,20 @@ class Crates(common.Cases):
                     self.assertTrue(name in known, "the crate has no such contract")
 
     def test_public_names_are_found(self):
-        # otherwise the next test would check nothing
+        # otherwise the tests of names would check nothing
         for crate in sources.crates():
             with self.case("crate", crate=crate):
                 is_library = (sources.CRATES / crate / "src" / "lib.rt").exists()
                 self.assertEqual(bool(sources.public_names(crate)), is_library)
         self.assertLessEqual({"Pmem", "Pmem::fence", "SimPmem::new", "persist"}, sources.public_names("pmem"))
 
-    def test_no_name_is_used_for_two_things(self):
-        repeated = {name: places for name, places in sources.places_of_names().items() if len(places) > 1}
-        for name in sorted(repeated.keys() | names.REPEATED.keys()):
-            with self.case("public name", name=name, places=sorted(repeated.get(name, []))):
-                self.assertIn(name, names.REPEATED, "a name for two things, or one that tests/pages/names.py should give a reason")
-                self.assertIn(name, repeated, "it is repeated no longer: take it out of tests/pages/names.py")
-
 
 class Limits(common.Cases):
-    """Each limit that a page states is its constant."""
+    """A page that states a limit states the number that its constant is."""
 
     def test_limits(self):
-        for page, sentence, *wanted in LIMITS:
-            with self.case("limit", page=page, sentence=sentence):
-                found = re.search(sentence, re.sub(r"\s+", " ", pages.text_of(common.ROOT / page)))
-                self.assertTrue(found, "the page does not say this")
-                stated = [numbers(number) for number in found.groups()]
-                self.assertEqual(stated, [sources.value(*constant) for constant in wanted])
-
-
-class Lengths(common.Cases):
-    """No page is long."""
-
-    def test_pages(self):
-        for page in pages.PAGES:
-            name = pages.name_of(page)
-            with self.case("page", page=name):
-                self.assertLessEqual(len(pages.text_of(page).splitlines()), MOST_LINES_OF.get(name, MOST_LINES))
-
-    def test_decisions(self):
-        for decision in re.findall(r"(?m)^- .*(?:\n  .*)*", pages.text_of(DECISIONS)):
-            with self.case("decision", decision=decision.split("**")[1]):
-                self.assertLessEqual(len(decision.splitlines()), MOST_LINES_OF_A_DECISION)
+        stated = {page: numbers_on(page) for page in pages.PAGES}
+        for crate, constant, named in LIMITS:
+            for name in named.split():
+                with self.case("limit", constant=constant, page=name):
+                    self.assertIn(sources.value(crate, constant), stated[page_of(name)])
