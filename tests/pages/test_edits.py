@@ -1,5 +1,5 @@
 """What `bin/` knows of a whole check: which functions an edit changes, which crates the gate proved as they are, what cannot be tried, what is large,
-how fast the machine was, and when a program is built anew."""
+and when a program is built anew."""
 
 import contextlib
 import errno
@@ -164,28 +164,6 @@ class Large(common.Cases):
             with self.case("nothing kept"):
                 done = self.listed(root, "till")
                 self.assertEqual((done.returncode, done.stdout, done.stderr), (1, "", "till: nothing is kept: run rt check in crates/till\n"))
-
-
-class Speeds(common.Cases):
-    """Minutes are told at the machine's best speed too: what it reached in a twentieth of the samples, so that one lucky sample does not count."""
-
-    # The seconds of each sample of the same work.
-    TOOK = [1, *30 * [2], *30 * [4]]
-    CASES = [
-        ("at the best speed", 1, 31, 1),
-        ("at half of it", 31, 61, 0.5),
-        ("first and second half", 1, 61, 2 / 3),
-        ("the lucky one alone", 0, 1, 1),
-        ("the whole", 0, None, 2 / (181 / 61)),
-        ("between two samples", 61, 61, 2 / (181 / 61)),
-    ]
-
-    def test_how_fast_it_was(self):
-        speed = runpy.run_path(str(common.ROOT / "bin" / "test"))["Speed"]()
-        speed.took = self.TOOK
-        for name, first, last, wanted in self.CASES:
-            with self.case(name):
-                self.assertAlmostEqual(speed.share(first, last), wanted)
 
 
 class Programs(common.Cases):
