@@ -80,6 +80,12 @@ class Refused(Commands):
         names = ["NOSUCH", "SELECT", "KEYS", "COMMAND", ""]
         self.show_requests(((name.encode(), *count * [b"h"]), UNKNOWN) for name in names for count in range(6))
 
+    def test_commands_of_redis_that_are_unknown_here(self):
+        names = [name for _, cell in pages.rows(PAGE, "Unknown commands") for name in cell.split(", ")]
+        self.assertEqual(len(names), len(set(names)))
+        self.assertLessEqual({"HMSET", "GETSET", "UNLINK", "SETBIT", "TTL", "RESET", "FLUSHALL"}, set(names))
+        self.show_requests(((name.encode(), *count * [b"h"]), UNKNOWN) for name in names for count in range(4))
+
     # The words after each name: k is a key or a field, v is none.
     SHAPES = {
         "SET": "kv", "GET": "k", "PING": "v", "ECHO": "v", "QUIT": "vv", "SETNX": "kv", "GETDEL": "k", "STRLEN": "k", "APPEND": "kv",

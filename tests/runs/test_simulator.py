@@ -1,10 +1,13 @@
 """The simulator itself: its words and lines, what it says of bad ones, and the order and form of what it prints."""
 
-from common import Cases, run_program
+import pages
+from common import ROOT, Cases, run_program
 from simulation import Schedule, Trace, simulate
 from worked_cases import GET_A, SET_A
 
 PROGRAMS = ["simulator"]
+
+PAGE = ROOT / "docs" / "simulator.md"
 
 FAILED, MISUSED = 1, 2
 MOST_EVENTS = 16_777_216
@@ -54,6 +57,19 @@ BAD_LINES = [
     "fail primary 1 2", "crash", "crash primary", "crash third 0", "crash 0", "crash primary x", "crash primary 00",
     "crash primary 0 x", f"crash primary {ABOVE_U64}", "reopen", "reopen third", "reopen primary 0", "reopen 0", "repeat 2 reopen",
 ]
+
+# By its text on the page, lines of which the last is told so.
+TEXTS_OF_BAD_LINES = {
+    "unknown event": ["nonsense", "nonsense 0 x", "repeat 2 fail primary 1", "\xff"],
+    "a word is missing": ["offer", "feed 0", "read 0", "crash primary", "repeat 2", "fail primary"],
+    "a word too many": ["enter 0", "offer 0 0", "deliver 0 0 0", "fail primary 1 2"],
+    "not a decimal number below 2^64": ["offer x", "deliver 0 x", "crash primary 0 01", "repeat x enter", "fail primary x", f"offer {ABOVE_U64}"],
+    "not an even number of hex digits": ["feed-bytes 0 0", "feed-bytes 0 0g"],
+    "the mark is neither local nor remote": ["read 0 both"],
+    "the node is neither primary nor standby": ["crash third 0", "reopen third", "fail third 1"],
+    "fail after the first event": ["enter\nfail primary 1"],
+    "more than 16777216 events": [f"repeat {MOST_EVENTS + 1} enter", f"repeat {MOST_EVENTS} enter\nenter"],
+}
 
 BAD_COMMAND_LINES = [
     ["x"], [""], ["--help"], ["--lines"], ["--lines", "4096"], ["--lines", "4096,"], ["--lines", "4096,4096,4096"],
@@ -172,6 +188,11 @@ class Lines(Cases):
     def test_a_fence_of_number_0_does_not_fail(self):
         self.assertEqual(simulate(["fail primary 0", "fail standby 0"] + FIRST_SET).released, [b"+OK\r\n"])
 
+    def test_the_last_fail_of_a_node_counts(self):
+        self.assertEqual(simulate(["fail primary 1", "fail standby 1", "fail primary 0", "fail standby 0"] + FIRST_SET).released, [b"+OK\r\n"])
+        trace = simulate(["fail primary 0", "fail primary 4"] + FIRST_SET)
+        self.assertEqual(trace.ended, "at event 5, line 8: refusal 1: device fault")
+
     def test_many_events(self):
         count = 200_000
         trace = simulate([f"repeat {count} raise-remote", f"repeat {count} open-link"])
@@ -192,6 +213,15 @@ class Misuse(Cases):
             with self.case("line", line=line):
                 self.assert_bad_line(line.encode(), 1)
                 self.assert_bad_line(b"# a bad line comes\n\n" + line.encode() + b"\nenter\n", 3)
+
+    def test_texts_of_bad_lines(self):
+        self.assertEqual([pages.CODE.fullmatch(text)[1] for text, _ in pages.rows(PAGE, "Lines that are not understood")], list(TEXTS_OF_BAD_LINES))
+        for text, given in TEXTS_OF_BAD_LINES.items():
+            for lines in given:
+                with self.case("text", text=text, lines=lines):
+                    finished = simulator([], lines.encode("latin-1"))
+                    wanted = f"line {lines.count(chr(10)) + 1}: {text}\n".encode()
+                    self.assertEqual((finished.status, finished.output, finished.errors), (MISUSED, b"", wanted))
 
     def test_the_first_bad_line_is_told(self):
         self.assert_bad_line(b"enter\nwrong\noffer x\n", 2)
