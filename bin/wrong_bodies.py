@@ -57,10 +57,16 @@ def edits_in(folder):
     return sorted((it for part in EDITS for it in (folder / part).glob("*.edit")), key=lambda it: it.name)
 
 
+def version():
+    """Returns what `rt version` says: the toolchain's logic, and around it the name of its kit and the like, which may differ from machine to machine."""
+    return subprocess.run(["rt", "version"], capture_output=True, text=True, check=True).stdout.strip()
+
+
 def logic():
-    """Returns what `rt version` says of the toolchain's logic. The name of its kit, which stands before that, may differ from machine to machine."""
-    said = subprocess.run(["rt", "version"], capture_output=True, text=True, check=True).stdout.strip()
-    return said[max(said.find("logic "), 0) :]
+    """Returns the toolchain's logic alone, which decides what is proved."""
+    said = version()
+    found = re.search(r"logic \w+", said)
+    return found[0] if found else said
 
 
 def sum_of_sources(root, crates, name, toolchain):

@@ -201,6 +201,10 @@ class Releases(common.Cases):
         self.assert_checked("nothing is released yet", "0 passed, 0 failed")
         self.release()
         self.assert_checked("1 passed, 0 failed")
+        for said in ("other-kit patch 3 logic 1234", "a-kit logic 1234 patch 3"):
+            with self.case("the same logic", version=said):
+                write(self.it.tool, f"#!/bin/sh\necho {said}\n")
+                self.assert_checked("1 passed, 0 failed")
         with self.case("other bytes"):
             self.it.gate("#!/bin/sh\necho other\n")
             self.assert_wrong("what was built of the same sources has other bytes")
