@@ -1,10 +1,13 @@
 """The link of the pair: who else comes to the standby's address, and nodes whose images do not go together."""
 
 import contextlib
+import socket
+import time
 
 from pair import LINES, Client, ServingCases
 from plain_replies import array, bulk
 from spelling import spell
+from standby_node import ACK_BYTES
 from worked_cases import GET_A, ONE, SET_A
 
 PROGRAMS = ["server"]
@@ -34,6 +37,28 @@ class Links(ServingCases):
             stranger.send(b"\x01")
             self.assert_serves()
             self.assertTrue(stranger.is_silent(0))
+
+    def test_a_stranger_that_was_first_and_says_nothing(self):
+        """A link on which nothing comes ends where another waits: the primary gets on beside a stranger, and beside a link whose host vanished."""
+        self.assert_serves(1)
+        self.nodes.primary.end()
+        with Client(self.nodes.link.number) as stranger:
+            # (it is heard: the node says where it is)
+            self.assertEqual(len(stranger.socket.recv(ACK_BYTES, socket.MSG_WAITALL)), ACK_BYTES)
+            self.nodes.primary.start()
+            self.nodes.wait()
+            self.assert_serves(5)
+            self.assert_bytes(stranger.read_all(), b"")
+
+    def test_a_connection_that_is_over_ends_no_link(self):
+        """Whoever only looks whether somebody listens disturbs no link that is silent."""
+        self.assert_serves(1)
+        for _ in range(3):
+            with Client(self.nodes.link.number):
+                pass
+            time.sleep(1.5)
+        self.assert_serves()
+        self.assertNotIn(b"lost", self.nodes.primary.errors.read_bytes())
 
     def test_a_standby_that_was_formatted_since(self):
         """It lacks what the primary no longer has apart, so it acknowledges nothing, until the primary opens its image again."""

@@ -11,6 +11,7 @@ ghost use Rattle.links.specs.Serving.{Stands, held, Acknowledges, Answers, HasRu
 ghost use Rattle.links.specs.declared.link_end.LinkEnd.TheVariants.{Closed, Refused, Stops};
 
 use crate::link_end::{LinkEnd, ends_by, refusal_of_ack};
+use crate::link_reader::{LinkReader, accept};
 use kv_types::Refusal;
 use mv_keyspace::Keyspace;
 use standby::{Ack, Frame, Standby};
@@ -24,7 +25,8 @@ use wbl_engine::Durable;
 /// How many bytes are read at once.
 const BLOCK_BYTES: usize = 65_536;
 
-/// Takes one link at a time, until one stops the node, and says why it did.
+/// Takes one link at a time, until one stops the node, and says why it did. A link on which nothing comes for a second ends where another connection
+/// waits, which is the next.
 ///
 /// # Errors
 ///
@@ -37,12 +39,16 @@ pub fn follow<E: Durable, K: Keyspace>(
     requires stands { Stands (E.is_faulted node.old.engine) (E.device node.old.engine) (E.contents node.old.engine) (K.table node.old.keyspace) node.old.heap node.old.ended.items }
     ensures stands { ¬ (result ≡ Ok Fault) → Stands (E.is_faulted node.new.engine) (E.device node.new.engine) (E.contents node.new.engine) (K.table node.new.keyspace) node.new.heap node.new.ended.items }
 {
-    for stream in listener.incoming() {
-        let stream = stream?;
-        let _ = stream.set_nodelay(true);
-        if let Err(LinkEnd::Stops(refusal)) = serve_link(alloc, node, &mut &stream, &mut &stream) {
+    let mut stream = accept(listener)?;
+    for _ in 0..u64::MAX {
+        let mut from = LinkReader::new(&stream, listener);
+        if let Err(LinkEnd::Stops(refusal)) = serve_link(alloc, node, &mut from, &mut &stream) {
             return Ok(refusal);
         }
+        stream = match from.into_newer() {
+            Some(newer) => newer,
+            None => accept(listener)?,
+        };
     }
     Err(io::ErrorKind::UnexpectedEof.into())
 }

@@ -3,6 +3,7 @@
 
 mod following;
 mod link_end;
+mod link_reader;
 mod log;
 mod opening;
 mod outgoing;

@@ -1,5 +1,5 @@
 -- What an item with its reply does to the transaction of its connection.
-use Rattle.std.proofs.Common.{◌≡◌, ◌≢◌, ℕ, Bool, true, false, cond, not, ◌&&◌, ◌||◌, ◌⊎◌, inl, inr, ◌+◌, length, List, [], ◌∷◌, ◌++◌, drop, Option, Some, None, Result, Ok, Err, refl, sym, ap, subst, ◌∙◌, append-nil, codes}
+use Rattle.std.proofs.Common.{◌≡◌, ◌≢◌, Bool, true, false, cond, not, ◌&&◌, ◌||◌, ◌⊎◌, inl, inr, ℕ, ◌+◌, length, nat_lt, List, [], ◌∷◌, ◌++◌, drop, Option, Some, None, Result, Ok, Err, refl, sym, ap, subst, ◌∙◌, append-nil, codes}
 use Rattle.std.proofs.Math.Bool.{or-false, or-true}
 use Rattle.kv_types.specs.declared.item.Item.{Item}
 use Rattle.kv_types.specs.declared.item.Item.TheVariants.{Request, Fault}
@@ -21,6 +21,7 @@ use Rattle.multi_watch.specs.declared.verb.Verb.TheVariants as verb
 use Rattle.multi_watch.specs.declared.error.SessionError.TheVariants.{NestedMulti, ExecOutside, DiscardOutside, WatchInside, TooLong, Aborted}
 use Rattle.multi_watch.specs.Error.{error_text}
 use Rattle.multi_watch.specs.Verb.{verb_of, verb_of_reading, verb_of_name}
+use Rattle.multi_watch.specs.declared.limits.TheConstants.{MAX_QUEUED_REQUESTS}
 use Rattle.multi_watch.specs.declared.watch.Watch.{Watch}
 use Rattle.multi_watch.specs.Session.{Session, idle_session, watching, has_modified, spoiled}
 use Rattle.multi_watch.specs.Admission.{Step, Answer, RunAll, step_of, has_room, refused_of, admit, session_after_request, session_after_refusal}
@@ -102,8 +103,9 @@ proper_only reply proper known (inr e) = e
 abbrev pub ends_of : Verb → Reply → Bool
 ends_of v reply = (is_exec v && (is_array reply || (is_null_array reply || is_aborted reply))) || (is_discard v && is_ok reply)
 
-abbrev pub spoils_of : Verb → Reply → Bool
-spoils_of v reply = (is_misuse v && not (is_memory reply)) || (may_wait v && (is_memory reply || is_error (error_text TooLong) reply))
+abbrev pub spoils_of : ℕ → Verb → Reply → Bool
+spoils_of waiting v reply =
+    (is_misuse v && not (is_memory reply)) || (may_wait v && (is_error (error_text TooLong) reply || (is_memory reply && nat_lt waiting MAX_QUEUED_REQUESTS)))
 
 abbrev pub watched_of : Verb → List (List ℕ) → Reply → List Watch → List Watch
 watched_of v words reply watched = cond (is_unwatch v && is_ok reply) [] (cond (is_watch v && is_ok reply) (watching (drop 1 words) watched) watched)
@@ -129,13 +131,30 @@ pub record GoesOn (v : Verb) (words : List (List ℕ)) (reply : Reply) (old new 
   pub opens : (is_multi v && is_ok reply) ≡ false
   pub is_open : new.is_open ≡ old.is_open
   pub queue : old.is_open ≡ true → new.queue ≡ old.queue ++ cond (is_queued reply) (words ∷ []) []
-  pub spoiled : old.is_open ≡ true → new.is_spoiled ≡ (old.is_spoiled || spoils_of v reply)
+  pub spoiled : old.is_open ≡ true → new.is_spoiled ≡ (old.is_spoiled || spoils_of (length old.queue) v reply)
   pub watched : new.watched ≡ watched_of v words reply old.watched
 
 abbrev pub Does : Verb → List (List ℕ) → Reply → Session → Session → Type 0
 Does v words reply old new = Ends v reply new ⊎ (Begins v words reply old new ⊎ GoesOn v words reply old new)
 
 module _ (words : List (List ℕ)) where
+  -- where memory was refused in a transaction, for a request that would have waited or is one too many
+  refused_unwatch : (queue : List (List (List ℕ))) (sp : Bool) (watched : List Watch) (b : Bool) → nat_lt (length queue) MAX_QUEUED_REQUESTS ≡ b
+      → let old : Session = record { is_open = true; queue = queue; is_spoiled = sp; watched = watched } in
+      GoesOn verb.Unwatch words memory_reply old (cond b (spoiled old) old)
+  refused_unwatch queue sp watched true e =
+      record { ends = refl; opens = refl; is_open = refl; queue = λ h. sym (append-nil queue); spoiled = λ h. sym (or-true sp) ∙ ap (λ b. sp || b) (sym e); watched = refl }
+  refused_unwatch queue sp watched false e =
+      record { ends = refl; opens = refl; is_open = refl; queue = λ h. sym (append-nil queue); spoiled = λ h. sym (or-false sp) ∙ ap (λ b. sp || b) (sym e); watched = refl }
+
+  refused_other : (queue : List (List (List ℕ))) (sp : Bool) (watched : List Watch) (b : Bool) → nat_lt (length queue) MAX_QUEUED_REQUESTS ≡ b
+      → let old : Session = record { is_open = true; queue = queue; is_spoiled = sp; watched = watched } in
+      GoesOn verb.Other words memory_reply old (cond b (spoiled old) old)
+  refused_other queue sp watched true e =
+      record { ends = refl; opens = refl; is_open = refl; queue = λ h. sym (append-nil queue); spoiled = λ h. sym (or-true sp) ∙ ap (λ b. sp || b) (sym e); watched = refl }
+  refused_other queue sp watched false e =
+      record { ends = refl; opens = refl; is_open = refl; queue = λ h. sym (append-nil queue); spoiled = λ h. sym (or-false sp) ∙ ap (λ b. sp || b) (sym e); watched = refl }
+
   -- where memory was refused
   refused : (v : Verb) (o : Bool) (queue : List (List (List ℕ))) (sp : Bool) (watched : List Watch)
       → let old : Session = record { is_open = o; queue = queue; is_spoiled = sp; watched = watched } in
@@ -146,9 +165,9 @@ module _ (words : List (List ℕ)) where
   refused verb.Exec o queue sp watched = record { ends = refl; opens = refl; is_open = refl; queue = λ h. sym (append-nil queue); spoiled = λ h. sym (or-false sp); watched = refl }
   refused verb.Discard o queue sp watched = record { ends = refl; opens = refl; is_open = refl; queue = λ h. sym (append-nil queue); spoiled = λ h. sym (or-false sp); watched = refl }
   refused verb.Watch o queue sp watched = record { ends = refl; opens = refl; is_open = refl; queue = λ h. sym (append-nil queue); spoiled = λ h. sym (or-false sp); watched = refl }
-  refused verb.Unwatch true queue sp watched = record { ends = refl; opens = refl; is_open = refl; queue = λ h. sym (append-nil queue); spoiled = λ h. sym (or-true sp); watched = refl }
+  refused verb.Unwatch true queue sp watched = refused_unwatch queue sp watched (nat_lt (length queue) MAX_QUEUED_REQUESTS) refl
   refused verb.Unwatch false queue sp watched = record { ends = refl; opens = refl; is_open = refl; queue = λ h. sym (append-nil queue); spoiled = λ h. cc; watched = refl }
-  refused verb.Other true queue sp watched = record { ends = refl; opens = refl; is_open = refl; queue = λ h. sym (append-nil queue); spoiled = λ h. sym (or-true sp); watched = refl }
+  refused verb.Other true queue sp watched = refused_other queue sp watched (nat_lt (length queue) MAX_QUEUED_REQUESTS) refl
   refused verb.Other false queue sp watched = record { ends = refl; opens = refl; is_open = refl; queue = λ h. sym (append-nil queue); spoiled = λ h. cc; watched = refl }
 
 module _ (k : Keyspace) (words : List (List ℕ)) where
@@ -158,7 +177,7 @@ module _ (k : Keyspace) (words : List (List ℕ)) where
   given v proper old new is reply known may = subst (λ r. Does v words r old new) (sym (proper_only reply proper known may)) is
 
   goes : (v : Verb) (reply : Reply) (old : Session) → ends_of v reply ≡ false → (is_multi v && is_ok reply) ≡ false
-      → is_queued reply ≡ false → (old.is_open ≡ true → spoils_of v reply ≡ false) → watched_of v words reply old.watched ≡ old.watched → GoesOn v words reply old old
+      → is_queued reply ≡ false → (old.is_open ≡ true → spoils_of (length old.queue) v reply ≡ false) → watched_of v words reply old.watched ≡ old.watched → GoesOn v words reply old old
   goes v reply old ends opens queued spoils watched =
       record {
         ends = ends;

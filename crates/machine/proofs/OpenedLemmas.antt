@@ -1,5 +1,5 @@
 -- Which call of a legal list opened a connection's transaction, and what waits in it.
-use Rattle.std.proofs.Common.{◌≡◌, ℕ, Bool, true, false, ◌&&◌, ◌||◌, ◌⊎◌, inl, inr, List, [], ◌∷◌, ◌++◌, refl, sym, ap, subst, ◌∙◌, append_assoc, append-nil}
+use Rattle.std.proofs.Common.{◌≡◌, ℕ, Bool, true, false, ◌&&◌, ◌||◌, ◌⊎◌, inl, inr, List, [], ◌∷◌, ◌++◌, length, refl, sym, ap, ap₂, subst, ◌∙◌, append_assoc, append-nil}
 use Rattle.std.proofs.Math.Bool.{or-false}
 use Rattle.std.proofs.lemmas.Bool.{and_parts}
 use Rattle.kv_types.specs.declared.item.Item.{Item}
@@ -14,7 +14,7 @@ use Rattle.model.specs.Command.{closes}
 use Rattle.model.specs.State.{State, start_state}
 use Rattle.model.specs.Call.{IsLegal, IsLegalFrom, after_call, state_from, state_after}
 use Rattle.model.proofs.CallsLemmas.{state_from-append, IsLegalFrom-rest}
-use Rattle.machine.specs.Transaction.{is_multi, is_ok, opens_one, ends_it, spoils_it, is_by, does_by, NoneDoes, Opened, queued_by, queue_of, is_spoiled_by, session_now}
+use Rattle.machine.specs.Transaction.{is_multi, is_ok, opens_one, ends_it, spoils_it, is_by, does_by, NoneDoes, Opened, queued_by, queue_of, is_spoiled_from, is_spoiled_by, session_now}
 use Rattle.machine.proofs.ItemLemmas.{ends_of, closing_only}
 use Rattle.machine.proofs.TransactionLemmas.{DoesAt, does_at}
 
@@ -47,7 +47,7 @@ opens_only c call is = let parts = and_parts (is_by c call) (opens_one call.item
 pub record StaysOpen (c : ℕ) (calls : List Call) (old new : Session) : Type 0 where
   pub is_open : new.is_open ≡ true
   pub queue : new.queue ≡ old.queue ++ queue_of c calls
-  pub spoiled : new.is_spoiled ≡ (old.is_spoiled || is_spoiled_by c calls)
+  pub spoiled : new.is_spoiled ≡ (old.is_spoiled || is_spoiled_from c old.queue calls)
 
 or_assoc : (a b d : Bool) → ((a || b) || d) ≡ (a || (b || d))
 or_assoc true b d = refl
@@ -68,7 +68,8 @@ stays_open c s (call ∷ calls) legal is none = step (does_at s call c legal.0) 
         record {
           is_open = rest.is_open;
           queue = rest.queue ∙ ap (λ q. q ++ queue_of c calls) (goes.queue is) ∙ append_assoc (s.sessions c).queue (queued_by c call) (queue_of c calls);
-          spoiled = rest.spoiled ∙ ap (λ b. b || is_spoiled_by c calls) (goes.spoiled is) ∙ or_assoc (s.sessions c).is_spoiled (does_by spoils_it c call) (is_spoiled_by c calls);
+          spoiled = rest.spoiled ∙ ap₂ (λ b q. b || is_spoiled_from c q calls) (goes.spoiled is) (goes.queue is)
+              ∙ or_assoc (s.sessions c).is_spoiled (does_by (spoils_it (length (s.sessions c).queue)) c call) (is_spoiled_from c ((s.sessions c).queue ++ queued_by c call) calls);
         }
 
 -- ---- which call opened it
@@ -104,7 +105,7 @@ after_opening c s multi since legal opens none = step (does_at s multi c legal.0
         record {
           is_open = rest.is_open;
           queue_is = rest.queue ∙ ap (λ q. q ++ queue_of c since) begun.queue;
-          spoiled_is = rest.spoiled ∙ ap (λ b. b || is_spoiled_by c since) begun.spoiled;
+          spoiled_is = rest.spoiled ∙ ap₂ (λ b q. b || is_spoiled_from c q since) begun.spoiled begun.queue;
         }
 
 pub read_off : (c : ℕ) (calls : List Call) → IsLegal calls → (o : Opened c calls) → IsOpenWith (queue_of c o.since) (is_spoiled_by c o.since) (session_now c calls)

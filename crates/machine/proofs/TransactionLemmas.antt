@@ -1,5 +1,5 @@
 -- What a legal list of calls makes of a connection's transaction, call by call.
-use Rattle.std.proofs.Common.{◌≡◌, ◌≢◌, ℕ, Bool, true, false, cond, ◌&&◌, ◌||◌, ◌⊎◌, inl, inr, List, [], ◌++◌, map, drop, nat_eq, refl, sym, ap, ap₂, subst, ◌∙◌, append-nil, eqb-true, eq-eqb}
+use Rattle.std.proofs.Common.{◌≡◌, ◌≢◌, ℕ, Bool, true, false, cond, ◌&&◌, ◌||◌, ◌⊎◌, inl, inr, List, [], ◌++◌, length, map, drop, nat_eq, refl, sym, ap, ap₂, subst, ◌∙◌, append-nil, eqb-true, eq-eqb}
 use Rattle.std.proofs.Math.Bool.{or-false}
 use Rattle.std.proofs.lemmas.Bool.{and_from, or_left}
 use Rattle.kv_types.specs.declared.item.Item.{Item}
@@ -49,7 +49,7 @@ pub record GoesAt (s : State) (c : ℕ) (call : Call) (old new : Session) : Type
   pub opens : does_by opens_one c call ≡ false
   pub is_open : new.is_open ≡ old.is_open
   pub queue : old.is_open ≡ true → new.queue ≡ old.queue ++ queued_by c call
-  pub spoiled : old.is_open ≡ true → new.is_spoiled ≡ (old.is_spoiled || does_by spoils_it c call)
+  pub spoiled : old.is_open ≡ true → new.is_spoiled ≡ (old.is_spoiled || does_by (spoils_it (length old.queue)) c call)
   pub watched : new.watched ≡ marked_by s call (watched_by c call old.watched)
 
 abbrev pub DoesAt : State → ℕ → Call → Session → Session → Type 0
@@ -69,7 +69,7 @@ module _ (s : State) (call : Call) where
         opens = does opens_one;
         is_open = ap (λ (t : Session). t.is_open) is;
         queue = λ h. ap (λ (t : Session). t.queue) is ∙ sym (append-nil (s.sessions c).queue) ∙ ap (λ b. (s.sessions c).queue ++ cond b (waits_in_it call.item call.reply) []) (sym other);
-        spoiled = λ h. ap (λ (t : Session). t.is_spoiled) is ∙ sym (or-false (s.sessions c).is_spoiled) ∙ ap (λ b. (s.sessions c).is_spoiled || b) (sym (does spoils_it));
+        spoiled = λ h. ap (λ (t : Session). t.is_spoiled) is ∙ sym (or-false (s.sessions c).is_spoiled) ∙ ap (λ b. (s.sessions c).is_spoiled || b) (sym (does (spoils_it (length (s.sessions c).queue))));
         watched = ap (λ (t : Session). t.watched) is ∙ ap (marked_by s call) (sym same);
       }
 
@@ -108,8 +108,8 @@ module _ (s : State) (c : ℕ) where
         ap (λ (t : Session). t.watched) (session_after-own s own_call) ∙ ap (marked_by s own_call) is
         ∙ ap (λ a. marked_by s own_call (cond (a && (is_unwatch (verb_of words) && is_ok reply)) [] (cond (a && (is_watch (verb_of words) && is_ok reply)) (watching (drop 1 words) watched) watched))) (sym itself)
 
-    spoils_at : does_by spoils_it c own_call ≡ spoils_of (verb_of words) reply
-    spoils_at = ap (λ a. a && spoils_it (Request words) reply) itself
+    spoils_at : (waiting : ℕ) → does_by (spoils_it waiting) c own_call ≡ spoils_of waiting (verb_of words) reply
+    spoils_at waiting = ap (λ a. a && spoils_it waiting (Request words) reply) itself
 
     at_request : Does (verb_of words) words reply (s.sessions c) left → DoesAt s c own_call (s.sessions c) (session_after s own_call c)
     at_request (inl ends) =
@@ -133,7 +133,7 @@ module _ (s : State) (c : ℕ) where
           opens = does false (opens_one (Request words) reply) goes.opens;
           is_open = ap (λ (t : Session). t.is_open) own ∙ goes.is_open;
           queue = λ h. ap (λ (t : Session). t.queue) own ∙ goes.queue h ∙ ap (λ a. (s.sessions c).queue ++ cond a (waits_in_it (Request words) reply) []) (sym itself);
-          spoiled = λ h. ap (λ (t : Session). t.is_spoiled) own ∙ goes.spoiled h ∙ ap (λ b. (s.sessions c).is_spoiled || b) (sym spoils_at);
+          spoiled = λ h. ap (λ (t : Session). t.is_spoiled) own ∙ goes.spoiled h ∙ ap (λ b. (s.sessions c).is_spoiled || b) (sym (spoils_at (length (s.sessions c).queue)));
           watched = watches_at (s.sessions c).watched goes.watched;
         }))
 

@@ -104,7 +104,7 @@ impl Marks {
         MarkSeat { seat }
     }
 
-    /// Both marks, the local one read first. Neither is below what the seat had seen, and one that the seat raises is exactly what it knew.
+    /// Both marks. Neither is below what the seat had seen, and one that the seat raises is exactly what it knew.
     pub fn read(&self, seat: MarkSeat) -> (MarkSeat, Seen)
         requires marks { seat.marks ≡ self.now }
         ensures marks { result.0.marks ≡ seat.marks }

@@ -141,12 +141,12 @@ may_grow session words = may_grow_of (verb_of words) session
 -- ---- where memory was refused
 
 -- a request that would have waited spoils the transaction
-abbrev pub spoiled_if_open : Session → Session
-spoiled_if_open session = if session.is_open then spoiled session else session
+abbrev pub spoiled_if_waits : Session → Session
+spoiled_if_waits session = if would_wait session then spoiled session else session
 
 abbrev pub refused_of : Verb → Session → Session
-refused_of verb.Unwatch session = spoiled_if_open session
-refused_of verb.Other session = spoiled_if_open session
+refused_of verb.Unwatch session = spoiled_if_waits session
+refused_of verb.Other session = spoiled_if_waits session
 refused_of _ session = session
 
 -- any other leaves the session as it was

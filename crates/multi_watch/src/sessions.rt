@@ -6,7 +6,7 @@ ghost use Rattle.cmd_core.specs.Contents.{same_bytes, has_key};
 ghost use Rattle.cmd_core.specs.declared.shape.Keys.TheVariants as shape;
 ghost use Rattle.cmd_core.specs.Shape.{are_short};
 ghost use Rattle.multi_watch.specs.Session.{idle_session, with_watched, is_watched, modified};
-ghost use Rattle.multi_watch.specs.Admission.{step, session_after_refusal, spoiled_if_open, may_grow, builds_text, will_run, would_wait};
+ghost use Rattle.multi_watch.specs.Admission.{step, session_after_refusal, spoiled_if_waits, may_grow, builds_text, will_run, would_wait};
 ghost use Rattle.multi_watch.specs.Admission.{after_misuse, after_exec, after_discard, after_watch, after_unwatch, after_other};
 ghost use Rattle.multi_watch.specs.Watchers.{has_number};
 ghost use Rattle.multi_watch.specs.Sessions.{slot, session_at, Moves, Steps, marked_if};
@@ -250,7 +250,7 @@ impl Sessions {
         requires opened { IsSome (slot self.old number.0) }
         ensures ok { IfOk result (λ act. Steps self.old number.0 (after_unwatch request (session_at self.old number.0)) act self.new) }
         ensures refusable { IsErr result → IsTrue (would_wait (session_at self.old number.0)) }
-        ensures err { OnErr result (Moves self.old number.0 (Some (spoiled_if_open (session_at self.old number.0))) self.new) }
+        ensures err { OnErr result (Moves self.old number.0 (Some (spoiled_if_waits (session_at self.old number.0))) self.new) }
     {
         let session = &mut self.sessions[number.0];
         if session.is_open() {
@@ -265,7 +265,7 @@ impl Sessions {
         requires opened { IsSome (slot self.old number.0) }
         ensures ok { IfOk result (λ act. Steps self.old number.0 (after_other request (session_at self.old number.0)) act self.new) }
         ensures refusable { IsErr result → IsTrue (would_wait (session_at self.old number.0)) }
-        ensures err { OnErr result (Moves self.old number.0 (Some (spoiled_if_open (session_at self.old number.0))) self.new) }
+        ensures err { OnErr result (Moves self.old number.0 (Some (spoiled_if_waits (session_at self.old number.0))) self.new) }
     {
         let session = &mut self.sessions[number.0];
         if session.is_open() {

@@ -3,8 +3,8 @@ use Rattle.std.proofs.Common.{◌≡◌, ◌≢◌, ◌⊎◌, ℕ, zero, suc, �
 use Rattle.std.proofs.lemmas.Bool.{cond-true, cond-false, eqb-true, eq-eqb, eqb-false}
 use Rattle.pmem.specs.Device.{Word, MayBe, Only, store_word, flush_word, fence_word, store_at, flush_at, fenced}
 use Rattle.pmem.specs.Crash.{IsImage, IsSettled, image_of}
-use Rattle.pmem.specs.Runs.{IsNoted, stores, flushes, IsStored, IsOutside, IsLine, written, IsPartlyStored, pairs_from, lines_from}
-use Rattle.pmem.proofs.Words.{MayBe-store_word, MayBe-store_word-cases, MayBe-flush_word, flush_word-MayBe, MayBe-fence_word, IsNoted-flush_word, older-fence_word, MayBe-alone, Only-alone}
+use Rattle.pmem.specs.Runs.{stores, flushes, IsStored, IsOutside, IsLine, written, IsPartlyStored, pairs_from, lines_from}
+use Rattle.pmem.proofs.Words.{IsNoted, MayBe-store_word, MayBe-store_word-cases, MayBe-flush_word, flush_word-MayBe, MayBe-fence_word, IsNoted-flush_word, older-fence_word, MayBe-alone, Only-alone}
 
 pub same_or_other : (a b : ℕ) → (a ≡ b) ⊎ (a ≢ b)
 same_or_other a b =

@@ -1,7 +1,6 @@
 -- What the calls of a device do to the candidates of a word.
 use Rattle.std.proofs.Common.{◌≡◌, ◌⊎◌, ℕ, Bool, true, false, not, cond, List, [], ◌∷◌, ◌++◌, map, filter, refl, inl, inr, sym, subst, ap, ◌∙◌}
 use Rattle.pmem.specs.Device.{Older, Word, IsOlder, MayBe, Only, store_word, flush_word, fence_word}
-use Rattle.pmem.specs.Runs.{IsNoted, AllPassed}
 
 pub IsOlder-append_left : (a b : List Older) (x : ℕ) → IsOlder a x → IsOlder (a ++ b) x
 IsOlder-append_left [] b x h = absurd h
@@ -69,6 +68,14 @@ IsOlder-fence (o ∷ older) x h =
 pub MayBe-fence_word : (word : Word) (x : ℕ) → MayBe (fence_word word) x → MayBe word x
 MayBe-fence_word word x (inl newest) = inl newest
 MayBe-fence_word word x (inr older) = inr (IsOlder-fence word.older x older)
+
+abbrev AllPassed : List Older → Type 0
+AllPassed [] = Unit {0}
+AllPassed (o ∷ older) = (o.passed ≡ true) × AllPassed older
+
+-- a fence that succeeds leaves only the newest candidate of this word
+pub record IsNoted (word : Word) : Type 0 where
+  pub all : AllPassed word.older
 
 AllPassed-passed : (older : List Older) → AllPassed (map (λ o. record { value = o.value; passed = true }) older)
 AllPassed-passed [] = tt

@@ -1,6 +1,6 @@
 -- What runs of calls do, for the layers above.
 use Rattle.std.specs.Prelude.{◌≡◌, ◌⊎◌, ℕ, zero, suc, ◌+◌, ◌/◌, ◌≤◌, true, ◌==◌, if◌then◌else◌, List, [], ◌∷◌, ◌++◌}
-use Rattle.pmem.specs.Device.{Older, Word, State, Fences, MayBe, Only, store_at, flush_at, moment, fences_after, is_asked, is_unsure}
+use Rattle.pmem.specs.Device.{Word, State, Fences, MayBe, Only, store_at, flush_at, moment, fences_after, is_asked, is_unsure}
 use Rattle.pmem.specs.Crash.{IsImage, MayLeave, image_of}
 
 -- stores of these pairs of a word and a value, in this order
@@ -45,18 +45,6 @@ IsPartlyStored pairs words image = (word : ℕ) → MayBe (words word) (image wo
 abbrev pub IsLine : List ℕ → ℕ → Type 0
 IsLine [] line = ⊥
 IsLine (l ∷ lines) line = (l ≡ line) ⊎ IsLine lines line
-
-abbrev pub AllPassed : List Older → Type 0
-AllPassed [] = Unit {0}
-AllPassed (o ∷ older) = (o.passed ≡ true) × AllPassed older
-
--- a fence that succeeds leaves only the newest candidate of this word
-pub record IsNoted (word : Word) : Type 0 where
-  pub all : AllPassed word.older
-
--- each word that a pair stores to belongs to one of these lines
-abbrev pub IsCovered : List (ℕ × ℕ) → List ℕ → Type 0
-IsCovered pairs lines = (word x : ℕ) → IsStored pairs word x → IsLine lines (word / 8)
 
 -- what no store, flush or fence of a run changes
 pub record Stays (old new : State) : Type 0 where

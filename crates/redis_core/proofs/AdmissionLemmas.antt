@@ -1,5 +1,5 @@
 -- What a session answers by itself is never that memory was refused, and a request that is run at once leaves the session as a refusal would.
-use Rattle.std.proofs.Common.{◌≡◌, ℕ, Bool, true, false, cond, List, [], ◌∷◌, ◌++◌, drop, codes, refl, ap, sym, ◌∙◌}
+use Rattle.std.proofs.Common.{◌≡◌, ℕ, Bool, true, false, ◌&&◌, cond, List, [], ◌∷◌, ◌++◌, drop, codes, refl, ap, sym, ◌∙◌}
 use Rattle.kv_types.specs.declared.reply.Reply.{Reply, Simple, Error, NullArray}
 use Rattle.cmd_table.specs.declared.misuse.Misuse.{Misuse}
 use Rattle.cmd_table.specs.declared.misuse.Misuse.TheVariants.{UnknownName, WrongNumberOfWords, LongKey}
@@ -10,7 +10,7 @@ use Rattle.multi_watch.specs.declared.error.SessionError.{SessionError}
 use Rattle.multi_watch.specs.declared.error.SessionError.TheVariants.{NestedMulti, ExecOutside, DiscardOutside, WatchInside, TooLong, Aborted}
 use Rattle.multi_watch.specs.Session.{Session, idle_session, spoiled, has_modified, with_watched, watching}
 use Rattle.multi_watch.specs.Admission.{Answer, Run, RunAll, Step, admit, answers, refuses, runs, ok_reply, step_of, after_misuse, after_multi, after_closing, after_exec, after_discard, after_watch}
-use Rattle.multi_watch.specs.Admission.{after_waiting, after_unwatch, has_room, refused_of, session_after_request, session_after_refusal}
+use Rattle.multi_watch.specs.Admission.{after_waiting, after_unwatch, has_room, would_wait, refused_of, session_after_request, session_after_refusal}
 use Rattle.multi_watch.specs.Verb.{verb_of}
 use Rattle.model.specs.Call.{is_memory}
 
@@ -99,8 +99,8 @@ Unmoved refused step = (words : List (List ℕ)) → step.admission ≡ Run word
 never_moved : (refused : Session) (step : Step) → NeverRuns step → Unmoved refused step
 never_moved refused step never words e = absurd (never words e)
 
-unmoved_other : (b : Bool) (words : List (List ℕ)) (session : Session) → Unmoved (cond b (spoiled session) session) (cond b (after_waiting words session) (runs words session))
-unmoved_other true words session = never_moved (spoiled session) (after_waiting words session) (never_waiting words session)
+unmoved_other : (b : Bool) (words : List (List ℕ)) (session : Session) → Unmoved (cond (b && has_room session) (spoiled session) session) (cond b (after_waiting words session) (runs words session))
+unmoved_other true words session = never_moved (cond (has_room session) (spoiled session) session) (after_waiting words session) (never_waiting words session)
 unmoved_other false words session = λ other e. refl
 
 unmoved_step : (verb : Verb) (words : List (List ℕ)) (session : Session) → Unmoved (refused_of verb session) (step_of verb words session)
@@ -117,7 +117,7 @@ unmoved_step verb.Watch words session =
     never_moved session (after_watch (drop 1 words) session)
     (never_if session.is_open _ _ (never_refuses WatchInside session) (never_answers ok_reply (with_watched (watching (drop 1 words) session.watched) session)))
 unmoved_step verb.Unwatch words session =
-    never_moved (cond session.is_open (spoiled session) session) (after_unwatch words session)
+    never_moved (cond (would_wait session) (spoiled session) session) (after_unwatch words session)
     (never_if session.is_open _ _ (never_waiting words session) (never_answers ok_reply (with_watched [] session)))
 unmoved_step verb.Other words session = unmoved_other session.is_open words session
 

@@ -75,10 +75,6 @@ pub record AreUnderWay (start : Stored) (position : ℕ) (requests : List (List 
   pub marks : Marks (records start.table) (changes_of_part running.part) start.sessions now.sessions
   pub counted : changes_of_part running.part ≢ [] → position < COUNTER_LIMIT
 
--- All requests of a call were run, and each got its reply.
-abbrev pub RunsAll : Stored → ℕ → List (List (List ℕ)) → List Reply → Running → Stored → Type 0
-RunsAll start position requests replies = AreUnderWay start position requests replies []
-
 -- the table is that of some versions, and neither a free entry of the heap nor one of these has a version
 pub record IsBesideWith (table : Table) (room : Room) (entries : List EntryNo) : Type 0 where
   pub versions : Versions
