@@ -39,16 +39,17 @@ pub fn follow<E: Durable, K: Keyspace>(
     requires stands { Stands (E.is_faulted node.old.engine) (E.device node.old.engine) (E.contents node.old.engine) (K.table node.old.keyspace) node.old.heap node.old.ended.items }
     ensures stands { ¬ (result ≡ Ok Fault) → Stands (E.is_faulted node.new.engine) (E.device node.new.engine) (E.contents node.new.engine) (K.table node.new.keyspace) node.new.heap node.new.ended.items }
 {
-    let mut stream = accept(listener)?;
+    let mut newer = None;
     for _ in 0..u64::MAX {
+        let stream = match newer.take() {
+            Some(stream) => stream,
+            None => accept(listener)?,
+        };
         let mut from = LinkReader::new(&stream, listener);
         if let Err(LinkEnd::Stops(refusal)) = serve_link(alloc, node, &mut from, &mut &stream) {
             return Ok(refusal);
         }
-        stream = match from.into_newer() {
-            Some(newer) => newer,
-            None => accept(listener)?,
-        };
+        newer = from.into_newer();
     }
     Err(io::ErrorKind::UnexpectedEof.into())
 }
