@@ -16,8 +16,6 @@ import wrong_bodies  # noqa: E402
 README, CRATES = (common.ROOT / name for name in ("README.md", "docs/crates.md"))
 CASES = common.ROOT / "docs" / "worked-cases.md"
 
-# What the table of crates leaves out, as it says.
-UNNAMED_USES = {"kv_types"}
 
 NAME = re.compile(r"([A-Za-z_][\w'-]*)((?:::[A-Za-z_]\w*)*)(?:\([^()]*\)|::<\w+>)?")
 TEST = re.compile(r"(test_\w+)\.([A-Z]\w+)(?:\.(test_\w+))?")
@@ -204,18 +202,8 @@ class Names(common.Cases):
 class Crates(common.Cases):
     """The tables of docs/crates.md."""
 
-    def test_what_each_crate_stands_on(self):
-        listed = {row[0]: row for row in pages.rows(CRATES, "Crates") if not row[0].startswith("**")}
-        self.assertEqual([crate for crate in listed if crate in sources.crates()], list(sources.crates()))
-        for crate, (_, uses, _, exists) in listed.items():
-            with self.case("crate", crate=crate):
-                self.assertEqual(crate in sources.crates(), exists != "planned")
-                if crate in sources.crates():
-                    # (in brackets are those that it only cites, and later ones)
-                    found = set(re.sub(r"\([^)]*\)", "", uses).replace(",", " ").split())
-                    cited = set(pages.CODE.findall(uses))
-                    self.assertLessEqual(found, set(sources.crates()[crate]))
-                    self.assertLessEqual(set(sources.crates()[crate]) - UNNAMED_USES, found | cited)
+    def test_each_crate_has_its_row(self):
+        self.assertEqual([row[0] for row in pages.rows(CRATES, "What each crate proves")], list(sources.crates()))
 
     def test_what_carries_each_crate(self):
         rows = pages.rows(CRATES, "What each crate proves")
