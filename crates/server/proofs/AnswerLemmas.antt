@@ -1,5 +1,6 @@
 -- The answer to one connection, from what a run promises.
-use Rattle.std.proofs.Common.{◌≡◌, ℕ, zero, suc, Bool, true, List, [], ◌∷◌, length, slice_index_or, Option, None, Result, Ok, Err, IfOk, sym, ap, subst, ◌∙◌, arith}
+use Rattle.std.specs.Global.{Global}
+use Rattle.std.proofs.Common.{Vec, ◌≡◌, ℕ, zero, suc, Bool, true, List, [], ◌∷◌, length, slice_index_or, Option, None, Result, Ok, Err, IfOk, sym, ap, subst, ◌∙◌, arith}
 use Rattle.pmem.specs.Device.{State}
 use Rattle.kv_types.specs.declared.limits.TheConstants.{REQUEST_LIMITS}
 use Rattle.kv_types.specs.Reading.{items_at}
@@ -58,10 +59,10 @@ answer-promised input events done calls released primary standby answer schedule
 
 -- A run over a schedule that went to its end: what it released to the first connection is an answer.
 pub answer-kept : {A R : Type 0} (bytes : A → List ℕ) (result : Result A R) (input : List ℕ) (schedule events : List Event) (ended : Option EarlyEnd) (done : List Bool) (calls : List Call) (released : List (List ℕ))
-    (primary standby primary' standby' : State) → IsSchedule input schedule → events ≡ schedule → KeepsItsWord events ended done calls released primary standby primary' standby'
+    (frames acknowledgements : List (Vec ℕ Global)) (primary standby primary' standby' : State) → IsSchedule input schedule → events ≡ schedule → KeepsItsWord events ended done calls released frames acknowledgements primary standby primary' standby'
     → IfOk result (λ _. ended ≡ None) → IfOk result (λ answer. bytes answer ≡ slice_index_or released 0 []) → IfOk result (λ answer. IsAnswer input (bytes answer))
-answer-kept bytes (Ok answer) input schedule events ended done calls released primary standby primary' standby' is_schedule same kept whole is_first =
-    let at_end : KeepsItsWord events None done calls released primary standby primary' standby' =
-    subst (λ (how : Option EarlyEnd). KeepsItsWord events how done calls released primary standby primary' standby') whole kept in
+answer-kept bytes (Ok answer) input schedule events ended done calls released frames acknowledgements primary standby primary' standby' is_schedule same kept whole is_first =
+    let at_end : KeepsItsWord events None done calls released frames acknowledgements primary standby primary' standby' =
+    subst (λ (how : Option EarlyEnd). KeepsItsWord events how done calls released frames acknowledgements primary standby primary' standby') whole kept in
     answer-promised input events done calls _ _ _ (bytes answer) (subst (IsSchedule input) (sym same) is_schedule) at_end.kept.promised is_first
-answer-kept bytes (Err refusal) input schedule events ended done calls released primary standby primary' standby' is_schedule same kept whole is_first = tt
+answer-kept bytes (Err refusal) input schedule events ended done calls released frames acknowledgements primary standby primary' standby' is_schedule same kept whole is_first = tt

@@ -1,5 +1,6 @@
 -- A run from event to event, and what is reported of it at its end.
-use Rattle.std.proofs.Common.{◌≡◌, ◌⊎◌, ℕ, ◌≤◌, Bool, List, [], ◌∷◌, ◌++◌, length, take, slice_index_or, Option, Some, None, refl, sym, ap, ap₂, subst, ◌∙◌, arith, le_refl, length-take, inl, inr, true, cond, nat_eq, eqb-true, All, false}
+use Rattle.std.specs.Global.{Global}
+use Rattle.std.proofs.Common.{Vec, ◌≡◌, ◌⊎◌, ℕ, ◌≤◌, Bool, List, [], ◌∷◌, ◌++◌, length, take, slice_index_or, Option, Some, None, Err, refl, sym, ap, ap₂, subst, ◌∙◌, arith, le_refl, length-take, inl, inr, true, cond, nat_eq, eqb-true, All, false}
 use Rattle.pmem.specs.Device.{State}
 use Rattle.pmem.specs.Runs.{LeavesOnly}
 use Rattle.kv_types.specs.declared.refusal.Refusal.{Refusal}
@@ -12,7 +13,7 @@ use Rattle.model.specs.Call.{position_of}
 use Rattle.model.specs.Image.{Image}
 use Rattle.model.specs.Standing.{Holder, new_holder}
 use Rattle.machine.specs.declared.event.Event.{Event}
-use Rattle.machine.specs.declared.event.Event.TheVariants.{Commit, Free, ClearGap, Apply, Reopen}
+use Rattle.machine.specs.declared.event.Event.TheVariants.{Commit, Free, ClearGap, Apply, OpenLink, Reopen, Send}
 use Rattle.machine.specs.declared.event.Node.TheVariants as node_of
 use Rattle.machine.specs.Event.{Run, World, Work, Commits, Frees, Frame as Sent, Committer, committed_first, from_group, last_world, spans_of}
 use Rattle.machine.specs.Law.{Grows}
@@ -31,11 +32,13 @@ use Rattle.world.specs.Cause.{Stretch, UnformedBy, Breaks, RestsAtFrameLimit, Re
 use Rattle.world.specs.Committing.{FormattingOnly, FromOnly, Moves, NearOnly, OpensAt, OpensAtEither, Rests, next_primary, next_from, next_standby}
 use Rattle.world.specs.declared.trace.EarlyEnd.{EarlyEnd}
 use Rattle.world.specs.declared.trace.EarlyEnd.TheVariants.{AtFormatting, AtEvent}
-use Rattle.world.specs.Headline.{AnyWorld, Enables, start, primary_position, standby_position, AreMoments, IsKept, KeepsItsWord, PlaysOn, AreMoves, OpensFrom, OpensIn, Reaches, StandsAfter, IsCutAfter, Plays, primary_holder, standby_holder}
+use Rattle.world.specs.Headline.{AnyWorld, Enables, start, primary_position, standby_position, AreMoments, IsKept, KeepsItsWord, PlaysOn, AreMoves, OpensFrom, OpensIn, Reaches, StandsAfter, IsCutAfter, Plays, HasSent, primary_holder, standby_holder}
 use Rattle.world.specs.Pair.{Pair, NodesRefine, HasWorld, IsCut, Steps}
+use Rattle.world.specs.Step.{AcksBy, FramesBy}
 use Rattle.connections.specs.Session.{released_of}
 use Rattle.world.proofs.EngineLemmas.{rests-same}
 use Rattle.world.proofs.PairLemmas.{primary-stands, sessions-stand, standby-stands}
+use Rattle.world.proofs.StepLemmas.{acks-sent, frames-sent}
 use Rattle.connections.proofs.SessionLemmas.{length-connections, released-told}
 
 -- ---- whose images they are
@@ -90,11 +93,23 @@ reaches-next first second began events done done' pair pair' event did more step
       stands = subst (NodesRefine first second pair') (sym (last_world-push start reaches.worlds next.world)) next.stands;
     }
 
+-- an event that was cut sent nothing
+frames-cut : (event : Event) (refusal : Refusal) (old new : List (Vec ℕ Global)) → FramesBy event (Err refusal) old new → new ≡ old
+frames-cut Send refusal old new same = same
+frames-cut event refusal old new same = same
+
+acks-cut : (event : Event) (refusal : Refusal) (old new : List (Vec ℕ Global)) → AcksBy event (Err refusal) old new → new ≡ old
+acks-cut OpenLink refusal old new same = same
+acks-cut Apply refusal old new same = same
+acks-cut event refusal old new same = same
+
 pub reaches-cut : (first second : Holder) (began : Pair) (events : List Event) (event : Event) (refusal : Refusal) (done : List Bool) (pair pair' : Pair)
     → ((first second : Holder) (w : World) → NodesRefine first second pair w → IsCut first second event refusal pair pair' w)
+    → FramesBy event (Err refusal) pair.frames pair'.frames
+    → AcksBy event (Err refusal) pair.arrivals.acknowledgements.items pair'.arrivals.acknowledgements.items
     → StandsAfter first second began events done pair → IsCutAfter first second began events event refusal done pair'
-reaches-cut first second began events event refusal done pair pair' cuts after =
-    record { before = pair; reaches = after.reaches; stands = after.stands; cut = cuts first second (last_world start after.reaches.worlds) after.stands }
+reaches-cut first second began events event refusal done pair pair' cuts frames acks after =
+    record { before = pair; reaches = after.reaches; stands = after.stands; frames = frames-cut event refusal _ _ frames; acknowledgements = acks-cut event refusal _ _ acks; cut = cuts first second (last_world start after.reaches.worlds) after.stands }
 
 -- ---- the connections are few
 
@@ -249,17 +264,23 @@ promised-by events done worlds calls released primary standby run tells =
       refl,
     )
 
-kept : (Last : World → Type 0) (first_last second_last : Stretch) (first second : Holder) (began : Pair) (events : List Event) (done : List Bool) (calls : List Call) (released : List (List ℕ)) (primary standby primary' standby' : State)
+-- what was sent up to a world that a pair stands for
+messages-sent : {first second : Holder} {pair : Pair} {w : World} → NodesRefine first second pair w → HasSent w pair.frames pair.arrivals.acknowledgements.items
+messages-sent {first} {second} {pair} {w} stands = record { frames_are = frames-sent first second pair w stands.parts; acknowledgements_are = acks-sent first second pair w stands.parts }
+
+kept : (Last : World → Type 0) (first_last second_last : Stretch) (first second : Holder) (began : Pair) (events : List Event) (done : List Bool) (calls : List Call) (released : List (List ℕ))
+    (frames acknowledgements : List (Vec ℕ Global)) (primary standby primary' standby' : State)
     → IsLast first_last → IsLast second_last
     → (reaches : Reaches first second began events done primary standby)
     → Tells (last_world start reaches.worlds) calls (λ c. slice_index_or released c []) (primary_position (last_world start reaches.worlds)) (standby_position (last_world start reaches.worlds))
     → Last (last_world start reaches.worlds)
+    → HasSent (last_world start reaches.worlds) frames acknowledgements
     → first_last (primary_holder first.lines (last_world start reaches.worlds)) (last_world start reaches.worlds).primary.calls
     (primary_position (last_world start reaches.worlds)) (next_primary (last_world start reaches.worlds)) primary primary'
     → second_last (standby_holder second.lines (last_world start reaches.worlds)) (last_world start reaches.worlds).primary.calls
     (standby_position (last_world start reaches.worlds)) (next_standby (last_world start reaches.worlds)) standby standby'
-    → IsKept Last first_last second_last first.lines second.lines events done calls released began.device began.standby.device primary' standby'
-kept Last first_last second_last first second began events done calls released primary standby primary' standby' first_from second_from reaches tells last primary_ends standby_ends =
+    → IsKept Last first_last second_last first.lines second.lines events done calls released frames acknowledgements began.device began.standby.device primary' standby'
+kept Last first_last second_last first second began events done calls released frames acknowledgements primary standby primary' standby' first_from second_from reaches tells last messages primary_ends standby_ends =
     let w = last_world start reaches.worlds in
     let promised = promised-by events done reaches.worlds calls (λ c. slice_index_or released c []) (primary_position w) (standby_position w) reaches.run tells in
     let primary_moments = moments-from first_last primary_position next_primary (primary_holder first.lines) of_primary first_from start events done reaches.worlds began.device primary primary' reaches.run (sound-start true)
@@ -271,19 +292,20 @@ kept Last first_last second_last first second began events done calls released p
       standby_at = standby_position w;
       promised = promised.0;
       last = subst (λ (worlds : List World). Last (last_world start worlds)) (sym promised.1) last;
+      messages = subst (λ (worlds : List World). HasSent (last_world start worlds) frames acknowledgements) (sym promised.1) messages;
       primary_moments = subst (λ (worlds : List World). AreMoments first_last primary_position next_primary (primary_holder first.lines) start worlds began.device primary') (sym promised.1) primary_moments.moments;
       standby_moments = subst (λ (worlds : List World). AreMoments second_last standby_position next_standby (standby_holder second.lines) start worlds began.standby.device standby') (sym promised.1) standby_moments.moments;
     }
 
 played-whole : (first second : Holder) (began : Pair) (events : List Event) (done : List Bool) (pair : Pair) (released : List (List ℕ)) → released ≡ released_of pair.sessions.connections.items
     → StandsAfter first second began events done pair
-    → IsKept AnyWorld Resting Resting first.lines second.lines events done pair.sessions.calls.items released began.device began.standby.device pair.device pair.standby.device
+    → IsKept AnyWorld Resting Resting first.lines second.lines events done pair.sessions.calls.items released pair.frames pair.arrivals.acknowledgements.items began.device began.standby.device pair.device pair.standby.device
 played-whole first second began events done pair released same after =
     let w = last_world start after.reaches.worlds in
     let parts = after.stands.parts in
     let sessions = sessions-stand parts in
     let told = sessions.calls_are in
-    kept AnyWorld Resting Resting first second began events done pair.sessions.calls.items released pair.device pair.standby.device pair.device pair.standby.device
+    kept AnyWorld Resting Resting first second began events done pair.sessions.calls.items released pair.frames pair.arrivals.acknowledgements.items pair.device pair.standby.device pair.device pair.standby.device
     resting-from resting-from after.reaches
     (record {
       list = told;
@@ -292,6 +314,7 @@ played-whole first second began events done pair released same after =
       standby_position = refl;
     })
     tt
+    (messages-sent after.stands)
     (subst (λ (h : Holder). Rests h w.primary.calls w.primary.committer.position pair.device pair.device) (primary-holds after.stands)
     (rests-same first w.primary.calls w.primary.committer.position pair.device pair.device refl (primary-stands first second pair w parts)))
     (subst (λ (h : Holder). Rests h w.primary.calls w.standby.position pair.standby.device pair.standby.device) (standby-holds after.stands)
@@ -330,14 +353,14 @@ ends-as refusal event P Q so ends = absurd ends
 played-cut : (first second : Holder) (began : Pair) (events : List Event) (event : Event) (refusal : Refusal) (done : List Bool) (pair : Pair) (released : List (List ℕ))
     → released ≡ released_of pair.sessions.connections.items → IsCutAfter first second began events event refusal done pair
     → EndsBy refusal event (λ first_last second_last.
-    IsKept (Enables event) first_last second_last first.lines second.lines events done pair.sessions.calls.items released began.device began.standby.device pair.device pair.standby.device)
+    IsKept (Enables event) first_last second_last first.lines second.lines events done pair.sessions.calls.items released pair.frames pair.arrivals.acknowledgements.items began.device began.standby.device pair.device pair.standby.device)
 played-cut first second began events event refusal done pair released same after =
     let w = last_world start after.reaches.worlds in
     let before = after.before in
     let cut = after.cut in
     ends-as refusal event _ _
     (λ first_last second_last first_from second_from led.
-    kept (Enables event) first_last second_last first second began events done pair.sessions.calls.items released before.device before.standby.device pair.device pair.standby.device
+    kept (Enables event) first_last second_last first second began events done pair.sessions.calls.items released pair.frames pair.arrivals.acknowledgements.items before.device before.standby.device pair.device pair.standby.device
     first_from second_from after.reaches
     (record {
       list = cut.calls;
@@ -346,33 +369,40 @@ played-cut first second began events event refusal done pair released same after
       standby_position = refl;
     })
     cut.enabled
+    (subst (λ (texts : List (Vec ℕ Global)). HasSent w texts pair.arrivals.acknowledgements.items) (sym after.frames)
+    (subst (λ (texts : List (Vec ℕ Global)). HasSent w before.frames texts) (sym after.acknowledgements) (messages-sent after.stands)))
     (subst (λ (h : Holder). first_last h w.primary.calls w.primary.committer.position (next_primary w) before.device pair.device) (primary-holds after.stands) led.0)
     (subst (λ (h : Holder). second_last h w.primary.calls w.standby.position (next_standby w) before.standby.device pair.standby.device) (standby-holds after.stands) led.1))
     cut.cause
 
-pub plays-on : (first second : Holder) (began : Pair) (events : List Event) (ended : Option EarlyEnd) (done : List Bool) (pair : Pair) (calls : List Call) (released : List (List ℕ)) (primary standby : State)
-    → calls ≡ pair.sessions.calls.items → released ≡ released_of pair.sessions.connections.items → primary ≡ pair.device → standby ≡ pair.standby.device
-    → Plays first second began events ended done pair → PlaysOn first second events ended done calls released began.device began.standby.device primary standby
-plays-on first second began events ended done pair calls released primary standby calls_same same primary_same standby_same plays =
-    subst (λ (xs : List Call). PlaysOn first second events ended done xs released began.device began.standby.device primary standby) (sym calls_same)
-    (subst (λ (d : State). PlaysOn first second events ended done pair.sessions.calls.items released began.device began.standby.device d standby) (sym primary_same)
-    (subst (λ (d : State). PlaysOn first second events ended done pair.sessions.calls.items released began.device began.standby.device pair.device d) (sym standby_same) (go ended plays)))
+pub plays-on : (first second : Holder) (began : Pair) (events : List Event) (ended : Option EarlyEnd) (done : List Bool) (pair : Pair) (calls : List Call) (released : List (List ℕ))
+    (frames acknowledgements : List (Vec ℕ Global)) (primary standby : State)
+    → calls ≡ pair.sessions.calls.items → released ≡ released_of pair.sessions.connections.items → frames ≡ pair.frames → acknowledgements ≡ pair.arrivals.acknowledgements.items
+    → primary ≡ pair.device → standby ≡ pair.standby.device
+    → Plays first second began events ended done pair → PlaysOn first second events ended done calls released frames acknowledgements began.device began.standby.device primary standby
+plays-on first second began events ended done pair calls released frames acknowledgements primary standby calls_same same frames_same acks_same primary_same standby_same plays =
+    subst (λ (xs : List Call). PlaysOn first second events ended done xs released frames acknowledgements began.device began.standby.device primary standby) (sym calls_same)
+    (subst (λ (texts : List (Vec ℕ Global)). PlaysOn first second events ended done pair.sessions.calls.items released texts acknowledgements began.device began.standby.device primary standby) (sym frames_same)
+    (subst (λ (texts : List (Vec ℕ Global)). PlaysOn first second events ended done pair.sessions.calls.items released pair.frames texts began.device began.standby.device primary standby) (sym acks_same)
+    (subst (λ (d : State). PlaysOn first second events ended done pair.sessions.calls.items released pair.frames pair.arrivals.acknowledgements.items began.device began.standby.device d standby) (sym primary_same)
+    (subst (λ (d : State). PlaysOn first second events ended done pair.sessions.calls.items released pair.frames pair.arrivals.acknowledgements.items began.device began.standby.device pair.device d)
+    (sym standby_same) (go ended plays)))))
   where
     go : (ended : Option EarlyEnd) → Plays first second began events ended done pair
-        → PlaysOn first second events ended done pair.sessions.calls.items released began.device began.standby.device pair.device pair.standby.device
+        → PlaysOn first second events ended done pair.sessions.calls.items released pair.frames pair.arrivals.acknowledgements.items began.device began.standby.device pair.device pair.standby.device
     go None plays = played-whole first second began events done pair released same plays
     go (Some (AtFormatting refusal)) plays = absurd plays
     go (Some (AtEvent index refusal)) plays = (plays.0, plays.1, played-cut first second began (take index events) plays.0 refusal done pair released same plays.2)
 
 -- ---- after the formatting
 
-pub keeps-played : (events : List Event) (ended : Option EarlyEnd) (done : List Bool) (calls : List Call) (released : List (List ℕ)) (primary standby formatted formatted' primary' standby' : State)
+pub keeps-played : (events : List Event) (ended : Option EarlyEnd) (done : List Bool) (calls : List Call) (released : List (List ℕ)) (frames acknowledgements : List (Vec ℕ Global)) (primary standby formatted formatted' primary' standby' : State)
     → FormattingOnly Primary primary formatted → FormattingOnly Standby standby formatted'
-    → PlaysOn (new_holder primary.lines Primary) (new_holder standby.lines Standby) events ended done calls released formatted formatted' primary' standby' → KeepsItsWord events ended done calls released primary standby primary' standby'
-keeps-played events None done calls released primary standby formatted formatted' primary' standby' formatting formatting' plays =
+    → PlaysOn (new_holder primary.lines Primary) (new_holder standby.lines Standby) events ended done calls released frames acknowledgements formatted formatted' primary' standby' → KeepsItsWord events ended done calls released frames acknowledgements primary standby primary' standby'
+keeps-played events None done calls released frames acknowledgements primary standby formatted formatted' primary' standby' formatting formatting' plays =
     record { primary_formatted = formatted; standby_formatted = formatted'; primary_formatting = formatting; standby_formatting = formatting'; kept = plays }
-keeps-played events (Some (AtFormatting refusal)) done calls released primary standby formatted formatted' primary' standby' formatting formatting' plays = absurd plays
-keeps-played events (Some (AtEvent index refusal)) done calls released primary standby formatted formatted' primary' standby' formatting formatting' plays = (
+keeps-played events (Some (AtFormatting refusal)) done calls released frames acknowledgements primary standby formatted formatted' primary' standby' formatting formatting' plays = absurd plays
+keeps-played events (Some (AtEvent index refusal)) done calls released frames acknowledgements primary standby formatted formatted' primary' standby' formatting formatting' plays = (
   plays.0,
   plays.1,
   ends-as refusal plays.0 _ _
@@ -382,9 +412,9 @@ keeps-played events (Some (AtEvent index refusal)) done calls released primary s
 )
 
 -- a run that ended before the first event
-pub keeps-unplayed : (events : List Event) (ended : Option EarlyEnd) (refusal : Refusal) (done : List Bool) (calls : List Call) (released : List (List ℕ)) (primary standby primary' standby' : State)
-    → ended ≡ Some (AtFormatting refusal) → done ≡ [] → calls ≡ [] → released ≡ [] → FormattingOnly Primary primary primary' → FormattingOnly Standby standby standby'
-    → UnformedBy refusal primary standby primary' standby' → KeepsItsWord events ended done calls released primary standby primary' standby'
-keeps-unplayed events ended refusal done calls released primary standby primary' standby' is done_none calls_none released_none formatting formatting' cause =
-    subst (λ (how : Option EarlyEnd). KeepsItsWord events how done calls released primary standby primary' standby') (sym is)
-    (record { done_none = done_none; calls_none = calls_none; released_none = released_none; primary_formatting = formatting; standby_formatting = formatting'; cause = cause })
+pub keeps-unplayed : (events : List Event) (ended : Option EarlyEnd) (refusal : Refusal) (done : List Bool) (calls : List Call) (released : List (List ℕ)) (frames acknowledgements : List (Vec ℕ Global)) (primary standby primary' standby' : State)
+    → ended ≡ Some (AtFormatting refusal) → done ≡ [] → calls ≡ [] → released ≡ [] → frames ≡ [] → acknowledgements ≡ [] → FormattingOnly Primary primary primary' → FormattingOnly Standby standby standby'
+    → UnformedBy refusal primary standby primary' standby' → KeepsItsWord events ended done calls released frames acknowledgements primary standby primary' standby'
+keeps-unplayed events ended refusal done calls released frames acknowledgements primary standby primary' standby' is done_none calls_none released_none frames_none acks_none formatting formatting' cause =
+    subst (λ (how : Option EarlyEnd). KeepsItsWord events how done calls released frames acknowledgements primary standby primary' standby') (sym is)
+    (record { done_none = done_none; calls_none = calls_none; released_none = released_none; frames_none = frames_none; acknowledgements_none = acks_none; primary_formatting = formatting; standby_formatting = formatting'; cause = cause })

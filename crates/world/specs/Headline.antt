@@ -1,5 +1,6 @@
 -- The word that a run keeps: the promise, between any two events, and what a crash leaves of both images at any moment of the run.
-use Rattle.std.specs.Prelude.{◌≡◌, ◌⊎◌, ℕ, ◌≤◌, Bool, true, List, [], ◌∷◌, ◌++◌, take, slice_get, slice_index_or, Option, Some, None}
+use Rattle.std.specs.Prelude.{◌≡◌, ◌⊎◌, ℕ, ◌≤◌, Bool, true, List, [], ◌∷◌, ◌++◌, take, slice_get, slice_index_or, Option, Some, None, Vec}
+use Rattle.std.specs.Global.{Global}
 use Rattle.pmem.specs.Device.{State}
 use Rattle.pmem.specs.Runs.{LeavesOnly}
 use Rattle.kv_types.specs.declared.refusal.Refusal.{Refusal}
@@ -13,6 +14,7 @@ use Rattle.machine.specs.Event.{Run, World, is_enabled, start_with, last_world}
 use Rattle.machine.specs.Promise.{IsPromised, IsReleased, released_in}
 use Rattle.world.specs.Committing.{Moves, OpensAt, FormattingOnly, next_primary, next_standby}
 use Rattle.world.specs.Cause.{Stretch, Resting, UnformedBy, EndsBy}
+use Rattle.world.specs.Link.{AreAcksSent, AreFramesSent}
 use Rattle.world.specs.Pair.{Pair, NodesRefine, IsCut}
 use Rattle.world.specs.declared.trace.EarlyEnd.{EarlyEnd}
 use Rattle.world.specs.declared.trace.EarlyEnd.TheVariants.{AtFormatting, AtEvent}
@@ -66,54 +68,62 @@ AnyWorld w = Unit {0}
 abbrev pub Enables : Event → World → Type 0
 Enables event w = is_enabled w event ≡ true
 
+-- These are the bytes of all that passed between the nodes up to this world, in order: the frames that were sent, and the acknowledgements that the standby made.
+pub record HasSent (w : World) (frames acknowledgements : List (Vec ℕ Global)) : Type 0 where
+  pub frames_are : AreFramesSent w.primary.epoch w.primary.calls frames w.wire.frames
+  pub acknowledgements_are : AreAcksSent acknowledgements w.wire.acknowledgements
+
 -- All or some of these events did their step, and moved the two devices on from where they were formatted. The list of calls and the released bytes, by
--- connection, are as promised. `Last` holds of the last world.
-pub record IsKept (Last : World → Type 0) (first_last second_last : Stretch) (first_lines second_lines : ℕ) (events : List Event) (done : List Bool) (calls : List Call) (released : List (List ℕ)) (primary standby primary' standby' : State) : Type 0 where
+-- connection, are as promised, and the messages are those of the last world. `Last` holds of it.
+pub record IsKept (Last : World → Type 0) (first_last second_last : Stretch) (first_lines second_lines : ℕ) (events : List Event) (done : List Bool) (calls : List Call) (released : List (List ℕ)) (frames acknowledgements : List (Vec ℕ Global)) (primary standby primary' standby' : State) : Type 0 where
   -- the positions of the two nodes at the end
   pub primary_at : ℕ
   pub standby_at : ℕ
   pub promised : IsPromised true events done calls (λ c. slice_index_or released c []) primary_at standby_at
   pub last : Last (last_world start promised.worlds)
+  pub messages : HasSent (last_world start promised.worlds) frames acknowledgements
   -- the moments of either device, cut by the same events
   pub primary_moments : AreMoments first_last primary_position next_primary (primary_holder first_lines) start promised.worlds primary primary'
   pub standby_moments : AreMoments second_last standby_position next_standby (standby_holder second_lines) start promised.worlds standby standby'
 
 -- The first device was formatted as primary and the second as standby, and then the events happened.
-pub record IsPlayed (Last : World → Type 0) (first_last second_last : Stretch) (events : List Event) (done : List Bool) (calls : List Call) (released : List (List ℕ)) (primary standby primary' standby' : State) : Type 0 where
+pub record IsPlayed (Last : World → Type 0) (first_last second_last : Stretch) (events : List Event) (done : List Bool) (calls : List Call) (released : List (List ℕ)) (frames acknowledgements : List (Vec ℕ Global)) (primary standby primary' standby' : State) : Type 0 where
   pub primary_formatted : State
   pub standby_formatted : State
   -- a crash leaves an image from before, the new one, or one without the magic
   pub primary_formatting : FormattingOnly Primary primary primary_formatted
   pub standby_formatting : FormattingOnly Standby standby standby_formatted
-  pub kept : IsKept Last first_last second_last primary.lines standby.lines events done calls released primary_formatted standby_formatted primary' standby'
+  pub kept : IsKept Last first_last second_last primary.lines standby.lines events done calls released frames acknowledgements primary_formatted standby_formatted primary' standby'
 
 -- Nothing was called: all that was done to the devices was done by their formatting, which ended for this cause.
-pub record IsUnplayed (refusal : Refusal) (done : List Bool) (calls : List Call) (released : List (List ℕ)) (primary standby primary' standby' : State) : Type 0 where
+pub record IsUnplayed (refusal : Refusal) (done : List Bool) (calls : List Call) (released : List (List ℕ)) (frames acknowledgements : List (Vec ℕ Global)) (primary standby primary' standby' : State) : Type 0 where
   pub done_none : done ≡ []
   pub calls_none : calls ≡ []
   pub released_none : released ≡ []
+  pub frames_none : frames ≡ []
+  pub acknowledgements_none : acknowledgements ≡ []
   pub primary_formatting : FormattingOnly Primary primary primary'
   pub standby_formatting : FormattingOnly Standby standby standby'
   pub cause : UnformedBy refusal primary standby primary' standby'
 
 -- A run that led these two devices from their old states to their new ones went to the end of the events; or it ended before the first one; or it ended in
 -- the middle of one, which was enabled, for a cause that such an event may have.
-abbrev pub KeepsItsWord : List Event → Option EarlyEnd → List Bool → List Call → List (List ℕ) → State → State → State → State → Type 0
-KeepsItsWord events None done calls released primary standby primary' standby' = IsPlayed AnyWorld Resting Resting events done calls released primary standby primary' standby'
-KeepsItsWord events (Some (AtFormatting refusal)) done calls released primary standby primary' standby' = IsUnplayed refusal done calls released primary standby primary' standby'
-KeepsItsWord events (Some (AtEvent index refusal)) done calls released primary standby primary' standby' =
+abbrev pub KeepsItsWord : List Event → Option EarlyEnd → List Bool → List Call → List (List ℕ) → List (Vec ℕ Global) → List (Vec ℕ Global) → State → State → State → State → Type 0
+KeepsItsWord events None done calls released frames acknowledgements primary standby primary' standby' = IsPlayed AnyWorld Resting Resting events done calls released frames acknowledgements primary standby primary' standby'
+KeepsItsWord events (Some (AtFormatting refusal)) done calls released frames acknowledgements primary standby primary' standby' = IsUnplayed refusal done calls released frames acknowledgements primary standby primary' standby'
+KeepsItsWord events (Some (AtEvent index refusal)) done calls released frames acknowledgements primary standby primary' standby' =
     (event : Event) × (slice_get events index ≡ Some event)
-    × EndsBy refusal event (λ first_last second_last. IsPlayed (Enables event) first_last second_last (take index events) done calls released primary standby primary' standby')
+    × EndsBy refusal event (λ first_last second_last. IsPlayed (Enables event) first_last second_last (take index events) done calls released frames acknowledgements primary standby primary' standby')
 
 -- ---- how it is played
 
 -- the same, of a run over a pair of new nodes
-abbrev pub PlaysOn : Holder → Holder → List Event → Option EarlyEnd → List Bool → List Call → List (List ℕ) → State → State → State → State → Type 0
-PlaysOn first second events None done calls released primary standby primary' standby' = IsKept AnyWorld Resting Resting first.lines second.lines events done calls released primary standby primary' standby'
-PlaysOn first second events (Some (AtFormatting refusal)) done calls released primary standby primary' standby' = ⊥
-PlaysOn first second events (Some (AtEvent index refusal)) done calls released primary standby primary' standby' =
+abbrev pub PlaysOn : Holder → Holder → List Event → Option EarlyEnd → List Bool → List Call → List (List ℕ) → List (Vec ℕ Global) → List (Vec ℕ Global) → State → State → State → State → Type 0
+PlaysOn first second events None done calls released frames acknowledgements primary standby primary' standby' = IsKept AnyWorld Resting Resting first.lines second.lines events done calls released frames acknowledgements primary standby primary' standby'
+PlaysOn first second events (Some (AtFormatting refusal)) done calls released frames acknowledgements primary standby primary' standby' = ⊥
+PlaysOn first second events (Some (AtEvent index refusal)) done calls released frames acknowledgements primary standby primary' standby' =
     (event : Event) × (slice_get events index ≡ Some event)
-    × EndsBy refusal event (λ first_last second_last. IsKept (Enables event) first_last second_last first.lines second.lines (take index events) done calls released primary standby primary' standby')
+    × EndsBy refusal event (λ first_last second_last. IsKept (Enables event) first_last second_last first.lines second.lines (take index events) done calls released frames acknowledgements primary standby primary' standby')
 
 -- the events of a run from this world on, each over its own list of calls, moved a device of these holders on
 abbrev pub AreMoves : (World → ℕ) → (World → Holder) → World → List World → State → State → Type 0
@@ -137,6 +147,8 @@ pub record IsCutAfter (first second : Holder) (began : Pair) (events : List Even
   pub before : Pair
   pub reaches : Reaches first second began events done before.device before.standby.device
   pub stands : NodesRefine first second before (last_world start reaches.worlds)
+  pub frames : pair.frames ≡ before.frames
+  pub acknowledgements : pair.arrivals.acknowledgements.items ≡ before.arrivals.acknowledgements.items
   pub cut : IsCut first second event refusal before pair (last_world start reaches.worlds)
 
 abbrev pub Plays : Holder → Holder → Pair → List Event → Option EarlyEnd → List Bool → Pair → Type 0

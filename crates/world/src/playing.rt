@@ -9,7 +9,6 @@ ghost use Rattle.connections.specs.Session.{released_of};
 use crate::pair::{Pair, Stepper};
 use crate::parts::Parts;
 use crate::trace::{EarlyEnd, Trace};
-use crate::wire::end_of_frame;
 use connections::Connection;
 use kv_types::Refusal;
 use machine::Event;
@@ -28,8 +27,8 @@ use wbl_engine::WblEngine;
 ///
 /// This is the promise of the whole server, for any devices and any list of events: one sequential Redis answers the list of calls, which takes each
 /// connection's requests in order; the bytes released to each connection begin its replies; each released call was covered, and is in what both
-/// images hold; and a crash during an event leaves either image where its node stood in the list before the event or after it, with each call that was
-/// released by then.
+/// images hold; a crash during an event leaves either image where its node stood in the list before the event or after it, with each call that was
+/// released by then; and the frames and acknowledgements are just those that were sent and made.
 ///
 /// Watched keys are hashed with `hash_builder`. Nothing of this depends on it.
 pub fn run<P: Crashing>(
@@ -41,7 +40,7 @@ pub fn run<P: Crashing>(
     requires { 2 ≤ vec_len devices }
     ensures kept { (primary standby : P) (others : List P) → devices.items ≡ primary ∷ standby ∷ others
         → (primary' : P) × (standby' : P) × (result.devices.items ≡ primary' ∷ standby' ∷ others)
-        × KeepsItsWord events.now result.ended result.done.items result.calls.items (map (λ bytes. bytes.items) result.released.items)
+        × KeepsItsWord events.now result.ended result.done.items result.calls.items (map (λ bytes. bytes.items) result.released.items) result.frames.items result.acknowledgements.items
         (P.state primary) (P.state standby) (P.state primary') (P.state standby') }
 {
     let mut devices = devices;
@@ -91,7 +90,7 @@ fn play_over<P: Crashing>(
     events: &[Event],
     hash_builder: RandomState,
 ) -> Played<P>
-    ensures { KeepsItsWord events.now result.ended result.done.items result.calls.items (map (λ bytes. bytes.items) result.released.items)
+    ensures { KeepsItsWord events.now result.ended result.done.items result.calls.items (map (λ bytes. bytes.items) result.released.items) result.frames.items result.acknowledgements.items
         (P.state primary) (P.state standby) (P.state result.primary) (P.state result.standby) }
 {
     let (done, released) = match room_for(alloc, events.len()) {
@@ -109,6 +108,7 @@ fn nothing<P>(alloc: Global, refusal: Refusal, primary: P, standby: P) -> Played
     ensures ended { result.ended ≡ Some (AtFormatting refusal) }
     ensures devices { (result.primary ≡ primary) × (result.standby ≡ standby) }
     ensures none { (result.done.items ≡ []) × (result.calls.items ≡ []) × (result.released.items ≡ []) }
+    ensures none_sent { (result.frames.items ≡ []) × (result.acknowledgements.items ≡ []) }
 {
     Played {
         calls: Vec::new(alloc),
@@ -147,7 +147,7 @@ fn play_on<P: Crashing, K: Keyspace + Drop>(
     requires room_calls { length events.now ≤ vec_capacity pair.sessions.calls }
     requires stands { (first : Holder) × (second : Holder) × NodesRefine first second (⟦<Pair<WblEngine<P>, K> as Stepper>⟧.parts pair) start }
     ensures { (first second : Holder) → NodesRefine first second (⟦<Pair<WblEngine<P>, K> as Stepper>⟧.parts pair) start
-        → PlaysOn first second events.now result.ended result.done.items result.calls.items (map (λ bytes. bytes.items) result.released.items)
+        → PlaysOn first second events.now result.ended result.done.items result.calls.items (map (λ bytes. bytes.items) result.released.items) result.frames.items result.acknowledgements.items
         (⟦<Pair<WblEngine<P>, K> as Stepper>⟧.parts pair).device (⟦<Pair<WblEngine<P>, K> as Stepper>⟧.parts pair).standby.device
         (P.state result.primary) (P.state result.standby) }
 {
@@ -158,13 +158,12 @@ fn play_on<P: Crashing, K: Keyspace + Drop>(
     let Parts {
         calls,
         connections,
-        mut frames,
+        frames,
         acknowledgements,
         primary,
         standby,
     } = pair.into_parts();
     take_released(connections, &mut released);
-    drop_repeats(&mut frames);
     Played {
         calls,
         released,
@@ -204,15 +203,4 @@ fn take_released(connections: Vec<Connection>, released: &mut Vec<Vec<u8>>)
     for connection in connections {
         released.push_reserved(connection.into_released());
     }
-}
-
-/// Drops the frames that end no higher than one before them, as a group's does that is sent again.
-fn drop_repeats(frames: &mut Vec<Vec<u8>>) {
-    let mut last = 0;
-    frames.retain(|frame| {
-        let after = end_of_frame(frame.as_slice());
-        let is_new = after > last;
-        last = last.max(after);
-        is_new
-    });
 }

@@ -19,7 +19,7 @@ pub struct Trace<P> {
     pub calls: Vec<Call>,
     /// The bytes that were released to each connection, by its number.
     pub released: Vec<Vec<u8>>,
-    /// The bytes of the frames of the link that end above all that were sent before them, in order: of a group's frame one, however often it was sent.
+    /// The bytes of all frames that passed over the link, in the order of their sending.
     pub frames: Vec<Vec<u8>>,
     /// The bytes of the acknowledgements that the standby made, in order.
     pub acknowledgements: Vec<Vec<u8>>,

@@ -11,9 +11,6 @@ use stream_codec::{Decoder, Message, write_frame};
 /// How many bytes an acknowledgement has.
 pub(crate) const ACK_BYTES: usize = 1 + 8 + 8;
 
-/// Where a frame of a group has the position after its changes: behind its first byte, its epoch and the position before.
-const AFTER_AT: usize = 1 + 8 + 8;
-
 /// The bytes of a message.
 pub(crate) fn encode(alloc: Global, message: &Message) -> Result<Vec<u8>, AllocError>
     ensures text { IfOk result (λ bytes. bytes.items ≡ sent_text (sent_of message.now)) }
@@ -74,13 +71,4 @@ pub(crate) fn decode(alloc: Global, bytes: &[u8], piece: u64) -> Result<Message,
         rest = behind;
     }
     messages.pop().ok_or(Refusal::FrameFault)
-}
-
-/// The position after the changes of a frame, by its bytes; 0 where they are no whole frame.
-pub(crate) fn end_of_frame(bytes: &[u8]) -> u64 {
-    let mut after = 0;
-    for byte in bytes.iter().skip(AFTER_AT).take(8) {
-        after = after << 8 | u64::from(*byte);
-    }
-    after
 }

@@ -38,6 +38,7 @@ returns-in-Err g c = λ first second stands.
       subst (λ n. IsCutAfter first second (g.S.Stepper.parts c.args.stepper.now) (take n c.args.events.now) c.event-item.result c.in-Err.refusal c.loop-event.done.items (g.S.Stepper.parts c.step.new.self)) (sym same)
           (reaches-cut first second _ _ _ _ _ _ _
           (cut-for-room _ _ _ _ (record { room = omega (arith, c.loop-event.invariant.few, c.loop-event.invariant.room_calls, c.loop-event-test.true) }) c.in-Err.ensures.refused)
+          c.in-Err.ensures.leaves.frames c.in-Err.ensures.leaves.acknowledgements
           (c.loop-event.invariant.reaches first second stands)),
     )
 

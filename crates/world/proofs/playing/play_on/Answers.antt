@@ -1,5 +1,5 @@
 use Rattle.std.specs.Global.{Global}
-use Rattle.std.proofs.Common.{Vec, ap, length, ◌∙◌, arith}
+use Rattle.std.proofs.Common.{ℕ, Vec, ap, length, ◌∙◌, arith}
 use Rattle.connections.specs.declared.connection.Connection.{Connection}
 use Rattle.connections.specs.Session.{released_of}
 use Rattle.model.specs.declared.call.Call.{Call}
@@ -13,5 +13,7 @@ take_released-requires-clause-room g c =
 
 pub returns : goal.returns
 returns g c = λ first second stands.
-    plays-on first second _ _ _ _ _ _ _ _ _ (ap (λ (v : Vec Call Global). v.items) c.into_parts-calls.ensures.calls)
-    (c.take_released.ensures ∙ ap (λ (v : Vec Connection Global). released_of v.items) c.into_parts-calls.ensures.connections) c.into_parts-calls.ensures.primary c.into_parts-calls.ensures.standby (c.play-ended.ensures first second stands)
+    plays-on first second _ _ _ _ _ _ _ _ _ _ _ (ap (λ (v : Vec Call Global). v.items) c.into_parts-calls.ensures.calls)
+    (c.take_released.ensures ∙ ap (λ (v : Vec Connection Global). released_of v.items) c.into_parts-calls.ensures.connections)
+    (ap (λ (v : Vec (Vec ℕ Global) Global). v.items) c.into_parts-calls.ensures.frames) (ap (λ (v : Vec (Vec ℕ Global) Global). v.items) c.into_parts-calls.ensures.acknowledgements)
+    c.into_parts-calls.ensures.primary c.into_parts-calls.ensures.standby (c.play-ended.ensures first second stands)
