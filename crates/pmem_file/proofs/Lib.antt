@@ -2,3 +2,4 @@ pub mod BytesLemmas
 pub mod CallsLemmas
 pub mod HoldingLemmas
 pub mod LinesLemmas
+pub mod OpeningLemmas

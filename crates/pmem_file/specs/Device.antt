@@ -1,5 +1,6 @@
 -- A device over a file: what it has gone through, and what it asked of its file.
-use Rattle.std.specs.Prelude.{◌≡◌, ℕ, ◌*◌, ◌^◌, ◌<◌, true, false, List, [], ◌∷◌, None, length, vec_len, slice_index}
+use Rattle.std.specs.Prelude.{◌≡◌, ℕ, ◌*◌, ◌^◌, ◌<◌, true, false, List, [], ◌∷◌, Some, None, length, vec_len, slice_index}
+use Rattle.std.specs.Int.{div_ceil}
 use Rattle.std.specs.List.Sorted.{IsNonDecreasing}
 use Rattle.pmem_file.specs.declared.device.FilePmem.{FilePmem}
 use Rattle.pmem.specs.Device.{State, settled}
@@ -8,6 +9,8 @@ use Rattle.pmem.specs.History.{words_of, past_of, failures_of}
 use Rattle.pmem_file.specs.Call.{Call, Measured, Synced, read_of, calls_of}
 use Rattle.pmem_file.specs.Line.{has_line, runs_of, with_writes}
 use Rattle.pmem_file.specs.Noted.{is_noted}
+use Rattle.pmem_file.specs.Opening.{Step, Opened, Locked, FileSynced, FolderSynced, Found, IsBegun, with_reads, steps_of}
+use Rattle.pmem_file.specs.declared.run.TheConstants.{LINES_A_WRITE}
 
 -- Each fence may fail. The device takes no memory once it is open, so it is never starved of any
 abbrev pub state_of : FilePmem → State
@@ -33,6 +36,25 @@ read_by device = read_of device.file.calls
 -- what was asked of the file since, the newest call first
 abbrev pub asked_by : FilePmem → List Call
 asked_by device = calls_of device.file.calls
+
+-- what was asked of the file before the device was there, the newest call first
+abbrev pub opening_by : FilePmem → List Step
+opening_by device = steps_of device.opening
+
+-- the last that was asked before it was there was the whole file, block by block in order, which gave its words; before that were these calls
+pub record IsReadAfter (device : FilePmem) (before : List Step) : Type 0 where
+  pub words : length (read_by device) ≡ 8 * (state_of device).lines
+  pub calls : opening_by device ≡ with_reads (read_by device) (div_ceil (state_of device).lines LINES_A_WRITE) before
+
+-- a device that was opened: its file was opened and locked, found as long as its words, and read
+abbrev pub IsOpened : FilePmem → Type 0
+IsOpened device = IsReadAfter device (Found (Some (64 * (state_of device).lines)) ∷ Locked true ∷ Opened true ∷ [])
+
+-- a device that was created: its file was begun, synced, its folder synced, found as long as its words, and read
+pub record IsCreated (device : FilePmem) : Type 0 where
+  pub begun : List Step
+  pub begins : IsBegun (64 * (state_of device).lines) begun
+  pub read : IsReadAfter device (Found (Some (64 * (state_of device).lines)) ∷ FolderSynced true ∷ FileSynced true ∷ begun)
 
 -- a device that was just opened: nothing was asked of it or of its file, and a crash leaves what was read
 pub record IsFresh (device : FilePmem) : Type 0 where

@@ -5,3 +5,4 @@ pub mod Holding
 pub mod Known
 pub mod Line
 pub mod Noted
+pub mod Opening

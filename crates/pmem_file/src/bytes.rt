@@ -1,5 +1,5 @@
 // Words to bytes and back.
-ghost use Rattle.std.specs.Prelude.{◌≡◌, ◌+◌, ◌*◌, ◌/◌, ◌++◌, ◌≤◌, length, vec_len, vec_capacity, OnOk};
+ghost use Rattle.std.specs.Prelude.{◌≡◌, ◌+◌, ◌*◌, ◌/◌, ◌%◌, ◌++◌, ◌≤◌, length, vec_len, vec_capacity, OnOk};
 ghost use Rattle.pmem_file.specs.Byte.{bytes_of, words_in};
 
 use std::alloc::AllocError;
@@ -22,6 +22,7 @@ pub fn encode(words: &[u64], buffer: &mut Vec<u8>)
 pub fn decode(bytes: &[u8], words: &mut Vec<u64>) -> Result<(), AllocError>
     ensures words { OnOk result (words.new.items ≡ words.old.items ++ words_in bytes.now) }
     ensures count { OnOk result (vec_len words.new ≡ vec_len words.old + length bytes.now / 8) }
+    ensures whole { OnOk result (length bytes.now % 8 ≡ 0 → bytes_of (words_in bytes.now) ≡ bytes.now) }
 {
     for i in 0..bytes.len() / 8 {
         let at = 8 * i;

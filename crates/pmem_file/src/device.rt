@@ -8,8 +8,9 @@ ghost use Rattle.pmem_file.specs.Known.{Holds-prop};
 
 use crate::logged_file::LoggedFile;
 use crate::notes::Notes;
+use crate::opening::Opening;
+use crate::opening_calls::OpeningCalls;
 use pmem::{Fault, History, Pmem};
-use std::fs::File;
 
 /// A device whose words are in a file. Once it is open it takes no memory.
 ///
@@ -23,6 +24,8 @@ pub struct FilePmem {
     notes: Notes,
     /// Room for the bytes of one write.
     buffer: Vec<u8>,
+    /// What was asked of the file before it was a device.
+    opening: OpeningCalls,
     file: LoggedFile,
     failures: u64,
     history: History,
@@ -39,22 +42,27 @@ impl FilePmem {
     ghost use Rattle.pmem.specs.Device.{moment};
     ghost use Rattle.pmem.specs.Crash.{MayLeave};
     ghost use Rattle.pmem_file.specs.Call.{IsFileImage};
-    ghost use Rattle.pmem_file.specs.Device.{state_of, read_by, asked_by, IsFresh};
+    ghost use Rattle.pmem_file.specs.Device.{state_of, read_by, asked_by, opening_by, IsFresh};
+    ghost use Rattle.pmem_file.specs.Opening.{steps_of};
 
     /// A device over an open file that holds these words. There is room to note every line of these words and for the bytes of one write.
-    pub(crate) fn new(words: Vec<u64>, notes: Notes, buffer: Vec<u8>, file: File) -> FilePmem
+    pub(crate) fn new(words: Vec<u64>, notes: Notes, buffer: Vec<u8>, opening: Opening) -> FilePmem
         requires sized { vec_len words ≡ 8 * vec_len notes.marks }
         requires countable { 8 * vec_len words < 2 ^ 64 }
         requires room { 64 * LINES_A_WRITE ≤ vec_capacity buffer }
         ensures fresh { IsFresh result }
         ensures lines { (state_of result).lines ≡ vec_len notes.marks }
+        ensures read { read_by result ≡ words.items }
+        ensures opening { opening_by result ≡ steps_of opening.calls }
     {
+        let (file, opening) = opening.into_parts();
         let file = LoggedFile::new(file, &words);
         let history = History::opened(&words);
         FilePmem {
             words,
             notes,
             buffer,
+            opening,
             file,
             failures: 0,
             history,
@@ -73,7 +81,7 @@ impl Pmem for FilePmem {
     ghost use Rattle.std.specs.Prelude.{◌≡◌, ◌*◌, ◌<◌, ◌+◌, true, suc, OnOk, OnErr, IsErr, IsTrue};
     ghost use Rattle.pmem.specs.Device.{Steps, store_at, flush_at, fenced, fences_after, must_fail, may_fail};
     ghost use Rattle.pmem_file.specs.Call.{has_failed};
-    ghost use Rattle.pmem_file.specs.Device.{state_of, asked_by, Persists, countable};
+    ghost use Rattle.pmem_file.specs.Device.{state_of, read_by, asked_by, opening_by, Persists, countable};
 
     ghost state = { state_of };
 
@@ -87,6 +95,8 @@ impl Pmem for FilePmem {
             (store_at word value (state_of self.old).words) (state_of self.old).failures (state_of self.old).fences }
         // the file is not touched
         ensures file { asked_by self.new ≡ asked_by self.old }
+        ensures opening { opening_by self.new ≡ opening_by self.old }
+        ensures read { read_by self.new ≡ read_by self.old }
     {
         self.words[word as usize] = value;
         self.history.stored(word, value);
@@ -97,6 +107,8 @@ impl Pmem for FilePmem {
         ensures steps { Steps (state_of self.old) (state_of self.new)
             (flush_at line (state_of self.old).words) (state_of self.old).failures (state_of self.old).fences }
         ensures file { asked_by self.new ≡ asked_by self.old }
+        ensures opening { opening_by self.new ≡ opening_by self.old }
+        ensures read { read_by self.new ≡ read_by self.old }
     {
         self.notes.add(line);
         self.history.flushed(line);
@@ -114,6 +126,8 @@ impl Pmem for FilePmem {
         ensures cause { OnErr result (has_failed (asked_by self.new) ≡ true) }
         ensures lasting { has_failed (asked_by self.old) ≡ true → asked_by self.new ≡ asked_by self.old }
         ensures fails { has_failed (asked_by self.old) ≡ true → IsErr result }
+        ensures opening { opening_by self.new ≡ opening_by self.old }
+        ensures read { read_by self.new ≡ read_by self.old }
     {
         self.notes.sort();
         if self

@@ -7,6 +7,8 @@ mod file_calls;
 mod logged_file;
 mod notes;
 mod open;
+mod opening;
+mod opening_calls;
 mod run;
 
 pub use device::FilePmem;

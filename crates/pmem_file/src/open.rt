@@ -1,19 +1,20 @@
 // Opening and making the file of a device.
-ghost use Rattle.std.specs.Prelude.{◌≡◌, ◌⊎◌, ℕ, ◌+◌, ◌*◌, ◌^◌, ◌<◌, ◌≤◌, ◌-◌, min, length, vec_len, Err, IfOk, IfErr};
+ghost use Rattle.std.specs.Prelude.{◌≡◌, ◌⊎◌, ℕ, ◌+◌, ◌*◌, ◌^◌, ◌<◌, ◌≤◌, ◌-◌, ◌∷◌, true, Some, min, length, vec_len, Err, IfOk, IfErr};
+ghost use Rattle.std.specs.Int.{div_ceil};
 ghost use Rattle.kv_types.specs.declared.refusal.Refusal;
 ghost use Rattle.model.specs.declared.image.TheConstants.{MIN_LINES, MAX_LINES};
-ghost use Rattle.pmem_file.specs.Device.{state_of, IsFresh};
+ghost use Rattle.pmem_file.specs.declared.run.TheConstants.{LINES_A_WRITE};
+ghost use Rattle.pmem_file.specs.Device.{state_of, IsFresh, IsReadAfter, IsOpened, IsCreated};
+ghost use Rattle.pmem_file.specs.Opening.{steps_of, Locked, Resized, FileSynced, FolderSynced, Found, IsBegun, with_reads};
 
 use crate::bytes::decode;
 use crate::device::FilePmem;
 use crate::notes::Notes;
+use crate::opening::Opening;
 use crate::run::LINES_A_WRITE;
 use kv_types::Refusal;
 use model::{MAX_LINES, MIN_LINES};
 use std::alloc::Global;
-use std::fs::{self, File, OpenOptions};
-use std::io::{self, ErrorKind};
-use std::os::unix::fs::FileExt;
 
 const LINE_BYTES: u64 = 64;
 
@@ -30,11 +31,12 @@ impl FilePmem {
         ensures fresh { IfOk result (λ device. IsFresh device) }
         ensures many { IfOk result (λ device. MIN_LINES ≤ (state_of device).lines) }
         ensures few { IfOk result (λ device. (state_of device).lines ≤ MAX_LINES) }
+        ensures opened { IfOk result (λ device. IsOpened device) }
         ensures causes { IfErr result (λ refusal. (refusal ≡ Refusal.Fault) ⊎ ((refusal ≡ Refusal.WrongSize) ⊎ (refusal ≡ Refusal.Memory))) }
     {
-        let file = open_locked(rt, path)?;
-        let lines = count_lines(&file)?;
-        read_device(rt.alloc(), file, lines)
+        let mut opening = locked(Opening::open(rt, path)?)?;
+        let lines = count_lines(&mut opening)?;
+        read_device(rt.alloc(), opening, lines)
     }
 
     /// Opens the device of `lines` lines in a file, which stays locked until the device is dropped. Where there is no file it makes one of
@@ -48,92 +50,84 @@ impl FilePmem {
     pub fn create(rt: &HostRuntime, path: &str, lines: u64) -> Result<FilePmem, Refusal>
         ensures fresh { IfOk result (λ device. IsFresh device) }
         ensures lines { IfOk result (λ device. (state_of device).lines ≡ lines) }
+        ensures created { IfOk result (λ device. IsCreated device) }
         ensures unlawful { (lines < MIN_LINES) ⊎ (MAX_LINES < lines) → result ≡ Err Refusal.WrongSize }
         ensures causes { IfErr result (λ refusal. (refusal ≡ Refusal.Fault) ⊎ ((refusal ≡ Refusal.WrongSize) ⊎ (refusal ≡ Refusal.Memory))) }
     {
         if lines < MIN_LINES || MAX_LINES < lines {
             return Err(Refusal::WrongSize);
         }
-        let file = make_or_open(rt, path, lines)?;
-        if count_lines(&file)? != lines {
+        // (also where the file was there: whoever made it may have ended before it was durable)
+        let mut opening = settled(rt, path, begun(rt, path, lines)?)?;
+        if count_lines(&mut opening)? != lines {
             return Err(Refusal::WrongSize);
         }
-        read_device(rt.alloc(), file, lines)
+        read_device(rt.alloc(), opening, lines)
     }
 }
 
-/// Opens a file for reading and writing, and locks it against every other device.
-fn open_locked(rt: &HostRuntime, path: &str) -> Result<File, Refusal>
-    ensures { IfErr result (λ refusal. refusal ≡ Refusal.Fault) }
-{
-    match OpenOptions::new().read(true).write(true).open(rt, path) {
-        Ok(file) => locked(file),
-        Err(_) => Err(Refusal::Fault),
-    }
-}
-
-fn locked(file: File) -> Result<File, Refusal>
-    ensures { IfErr result (λ refusal. refusal ≡ Refusal.Fault) }
-{
-    match file.try_lock() {
-        Ok(()) => Ok(file),
-        Err(_) => Err(Refusal::Fault),
-    }
-}
-
-/// Makes a file of `lines` lines of zeros, or opens the one that is there.
-fn make_or_open(rt: &HostRuntime, path: &str, lines: u64) -> Result<File, Refusal>
+/// The file of a device of `lines` lines, locked: a new one of zeros, or the one that is there.
+fn begun(rt: &HostRuntime, path: &str, lines: u64) -> Result<Opening, Refusal>
     requires { lines ≤ MAX_LINES }
-    ensures { IfErr result (λ refusal. refusal ≡ Refusal.Fault) }
+    ensures begun { IfOk result (λ opening. IsBegun (64 * lines) (steps_of opening.calls)) }
+    ensures causes { IfErr result (λ refusal. refusal ≡ Refusal.Fault) }
 {
-    match OpenOptions::new()
-        .read(true)
-        .write(true)
-        .create_new(true)
-        .open(rt, path)
-    {
-        Ok(file) => {
-            let file = locked(file)?;
-            match file.set_len(LINE_BYTES * lines) {
-                Ok(()) => settled(rt, path, file),
-                Err(_) => Err(Refusal::Fault),
-            }
-        }
-        // (whoever made it may have ended before it was durable)
-        Err(error) if error.kind() == ErrorKind::AlreadyExists => {
-            settled(rt, path, open_locked(rt, path)?)
-        }
-        Err(_) => Err(Refusal::Fault),
+    let (opening, is_new) = Opening::make_or_open(rt, path)?;
+    let opening = locked(opening)?;
+    if is_new {
+        resized(opening, LINE_BYTES * lines)
+    } else {
+        Ok(opening)
+    }
+}
+
+/// The file, once it is locked.
+fn locked(mut opening: Opening) -> Result<Opening, Refusal>
+    ensures noted { IfOk result (λ locked. steps_of locked.calls ≡ Locked true ∷ steps_of opening.calls) }
+    ensures causes { IfErr result (λ refusal. refusal ≡ Refusal.Fault) }
+{
+    if opening.lock() {
+        Ok(opening)
+    } else {
+        Err(Refusal::Fault)
+    }
+}
+
+/// The file, once it is so many bytes long.
+fn resized(mut opening: Opening, bytes: u64) -> Result<Opening, Refusal>
+    ensures noted { IfOk result (λ resized. steps_of resized.calls ≡ Resized bytes true ∷ steps_of opening.calls) }
+    ensures causes { IfErr result (λ refusal. refusal ≡ Refusal.Fault) }
+{
+    if opening.resize(bytes) {
+        Ok(opening)
+    } else {
+        Err(Refusal::Fault)
     }
 }
 
 /// The file, once its length and its name in its folder are durable.
-fn settled(rt: &HostRuntime, path: &str, file: File) -> Result<File, Refusal>
-    ensures { IfErr result (λ refusal. refusal ≡ Refusal.Fault) }
+fn settled(rt: &HostRuntime, path: &str, mut opening: Opening) -> Result<Opening, Refusal>
+    ensures noted { IfOk result (λ settled. steps_of settled.calls ≡ FolderSynced true ∷ FileSynced true ∷ steps_of opening.calls) }
+    ensures causes { IfErr result (λ refusal. refusal ≡ Refusal.Fault) }
 {
-    match settle(rt, path, &file) {
-        Ok(()) => Ok(file),
-        Err(_) => Err(Refusal::Fault),
+    if !opening.sync_file() {
+        return Err(Refusal::Fault);
     }
-}
-
-/// Makes a file durable, and its name in its folder.
-fn settle(rt: &HostRuntime, path: &str, file: &File) -> io::Result<()> {
-    file.sync_all()?;
-    let mut folder = fs::canonicalize(rt, path)?;
-    folder.pop();
-    File::open(rt, folder.as_str())?.sync_all()
+    if !opening.sync_folder(rt, path) {
+        return Err(Refusal::Fault);
+    }
+    Ok(opening)
 }
 
 /// How many lines a file has.
-fn count_lines(file: &File) -> Result<u64, Refusal>
+fn count_lines(opening: &mut Opening) -> Result<u64, Refusal>
     ensures many { IfOk result (λ lines. MIN_LINES ≤ lines) }
     ensures few { IfOk result (λ lines. lines ≤ MAX_LINES) }
+    ensures noted { IfOk result (λ lines. steps_of opening.new.calls ≡ Found (Some (64 * lines)) ∷ steps_of opening.old.calls) }
     ensures causes { IfErr result (λ refusal. (refusal ≡ Refusal.Fault) ⊎ (refusal ≡ Refusal.WrongSize)) }
 {
-    let bytes = match file.metadata() {
-        Ok(found) => found.len(),
-        Err(_) => return Err(Refusal::Fault),
+    let Some(bytes) = opening.measure() else {
+        return Err(Refusal::Fault);
     };
     let lines = bytes / LINE_BYTES;
     if bytes % LINE_BYTES != 0 || lines < MIN_LINES || MAX_LINES < lines {
@@ -143,22 +137,25 @@ fn count_lines(file: &File) -> Result<u64, Refusal>
 }
 
 /// The device of a locked file of `lines` lines.
-fn read_device(alloc: Global, file: File, lines: u64) -> Result<FilePmem, Refusal>
+fn read_device(alloc: Global, mut opening: Opening, lines: u64) -> Result<FilePmem, Refusal>
     requires { lines ≤ MAX_LINES }
     ensures fresh { IfOk result (λ device. IsFresh device) }
     ensures lines { IfOk result (λ device. (state_of device).lines ≡ lines) }
+    ensures read { IfOk result (λ device. IsReadAfter device (steps_of opening.calls)) }
     ensures causes { IfErr result (λ refusal. (refusal ≡ Refusal.Fault) ⊎ (refusal ≡ Refusal.Memory)) }
 {
-    let words = read_words(alloc, &file, lines)?;
+    let words = read_words(alloc, &mut opening, lines)?;
     let notes = Notes::new(alloc, lines as usize)?;
     let buffer = Vec::with_capacity(alloc, BLOCK_BYTES)?;
-    Ok(FilePmem::new(words, notes, buffer, file))
+    Ok(FilePmem::new(words, notes, buffer, opening))
 }
 
 /// The words of a file of `lines` lines, read in blocks.
-fn read_words(alloc: Global, file: &File, lines: u64) -> Result<Vec<u64>, Refusal>
+fn read_words(alloc: Global, opening: &mut Opening, lines: u64) -> Result<Vec<u64>, Refusal>
     requires { lines ≤ MAX_LINES }
     ensures count { IfOk result (λ words. vec_len words ≡ 8 * lines) }
+    ensures noted { IfOk result (λ words. steps_of opening.new.calls
+        ≡ with_reads words.items (div_ceil lines LINES_A_WRITE) (steps_of opening.old.calls)) }
     ensures causes { IfErr result (λ refusal. (refusal ≡ Refusal.Fault) ⊎ (refusal ≡ Refusal.Memory)) }
 {
     let mut words = Vec::with_capacity(alloc, 8 * lines as usize)?;
@@ -166,11 +163,12 @@ fn read_words(alloc: Global, file: &File, lines: u64) -> Result<Vec<u64>, Refusa
     for number in 0..lines.div_ceil(LINES_A_WRITE) {
         let first = LINES_A_WRITE * number;
         let count = (lines - first).min(LINES_A_WRITE);
-        let bytes = &mut block[..(LINE_BYTES * count) as usize];
-        if file.read_exact_at(bytes, LINE_BYTES * first).is_err() {
+        // (only the last block may be shorter)
+        block.truncate((LINE_BYTES * count) as usize);
+        if !opening.read(LINE_BYTES * first, &mut block) {
             return Err(Refusal::Fault);
         }
-        decode(bytes, &mut words)?;
+        decode(&block, &mut words)?;
     }
     Ok(words)
 }

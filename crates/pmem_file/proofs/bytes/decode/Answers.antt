@@ -1,7 +1,7 @@
 use Rattle.std.proofs.Common.{◌≡◌, ℕ, ◌+◌, ◌*◌, ◌≤◌, List, [], ◌∷◌, ◌++◌, length, drop, sym, ap, ◌∙◌, arith, append_assoc}
 use Rattle.std.proofs.lemmas.List.{append-nil, length-drop}
 use Rattle.pmem_file.specs.Byte.{words_in}
-use Rattle.pmem_file.proofs.BytesLemmas.{words_in-next, words_in-short}
+use Rattle.pmem_file.proofs.BytesLemmas.{words_in-next, words_in-short, bytes_of-words_in}
 use Rattle.pmem_file.proofs.bytes.decode.Goals as goal
 
 pub loop-i-preserved : goal.loop-i-preserved
@@ -27,3 +27,6 @@ returns-clause-words c =
     let words = c.loop-i.words.items in
     let none = words_in-short (drop (8 * c.loop-i.i) bytes) (omega (arith, c.loop-i-test.false, length-drop (8 * c.loop-i.i) bytes)) in
     sym (append-nil words) ∙ ap (λ (xs : List ℕ). words ++ xs) (sym none) ∙ c.loop-i.invariant.words
+
+pub returns-clause-whole : goal.returns-clause-whole
+returns-clause-whole c whole = bytes_of-words_in c.args.bytes.now whole (λ k. (c.type_inv.bytes k).fits)

@@ -1,0 +1,53 @@
+-- What was asked of a file before the device over it was there.
+use Rattle.std.specs.Prelude.{◌≡◌, ◌⊎◌, ℕ, zero, suc, ◌*◌, Bool, true, false, Option, List, [], ◌∷◌}
+use Rattle.pmem_file.specs.declared.opening_calls.OpeningCall.{OpeningCall}
+use Rattle.pmem_file.specs.declared.opening_calls.OpeningCall.TheVariants.{Make, Open, Lock, Resize, SyncFile, SyncFolder, Measure, Read}
+use Rattle.pmem_file.specs.declared.opening_calls.OpeningCalls.{OpeningCalls}
+use Rattle.pmem_file.specs.declared.opening_calls.OpeningCalls.TheVariants.{Nothing, Then'}
+use Rattle.pmem_file.specs.declared.run.TheConstants.{LINES_A_WRITE}
+use Rattle.pmem_file.specs.Line.{run_bytes}
+
+-- one call, and whether it succeeded
+pub data Step : Type 0 where
+  -- a file is made, which fails where one is there
+  Made : (done : Bool) → Step
+  -- a file that is there is opened
+  Opened : (done : Bool) → Step
+  -- it is locked against every other device
+  Locked : (done : Bool) → Step
+  -- it is given this length in bytes
+  Resized : (bytes : ℕ) (done : Bool) → Step
+  -- its data and its length are synced
+  FileSynced : (done : Bool) → Step
+  -- its folder is synced
+  FolderSynced : (done : Bool) → Step
+  -- a look at its length in bytes, and what it found. It found nothing where it failed
+  Found : (bytes : Option ℕ) → Step
+  -- a read from this byte of the file on, which gave these bytes. Where it failed they may be others
+  ReadAt : (offset : ℕ) (bytes : List ℕ) (done : Bool) → Step
+
+-- how the file of a device that is created begins: it is made, locked and given its length in bytes; or one is there, and it is opened and locked
+abbrev pub IsBegun : ℕ → List Step → Type 0
+IsBegun bytes steps =
+    (steps ≡ Resized bytes true ∷ Locked true ∷ Made true ∷ []) ⊎ (steps ≡ Locked true ∷ Opened true ∷ Made false ∷ [])
+
+-- the calls after the first blocks of a file were read, in order, which gave these words. The last block may be shorter than the others
+abbrev pub with_reads : List ℕ → ℕ → List Step → List Step
+with_reads words zero steps = steps
+with_reads words (suc blocks) steps =
+    ReadAt (64 * (LINES_A_WRITE * blocks)) (run_bytes words (LINES_A_WRITE * blocks, LINES_A_WRITE)) true ∷ with_reads words blocks steps
+
+abbrev pub step_of : OpeningCall → Step
+step_of (Make done) = Made done
+step_of (Open done) = Opened done
+step_of (Lock done) = Locked done
+step_of (Resize bytes done) = Resized bytes done
+step_of (SyncFile done) = FileSynced done
+step_of (SyncFolder done) = FolderSynced done
+step_of (Measure found) = Found found
+step_of (Read offset bytes done) = ReadAt offset bytes.value.items done
+
+-- the calls so far, the newest first
+abbrev pub steps_of : OpeningCalls → List Step
+steps_of Nothing = []
+steps_of (Then' call mark before) = step_of call.value ∷ steps_of before
