@@ -41,7 +41,7 @@ asked_by device = calls_of device.file.calls
 abbrev pub opening_by : FilePmem → List Step
 opening_by device = steps_of device.opening
 
--- the last that was asked before it was there was the whole file, block by block in order, which gave its words; before that were these calls
+-- after these calls the whole file was read, block by block in order, which gave its words, and nothing else was asked before the device was there
 pub record IsReadAfter (device : FilePmem) (before : List Step) : Type 0 where
   pub words : length (read_by device) ≡ 8 * (state_of device).lines
   pub calls : opening_by device ≡ with_reads (read_by device) (div_ceil (state_of device).lines LINES_A_WRITE) before
