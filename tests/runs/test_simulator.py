@@ -13,7 +13,7 @@ FAILED, MISUSED = 1, 2
 MOST_EVENTS = 16_777_216
 ABOVE_U64 = 2**64
 
-USAGE = b"usage: wbl-sim [--lines N,N] [--map] [--images] < EVENTS\n"
+USAGE = b"usage: wbl-sim [--lines N,N] [--list] [--map] [--images] < EVENTS\n"
 
 FIRST_SET = [
     "enter", "feed 0 SET a 1", "offer 0", "turn 0", "close-group", "commit", "raise-local", "hand", "send", "deliver 0",

@@ -15,6 +15,8 @@ pub struct Options {
     pub primary_lines: u64,
     /// The lines of the standby's device.
     pub standby_lines: u64,
+    /// Whether both nodes keep their records in a sorted list, and not in an ordered map.
+    pub list: bool,
     /// Whether the records of each image are printed.
     pub map: bool,
     /// Whether the words of each image are printed.
@@ -27,6 +29,7 @@ pub fn read_options(rt: &(impl Env + Alloc)) -> Result<Options, SimulatorError> 
     let mut options = Options {
         primary_lines: USUAL_LINES,
         standby_lines: USUAL_LINES,
+        list: false,
         map: false,
         images: false,
     };
@@ -58,6 +61,7 @@ fn unread(error: io::Error) -> SimulatorError {
 
 fn take_switch(options: &mut Options, word: &str) -> Result<(), SimulatorError> {
     match word {
+        "--list" => options.list = true,
         "--map" => options.map = true,
         "--images" => options.images = true,
         _ => return Err(SimulatorError::Usage),

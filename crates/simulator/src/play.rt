@@ -10,10 +10,12 @@ use crate::schedule::Schedule;
 use crate::script::{Failure, Script};
 use kv_types::Refusal;
 use machine::{Event, Node};
+use mv_keyspace::{Keyspace, ListKeyspace, MvKeyspace};
 use pmem::{Crashing, Pmem, SimPmem};
 use std::alloc::{AllocError, Global};
 use std::hash::RandomState;
 use std::io::Write;
+use wbl_engine::WblEngine;
 use world::{EarlyEnd, Pair, Parts, Stepper};
 
 /// What was played.
@@ -37,7 +39,11 @@ pub fn play<W: Write>(
 ) -> Result<Played, SimulatorError> {
     let (primary, standby) = new_devices(alloc, options, script.failures.as_slice())?;
     let schedule = &script.schedule;
-    let mut played = play_over(alloc, out, primary, standby, schedule, hash_builder)?;
+    let mut played = if options.list {
+        play_over::<W, ListKeyspace>(alloc, out, primary, standby, schedule, hash_builder)?
+    } else {
+        play_over::<W, MvKeyspace>(alloc, out, primary, standby, schedule, hash_builder)?
+    };
     if played.parts.primary.starved() || played.parts.standby.starved() {
         return Err(SimulatorError::Memory);
     }
@@ -69,8 +75,8 @@ fn new_devices(
     Ok((primary, standby))
 }
 
-/// Formats the devices, and plays the events over them. Room for calls is made by the turns.
-fn play_over<W: Write>(
+/// Formats the devices, and plays the events over them, with keyspaces of this kind. Room for calls is made by the turns.
+fn play_over<W: Write, K: Keyspace + Drop>(
     alloc: Global,
     out: &mut W,
     primary: SimPmem,
@@ -78,7 +84,7 @@ fn play_over<W: Write>(
     schedule: &Schedule,
     hash_builder: RandomState,
 ) -> Result<Played, SimulatorError> {
-    match Pair::open(alloc, primary, standby, 0, hash_builder) {
+    match Pair::<WblEngine<SimPmem>, K>::open(alloc, primary, standby, 0, hash_builder) {
         Ok(pair) => {
             let mut pair = pair;
             let ended = play_each(out, &mut pair, schedule);

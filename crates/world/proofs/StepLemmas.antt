@@ -24,13 +24,13 @@ use Rattle.world.proofs.PairLives.{idle-step, own-acts}
 
 -- ---- what can be seen
 
-frames-sent : (first second : Holder) (pair : Pair) (w : World) → EitherRefines first second pair w → AreFramesSent w.primary.epoch w.primary.calls pair.frames w.wire.frames
+pub frames-sent : (first second : Holder) (pair : Pair) (w : World) → EitherRefines first second pair w → AreFramesSent w.primary.epoch w.primary.calls pair.frames w.wire.frames
 frames-sent first second pair w parts = elim parts [
   | inl up ↦ subst (λ epoch. AreFramesSent epoch w.primary.calls pair.frames w.wire.frames) up.1.epoch up.1.frames
   | inr down ↦ subst (λ epoch. AreFramesSent epoch w.primary.calls pair.frames w.wire.frames) down.1.epoch down.1.frames
 ]
 
-acks-sent : (first second : Holder) (pair : Pair) (w : World) → EitherRefines first second pair w → AreAcksSent pair.arrivals.acknowledgements.items w.wire.acknowledgements
+pub acks-sent : (first second : Holder) (pair : Pair) (w : World) → EitherRefines first second pair w → AreAcksSent pair.arrivals.acknowledgements.items w.wire.acknowledgements
 acks-sent first second pair w parts = elim parts [
   | inl up ↦ up.1.arrivals.acknowledged
   | inr down ↦ down.1.arrivals.acknowledged

@@ -24,7 +24,7 @@ use extent_heap::ExtentHeap;
 use group_commit::Committer;
 use kv_types::Refusal;
 use model::{FIRST_EPOCH, LAYOUT};
-use mv_keyspace::{Keyspace, MvKeyspace};
+use mv_keyspace::Keyspace;
 use placing::Rebuilt;
 use pmem::Crashing;
 use redis_core::Sequencer;
@@ -122,7 +122,7 @@ fn room_of(alloc: Global, lines: u64) -> Result<Rebuilt, Refusal>
     })
 }
 
-impl<P: Crashing> Pair<WblEngine<P>, MvKeyspace> {
+impl<P: Crashing, K: Keyspace + Drop> Pair<WblEngine<P>, K> {
     /// A pair of new nodes over these two devices, of any size and in any state: it formats the first as primary and the second as standby, so the pair stands for the
     /// world at which every run starts. There is room for `calls` calls; more is made by the turns. Watched keys are hashed with `hash_builder`, on which nothing else depends.
     ///
@@ -136,16 +136,16 @@ impl<P: Crashing> Pair<WblEngine<P>, MvKeyspace> {
         standby: P,
         calls: usize,
         hash_builder: RandomState,
-    ) -> Result<Pair<WblEngine<P>, MvKeyspace>, (Refusal, P, P)>
-        ensures stands { IfOk result (λ pair. NodesRefine (new_holder (P.state primary).lines Role.Primary) (new_holder (P.state standby).lines Role.Standby) (⟦<Pair<WblEngine<P>, MvKeyspace> as Stepper>⟧.parts pair) start) }
+    ) -> Result<Pair<WblEngine<P>, K>, (Refusal, P, P)>
+        ensures stands { IfOk result (λ pair. NodesRefine (new_holder (P.state primary).lines Role.Primary) (new_holder (P.state standby).lines Role.Standby) (⟦<Pair<WblEngine<P>, K> as Stepper>⟧.parts pair) start) }
         ensures room { IfOk result (λ pair. calls ≤ vec_capacity pair.sessions.calls) }
         ensures cause { IfErr result (λ refused. UnformedBy refused.0 (P.state primary) (P.state standby) (P.state refused.1) (P.state refused.2)) }
         ensures moments { MatchResult result
-            (λ pair. FormattingOnly Role.Primary (P.state primary) (⟦<Pair<WblEngine<P>, MvKeyspace> as Stepper>⟧.parts pair).device
-            × FormattingOnly Role.Standby (P.state standby) (⟦<Pair<WblEngine<P>, MvKeyspace> as Stepper>⟧.parts pair).standby.device)
+            (λ pair. FormattingOnly Role.Primary (P.state primary) (⟦<Pair<WblEngine<P>, K> as Stepper>⟧.parts pair).device
+            × FormattingOnly Role.Standby (P.state standby) (⟦<Pair<WblEngine<P>, K> as Stepper>⟧.parts pair).standby.device)
             (λ refused. FormattingOnly Role.Primary (P.state primary) (P.state refused.1) × FormattingOnly Role.Standby (P.state standby) (P.state refused.2)) }
     {
-        let keyspaces = (MvKeyspace::new(alloc), MvKeyspace::new(alloc));
+        let keyspaces = (K::empty(alloc), K::empty(alloc));
         form(alloc, primary, standby, keyspaces, calls, hash_builder)
     }
 }

@@ -13,7 +13,7 @@ use connections::Connection;
 use kv_types::Refusal;
 use machine::Event;
 use model::Call;
-use mv_keyspace::Keyspace;
+use mv_keyspace::{Keyspace, MvKeyspace};
 use pmem::Crashing;
 use std::alloc::{AllocError, Global};
 use std::hash::RandomState;
@@ -97,7 +97,13 @@ fn play_over<P: Crashing>(
         Ok(room) => room,
         Err(_) => return nothing(alloc, Refusal::Memory, primary, standby),
     };
-    match Pair::open(alloc, primary, standby, events.len(), hash_builder) {
+    match Pair::<WblEngine<P>, MvKeyspace>::open(
+        alloc,
+        primary,
+        standby,
+        events.len(),
+        hash_builder,
+    ) {
         Ok(pair) => play_on(pair, events, done, released),
         Err((refusal, primary, standby)) => nothing(alloc, refusal, primary, standby),
     }
