@@ -145,7 +145,7 @@ class Trace:
     """All that the simulator printed of a run. A node without a whole image is None in `nodes`."""
 
     def __init__(self, text):
-        self._lines = text.split("\n")
+        self.lines = text.split("\n")
         self._at = 0
         events = self._all(EVENT)
         self.done = [outcome == "done" for _, _, outcome in events]
@@ -166,26 +166,26 @@ class Trace:
         self.nodes = {node: self._node(node) for node in NODES}
         self.records, self.words = self._records(), self._words()
         (self.ended,) = self._one(ENDED)
-        if self._lines[self._at:] != [""]:
-            raise AssertionError(f"line {self._at + 1} is out of place: {self._lines[self._at:][:1]}")
+        if self.lines[self._at:] != [""]:
+            raise AssertionError(f"line {self._at + 1} is out of place: {self.lines[self._at:][:1]}")
 
     def _all(self, pattern):
         """The match groups of the next lines, as many as there are of this kind."""
         rows = []
-        while found := pattern.fullmatch(self._lines[self._at]):
+        while found := pattern.fullmatch(self.lines[self._at]):
             rows.append(found.groups())
             self._at += 1
         return rows
 
     def _one(self, pattern):
-        found = pattern.fullmatch(self._lines[self._at])
+        found = pattern.fullmatch(self.lines[self._at])
         if not found:
-            raise AssertionError(f"line {self._at + 1} is not {pattern.pattern}: {self._lines[self._at]}")
+            raise AssertionError(f"line {self._at + 1} is not {pattern.pattern}: {self.lines[self._at]}")
         self._at += 1
         return found.groups()
 
     def _node(self, node):
-        if NO_IMAGE.fullmatch(self._lines[self._at]):
+        if NO_IMAGE.fullmatch(self.lines[self._at]):
             (name,), line = self._one(NO_IMAGE), None
         else:
             name, *fields = self._one(POSITION)

@@ -219,7 +219,10 @@ class Orders(Runs):
             order.catch_up()
         if is_finished:
             order.finish()
-        trace = simulate(order.schedule.events, "--map", "--images", "--lines", f"{lines},{lines}")
+        options = ["--map", "--images", "--lines", f"{lines},{lines}"]
+        trace = simulate(order.schedule.events, *options)
+        # the two bodies of the keyspace give the same bytes, on the images too
+        self.assertEqual(simulate(order.schedule.events, "--list", *options).lines, trace.lines)
         self.assertEqual(trace.ended, f"after all {len(order.schedule.events)} events")
         positions = self.check_calls(trace, lines)
         self.check_front(trace, order, lines)
