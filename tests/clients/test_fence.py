@@ -1,5 +1,5 @@
 """A sync that does not come back: what the nodes do meanwhile. A reply that leaves before its fence has come back fails here, and so does a primary that
-serves nobody while the standby's is held."""
+serves nobody while the standby's or its own is held."""
 
 import pathlib
 import re
@@ -59,6 +59,10 @@ class Held(PairCases):
     def test_a_primary_serves_while_the_standby_s_sync_is_held(self):
         """The second connection's requests are executed while the standby's sync for the first one's change has not come back, and answered after it has."""
         self.serves_while_held("standby")
+
+    def test_a_primary_serves_while_its_own_sync_is_held(self):
+        """And while the primary's own has not: another thread has the committer then."""
+        self.serves_while_held("primary")
 
     def test_nothing_leaves_while_the_primary_s_sync_is_held(self):
         nodes, file = self.held("primary")
