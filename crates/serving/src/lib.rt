@@ -3,17 +3,19 @@
 
 mod accepting;
 mod committing;
+mod errand;
 mod floor;
 mod gathering;
 mod guest;
 mod local_mark;
 mod needs;
 mod node;
+mod pace;
 mod starting;
 mod turns;
 
 pub use accepting::{Acceptor, Door};
 pub use floor::Floor;
 pub use local_mark::LocalMark;
-pub use node::{Node, serve};
+pub use node::Node;
 pub use starting::run;

@@ -1,17 +1,22 @@
-//! The node's thread: it serves the connections, commits what they changed, and frees what has ended.
-ghost use Rattle.std.specs.Prelude.{[], OnOk};
+//! The node's thread: it serves the connections, and has committed what they changed and freed what has ended.
+ghost use Rattle.std.specs.Prelude.{◌≡◌, [], None, OnOk};
 ghost use Rattle.primary.specs.Standing.{BackStands, Stands};
+ghost use Rattle.serving.specs.Errand.{IsHereOrLent};
 
-use crate::committing::take_steps;
+use crate::committing::Stepped;
+use crate::errand::{Committing, Errand, run_errand, settle};
 use crate::floor::Floor;
 use crate::gathering::Gathering;
 use crate::local_mark::LocalMark;
+use crate::pace::Pace;
 use clients::Sight;
+use group_commit::Done;
 use kv_types::Refusal;
+use lending::Lender;
 use model::Group;
 use mv_keyspace::Keyspace;
 use pipes::RingOutlet;
-use primary::{Back, Front, Primary, close, take_back};
+use primary::{Back, Front, Primary, close};
 use std::alloc::Global;
 use std::sync::Wait;
 use std::time::Clock;
@@ -33,24 +38,32 @@ pub struct Node {
     pub idle: Idle,
 }
 
+/// The committer's thread, as the node's has it.
+#[derive(Drop)]
+pub(crate) struct Lent<E: Durable> {
+    pub(crate) lender: Lender<Errand<E>, Committing<E>>,
+    /// The bell of the committer's thread.
+    pub(crate) bell: Bell,
+}
+
 /// Serves the connections until the engine refuses a step, by `Fault` or `Exhausted`.
-pub fn serve<R: Wait + Clock, E: Durable + Drop, K: Keyspace + Drop>(
+pub(crate) fn serve<R: Wait + Clock, E: Durable + Drop, K: Keyspace + Drop>(
     rt: &R,
     alloc: Global,
     node: Node,
     primary: Primary<E, K>,
+    lent: Lent<E>,
 ) -> Refusal
-    requires { Stands E.device E.contents primary }
+    requires stands { Stands E.device E.contents primary }
+    requires none { lent.lender ≡ None }
 {
-    let Primary {
-        mut front,
-        mut back,
-    } = primary;
+    let Primary { mut front, back } = primary;
+    let Lent { mut lender, bell } = lent;
     let Node {
         mut floor,
         mut sight,
-        mut mark,
-        mut groups,
+        mark,
+        groups,
         link,
         sleeper,
         mut idle,
@@ -58,24 +71,28 @@ pub fn serve<R: Wait + Clock, E: Durable + Drop, K: Keyspace + Drop>(
     let mut gathering = Gathering {
         closed: front.position(),
     };
+    let mut home = Some(new_errand(back, mark, groups, link));
     for _ in rt.forever() {
-        let is_working = back.is_room_coming();
-        let mut is_busy = floor.admit(rt, alloc, &mut front);
+        let mut is_busy = match fetch(&mut front, &mut lender, &mut home) {
+            Ok(did) => did,
+            Err(refusal) => return refusal,
+        };
+        let is_working = is_room_coming(&home);
+        is_busy |= floor.admit(rt, alloc, &mut front);
         let (next, did) = floor.serve(rt, alloc, &mut front, is_working, sight);
         is_busy |= did;
         let (next, seen) = next.look();
         sight = next;
-        is_busy |= close_due(alloc, &mut front, &mut back, &mut gathering, seen.remote);
-        let (next, did) = commit(
+        let did = commit(
+            rt,
             alloc,
             &mut front,
-            &mut back,
-            mark,
-            &mut groups,
-            &link,
+            &mut lender,
+            &bell,
+            &mut home,
+            &mut gathering,
             seen.remote,
         );
-        mark = next;
         match did {
             Ok(did) => is_busy |= did,
             Err(refusal) => return refusal,
@@ -83,6 +100,82 @@ pub fn serve<R: Wait + Clock, E: Durable + Drop, K: Keyspace + Drop>(
         rest(rt, &mut idle, &sleeper, is_busy);
     }
     unreachable!()
+}
+
+/// An errand of which no step was taken yet.
+fn new_errand<E>(back: Back<E>, mark: LocalMark, groups: RingOutlet<Group>, link: Bell) -> Errand<E>
+    ensures { result.back ≡ back }
+{
+    let last = Done::Idle;
+    Errand {
+        back,
+        mark,
+        groups,
+        link,
+        remote: 0,
+        came: Ok(Stepped { last, any: false }),
+        pace: Pace::unknown(),
+    }
+}
+
+/// Whether something may make room: what the errand has in hand, or is lent for.
+fn is_room_coming<E: Durable>(home: &Option<Errand<E>>) -> bool {
+    match home {
+        Some(errand) => errand.back.is_room_coming(),
+        None => true,
+    }
+}
+
+/// Takes the errand back where the committer's thread is done with it, and tells the front what came of it. Answers whether anything did.
+fn fetch<E: Durable + Drop, K: Keyspace>(
+    front: &mut Front<K>,
+    lender: &mut Lender<Errand<E>, Committing<E>>,
+    home: &mut Option<Errand<E>>,
+) -> Result<bool, Refusal>
+    requires { IsHereOrLent E.device E.contents home.old lender.old front.old.sequencer }
+    ensures { OnOk result (IsHereOrLent E.device E.contents home.new lender.new front.new.sequencer) }
+{
+    if home.is_some() {
+        return Ok(false);
+    }
+    let Some(errand) = lender.take_back() else {
+        return Ok(false);
+    };
+    let did = settle(front, &errand)?;
+    *home = Some(errand);
+    Ok(did)
+}
+
+/// Closes what is due. Where there was any of it, and steps take long, the errand is lent; otherwise its steps are taken here. Answers whether there was
+/// anything to do.
+fn commit<R: Clock, E: Durable + Drop, K: Keyspace>(
+    rt: &R,
+    alloc: Global,
+    front: &mut Front<K>,
+    lender: &mut Lender<Errand<E>, Committing<E>>,
+    bell: &Bell,
+    home: &mut Option<Errand<E>>,
+    gathering: &mut Gathering,
+    remote: u64,
+) -> Result<bool, Refusal>
+    requires { IsHereOrLent E.device E.contents home.old lender.old front.old.sequencer }
+    ensures { OnOk result (IsHereOrLent E.device E.contents home.new lender.new front.new.sequencer) }
+{
+    let Some(errand) = home.take() else {
+        return Ok(false);
+    };
+    let mut errand = errand;
+    errand.remote = remote;
+    let is_closed = close_due(alloc, front, &mut errand.back, gathering, remote);
+    if is_closed && errand.pace.is_long {
+        lender.lend(errand);
+        bell.ring();
+        return Ok(true);
+    }
+    let errand = run_errand(rt, alloc, errand);
+    let did = settle(front, &errand)?;
+    *home = Some(errand);
+    Ok(is_closed | did)
 }
 
 fn rest<R: Wait + Clock>(rt: &R, idle: &mut Idle, sleeper: &Sleeper, is_busy: bool) {
@@ -115,27 +208,4 @@ fn close_due<E: Durable, K: Keyspace>(
     gathering.closed = position;
     let _ = close(alloc, front, back);
     true
-}
-
-/// Takes the committer's steps, and gives the front what they freed. Answers whether there was anything to do.
-fn commit<E: Durable, K: Keyspace>(
-    alloc: Global,
-    front: &mut Front<K>,
-    back: &mut Back<E>,
-    mark: LocalMark,
-    groups: &mut RingOutlet<Group>,
-    link: &Bell,
-    remote: u64,
-) -> (LocalMark, Result<bool, Refusal>)
-    requires { BackStands E.device E.contents back.old front.old.sequencer [] }
-    ensures { OnOk result.1 (BackStands E.device E.contents back.new front.new.sequencer []) }
-{
-    let (mark, stepped) = take_steps(alloc, back, mark, groups, link, remote);
-    match stepped {
-        Ok(stepped) => {
-            take_back(front, &stepped.last);
-            (mark, Ok(stepped.any))
-        }
-        Err(refusal) => (mark, Err(refusal)),
-    }
 }

@@ -1,20 +1,23 @@
 //! A primary's threads are made, and started.
-ghost use Rattle.std.specs.Prelude.{◌≡◌};
+ghost use Rattle.std.specs.Prelude.{◌≡◌, None, IfSome};
 ghost use Rattle.std.specs.Arc.{arc_value};
 ghost use Rattle.primary.specs.Standing.{Stands};
 
 use crate::accepting::{Acceptor, Door};
+use crate::errand::{Committing, Errand, Task, do_each};
 use crate::floor::Floor;
 use crate::local_mark::LocalMark;
-use crate::node::{Node, serve};
+use crate::node::{Lent, Node, serve};
 use clients::{Cards, Sight};
 use kv_types::Refusal;
+use lending::{Borrower, lending};
 use links::{AckReceiver, LinkSender, Log, Outgoing, RemoteMark, Watch};
 use lobby::Entrance;
 use marks::{Committer, MarkSeat, Marks, Reader};
 use model::Group;
 use mv_keyspace::Keyspace;
 use pipes::{RingOutlet, RingPipe};
+use pmem::Pmem;
 use primary::{Opened, Primary};
 use standby_stream::{Link, Opening};
 use std::alloc::Global;
@@ -24,7 +27,7 @@ use std::sync::{Arc, Mutex, Wait};
 use std::thread;
 use std::thread::Threads;
 use std::time::Clock;
-use wakes::{Bell, DueIn, DueOut, Flag, Idle, ReadyList, bell, due_list};
+use wakes::{Bell, DueIn, DueOut, Flag, Idle, ReadyList, Sleeper, bell, due_list};
 use wbl_engine::Durable;
 
 /// How often a thread gives way to others before it sleeps.
@@ -41,6 +44,8 @@ struct Threading {
     receiver: AckReceiver,
     acceptor: Acceptor,
     door: Arc<Door>,
+    /// The bell of the node's thread, for the committer's.
+    wake: Bell,
 }
 
 /// The marks, as each thread has them.
@@ -87,7 +92,8 @@ pub fn run<
         + Copy
         + Send
         + 'static,
-    E: Durable + Drop,
+    D: Pmem + Send + 'static,
+    E: Durable<Device = D> + Drop + Send + 'static,
     K: Keyspace + Drop,
     W: Write + Send + Drop + 'static,
 >(
@@ -122,7 +128,8 @@ fn start<
         + Copy
         + Send
         + 'static,
-    E: Durable + Drop,
+    D: Pmem + Send + 'static,
+    E: Durable<Device = D> + Drop + Send + 'static,
     K: Keyspace + Drop,
     W: Write + Send + Drop + 'static,
 >(
@@ -141,13 +148,17 @@ fn start<
         receiver,
         acceptor,
         door,
+        wake,
     } = threading;
     let is_sending = start_sender(rt, alloc, sender, receiver, log);
     let is_accepting = start_acceptor(rt, alloc, acceptor, listener, door);
     if !is_sending || !is_accepting {
         return Refusal::Memory;
     }
-    serve(&rt, alloc, node, primary)
+    match start_committer(rt, alloc, wake) {
+        Some(lent) => serve(&rt, alloc, node, primary, lent),
+        None => Refusal::Memory,
+    }
 }
 
 /// Starts the thread of the link's sender. Answers whether it did.
@@ -162,6 +173,41 @@ fn start_sender<
     W: Write + Send + Drop + 'static,
 >(rt: R, alloc: Global, sender: LinkSender, receiver: AckReceiver, log: Log<W>) -> bool {
     thread::spawn(&rt, move || sender.run(rt, alloc, receiver, log)).is_ok()
+}
+
+/// Starts the committer's thread. `wake` is the bell of the node's.
+fn start_committer<
+    R: Threads + Wait + Clock + Copy + Send + 'static,
+    D: Pmem + Send + 'static,
+    E: Durable<Device = D> + Drop + Send + 'static,
+>(rt: R, alloc: Global, wake: Bell) -> Option<Lent<E>>
+    ensures { IfSome result (λ lent. lent.lender ≡ None) }
+{
+    let Ok((lender, borrower)) = lending::<Errand<E>, Committing<E>>(alloc) else {
+        return None;
+    };
+    let Ok((sleeper, bell)) = bell(alloc) else {
+        return None;
+    };
+    if is_doing(rt, alloc, borrower, sleeper, wake) {
+        Some(Lent { lender, bell })
+    } else {
+        None
+    }
+}
+
+/// Starts a thread that does its task with each value that it is lent at this end. Answers whether it did.
+fn is_doing<
+    R: Threads + Wait + Clock + Copy + Send + 'static,
+    T: Drop + Send + 'static,
+    L: Task<T> + Send + 'static,
+>(rt: R, alloc: Global, borrower: Borrower<T, L>, sleeper: Sleeper, owner: Bell) -> bool
+    requires { borrower ≡ None }
+{
+    thread::spawn(&rt, move || {
+        do_each(rt, alloc, borrower, sleeper, owner, NODE_SPIN)
+    })
+    .is_ok()
 }
 
 /// Starts the acceptor's thread. Answers whether it did.
@@ -204,6 +250,7 @@ fn new_threading(
         acceptor,
         door,
     } = new_house(alloc, marks, root, due, &own)?;
+    let wake = own.another()?;
     let node = Node {
         floor,
         sight,
@@ -219,6 +266,7 @@ fn new_threading(
         receiver,
         acceptor,
         door,
+        wake,
     })
 }
 
