@@ -13,6 +13,7 @@ use crate::promoting::promote;
 use crate::serve::{ServeError, serve};
 use crate::serving_clients::serve_clients;
 use crate::standing_by::stand_by;
+use pmem::Pmem;
 use std::alloc::Global;
 use std::hash::RandomState;
 use std::io::{Read, Write};
@@ -36,7 +37,8 @@ pub fn command<
         + Copy
         + Send
         + 'static,
-    I: Images,
+    D: Pmem + Drop + Send + 'static,
+    I: Images<Device = D>,
     R: Read,
     W: Write,
     E: Write + Copy + Send + Drop + 'static,
@@ -80,7 +82,8 @@ fn run<
         + Copy
         + Send
         + 'static,
-    I: Images,
+    D: Pmem + Drop + Send + 'static,
+    I: Images<Device = D>,
     R: Read,
     W: Write,
     E: Write + Copy + Send + Drop + 'static,

@@ -11,7 +11,7 @@ use pmem_file::FilePmem;
 
 /// Devices that hold images, each by its name.
 pub trait Images {
-    type Device: Pmem + Drop + Send + 'static;
+    type Device: Pmem + Drop;
 
     /// The device of `lines` lines of this name, which is made where there is none.
     ///

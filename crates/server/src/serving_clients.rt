@@ -4,6 +4,7 @@ use crate::images::Images;
 use crate::serve::ServeError;
 use links::{Log, News};
 use mv_keyspace::MvKeyspace;
+use pmem::Pmem;
 use primary::{Opened, open};
 use serving::run;
 use std::alloc::Global;
@@ -27,7 +28,8 @@ pub fn serve_clients<
         + Copy
         + Send
         + 'static,
-    I: Images,
+    D: Pmem + Drop + Send + 'static,
+    I: Images<Device = D>,
     E: Write + Copy + Send + Drop + 'static,
 >(
     rt: &N,
@@ -44,7 +46,7 @@ pub fn serve_clients<
         Ok(hash_builder) => hash_builder,
         Err(error) => return Err(Failure::Stopped(ServeError::Random(error))),
     };
-    let opened: Opened<WblEngine<I::Device>, MvKeyspace> = open(alloc, device, hash_builder)?;
+    let opened: Opened<WblEngine<D>, MvKeyspace> = open(alloc, device, hash_builder)?;
     log.say(News::Opened {
         position: opened.position,
         epoch: opened.epoch,
