@@ -1,4 +1,4 @@
-"""What is measured comes out as it should: free lines, fences, calls of commits, a reopened image, frames, items through a pipe, marks,
+"""What is measured comes out as it should: free lines, fences, calls of commits, a reopened image, frames, turns, items through a pipe, marks,
 arrivals (the page of crates/bench says what the program prints)."""
 
 import common
@@ -10,6 +10,10 @@ def commit(sets, kind, ended):
     """The calls of a commit of so many SETs of one line each, `ended` of them for each SET ending a version, by docs/image.md: of each SET the
     words of a line and of an entry, then the 24 words of a record in three lines, then the root. What it ended is freed then: a word each."""
     return f"commit {sets} {kind}: {sets * (8 + 8 + 2 * ended) + 24 + 1} stores, {sets * (2 + 2 * ended) + 3 + 1} flushes, {3 + ended} fences"
+
+
+# What a turn asks for. The strings are as many afterwards, and there are a hash and ten counters.
+ASKED = ("GET", "SET of a held key", "SET of a new key", "HSET", "INCR", "DEL")
 
 
 class Measured(common.Cases):
@@ -25,6 +29,10 @@ class Measured(common.Cases):
         "stream": [
             "stream: 100000 frames, 10000000 bytes",
             *(f"stream: pieces of {piece}: position 100000" for piece in (1, 7, 4096)),
+        ],
+        "turns": [
+            *3 * [f"turns: {name}: 10000 of 10000 replies right" for name in ASKED],
+            *(f"turns: {records + 11} keys" for records in (1_000, 100_000, 1_000_000)),
         ],
         "ring": ["ring: 1000000 items in order: true, left: 0"],
         "marks": ["marks: 1000000 raises, no reading fell: true, local: 1, remote: 1000000"],

@@ -1,10 +1,11 @@
 //! What the layers cost: extents of a heap, calls of a simulated device, the calls of a commit, an image that is reopened, frames in pieces,
-//! items through a pipe between two threads, raises and readings of the marks from three, arrivals from one thread to another, and fences of
-//! a device over a file. Without an argument it makes some of each but the last, and prints what they did. With the name of one it makes
-//! many, and prints their figures too.
+//! turns of a sequencer over many records, items through a pipe between two threads, raises and readings of the marks from three, arrivals
+//! from one thread to another, and fences of a device over a file. Without an argument it makes some of each but the last, and prints what
+//! they did. With the name of one it makes many, and prints their figures too.
 #![tactic(auto)]
 
 mod arrivals;
+mod asked;
 mod counting;
 mod device;
 mod engine;
@@ -18,6 +19,7 @@ mod reopen;
 mod ring;
 mod sets;
 mod stream;
+mod turns;
 
 use crate::arrivals::time_arrivals;
 use crate::device::time_device;
@@ -28,7 +30,9 @@ use crate::marks_of_threads::time_marks;
 use crate::reopen::time_reopen;
 use crate::ring::time_ring;
 use crate::stream::time_stream;
+use crate::turns::time_turns;
 use std::alloc::Global;
+use std::random::RandomSource;
 use std::rt::Clock;
 use std::sync::Wait;
 use std::thread::Threads;
@@ -57,12 +61,16 @@ fn main(rt: HostRuntime) -> io::Result<()> {
 }
 
 /// Makes some of each, but no fences over a file.
-fn make_some(rt: &(impl Threads + Wait + Sync + Print + Clock), alloc: Global) -> io::Result<()> {
+fn make_some(
+    rt: &(impl Threads + Wait + Sync + Print + Clock + RandomSource),
+    alloc: Global,
+) -> io::Result<()> {
     time_heap(rt, alloc, heap::SMALL, false)?;
     time_device(rt, alloc, device::SMALL, false)?;
     print_commits(rt, alloc)?;
     time_reopen(rt, alloc, reopen::SMALL, false)?;
     time_stream(rt, alloc, SOME_FRAMES, false)?;
+    time_turns(rt, alloc, turns::SMALL, false)?;
     make_some_between_threads(rt, alloc)
 }
 
@@ -77,7 +85,7 @@ fn make_some_between_threads(
 
 /// Makes many of what bears this name.
 fn make_many(
-    rt: &(impl Threads + Wait + Sync + Print + Clock),
+    rt: &(impl Threads + Wait + Sync + Print + Clock + RandomSource),
     alloc: Global,
     name: &str,
 ) -> io::Result<()> {
@@ -87,6 +95,7 @@ fn make_many(
         "engine" => print_commits(rt, alloc),
         "reopen" => time_reopen(rt, alloc, reopen::LARGE, true),
         "stream" => time_stream(rt, alloc, MANY_FRAMES, true),
+        "turns" => time_all_turns(rt, alloc),
         _ => make_many_between_threads(rt, alloc, name),
     }
 }
@@ -108,6 +117,14 @@ fn make_many_between_threads(
 fn time_devices(rt: &(impl Print + Clock), alloc: Global) -> io::Result<()> {
     for load in device::LARGE {
         time_device(rt, alloc, load, true)?;
+    }
+    Ok(())
+}
+
+/// Turns over each of the large numbers of records.
+fn time_all_turns(rt: &(impl Print + Clock + RandomSource), alloc: Global) -> io::Result<()> {
+    for load in turns::LARGE {
+        time_turns(rt, alloc, load, true)?;
     }
     Ok(())
 }

@@ -1,4 +1,4 @@
-//! How often something happened a second.
+//! How often something happened a second, and how long each took.
 ghost use Rattle.std.specs.Prelude.{◌≡◌, ◌==◌, ◌*◌, ◌/◌, ◌≤◌, ◌^◌, ◌<◌, if◌then◌else◌};
 ghost use Rattle.std.specs.Duration.{as_nanos};
 
@@ -13,5 +13,14 @@ pub fn a_second(times: u64, time: Duration) -> u128
 {
     (u128::from(times) * MICROS_A_SECOND)
         .checked_div(time.as_micros())
+        .unwrap_or(0)
+}
+
+/// So much time for so many, in hundredths of a nanosecond each, or 0 where there are none.
+pub fn hundredths_each(time: Duration, count: u64) -> u128
+    ensures { result ≡ if count == 0 then 0 else 100 * as_nanos time / count }
+{
+    (100 * time.as_nanos())
+        .checked_div(u128::from(count))
         .unwrap_or(0)
 }

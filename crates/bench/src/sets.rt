@@ -6,7 +6,8 @@ use kv_types::{Change, Key, RecordId, Value};
 use standby::Frame;
 use std::alloc::{AllocError, Global};
 
-const VALUE: [u8; 48] = [b'v'; 48];
+/// The bytes of each value.
+pub const VALUE: [u8; 48] = [b'v'; 48];
 
 /// 2^64 over the golden ratio: its multiples look random (Knuth's multiplicative hashing). It is odd, so that no two numbers have one.
 const MULTIPLIER: u64 = 0x9e37_79b9_7f4a_7c15;

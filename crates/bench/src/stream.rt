@@ -1,7 +1,7 @@
 //! Frames that are written, and read from pieces of several sizes.
-ghost use Rattle.std.specs.Prelude.{◌≡◌, ◌==◌, ◌*◌, ◌/◌, ◌≤◌, ◌<◌, if◌then◌else◌};
-ghost use Rattle.std.specs.Duration.{as_nanos};
+ghost use Rattle.std.specs.Prelude.{◌<◌};
 
+use crate::rate::hundredths_each;
 use crate::refused::print_refusal;
 use crate::sets::frame_of;
 use bytes::BytesMut;
@@ -10,7 +10,7 @@ use standby::Frame;
 use std::alloc::{AllocError, Global};
 use std::io;
 use std::rt::Clock;
-use std::time::{Duration, Instant};
+use std::time::Instant;
 use stream_codec::{Decoder, Message, write_frame};
 
 /// How many bytes each piece has.
@@ -51,15 +51,6 @@ fn feed_all(alloc: Global, text: &[u8], piece: usize) -> Result<u64, Refusal>
     Ok(position)
 }
 
-/// So much time for so many bytes, in hundredths of a nanosecond a byte.
-fn hundredths_a_byte(time: Duration, bytes: usize) -> u128
-    ensures { result ≡ if bytes == 0 then 0 else 100 * as_nanos time / bytes }
-{
-    (100 * time.as_nanos())
-        .checked_div(bytes as u128)
-        .unwrap_or(0)
-}
-
 /// Feeds bytes in pieces of one size.
 fn time_pieces(
     rt: &(impl Print + Clock),
@@ -78,7 +69,7 @@ fn time_pieces(
     let time = start.elapsed(rt)?;
     println!(rt; "stream: pieces of {piece}: position {position}")?;
     if timed {
-        let cost = hundredths_a_byte(time, text.len());
+        let cost = hundredths_each(time, text.len() as u64);
         println!(rt;
             "stream: took {time:?}, {}.{:02} ns a byte",
             cost / 100,
