@@ -28,11 +28,13 @@ def untaken(port, client):
 
 @common.unittest.skipUnless(shutil.which("gcc"), "there is no gcc")
 class Held(PairCases):
-    def held(self, role):
-        """A pair of which one node's syncs are held while the file is there that this returns beside it."""
+    def held(self, role, is_slow=False):
+        """A pair of which one node's syncs are held while the file is there that this returns beside it. If that is said, each takes long anyway."""
         nodes = self.pair()
         library, file = nodes.folder / "held_syncs.so", nodes.folder / "held"
         subprocess.run(["gcc", "-shared", "-fPIC", "-O1", "-Wall", "-Wextra", "-Werror", "-D_GNU_SOURCE", "-o", library, SOURCE, "-ldl"], check=True)
+        if is_slow:
+            file.with_suffix(".slow").touch()
         node = getattr(nodes, role)
         node.end()
         node.before = ["/usr/bin/env", f"LD_PRELOAD={library}", f"HELD_FILE={file}"]
@@ -40,8 +42,8 @@ class Held(PairCases):
         nodes.wait()
         return nodes, file
 
-    def serves_while_held(self, role):
-        nodes, file = self.held(role)
+    def serves_while_held(self, role, is_slow=False):
+        nodes, file = self.held(role, is_slow)
         with nodes.client() as first, nodes.client() as second:
             self.assertEqual(second.ask("GET", KEY), b"$-1\r\n")
             file.touch()
@@ -61,8 +63,8 @@ class Held(PairCases):
         self.serves_while_held("standby")
 
     def test_a_primary_serves_while_its_own_sync_is_held(self):
-        """And while the primary's own has not: another thread has the committer then."""
-        self.serves_while_held("primary")
+        """And while the primary's own has not, where syncs take long: another thread has the committer then."""
+        self.serves_while_held("primary", is_slow=True)
 
     def test_nothing_leaves_while_the_primary_s_sync_is_held(self):
         nodes, file = self.held("primary")
