@@ -122,6 +122,11 @@ pub trait Durable {
     fn position(&self) -> u64
         ensures { result ≡ (contents self.now).current.position };
 
+    /// The position up to which everything is durable, as the last commit, the reopening or the formatting established it.
+    fn committed(&self) -> Committed
+        requires { IsDurable (device self.now) (contents self.now) }
+        ensures { result ≡ (contents self.now).current.position };
+
     /// How many lines the image has.
     fn lines(&self) -> u64
         ensures { result ≡ (contents self.now).lines };

@@ -224,6 +224,10 @@ impl<P: Pmem> Durable for WblEngine<P> {
         self.current.position
     }
 
+    fn committed(&self) -> Committed {
+        Committed::at(self.current.position)
+    }
+
     fn lines(&self) -> u64 {
         self.device.lines()
     }

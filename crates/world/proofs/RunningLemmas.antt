@@ -1,6 +1,6 @@
 -- A run from event to event, and what is reported of it at its end.
 use Rattle.std.specs.Global.{Global}
-use Rattle.std.proofs.Common.{Vec, ◌≡◌, ◌⊎◌, ℕ, ◌≤◌, Bool, List, [], ◌∷◌, ◌++◌, length, take, slice_index_or, Option, Some, None, Err, refl, sym, ap, ap₂, subst, ◌∙◌, arith, le_refl, length-take, inl, inr, true, cond, nat_eq, eqb-true, All, false}
+use Rattle.std.proofs.Common.{Vec, ◌≡◌, ◌⊎◌, ℕ, ◌≤◌, Bool, List, [], ◌∷◌, ◌++◌, length, take, slice_index_or, Option, Some, None, Err, refl, sym, ap, ap₂, subst, ◌∙◌, arith, le_refl, length-take, inl, inr, true, cond, nat_eq, eqb-true, All, false, ◌&&◌}
 use Rattle.pmem.specs.Device.{State}
 use Rattle.pmem.specs.Runs.{LeavesOnly}
 use Rattle.kv_types.specs.declared.refusal.Refusal.{Refusal}
@@ -34,7 +34,7 @@ use Rattle.world.specs.declared.trace.EarlyEnd.{EarlyEnd}
 use Rattle.world.specs.declared.trace.EarlyEnd.TheVariants.{AtFormatting, AtEvent}
 use Rattle.world.specs.Headline.{AnyWorld, Enables, start, primary_position, standby_position, AreMoments, IsKept, KeepsItsWord, PlaysOn, AreMoves, OpensFrom, OpensIn, Reaches, StandsAfter, IsCutAfter, Plays, HasSent, primary_holder, standby_holder}
 use Rattle.world.specs.Pair.{Pair, NodesRefine, HasWorld, IsCut, Steps}
-use Rattle.world.specs.Step.{AcksBy, FramesBy}
+use Rattle.world.specs.Step.{AcksBy, FramesBy, touches_primary, touches_standby}
 use Rattle.connections.specs.Session.{released_of}
 use Rattle.world.proofs.EngineLemmas.{rests-same}
 use Rattle.world.proofs.PairLemmas.{primary-stands, sessions-stand, standby-stands}
@@ -58,10 +58,15 @@ standby-holds {first} {second} {pair} {w} stands =
 -- ---- from event to event
 
 -- one more event
-moves-push : (position : World → ℕ) (holder : World → Holder) (w : World) (worlds : List World) (w' : World) (old new new' : State) → AreMoves position holder w worlds old new
-    → Moves (holder w') w'.primary.calls (position (last_world w worlds)) (position w') new new' → AreMoves position holder w (worlds ++ w' ∷ []) old new'
-moves-push position holder w [] w' old new new' are moves = (new', subst (λ (d : State). Moves (holder w') w'.primary.calls (position w) (position w') d new') (sym are) moves, refl)
-moves-push position holder w (next ∷ worlds) w' old new new' are moves = (are.0, are.1, moves-push position holder next worlds w' are.0 new new' are.2 moves)
+moves-push : (touches : Event → Bool) (position : World → ℕ) (holder : World → Holder) (w : World) (events : List Event) (done : List Bool) (worlds : List World) (event : Event) (did : Bool) (w' : World) (old new new' : State)
+    → AreMoves touches position holder w events done worlds old new
+    → Moves (holder w') w'.primary.calls (position (last_world w worlds)) (position w') new new' → ((touches event && did) ≡ false → new' ≡ new)
+    → AreMoves touches position holder w (events ++ event ∷ []) (done ++ did ∷ []) (worlds ++ w' ∷ []) old new'
+moves-push touches position holder w [] [] [] event did w' old new new' are moves untouched =
+    (new', subst (λ (d : State). Moves (holder w') w'.primary.calls (position w) (position w') d new') (sym are) moves, λ idle. untouched idle ∙ sym are, refl)
+moves-push touches position holder w (first ∷ events) (first_did ∷ done) (next ∷ worlds) event did w' old new new' are moves untouched =
+    (are.0, are.1, are.2, moves-push touches position holder next events done worlds event did w' are.0 new new' are.3 moves untouched)
+moves-push touches position holder w events done worlds event did w' old new new' are moves untouched = absurd are
 
 pub reaches-world : (first second : Holder) (began : Pair) (events : List Event) (done : List Bool) (pair : Pair) → StandsAfter first second began events done pair → HasWorld pair
 reaches-world first second began events done pair after = record { first = first; second = second; world = last_world start after.reaches.worlds; stands = after.stands }
@@ -69,14 +74,20 @@ reaches-world first second began events done pair after = record { first = first
 pub reaches-start : (first second : Holder) (done : List Bool) (pair : Pair) → done ≡ [] → NodesRefine first second pair start → StandsAfter first second pair [] done pair
 reaches-start first second done pair none stands =
     record {
-      reaches = record { worlds = []; run = subst (λ (d : List Bool). Run start [] d []) (sym none) tt; primary_moves = refl; standby_moves = refl };
+      reaches = record {
+        worlds = [];
+        run = subst (λ (d : List Bool). Run start [] d []) (sym none) tt;
+        primary_moves = subst (λ (d : List Bool). AreMoves touches_primary primary_position (primary_holder first.lines) start [] d [] pair.device pair.device) (sym none) refl;
+        standby_moves = subst (λ (d : List Bool). AreMoves touches_standby standby_position (standby_holder second.lines) start [] d [] pair.standby.device pair.standby.device) (sym none) refl;
+      };
       stands = stands;
     }
 
 pub reaches-next : (first second : Holder) (began : Pair) (events : List Event) (done done' : List Bool) (pair pair' : Pair) (event : Event) (did : Bool) → done' ≡ done ++ did ∷ []
     → ((first second : Holder) (w : World) → NodesRefine first second pair w → Steps first second w event did pair pair')
+    → ((touches_primary event && did) ≡ false → pair'.device ≡ pair.device) → ((touches_standby event && did) ≡ false → pair'.standby.device ≡ pair.standby.device)
     → StandsAfter first second began events done pair → StandsAfter first second began (events ++ event ∷ []) done' pair'
-reaches-next first second began events done done' pair pair' event did more steps after =
+reaches-next first second began events done done' pair pair' event did more steps primary_stays standby_stays after =
     let reaches = after.reaches in
     let w = last_world start reaches.worlds in
     let next = steps first second w after.stands in
@@ -85,10 +96,12 @@ reaches-next first second began events done done' pair pair' event did more step
         worlds = reaches.worlds ++ next.world ∷ [];
         run = subst (λ (d : List Bool). Run start (events ++ event ∷ []) d (reaches.worlds ++ next.world ∷ [])) (sym more)
             (run-push start events done reaches.worlds event did next.world reaches.run next.step);
-        primary_moves = moves-push primary_position (primary_holder first.lines) start reaches.worlds next.world began.device pair.device pair'.device reaches.primary_moves
-            (subst (λ (h : Holder). Moves h next.world.primary.calls (primary_position w) (primary_position next.world) pair.device pair'.device) (primary-holds next.stands) next.moves.primary);
-        standby_moves = moves-push standby_position (standby_holder second.lines) start reaches.worlds next.world began.standby.device pair.standby.device pair'.standby.device reaches.standby_moves
-            (subst (λ (h : Holder). Moves h next.world.primary.calls (standby_position w) (standby_position next.world) pair.standby.device pair'.standby.device) (standby-holds next.stands) next.moves.standby);
+        primary_moves = subst (λ (d : List Bool). AreMoves touches_primary primary_position (primary_holder first.lines) start (events ++ event ∷ []) d (reaches.worlds ++ next.world ∷ []) began.device pair'.device) (sym more)
+            (moves-push touches_primary primary_position (primary_holder first.lines) start events done reaches.worlds event did next.world began.device pair.device pair'.device reaches.primary_moves
+            (subst (λ (h : Holder). Moves h next.world.primary.calls (primary_position w) (primary_position next.world) pair.device pair'.device) (primary-holds next.stands) next.moves.primary) primary_stays);
+        standby_moves = subst (λ (d : List Bool). AreMoves touches_standby standby_position (standby_holder second.lines) start (events ++ event ∷ []) d (reaches.worlds ++ next.world ∷ []) began.standby.device pair'.standby.device) (sym more)
+            (moves-push touches_standby standby_position (standby_holder second.lines) start events done reaches.worlds event did next.world began.standby.device pair.standby.device pair'.standby.device reaches.standby_moves
+            (subst (λ (h : Holder). Moves h next.world.primary.calls (standby_position w) (standby_position next.world) pair.standby.device pair'.standby.device) (standby-holds next.stands) next.moves.standby) standby_stays);
       };
       stands = subst (NodesRefine first second pair') (sym (last_world-push start reaches.worlds next.world)) next.stands;
     }
@@ -211,22 +224,22 @@ in-lower : (holder : World → Holder) (p q : ℕ) (w : World) (worlds : List Wo
 in-lower holder p q w worlds old new le only = LeavesOnly-weaken (OpensIn holder p w worlds) (λ image opens. OpensIn-lower holder p q w worlds image le opens) only
 
 -- the moments from a world on, and that no crash leaves an image below where the node stands in it
-record MomentsFrom (last : Stretch) (position next : World → ℕ) (holder : World → Holder) (w : World) (worlds : List World) (old new : State) : Type 0 where
+record MomentsFrom (touches : Event → Bool) (last : Stretch) (position next : World → ℕ) (holder : World → Holder) (w : World) (events : List Event) (done : List Bool) (worlds : List World) (old new : State) : Type 0 where
   from : LeavesOnly old new (OpensIn holder (position w) w worlds)
-  moments : AreMoments last position next holder w worlds old new
+  moments : AreMoments touches last position next holder w events done worlds old new
 
-moments-from : (last : Stretch) (position next : World → ℕ) (holder : World → Holder) → IsOfNode position next → IsLast last
+moments-from : (touches : Event → Bool) (last : Stretch) (position next : World → ℕ) (holder : World → Holder) → IsOfNode position next → IsLast last
     → (w : World) (events : List Event) (done : List Bool) (worlds : List World) (old reached new : State) → Run w events done worlds → Sound w
-    → AreMoves position holder w worlds old reached
-    → last (holder (last_world w worlds)) (last_world w worlds).primary.calls (position (last_world w worlds)) (next (last_world w worlds)) reached new → MomentsFrom last position next holder w worlds old new
-moments-from last position next holder node from w [] [] [] old reached new run sound are ends =
+    → AreMoves touches position holder w events done worlds old reached
+    → last (holder (last_world w worlds)) (last_world w worlds).primary.calls (position (last_world w worlds)) (next (last_world w worlds)) reached new → MomentsFrom touches last position next holder w events done worlds old new
+moments-from touches last position next holder node from w [] [] [] old reached new run sound are ends =
     let all : last (holder w) w.primary.calls (position w) (next w) old new = subst (λ (d : State). last (holder w) w.primary.calls (position w) (next w) d new) (sym are) ends in
     let onward : LeavesOnly old new (OpensIn holder (position w) w []) = from (holder w) w.primary.calls (position w) (next w) old new (node.onward w sound) all in
     record { from = onward; moments = (λ prefix call released. in-lower holder _ (position w) w [] old new (node.holds w sound prefix call released) onward, all) }
-moments-from last position next holder node from w (event ∷ events) (did ∷ done) (w' ∷ worlds) old reached new run sound are ends =
+moments-from touches last position next holder node from w (event ∷ events) (did ∷ done) (w' ∷ worlds) old reached new run sound are ends =
     let sound' = sound-step w event did w' run.0 sound in
     let rises = node.rises w w' (grows-step w event did w' run.0 sound) in
-    let rest = moments-from last position next holder node from w' events done worlds are.0 reached new run.1 sound' are.2 ends in
+    let rest = moments-from touches last position next holder node from w' events done worlds are.0 reached new run.1 sound' are.3 ends in
     let onward : LeavesOnly old new (OpensIn holder (position w) w (w' ∷ worlds)) =
     LeavesOnly-then
     (LeavesOnly-weaken (OpensIn holder (position w) w (w' ∷ worlds)) (λ image opens. inr (OpensIn-first holder (position w) w' worlds image opens))
@@ -234,9 +247,9 @@ moments-from last position next holder node from w (event ∷ events) (did ∷ d
     (LeavesOnly-weaken (OpensIn holder (position w) w (w' ∷ worlds)) (λ image opens. inr (OpensIn-lower holder (position w) (position w') w' worlds image rises opens)) rest.from) in
     record {
       from = onward;
-      moments = (are.0, λ prefix call released. in-lower holder _ (position w) w (w' ∷ worlds) old new (node.holds w sound prefix call released) onward, are.1, rest.moments);
+      moments = (are.0, λ prefix call released. in-lower holder _ (position w) w (w' ∷ worlds) old new (node.holds w sound prefix call released) onward, are.1, are.2, rest.moments);
     }
-moments-from last position next holder node from w events done worlds old reached new run sound are ends = absurd run
+moments-from touches last position next holder node from w events done worlds old reached new run sound are ends = absurd run
 
 -- ---- what is told at the end
 
@@ -283,9 +296,9 @@ kept : (Last : World → Type 0) (first_last second_last : Stretch) (first secon
 kept Last first_last second_last first second began events done calls released frames acknowledgements primary standby primary' standby' first_from second_from reaches tells last messages primary_ends standby_ends =
     let w = last_world start reaches.worlds in
     let promised = promised-by events done reaches.worlds calls (λ c. slice_index_or released c []) (primary_position w) (standby_position w) reaches.run tells in
-    let primary_moments = moments-from first_last primary_position next_primary (primary_holder first.lines) of_primary first_from start events done reaches.worlds began.device primary primary' reaches.run (sound-start true)
+    let primary_moments = moments-from touches_primary first_last primary_position next_primary (primary_holder first.lines) of_primary first_from start events done reaches.worlds began.device primary primary' reaches.run (sound-start true)
     reaches.primary_moves primary_ends in
-    let standby_moments = moments-from second_last standby_position next_standby (standby_holder second.lines) of_standby second_from start events done reaches.worlds began.standby.device standby standby' reaches.run (sound-start true)
+    let standby_moments = moments-from touches_standby second_last standby_position next_standby (standby_holder second.lines) of_standby second_from start events done reaches.worlds began.standby.device standby standby' reaches.run (sound-start true)
     reaches.standby_moves standby_ends in
     record {
       primary_at = primary_position w;
@@ -293,8 +306,8 @@ kept Last first_last second_last first second began events done calls released f
       promised = promised.0;
       last = subst (λ (worlds : List World). Last (last_world start worlds)) (sym promised.1) last;
       messages = subst (λ (worlds : List World). HasSent (last_world start worlds) frames acknowledgements) (sym promised.1) messages;
-      primary_moments = subst (λ (worlds : List World). AreMoments first_last primary_position next_primary (primary_holder first.lines) start worlds began.device primary') (sym promised.1) primary_moments.moments;
-      standby_moments = subst (λ (worlds : List World). AreMoments second_last standby_position next_standby (standby_holder second.lines) start worlds began.standby.device standby') (sym promised.1) standby_moments.moments;
+      primary_moments = subst (λ (worlds : List World). AreMoments touches_primary first_last primary_position next_primary (primary_holder first.lines) start events done worlds began.device primary') (sym promised.1) primary_moments.moments;
+      standby_moments = subst (λ (worlds : List World). AreMoments touches_standby second_last standby_position next_standby (standby_holder second.lines) start events done worlds began.standby.device standby') (sym promised.1) standby_moments.moments;
     }
 
 played-whole : (first second : Holder) (began : Pair) (events : List Event) (done : List Bool) (pair : Pair) (released : List (List ℕ)) → released ≡ released_of pair.sessions.connections.items

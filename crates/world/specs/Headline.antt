@@ -1,5 +1,5 @@
 -- The word that a run keeps: the promise, between any two events, and what a crash leaves of both images at any moment of the run.
-use Rattle.std.specs.Prelude.{◌≡◌, ◌⊎◌, ℕ, ◌≤◌, Bool, true, List, [], ◌∷◌, ◌++◌, take, slice_get, slice_index_or, Option, Some, None, Vec}
+use Rattle.std.specs.Prelude.{◌≡◌, ◌⊎◌, ℕ, ◌≤◌, ◌&&◌, Bool, true, false, List, [], ◌∷◌, ◌++◌, take, slice_get, slice_index_or, Option, Some, None, Vec}
 use Rattle.std.specs.Global.{Global}
 use Rattle.pmem.specs.Device.{State}
 use Rattle.pmem.specs.Runs.{LeavesOnly}
@@ -16,6 +16,7 @@ use Rattle.world.specs.Committing.{Moves, OpensAt, FormattingOnly, next_primary,
 use Rattle.world.specs.Cause.{Stretch, Resting, UnformedBy, EndsBy}
 use Rattle.world.specs.Link.{AreAcksSent, AreFramesSent}
 use Rattle.world.specs.Pair.{Pair, NodesRefine, IsCut}
+use Rattle.world.specs.Step.{touches_primary, touches_standby}
 use Rattle.world.specs.declared.trace.EarlyEnd.{EarlyEnd}
 use Rattle.world.specs.declared.trace.EarlyEnd.TheVariants.{AtFormatting, AtEvent}
 
@@ -53,12 +54,15 @@ KeepsReleased holder w worlds old new =
     (prefix : List Call) (call : Call) → IsReleased w.primary.calls (released_in w) prefix call → LeavesOnly old new (OpensIn holder (position_of (prefix ++ call ∷ [])) w worlds)
 
 -- The moments of a device, cut by the events of a run from this world on, at states that the device passed in this order. A crash during an event leaves an image
--- that opens, over the list of the world after it, where the node stood before it or where it stood after it. What comes after the last event is a stretch of its
--- own. And from each cut on, up to the end, each crash keeps what was released by then.
-abbrev pub AreMoments : Stretch → (World → ℕ) → (World → ℕ) → (World → Holder) → World → List World → State → State → Type 0
-AreMoments last position next holder w [] old new = KeepsReleased holder w [] old new × last (holder w) w.primary.calls (position w) (next w) old new
-AreMoments last position next holder w (w' ∷ worlds) old new =
-    (between : State) × KeepsReleased holder w (w' ∷ worlds) old new × Moves (holder w') w'.primary.calls (position w) (position w') old between × AreMoments last position next holder w' worlds between new
+-- that opens, over the list of the world after it, where the node stood before it or where it stood after it. An event that does not touch the device, or was not
+-- enabled, leaves it as it was, with all that it has gone through. What comes after the last event is a stretch of its own. And from each cut on, up to the end,
+-- each crash keeps what was released by then.
+abbrev pub AreMoments : (Event → Bool) → Stretch → (World → ℕ) → (World → ℕ) → (World → Holder) → World → List Event → List Bool → List World → State → State → Type 0
+AreMoments touches last position next holder w [] [] [] old new = KeepsReleased holder w [] old new × last (holder w) w.primary.calls (position w) (next w) old new
+AreMoments touches last position next holder w (event ∷ events) (did ∷ done) (w' ∷ worlds) old new =
+    (between : State) × KeepsReleased holder w (w' ∷ worlds) old new × Moves (holder w') w'.primary.calls (position w) (position w') old between
+    × ((touches event && did) ≡ false → between ≡ old) × AreMoments touches last position next holder w' events done worlds between new
+AreMoments touches last position next holder w events done worlds old new = ⊥
 
 -- nothing is required of the last world of a run
 abbrev pub AnyWorld : World → Type 0
@@ -83,8 +87,8 @@ pub record IsKept (Last : World → Type 0) (first_last second_last : Stretch) (
   pub last : Last (last_world start promised.worlds)
   pub messages : HasSent (last_world start promised.worlds) frames acknowledgements
   -- the moments of either device, cut by the same events
-  pub primary_moments : AreMoments first_last primary_position next_primary (primary_holder first_lines) start promised.worlds primary primary'
-  pub standby_moments : AreMoments second_last standby_position next_standby (standby_holder second_lines) start promised.worlds standby standby'
+  pub primary_moments : AreMoments touches_primary first_last primary_position next_primary (primary_holder first_lines) start events done promised.worlds primary primary'
+  pub standby_moments : AreMoments touches_standby second_last standby_position next_standby (standby_holder second_lines) start events done promised.worlds standby standby'
 
 -- The first device was formatted as primary and the second as standby, and then the events happened.
 pub record IsPlayed (Last : World → Type 0) (first_last second_last : Stretch) (events : List Event) (done : List Bool) (calls : List Call) (released : List (List ℕ)) (frames acknowledgements : List (Vec ℕ Global)) (primary standby primary' standby' : State) : Type 0 where
@@ -125,17 +129,20 @@ PlaysOn first second events (Some (AtEvent index refusal)) done calls released f
     (event : Event) × (slice_get events index ≡ Some event)
     × EndsBy refusal event (λ first_last second_last. IsKept (Enables event) first_last second_last first.lines second.lines (take index events) done calls released frames acknowledgements primary standby primary' standby')
 
--- the events of a run from this world on, each over its own list of calls, moved a device of these holders on
-abbrev pub AreMoves : (World → ℕ) → (World → Holder) → World → List World → State → State → Type 0
-AreMoves position holder w [] old new = old ≡ new
-AreMoves position holder w (w' ∷ worlds) old new = (next : State) × Moves (holder w') w'.primary.calls (position w) (position w') old next × AreMoves position holder w' worlds next new
+-- The events of a run from this world on, each over its own list of calls, moved a device of these holders on, but for those that do not touch it.
+abbrev pub AreMoves : (Event → Bool) → (World → ℕ) → (World → Holder) → World → List Event → List Bool → List World → State → State → Type 0
+AreMoves touches position holder w [] [] [] old new = old ≡ new
+AreMoves touches position holder w (event ∷ events) (did ∷ done) (w' ∷ worlds) old new =
+    (next : State) × Moves (holder w') w'.primary.calls (position w) (position w') old next × ((touches event && did) ≡ false → next ≡ old)
+    × AreMoves touches position holder w' events done worlds next new
+AreMoves touches position holder w events done worlds old new = ⊥
 
 -- the machine's run over these events moved both devices to these states from where they were in the pair `began`
 pub record Reaches (first second : Holder) (began : Pair) (events : List Event) (done : List Bool) (primary standby : State) : Type 0 where
   pub worlds : List World
   pub run : Run start events done worlds
-  pub primary_moves : AreMoves primary_position (primary_holder first.lines) start worlds began.device primary
-  pub standby_moves : AreMoves standby_position (standby_holder second.lines) start worlds began.standby.device standby
+  pub primary_moves : AreMoves touches_primary primary_position (primary_holder first.lines) start events done worlds began.device primary
+  pub standby_moves : AreMoves touches_standby standby_position (standby_holder second.lines) start events done worlds began.standby.device standby
 
 -- and the pair refines the last world
 pub record StandsAfter (first second : Holder) (began : Pair) (events : List Event) (done : List Bool) (pair : Pair) : Type 0 where

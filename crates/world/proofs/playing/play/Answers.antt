@@ -55,7 +55,8 @@ loop-event-preserved g c =
           subst (λ (passed : List Event). StandsAfter first second (g.S.Stepper.parts c.args.stepper.now) passed c.push_reserved.new.self.items (g.S.Stepper.parts c.step.new.self))
           (ap (λ event. take c.loop-event.event-index c.args.events.now ++ event ∷ []) c.event-item.is ∙ sym (take_more c.args.events.now c.loop-event.event-index c.event-item.result c.loop-event-test.true))
           (reaches-next first second (g.S.Stepper.parts c.args.stepper.now) (take c.loop-event.event-index c.args.events.now) c.loop-event.done.items c.push_reserved.new.self.items (g.S.Stepper.parts c.loop-event.stepper) (g.S.Stepper.parts c.step.new.self)
-          c.event-item.result c.in-Ok.did c.push_reserved.ensures.items (λ first second w stands. (c.in-Ok.ensures.happened first second w stands).steps) (c.loop-event.invariant.reaches first second stands));
+          c.event-item.result c.in-Ok.did c.push_reserved.ensures.items (λ first second w stands. (c.in-Ok.ensures.happened first second w stands).steps)
+          c.in-Ok.ensures.leaves.primary c.in-Ok.ensures.leaves.standby (c.loop-event.invariant.reaches first second stands));
     }
 
 pub returns : goal.returns
