@@ -125,8 +125,12 @@ class Client:
 
     def ask_all(self, rows):
         """The replies to many requests that are sent in one piece."""
-        self.send(b"".join(spell(*row) for row in rows))
-        return [self.reply() for _ in rows]
+        return self.ask_all_spelled([spell(*row) for row in rows])
+
+    def ask_all_spelled(self, requests):
+        """The same, of requests that are spelled already."""
+        self.send(b"".join(requests))
+        return [self.reply() for _ in requests]
 
     def reply(self):
         """The bytes of the next reply."""

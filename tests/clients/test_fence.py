@@ -2,18 +2,47 @@
 serves nobody while the standby's or its own is held."""
 
 import pathlib
+import random
 import re
 import shutil
 import subprocess
 
 import common
-from pair import PairCases, spell, wait_until
+import plain_image
+import simulation
+from pair import LINES, PairCases, spell, wait_until
 
 SOURCE = pathlib.Path(__file__).resolve().parent / "held_syncs.c"
 KEY = "k" * 500
 # What a reader takes in at most of a connection that is not served: a ring of items, one more, and a block of bytes.
 RING_ITEMS, BLOCK_BYTES = 256, 16 * 1_024
 REQUESTS = 700
+# How many changes the two threads make of a primary's image, which has room for a twelfth of the versions.
+CHANGES, GROUP = 100_000, 64
+
+
+def changes():
+    """Requests that each change something, over keys and fields that all come again and again."""
+    draws = random.Random(1)
+    for number in range(CHANGES):
+        key = f"k{draws.randrange(500)}"
+        yield draws.choice([("SET", key, f"{number}"), ("SET", key, f"{number}"), ("APPEND", key, "x"), ("HSET", f"h{number % 100}", f"f{number % 13}", f"{number}")])
+
+
+def called_in_world(requests):
+    """The run of the simulator in which one connection makes these requests, and what ended is freed as it goes."""
+    schedule = simulation.Schedule(1)
+    for frame, at in enumerate(range(0, len(requests), GROUP)):
+        schedule.group(0, *requests[at:at + GROUP])
+        schedule.replicate(frame)
+        schedule.free()
+    return simulation.simulate(schedule.events, "--map", "--lines", f"{LINES},{LINES}")
+
+
+def image_in(file):
+    """The image that a file holds."""
+    words = memoryview(file.read_bytes()).cast("Q")
+    return plain_image.read_image(plain_image.Words(len(words) // 8, {place: word for place, word in enumerate(words) if word}))
 
 
 def untaken(port, client):
@@ -65,6 +94,21 @@ class Held(PairCases):
     def test_a_primary_serves_while_its_own_sync_is_held(self):
         """And while the primary's own has not, where syncs take long: another thread has the committer then."""
         self.serves_while_held("primary", is_slow=True)
+
+    def test_two_threads_leave_the_image_that_world_leaves(self):
+        """Another thread has the committer, as syncs take long, and what it frees comes back to the one that serves: a hundred thousand changes leave the
+        map and the position on both images, and were answered, as in the run of `world` in which the same requests are made."""
+        nodes, _ = self.held("primary", is_slow=True)
+        requests = [spell(*words) for words in changes()]
+        with nodes.client() as client:
+            replies = [reply for at in range(0, CHANGES, 1_000) for reply in client.ask_all_spelled(requests[at:at + 1_000])]
+        nodes.end()
+        run = called_in_world(requests)
+        self.assertEqual(replies, [call.reply for call in run.calls])
+        for node in (nodes.primary, nodes.standby):
+            image = image_in(node.image)
+            self.assertEqual(image.record.position, CHANGES)
+            self.assertEqual(image.map, dict(run.records["primary"]))
 
     def test_nothing_leaves_while_the_primary_s_sync_is_held(self):
         nodes, file = self.held("primary")
