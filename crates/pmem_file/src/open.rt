@@ -15,6 +15,7 @@ use crate::run::LINES_A_WRITE;
 use kv_types::Refusal;
 use model::{MAX_LINES, MIN_LINES};
 use std::alloc::Global;
+use std::fs::{File, Files};
 
 const LINE_BYTES: u64 = 64;
 
@@ -27,7 +28,10 @@ impl FilePmem {
     ///
     /// `Fault` where the file cannot be opened, locked or read; `WrongSize` where it has not 4,096 to 2^31 whole lines of 64 bytes; `Memory`
     /// where memory for its words was refused. The file is as it was.
-    pub fn open(rt: &HostRuntime, path: &str) -> Result<FilePmem, Refusal>
+    pub fn open<R: Files<File = File> + Alloc<A = Global>>(
+        rt: &R,
+        path: &str,
+    ) -> Result<FilePmem, Refusal>
         ensures fresh { IfOk result (λ device. IsFresh device) }
         ensures many { IfOk result (λ device. MIN_LINES ≤ (state_of device).lines) }
         ensures few { IfOk result (λ device. (state_of device).lines ≤ MAX_LINES) }
@@ -47,7 +51,11 @@ impl FilePmem {
     /// `WrongSize` where `lines` is not 4,096 to 2^31, and then no file was touched, or where a file that is there has another size;
     /// `Fault` where the file cannot be made, opened, locked, synced or read; `Memory` where memory for its words was refused. A file that was
     /// being made may stay in part; another one is as it was.
-    pub fn create(rt: &HostRuntime, path: &str, lines: u64) -> Result<FilePmem, Refusal>
+    pub fn create<R: Files<File = File> + Alloc<A = Global>>(
+        rt: &R,
+        path: &str,
+        lines: u64,
+    ) -> Result<FilePmem, Refusal>
         ensures fresh { IfOk result (λ device. IsFresh device) }
         ensures lines { IfOk result (λ device. (state_of device).lines ≡ lines) }
         ensures created { IfOk result (λ device. IsCreated device) }
@@ -67,7 +75,11 @@ impl FilePmem {
 }
 
 /// The file of a device of `lines` lines, locked: a new one of zeros, or the one that is there.
-fn begun(rt: &HostRuntime, path: &str, lines: u64) -> Result<Opening, Refusal>
+fn begun<R: Files<File = File> + Alloc<A = Global>>(
+    rt: &R,
+    path: &str,
+    lines: u64,
+) -> Result<Opening, Refusal>
     requires { lines ≤ MAX_LINES }
     ensures begun { IfOk result (λ opening. IsBegun (64 * lines) (steps_of opening.calls)) }
     ensures causes { IfErr result (λ refusal. refusal ≡ Refusal.Fault) }
@@ -106,7 +118,11 @@ fn resized(mut opening: Opening, bytes: u64) -> Result<Opening, Refusal>
 }
 
 /// The file, once its length and its name in its folder are durable.
-fn settled(rt: &HostRuntime, path: &str, mut opening: Opening) -> Result<Opening, Refusal>
+fn settled<R: Files<File = File> + Alloc<A = Global>>(
+    rt: &R,
+    path: &str,
+    mut opening: Opening,
+) -> Result<Opening, Refusal>
     ensures noted { IfOk result (λ settled. steps_of settled.calls ≡ FolderSynced true ∷ FileSynced true ∷ steps_of opening.calls) }
     ensures causes { IfErr result (λ refusal. refusal ≡ Refusal.Fault) }
 {

@@ -5,7 +5,8 @@ ghost use Rattle.pmem_file.specs.Opening.{steps_of, Made, Opened, Locked, Resize
 
 use crate::opening_calls::{OpeningCall, OpeningCalls};
 use kv_types::Refusal;
-use std::fs::{self, File, OpenOptions};
+use std::alloc::Global;
+use std::fs::{self, File, Files, OpenOptions};
 use std::io::{self, ErrorKind};
 use std::os::unix::fs::FileExt;
 use std::snapshot::Snapshot;
@@ -19,7 +20,10 @@ pub struct Opening {
 
 impl Opening {
     /// Opens a file that is there, for reading and writing.
-    pub fn open(rt: &HostRuntime, path: &str) -> Result<Opening, Refusal>
+    pub fn open<R: Files<File = File> + Alloc<A = Global>>(
+        rt: &R,
+        path: &str,
+    ) -> Result<Opening, Refusal>
         ensures noted { IfOk result (λ opening. steps_of opening.calls ≡ Opened true ∷ []) }
         ensures causes { IfErr result (λ refusal. refusal ≡ Refusal.Fault) }
     {
@@ -29,7 +33,10 @@ impl Opening {
     }
 
     /// Makes a file of no bytes or opens the one that is there, for reading and writing, and says whether it made it.
-    pub fn make_or_open(rt: &HostRuntime, path: &str) -> Result<(Opening, bool), Refusal>
+    pub fn make_or_open<R: Files<File = File> + Alloc<A = Global>>(
+        rt: &R,
+        path: &str,
+    ) -> Result<(Opening, bool), Refusal>
         ensures noted { IfOk result (λ made. steps_of made.0.calls
             ≡ (if made.1 then Made true ∷ [] else Opened true ∷ Made false ∷ [])) }
         ensures causes { IfErr result (λ refusal. refusal ≡ Refusal.Fault) }
@@ -77,7 +84,11 @@ impl Opening {
     }
 
     /// Makes the file's name in its folder durable.
-    pub fn sync_folder(&mut self, rt: &HostRuntime, path: &str) -> bool
+    pub fn sync_folder<R: Files<File = File> + Alloc<A = Global>>(
+        &mut self,
+        rt: &R,
+        path: &str,
+    ) -> bool
         ensures { steps_of self.new.calls ≡ FolderSynced result ∷ steps_of self.old.calls }
     {
         let done = sync_folder_of(rt, path).is_ok();
@@ -110,7 +121,11 @@ impl Opening {
 }
 
 /// Opens a file that is there.
-fn open_file(rt: &HostRuntime, path: &str, calls: &mut OpeningCalls) -> Result<File, Refusal>
+fn open_file<R: Files<File = File> + Alloc<A = Global>>(
+    rt: &R,
+    path: &str,
+    calls: &mut OpeningCalls,
+) -> Result<File, Refusal>
     ensures noted { IfOk result (λ _. steps_of calls.new ≡ Opened true ∷ steps_of calls.old) }
     ensures causes { IfErr result (λ refusal. refusal ≡ Refusal.Fault) }
 {
@@ -123,8 +138,8 @@ fn open_file(rt: &HostRuntime, path: &str, calls: &mut OpeningCalls) -> Result<F
 }
 
 /// Makes a file where none is there.
-fn make_file(
-    rt: &HostRuntime,
+fn make_file<R: Files<File = File> + Alloc<A = Global>>(
+    rt: &R,
     path: &str,
     calls: &mut OpeningCalls,
 ) -> Result<Option<File>, Refusal>
@@ -145,7 +160,7 @@ fn make_file(
 }
 
 /// Syncs the folder that the file at this path is in.
-fn sync_folder_of(rt: &HostRuntime, path: &str) -> io::Result<()> {
+fn sync_folder_of<R: Files<File = File> + Alloc<A = Global>>(rt: &R, path: &str) -> io::Result<()> {
     let mut folder = fs::canonicalize(rt, path)?;
     folder.pop();
     File::open(rt, folder.as_str())?.sync_all()

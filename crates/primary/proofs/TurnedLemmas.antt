@@ -1,14 +1,16 @@
 -- What a turn of the committer leaves of a primary.
-use Rattle.std.proofs.Common.{◌≡◌, ◌⊎◌, ℕ, ◌<◌, Bool, List, [], ◌∷◌, ◌++◌, map, Option, Some, None, Result, Ok, Err, IfOk, IsErrOf, refl, sym, ap, subst, ◌∙◌, inl, inr, append-nil, append_assoc}
+use Rattle.std.proofs.Common.{◌≡◌, ◌⊎◌, ℕ, ◌<◌, ◌≤◌, Bool, List, [], ◌∷◌, ◌++◌, map, Option, Some, None, Result, Ok, Err, IfOk, IsErrOf, refl, sym, ap, subst, ◌∙◌, inl, inr, append-nil, append_assoc, arith, le_refl}
 use Rattle.pmem.specs.Device.{State}
 use Rattle.kv_types.specs.declared.place.EntryNo.{EntryNo}
 use Rattle.kv_types.specs.declared.refusal.Refusal.{Refusal}
 use Rattle.kv_types.specs.declared.refusal.Refusal.TheVariants.{Memory}
 use Rattle.model.specs.declared.group.Group.{Group}
+use Rattle.model.specs.declared.group.Part.{Part}
+use Rattle.model.specs.declared.record.Record.{Record}
 use Rattle.model.specs.declared.work.FreeList.{FreeList}
 use Rattle.model.specs.declared.work.Work.{Work}
 use Rattle.model.specs.declared.work.Work.TheVariants as work
-use Rattle.model.specs.Group.{AreEnded, Contents, IsConsistent, IsGroup, after_free, after_group, extents_of, is_listed}
+use Rattle.model.specs.Group.{AreEnded, AreParts, Contents, IsConsistent, IsGroup, Versions, after_free, after_group, extents_of, is_listed, last_position, part_versions}
 use Rattle.model.specs.Image.{Version}
 use Rattle.model.proofs.GroupsLemmas.{IsConsistent-after_group}
 use Rattle.wbl_engine.specs.declared.freeing.Freed.{Freed as Places}
@@ -29,10 +31,16 @@ use Rattle.group_commit.proofs.GroupsLemmas.{Same-is}
 use Rattle.group_commit.proofs.WorkLemmas.{AreWork-behind, EndsLists-none, TakesLists-items, groups_of-lists, lists_of-lists}
 use Rattle.pipes.specs.Waiting.{Waiting, LocalTakes}
 use Rattle.primary.specs.Leading.{AreLaid, AreOfEpoch, Leads, entries_told, extents_told}
-use Rattle.primary.specs.Standing.{StandsOver, notices_of}
+use Rattle.primary.specs.Standing.{StandsOver, notices_of, position_after}
 use Rattle.primary.proofs.AheadLemmas.{laid-group}
 use Rattle.primary.proofs.FreedQueue.{Leads-aside, Leads-cleared, Leads-freed}
 use Rattle.primary.proofs.LeadsLemmas.{gives-work, leads-after}
+
+-- ---- the last part of a group is the newest
+
+rises_within : (before : ℕ) (versions : Versions) (parts : List Part) → AreParts before versions parts → before ≤ last_position before parts
+rises_within before versions [] are = le_refl before
+rises_within before versions (part ∷ parts) are = omega (arith, are.0, rises_within part.position (part_versions versions part) parts are.2)
 
 -- ---- versions that are left lie as they lay
 
@@ -93,8 +101,6 @@ ok_is a b e = cc
 ok_not_err : (a : Done) {refusal : Refusal} → the_ok a ≡ Err refusal → ⊥
 ok_not_err a e = cc
 
-position_is : (a b : ℕ) → done.Committed a ≡ done.Committed b → a ≡ b
-position_is a b e = cc
 
 module _ {E : Type 0} (device : E → State) (contents : E → Contents) (is_faulted : E → Bool) where
   abbrev Over : Committer E → Waiting Work → Sequencing → List Places → Type 0
@@ -285,33 +291,103 @@ module _ {E : Type 0} (device : E → State) (contents : E → Contents) (is_fau
       let is : result ≡ Err Memory = refused in
       again-stands old new before after room remote s (subst (λ (r : Result Done Refusal). Turned old new before after room remote r) is turned) over
 
-  -- ---- the position of a commit
+  -- ---- the position of the engine
 
-  committed-ready : (old new : Committer E) (before after : Waiting Work) (room remote : ℕ) (came : Done) (position : ℕ)
-      → TurnsReady device contents is_faulted LocalTakes old before room remote (Ok came) new after → came ≡ done.Committed position → position ≡ (contents new.engine).current.position
-  committed-ready old new before after room remote came position turned is =
+  -- a commit moves it, and no other turn
+  position-ready : (old new : Committer E) (before after : Waiting Work) (room remote : ℕ) (came : Done)
+      → TurnsReady device contents is_faulted LocalTakes old before room remote (Ok came) new after → (contents new.engine).current.position ≡ position_after came (contents old.engine).current.position
+  position-ready old new before after room remote came turned =
+      let p = (contents old.engine).current.position in
+      let so : (d : Done) → d ≡ came → (contents new.engine).current.position ≡ position_after d p → (contents new.engine).current.position ≡ position_after came p =
+      λ d is at. subst (λ (d : Done). (contents new.engine).current.position ≡ position_after d p) is at in
       elim turned.came [
-        | inl took ↦ let commits = took.3 in let answer = commits.answer in position_is position (contents new.engine).current.position (sym is ∙ answer)
-        | inr (inl frees) ↦ absurd (let answer = frees.5.answer.1 in cc)
-        | inr (inr (inl clears)) ↦ absurd (let answer = clears.3.answer.1 in cc)
-        | inr (inr (inr (inl idle))) ↦ absurd (let answer = ok_is came done.Idle idle.1.answer in cc)
+        | inl took ↦ let commits = took.3 in so (done.Committed (contents new.engine).current.position) (sym commits.answer) refl
+        | inr (inl frees) ↦ let freed = frees.5 in so (done.Freed freed.answer.0) (sym freed.answer.1) (ap (λ (r : Record). r.position) freed.moved.current)
+        | inr (inr (inl clears)) ↦ let cleared = clears.3 in so (done.Cleared cleared.answer.0) (sym cleared.answer.1) (ap (λ (r : Record). r.position) cleared.answer.3.current)
+        | inr (inr (inr (inl idle))) ↦ so done.Idle (sym (ok_is came done.Idle idle.1.answer)) (ap (λ (e : E). (contents e).current.position) idle.1.engine)
         | inr (inr (inr (inr refuses))) ↦ absurd (ok_not_err came refuses.2.answer)
       ]
 
-  committed-turn : (old new : Committer E) (before after : Waiting Work) (room remote : ℕ) (came : Done) (position : ℕ) → Turned old new before after room remote (Ok came)
-      → came ≡ done.Committed position → position ≡ (contents new.engine).current.position
-  committed-turn old new before after room remote came position turned is =
-      elim old.stage as (λ st. old.stage ≡ st → position ≡ (contents new.engine).current.position) [
-        | stage.Ready ↦ λ at. committed-ready old new before after room remote came position (turned.ready at) is
-        | stage.Durable group ↦ λ at. absurd (let answer = ok_is came done.Raised (turned.durable group at).0 in cc)
-        | stage.Shown group ↦ λ at.
-            elim (turned.shown group at).1 [
-              | inl handed ↦ absurd (let answer = ok_is came done.Handed handed.0 in cc)
-              | inr idle ↦ absurd (let answer = ok_is came done.Idle idle.0 in cc)
+  position-turn : (old new : Committer E) (before after : Waiting Work) (room remote : ℕ) (came : Done) → Turned old new before after room remote (Ok came)
+      → (contents new.engine).current.position ≡ position_after came (contents old.engine).current.position
+  position-turn old new before after room remote came turned =
+      let p = (contents old.engine).current.position in
+      let so : (d : Done) (c : Committer E) → d ≡ came → new ≡ c → (contents c.engine).current.position ≡ position_after d p → (contents new.engine).current.position ≡ position_after came p =
+      λ d c is there at. subst (λ (d : Done). (contents new.engine).current.position ≡ position_after d p) is
+      (subst (λ (c : Committer E). (contents c.engine).current.position ≡ position_after d p) (sym there) at) in
+      elim old.stage as (λ st. old.stage ≡ st → (contents new.engine).current.position ≡ position_after came p) [
+        | stage.Ready ↦ λ is. position-ready old new before after room remote came (turned.ready is)
+        | stage.Durable group ↦ λ is. let told = turned.durable group is in so done.Raised (raised device contents is_faulted group old) (sym (ok_is came done.Raised told.0)) told.1 refl
+        | stage.Shown group ↦ λ is.
+            elim (turned.shown group is).1 [
+              | inl handed ↦ so done.Handed (ready_again old) (sym (ok_is came done.Handed handed.0)) handed.1 refl
+              | inr idle ↦ so done.Idle old (sym (ok_is came done.Idle idle.0)) idle.1 refl
             ]
       ] refl
 
-  pub turn-committed : (old new : Committer E) (before after : Waiting Work) (room remote : ℕ) (result : Result Done Refusal) → Turned old new before after room remote result
+  pub turn-position : (old new : Committer E) (before after : Waiting Work) (room remote : ℕ) (result : Result Done Refusal) → Turned old new before after room remote result
+      → IfOk result (λ came. (contents new.engine).current.position ≡ position_after came (contents old.engine).current.position)
+  turn-position old new before after room remote (Ok came) turned = position-turn old new before after room remote came turned
+  turn-position old new before after room remote (Err refusal) turned = tt
+
+  -- it never falls
+  rises-ready : (old new : Committer E) (before after : Waiting Work) (room remote : ℕ) (came : Done) (s : Sequencing)
+      → TurnsReady device contents is_faulted LocalTakes old before room remote (Ok came) new after → Over old before s [] → (contents old.engine).current.position ≤ (contents new.engine).current.position
+  rises-ready old new before after room remote came s turned over =
+      elim turned.came [
+        | inl took ↦
+            let items = TakesLists-items before turned.between turned.lists turned.takes ∙ ap (λ (xs : List Work). map work.Free turned.lists ++ xs) took.2 in
+            let group_is = (AreWork-behind (contents old.engine) turned.lists (work.Commit took.0 ∷ after.items)
+            (subst (λ (xs : List Work). AreWork (contents old.engine) xs) items over.leads.work_is)).0 in
+            let moved = ap (λ (r : Record). r.position) took.3.moved.current in
+            rw moved (subst (λ (p : ℕ). p ≤ last_position p took.0.parts.items) group_is.before (rises_within took.0.before (contents old.engine).versions took.0.parts.items group_is.parts))
+        | inr (inl frees) ↦ omega (arith, ap (λ (r : Record). r.position) frees.5.moved.current)
+        | inr (inr (inl clears)) ↦ omega (arith, ap (λ (r : Record). r.position) clears.3.answer.3.current)
+        | inr (inr (inr (inl idle))) ↦ omega (arith, ap (λ (e : E). (contents e).current.position) idle.1.engine)
+        | inr (inr (inr (inr refuses))) ↦ absurd (ok_not_err came refuses.2.answer)
+      ]
+
+  rises-turn : (old new : Committer E) (before after : Waiting Work) (room remote : ℕ) (came : Done) (s : Sequencing) → Turned old new before after room remote (Ok came)
+      → Over old before s [] → (contents old.engine).current.position ≤ (contents new.engine).current.position
+  rises-turn old new before after room remote came s turned over =
+      let same : (c : Committer E) → new ≡ c → (contents c.engine).current.position ≡ (contents old.engine).current.position → (contents old.engine).current.position ≤ (contents new.engine).current.position =
+      λ c there at. omega (arith, at, ap (λ (c : Committer E). (contents c.engine).current.position) there) in
+      elim old.stage as (λ st. old.stage ≡ st → (contents old.engine).current.position ≤ (contents new.engine).current.position) [
+        | stage.Ready ↦ λ is. rises-ready old new before after room remote came s (turned.ready is) over
+        | stage.Durable group ↦ λ is. same (raised device contents is_faulted group old) (turned.durable group is).1 refl
+        | stage.Shown group ↦ λ is. elim (turned.shown group is).1 [ inl handed ↦ same (ready_again old) handed.1 refl | inr idle ↦ same old idle.1 refl ]
+      ] refl
+
+  pub turn-rises : (old new : Committer E) (before after : Waiting Work) (room remote : ℕ) (result : Result Done Refusal) (s : Sequencing) → Turned old new before after room remote result
+      → Over old before s [] → IfOk result (λ came. (contents old.engine).current.position ≤ (contents new.engine).current.position)
+  turn-rises old new before after room remote (Ok came) s turned over = rises-turn old new before after room remote came s turned over
+  turn-rises old new before after room remote (Err refusal) s turned over = tt
+
+  -- what it says to be durable is
+  pub turn-committed : (p : ℕ) (new : Committer E) (result : Result Done Refusal) → IfOk result (λ came. (contents new.engine).current.position ≡ position_after came p)
       → IfOk result (λ came. (position : ℕ) → came ≡ done.Committed position → position ≡ (contents new.engine).current.position)
-  turn-committed old new before after room remote (Ok came) turned = λ position is. committed-turn old new before after room remote came position turned is
-  turn-committed old new before after room remote (Err refusal) turned = tt
+  turn-committed p new (Ok came) at = λ position is. sym (subst (λ (d : Done). (contents new.engine).current.position ≡ position_after d p) is at)
+  turn-committed p new (Err refusal) at = tt
+
+  -- and where memory was refused the engine is as it was
+  engine-ready : (old new : Committer E) (before after : Waiting Work) (room remote : ℕ)
+      → TurnsReady device contents is_faulted LocalTakes old before room remote (Err Memory) new after → new.engine ≡ old.engine
+  engine-ready old new before after room remote turned =
+      elim turned.came [
+        | inl took ↦ absurd (elim took.3.causes [ inl e ↦ cc | inr e ↦ cc ])
+        | inr (inl frees) ↦ frees.5.memory refl
+        | inr (inr (inl clears)) ↦ clears.3.memory refl
+        | inr (inr (inr (inl idle))) ↦ absurd (ok_not_err done.Idle (sym idle.1.answer))
+        | inr (inr (inr (inr refuses))) ↦ refuses.2.engine
+      ]
+
+  pub turn-stays : (old new : Committer E) (before after : Waiting Work) (room remote : ℕ) (result : Result Done Refusal) → Turned old new before after room remote result
+      → IsErrOf result Memory → (contents new.engine).current.position ≡ (contents old.engine).current.position
+  turn-stays old new before after room remote result turned refused =
+      let is : result ≡ Err Memory = refused in
+      let t : Turned old new before after room remote (Err Memory) = subst (λ (r : Result Done Refusal). Turned old new before after room remote r) is turned in
+      elim old.stage as (λ st. old.stage ≡ st → (contents new.engine).current.position ≡ (contents old.engine).current.position) [
+        | stage.Ready ↦ λ at. ap (λ (e : E). (contents e).current.position) (engine-ready old new before after room remote (t.ready at))
+        | stage.Durable group ↦ λ at. absurd (ok_not_err done.Raised (sym (t.durable group at).0))
+        | stage.Shown group ↦ λ at. absurd (elim (t.shown group at).1 [ inl handed ↦ ok_not_err done.Handed (sym handed.0) | inr idle ↦ ok_not_err done.Idle (sym idle.0) ])
+      ] refl

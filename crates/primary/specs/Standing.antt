@@ -1,5 +1,5 @@
 -- What stands of a primary between its steps.
-use Rattle.std.specs.Prelude.{List, [], ◌∷◌}
+use Rattle.std.specs.Prelude.{ℕ, List, [], ◌∷◌}
 use Rattle.pmem.specs.Device.{State}
 use Rattle.model.specs.declared.work.FreeList.{FreeList}
 use Rattle.model.specs.declared.work.Work.{Work}
@@ -25,6 +25,11 @@ abbrev pub notices_of : Done → List Freed
 notices_of (done.Freed places) = places ∷ []
 notices_of (done.Cleared places) = places ∷ []
 notices_of _ = []
+
+-- the position of the engine after such a turn, of which only a commit moves it
+abbrev pub position_after : Done → ℕ → ℕ
+position_after (done.Committed position) before = position
+position_after _ before = before
 
 -- by what is known of an engine
 module _ {E : Type 0} (device : E → State) (contents : E → Contents) where

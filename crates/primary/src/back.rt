@@ -1,10 +1,10 @@
 //! What of a primary commits.
-ghost use Rattle.std.specs.Prelude.{◌≡◌, ◌↔◌, false, ℕ, [], IfOk, IsErrOf};
+ghost use Rattle.std.specs.Prelude.{◌≡◌, ◌↔◌, ◌≤◌, false, ℕ, [], IfOk, IsErrOf};
 ghost use Rattle.model.specs.declared.group.Group.{Group};
 ghost use Rattle.redis_core.specs.Sequencing.{Sequencing};
 ghost use Rattle.group_commit.specs.declared.stage.Done.TheVariants as done;
 ghost use Rattle.primary.specs.Settled.{HasNothingInHand};
-ghost use Rattle.primary.specs.Standing.{BackStands, notices_of};
+ghost use Rattle.primary.specs.Standing.{BackStands, notices_of, position_after};
 
 use group_commit::{Committer, Done};
 use kv_types::Refusal;
@@ -45,7 +45,7 @@ impl<E: Durable> Back<E> {
     }
 
     /// Takes the step of the committer that is due, as `Committer::turn` does. Whatever sequencer is ahead of this before is so after it, once it is told
-    /// of what the step freed.
+    /// of what the step freed. The engine's position moves by a commit alone, and never falls.
     ///
     /// # Errors
     ///
@@ -61,6 +61,10 @@ impl<E: Durable> Back<E> {
         ensures told { IfOk result (λ came. (s : Sequencing) → BackStands E.device E.contents self.old s []
             → BackStands E.device E.contents self.new s (notices_of came)) }
         ensures again { IsErrOf result Refusal.Memory → (s : Sequencing) → BackStands E.device E.contents self.old s [] → BackStands E.device E.contents self.new s [] }
+        ensures position { IfOk result (λ came. (E.contents self.new.committer.engine).current.position
+            ≡ position_after came (E.contents self.old.committer.engine).current.position) }
+        ensures rises { IfOk result (λ _. (E.contents self.old.committer.engine).current.position ≤ (E.contents self.new.committer.engine).current.position) }
+        ensures stays { IsErrOf result Refusal.Memory → (E.contents self.new.committer.engine).current.position ≡ (E.contents self.old.committer.engine).current.position }
         // what it says to be durable is
         ensures committed { IfOk result (λ came. (position : ℕ) → came ≡ done.Committed position → position ≡ (E.contents self.new.committer.engine).current.position) }
         ensures same { O.is_same link.old link.new }

@@ -61,6 +61,7 @@ pub fn close<E: Durable, K: Keyspace>(
 ) -> Result<bool, Refusal>
     ensures cause { IfErr result (λ refusal. refusal ≡ Refusal.Memory) }
     ensures stands { BackStands E.device E.contents back.old front.old.sequencer [] → BackStands E.device E.contents back.new front.new.sequencer [] }
+    ensures committer { back.new.committer ≡ back.old.committer }
 {
     close_next(alloc, &mut front.sequencer, &mut back.work)
 }

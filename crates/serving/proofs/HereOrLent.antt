@@ -15,5 +15,5 @@ module _ {E : Type 0} (device : E → State) (contents : E → Contents) where
 
   -- wherever it is, the sequencer stays ahead of it
   pub here_or_lent_still : (home lent : Option (Errand E)) (old new : Sequencing) → KeepsLead old new → IsHereOrLent device contents home lent old → IsHereOrLent device contents home lent new
-  here_or_lent_still (Some errand) lent old new keeps is = (is.0, still_led errand.back old new keeps is.1)
+  here_or_lent_still (Some errand) lent old new keeps is = (is.0, still_led errand.back old new keeps is.1, is.2)
   here_or_lent_still None lent old new keeps is = (is.0, is.1, still_led is.0.back old new keeps is.2)

@@ -1,7 +1,8 @@
 //! The committer's steps.
-ghost use Rattle.std.specs.Prelude.{◌≡◌, [], true, IfOk};
+ghost use Rattle.std.specs.Prelude.{◌≡◌, ◌≤◌, [], true, IfOk, OnOk};
 ghost use Rattle.redis_core.specs.Sequencing.{Sequencing};
-ghost use Rattle.primary.specs.Standing.{BackStands, notices_of};
+ghost use Rattle.primary.specs.Standing.{BackStands, notices_of, position_after};
+ghost use Rattle.serving.specs.Errand.{IsShown};
 
 use crate::local_mark::LocalMark;
 use group_commit::Done;
@@ -23,7 +24,7 @@ pub(crate) struct Stepped {
     pub(crate) any: bool,
 }
 
-/// Takes steps until nothing is to be done, some are taken, or one gives something back.
+/// Takes steps until nothing is to be done, some are taken, or one gives something back. The local mark is where the engine is, before and after.
 ///
 /// # Errors
 ///
@@ -36,9 +37,11 @@ pub(crate) fn take_steps<E: Durable>(
     link: &Bell,
     remote: u64,
 ) -> (LocalMark, Result<Stepped, Refusal>)
-    requires { (s : Sequencing) × BackStands E.device E.contents back.old s [] }
-    ensures { IfOk result.1 (λ stepped. (s : Sequencing) → BackStands E.device E.contents back.old s []
+    requires stands { (s : Sequencing) × BackStands E.device E.contents back.old s [] }
+    requires shown { IsShown E.device E.contents back.old mark }
+    ensures stands { IfOk result.1 (λ stepped. (s : Sequencing) → BackStands E.device E.contents back.old s []
         → BackStands E.device E.contents back.new s (notices_of stepped.last)) }
+    ensures shown { OnOk result.1 (IsShown E.device E.contents back.new result.0) }
 {
     let mut mark = mark;
     let mut any = false;
@@ -69,9 +72,11 @@ fn take_step<E: Durable>(
     link: &Bell,
     remote: u64,
 ) -> (LocalMark, Result<Done, Refusal>)
-    requires { (s : Sequencing) × BackStands E.device E.contents back.old s [] }
-    ensures { IfOk result.1 (λ came. (s : Sequencing) → BackStands E.device E.contents back.old s []
+    requires stands { (s : Sequencing) × BackStands E.device E.contents back.old s [] }
+    requires shown { IsShown E.device E.contents back.old mark }
+    ensures stands { IfOk result.1 (λ came. (s : Sequencing) → BackStands E.device E.contents back.old s []
         → BackStands E.device E.contents back.new s (notices_of came)) }
+    ensures shown { OnOk result.1 (IsShown E.device E.contents back.new result.0) }
 {
     match back.commit(alloc, groups, remote) {
         Ok(done) => {
@@ -83,8 +88,11 @@ fn take_step<E: Durable>(
     }
 }
 
-// Raises the local mark to what a commit made durable.
-fn show(mark: LocalMark, done: &Done) -> LocalMark {
+/// Raises the local mark to what a commit made durable.
+fn show(mark: LocalMark, done: &Done) -> LocalMark
+    requires { mark.seat.knows.local ≤ position_after done.now mark.seat.knows.local }
+    ensures { result.seat.knows.local ≡ position_after done.now mark.seat.knows.local }
+{
     match done {
         Done::Committed(committed) => mark.raise(committed),
         _ => mark,

@@ -1,7 +1,7 @@
 //! What the committer's thread is lent, and what it does with it.
 ghost use Rattle.std.specs.Prelude.{◌≡◌, [], None, OnOk};
 ghost use Rattle.primary.specs.Standing.{BackStands};
-ghost use Rattle.serving.specs.Errand.{DoesSteps, IsLed, StandsAfter};
+ghost use Rattle.serving.specs.Errand.{DoesSteps, IsLed, IsShown, IsShownAfter, StandsAfter};
 
 use crate::committing::{Stepped, take_steps};
 use crate::local_mark::LocalMark;
@@ -93,8 +93,10 @@ pub(crate) fn settle<E: Durable, K: Keyspace>(
     front: &mut Front<K>,
     errand: &Errand<E>,
 ) -> Result<bool, Refusal>
-    requires { StandsAfter E.device E.contents errand.now front.old.sequencer errand.now.came }
-    ensures { OnOk result (BackStands E.device E.contents errand.now.back front.new.sequencer []) }
+    requires stands { StandsAfter E.device E.contents errand.now front.old.sequencer errand.now.came }
+    requires shown { IsShownAfter E.device E.contents errand.now errand.now.came }
+    ensures stands { OnOk result (BackStands E.device E.contents errand.now.back front.new.sequencer []) }
+    ensures shown { OnOk result (IsShown E.device E.contents errand.now.back errand.now.mark) }
 {
     match &errand.came {
         Ok(stepped) => {

@@ -1,7 +1,7 @@
 //! The node's thread: it serves the connections, and has committed what they changed and freed what has ended.
 ghost use Rattle.std.specs.Prelude.{◌≡◌, [], None, OnOk};
 ghost use Rattle.primary.specs.Standing.{BackStands, Stands};
-ghost use Rattle.serving.specs.Errand.{IsHereOrLent};
+ghost use Rattle.serving.specs.Errand.{IsHereOrLent, IsShown};
 
 use crate::committing::Stepped;
 use crate::errand::{Committing, Errand, run_errand, settle};
@@ -55,6 +55,7 @@ pub(crate) fn serve<R: Wait + Clock, E: Durable + Drop, K: Keyspace + Drop>(
     lent: Lent<E>,
 ) -> Refusal
     requires stands { Stands E.device E.contents primary }
+    requires shown { IsShown E.device E.contents primary.back node.mark }
     requires none { lent.lender ≡ None }
 {
     let Primary { mut front, back } = primary;
@@ -104,7 +105,7 @@ pub(crate) fn serve<R: Wait + Clock, E: Durable + Drop, K: Keyspace + Drop>(
 
 /// An errand of which no step was taken yet.
 fn new_errand<E>(back: Back<E>, mark: LocalMark, groups: RingOutlet<Group>, link: Bell) -> Errand<E>
-    ensures { result.back ≡ back }
+    ensures { (result.back ≡ back) × (result.mark ≡ mark) }
 {
     let last = Done::Idle;
     Errand {
@@ -196,7 +197,8 @@ fn close_due<E: Durable, K: Keyspace>(
     remote: u64,
 ) -> bool
     requires { BackStands E.device E.contents back.old front.old.sequencer [] }
-    ensures { BackStands E.device E.contents back.new front.new.sequencer [] }
+    ensures stands { BackStands E.device E.contents back.new front.new.sequencer [] }
+    ensures committer { back.new.committer ≡ back.old.committer }
 {
     let position = front.position();
     if !gathering.is_due(position, remote) {

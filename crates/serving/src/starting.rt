@@ -1,7 +1,8 @@
 //! A primary's threads are made, and started.
-ghost use Rattle.std.specs.Prelude.{◌≡◌, None, IfSome};
+ghost use Rattle.std.specs.Prelude.{◌≡◌, None, IfOk, IfSome};
 ghost use Rattle.std.specs.Arc.{arc_value};
 ghost use Rattle.primary.specs.Standing.{Stands};
+ghost use Rattle.serving.specs.Errand.{IsShown};
 
 use crate::accepting::{Acceptor, Door};
 use crate::errand::{Committing, Errand, Task, do_each};
@@ -140,7 +141,8 @@ fn start<
     primary: Primary<E, K>,
     log: Log<W>,
 ) -> Refusal
-    requires { Stands E.device E.contents primary }
+    requires stands { Stands E.device E.contents primary }
+    requires shown { IsShown E.device E.contents primary.back threading.node.mark }
 {
     let Threading {
         node,
@@ -227,7 +229,9 @@ fn new_threading(
     opening: Opening,
     epoch: u64,
     address: String,
-) -> Result<Threading, Refusal> {
+) -> Result<Threading, Refusal>
+    ensures { IfOk result (λ made. made.node.mark.seat.knows.local ≡ position) }
+{
     let Seats {
         marks,
         root,
@@ -326,7 +330,9 @@ fn new_house(
 }
 
 /// Marks that begin at this position, with a seat for each thread.
-fn new_seats(alloc: Global, position: u64) -> Result<Seats, Refusal> {
+fn new_seats(alloc: Global, position: u64) -> Result<Seats, Refusal>
+    ensures { IfOk result (λ seats. seats.local.seat.knows.local ≡ position) }
+{
     let (marks, root) = Marks::new(alloc, position)?;
     let mut root = root;
     let local = marks.split_seat::<Committer>(&mut root);
