@@ -11,7 +11,7 @@ use Rattle.pmem.specs.Crash.{image_of}
 use Rattle.model.specs.declared.group.Group.{Group}
 use Rattle.model.specs.declared.group.Part.{Part}
 use Rattle.model.specs.declared.group.Put.{Put}
-use Rattle.model.specs.Image.{Image, Version, counts, entry_word, entries_of_lines, first_extent_line, version_in}
+use Rattle.model.specs.Image.{Image, Version, counts, entry_word, entries_of_lines, version_in}
 use Rattle.model.specs.Group.{AreAllApart, AreEnded, Contents, IsConsistent, IsGroup, IsPlaced, IsUnused, Versions, after_free, after_group, extents_of, is_listed, is_put_at, parts_versions, puts_of_group, without}
 use Rattle.model.proofs.GroupsLemmas.{IsConsistent-after_group, parts_versions-none}
 use Rattle.mv_keyspace.specs.Table.{Cell, IsCellOf, IsTable, Table}

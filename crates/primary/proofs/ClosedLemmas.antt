@@ -15,7 +15,7 @@ use Rattle.redis_core.specs.Sequencing.{Sequencing}
 use Rattle.redis_core.specs.Turn.{OnServed, OnUnserved}
 use Rattle.pipes.specs.Waiting.{Waiting}
 use Rattle.primary.specs.Closing.{ClosesOne, MayClose}
-use Rattle.primary.specs.Leading.{AreLaid, KeepsLead, Leads}
+use Rattle.primary.specs.Leading.{AreLaid, KeepsLead}
 use Rattle.primary.specs.Resuming.{IsOver}
 use Rattle.primary.specs.Standing.{StandsOver}
 use Rattle.primary.proofs.LeadsLemmas.{Leads-group, Leads-list}

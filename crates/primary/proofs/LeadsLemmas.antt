@@ -1,5 +1,5 @@
 -- What is to be committed leads to the sequencer, where a group or a free list is closed, while calls are made, and once a group has committed.
-use Rattle.std.proofs.Common.{◌≡◌, ℕ, false, List, [], ◌∷◌, ◌++◌, map, IsTrue, nat_eq, refl, sym, ap, ap₂, subst, ◌∙◌, append-nil, append_assoc, inl, inr, true≢false}
+use Rattle.std.proofs.Common.{◌≡◌, ℕ, List, [], ◌∷◌, ◌++◌, map, nat_eq, refl, sym, ap, ap₂, subst, ◌∙◌, append-nil, append_assoc, inl, inr, true≢false}
 use Rattle.std.proofs.lemmas.Bool.{or_cases}
 use Rattle.std.proofs.lemmas.Grind.{flat_map-append}
 use Rattle.std.proofs.lemmas.List.Folds.{list_any-append}
@@ -9,15 +9,13 @@ use Rattle.model.specs.declared.group.Group.{Group}
 use Rattle.model.specs.declared.work.FreeList.{FreeList}
 use Rattle.model.specs.declared.work.Work.{Work}
 use Rattle.model.specs.declared.work.Work.TheVariants as work
-use Rattle.model.specs.Group.{AreEnded, Contents, IsConsistent, IsGroup, after_group, is_listed}
+use Rattle.model.specs.Group.{AreEnded, Contents, IsConsistent, after_group, is_listed}
 use Rattle.wbl_engine.specs.declared.freeing.Freed.{Freed}
-use Rattle.wbl_engine.specs.Contents.{Same}
 use Rattle.wbl_engine.proofs.WithoutLemmas.{AllEnded}
 use Rattle.redis_core.specs.Sequencing.{Expects, IsAheadOf, Sequencing}
 use Rattle.group_commit.specs.Group.{AreWork, after_groups, after_work, groups_of, lists_before, lists_of}
 use Rattle.group_commit.specs.Working.{GivesWork, entries_of_lists}
 use Rattle.group_commit.proofs.FreedLemmas.{AllEnded-listed, AreEnded-after_group, AreEnded-first, AreEnded-moved, AreEnded-rest, IsConsistent-after_groups}
-use Rattle.group_commit.proofs.GroupsLemmas.{Same-is}
 use Rattle.group_commit.proofs.WorkLemmas.{AreGroups-of-work, AreWork-behind, AreWork-push-group, AreWork-push-list, GivesWork-first, after_work-push-group, after_work-push-list, groups_of-append, groups_of-lists, lists_before-lists, lists_of-append, lists_of-lists}
 use Rattle.pipes.specs.Waiting.{Waiting, LocalTakes}
 use Rattle.primary.specs.Closing.{ClosesGroup, ClosesList}

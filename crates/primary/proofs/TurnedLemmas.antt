@@ -1,5 +1,5 @@
 -- What a turn of the committer leaves of a primary.
-use Rattle.std.proofs.Common.{◌≡◌, ◌⊎◌, ℕ, ◌<◌, ◌≤◌, Bool, List, [], ◌∷◌, ◌++◌, map, Option, Some, None, Result, Ok, Err, IfOk, IsErrOf, refl, sym, ap, subst, ◌∙◌, inl, inr, append-nil, append_assoc, arith, le_refl}
+use Rattle.std.proofs.Common.{◌≡◌, ◌⊎◌, ℕ, ◌≤◌, Bool, List, [], ◌∷◌, ◌++◌, map, Some, None, Result, Ok, Err, IfOk, IsErrOf, refl, sym, ap, subst, ◌∙◌, inl, inr, append-nil, append_assoc, arith, le_refl}
 use Rattle.pmem.specs.Device.{State}
 use Rattle.kv_types.specs.declared.place.EntryNo.{EntryNo}
 use Rattle.kv_types.specs.declared.refusal.Refusal.{Refusal}
@@ -10,11 +10,9 @@ use Rattle.model.specs.declared.record.Record.{Record}
 use Rattle.model.specs.declared.work.FreeList.{FreeList}
 use Rattle.model.specs.declared.work.Work.{Work}
 use Rattle.model.specs.declared.work.Work.TheVariants as work
-use Rattle.model.specs.Group.{AreEnded, AreParts, Contents, IsConsistent, IsGroup, Versions, after_free, after_group, extents_of, is_listed, last_position, part_versions}
-use Rattle.model.specs.Image.{Version}
+use Rattle.model.specs.Group.{AreEnded, AreParts, Contents, IsConsistent, IsGroup, Versions, after_free, after_group, is_listed, last_position, part_versions}
 use Rattle.model.proofs.GroupsLemmas.{IsConsistent-after_group}
 use Rattle.wbl_engine.specs.declared.freeing.Freed.{Freed as Places}
-use Rattle.wbl_engine.specs.Contents.{IsDurable, Same}
 use Rattle.wbl_engine.specs.Freeing.{Clears}
 use Rattle.wbl_engine.proofs.WithoutLemmas.{consistent_cleared, consistent_without, was_there}
 use Rattle.redis_core.specs.Sequencing.{Expects, IsAheadOf, Sequencing}
@@ -24,9 +22,7 @@ use Rattle.group_commit.specs.Working.{ClearsGap, FreesFirst, IsDrained, StaysId
 use Rattle.group_commit.specs.declared.committer.Committer.{Committer}
 use Rattle.group_commit.specs.declared.stage.Done.{Done}
 use Rattle.group_commit.specs.declared.stage.Done.TheVariants as done
-use Rattle.group_commit.specs.declared.stage.Stage.{Stage}
 use Rattle.group_commit.specs.declared.stage.Stage.TheVariants as stage
-use Rattle.group_commit.proofs.FreedLemmas.{AreEnded-first}
 use Rattle.group_commit.proofs.GroupsLemmas.{Same-is}
 use Rattle.group_commit.proofs.WorkLemmas.{AreWork-behind, EndsLists-none, TakesLists-items, groups_of-lists, lists_of-lists}
 use Rattle.pipes.specs.Waiting.{Waiting, LocalTakes}
@@ -100,7 +96,6 @@ ok_is a b e = cc
 
 ok_not_err : (a : Done) {refusal : Refusal} → the_ok a ≡ Err refusal → ⊥
 ok_not_err a e = cc
-
 
 module _ {E : Type 0} (device : E → State) (contents : E → Contents) (is_faulted : E → Bool) where
   abbrev Over : Committer E → Waiting Work → Sequencing → List Places → Type 0
