@@ -221,8 +221,9 @@ class Orders(Runs):
             order.finish()
         options = ["--map", "--images", "--lines", f"{lines},{lines}"]
         trace = simulate(order.schedule.events, *options)
-        # the two bodies of the keyspace give the same bytes, on the images too
-        self.assertEqual(simulate(order.schedule.events, "--list", *options).lines, trace.lines)
+        # the two bodies of the keyspace give the same bytes, on the images too, and so does one call for all events
+        for other in ("--list", "--whole"):
+            self.assertEqual(simulate(order.schedule.events, other, *options).lines, trace.lines)
         self.assertEqual(trace.ended, f"after all {len(order.schedule.events)} events")
         positions = self.check_calls(trace, lines)
         self.check_front(trace, order, lines)

@@ -13,7 +13,7 @@ FAILED, MISUSED = 1, 2
 MOST_EVENTS = 16_777_216
 ABOVE_U64 = 2**64
 
-USAGE = b"usage: wbl-sim [--lines N,N] [--list] [--map] [--images] < EVENTS\n"
+USAGE = b"usage: wbl-sim [--lines N,N] [--list | --whole] [--map] [--images] < EVENTS\n"
 
 FIRST_SET = [
     "enter", "feed 0 SET a 1", "offer 0", "turn 0", "close-group", "commit", "raise-local", "hand", "send", "deliver 0",
@@ -72,6 +72,7 @@ TEXTS_OF_BAD_LINES = {
 }
 
 BAD_COMMAND_LINES = [
+    ["--list", "--whole"],
     ["x"], [""], ["--help"], ["--lines"], ["--lines", "4096"], ["--lines", "4096,"], ["--lines", "4096,4096,4096"],
     ["--lines", "4096 4096"], ["--lines", "x,4096"], ["--lines", "04096,4096"], ["--lines", f"{ABOVE_U64},4096"],
     ["--lines", "-1,4096"], ["--map", "x"], ["--Map"], ["--images=1"], [b"\xff"], ["--map", ""], ["--plain"], ["-"], ["--"],

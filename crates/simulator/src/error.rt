@@ -5,7 +5,7 @@ use std::error::Error;
 use std::io::ErrorKind;
 use std::{fmt, io};
 
-const USAGE: &str = "usage: wbl-sim [--lines N,N] [--list] [--map] [--images] < EVENTS";
+const USAGE: &str = "usage: wbl-sim [--lines N,N] [--list | --whole] [--map] [--images] < EVENTS";
 
 /// The exit status if the command line or a line of the events is not understood.
 const MISUSED: u8 = 2;

@@ -17,6 +17,8 @@ pub struct Options {
     pub standby_lines: u64,
     /// Whether both nodes keep their records in a sorted list, and not in an ordered map.
     pub list: bool,
+    /// Whether all events are played by one call, and printed after it. The records are kept in an ordered map then.
+    pub whole: bool,
     /// Whether the records of each image are printed.
     pub map: bool,
     /// Whether the words of each image are printed.
@@ -30,6 +32,7 @@ pub fn read_options(rt: &(impl Env + Alloc)) -> Result<Options, SimulatorError> 
         primary_lines: USUAL_LINES,
         standby_lines: USUAL_LINES,
         list: false,
+        whole: false,
         map: false,
         images: false,
     };
@@ -44,7 +47,7 @@ pub fn read_options(rt: &(impl Env + Alloc)) -> Result<Options, SimulatorError> 
             take_switch(&mut options, word.as_str())?;
         }
     }
-    if awaits_lines {
+    if awaits_lines || (options.list && options.whole) {
         return Err(SimulatorError::Usage);
     }
     Ok(options)
@@ -62,6 +65,7 @@ fn unread(error: io::Error) -> SimulatorError {
 fn take_switch(options: &mut Options, word: &str) -> Result<(), SimulatorError> {
     match word {
         "--list" => options.list = true,
+        "--whole" => options.whole = true,
         "--map" => options.map = true,
         "--images" => options.images = true,
         _ => return Err(SimulatorError::Usage),

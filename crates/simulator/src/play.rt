@@ -1,5 +1,5 @@
 //! Playing a script over two simulated devices, one event at a time.
-ghost use Rattle.std.specs.Prelude.{◌≡◌, ◌%◌, ◌<◌, length, map, IfOk, slice_index};
+ghost use Rattle.std.specs.Prelude.{◌≡◌, ◌%◌, ◌<◌, ◌≤◌, length, map, vec_len, IfOk, slice_index};
 ghost use Rattle.std.specs.List.{range_with_len};
 ghost use Rattle.world.specs.Pair.{HasWorld};
 
@@ -8,6 +8,7 @@ use crate::options::Options;
 use crate::report::write_event;
 use crate::schedule::Schedule;
 use crate::script::{Failure, Script};
+use connections::Connection;
 use kv_types::Refusal;
 use machine::{Event, Node};
 use mv_keyspace::{Keyspace, ListKeyspace, MvKeyspace};
@@ -16,7 +17,7 @@ use std::alloc::{AllocError, Global};
 use std::hash::RandomState;
 use std::io::Write;
 use wbl_engine::WblEngine;
-use world::{EarlyEnd, Pair, Parts, Stepper};
+use world::{EarlyEnd, Pair, Parts, Stepper, Trace, run};
 
 /// What was played.
 #[derive(Drop)]
@@ -39,7 +40,9 @@ pub fn play<W: Write>(
 ) -> Result<Played, SimulatorError> {
     let (primary, standby) = new_devices(alloc, options, script.failures.as_slice())?;
     let schedule = &script.schedule;
-    let mut played = if options.list {
+    let mut played = if options.whole {
+        play_whole(alloc, out, primary, standby, schedule, hash_builder)?
+    } else if options.list {
         play_over::<W, ListKeyspace>(alloc, out, primary, standby, schedule, hash_builder)?
     } else {
         play_over::<W, MvKeyspace>(alloc, out, primary, standby, schedule, hash_builder)?
@@ -96,6 +99,62 @@ fn play_over<W: Write, K: Keyspace + Drop>(
         }
         Err((refusal, primary, standby)) => Ok(unplayed(alloc, refusal, primary, standby)),
     }
+}
+
+/// Plays all events by one call, and prints those that were reached after it.
+fn play_whole<W: Write>(
+    alloc: Global,
+    out: &mut W,
+    primary: SimPmem,
+    standby: SimPmem,
+    schedule: &Schedule,
+    hash_builder: RandomState,
+) -> Result<Played, SimulatorError> {
+    let devices = vec![in alloc; primary, standby]?;
+    let Trace {
+        calls,
+        released,
+        frames,
+        acknowledgements,
+        done,
+        ended,
+        devices,
+    } = run(alloc, devices, schedule.events(), hash_builder);
+    for (number, (did, line)) in done.iter().zip(schedule.lines()).enumerate() {
+        write_event(out, number, *line, *did)?;
+    }
+    let connections = all_over(alloc, released)?;
+    let (primary, standby) = first_two(devices);
+    Ok(Played {
+        ended,
+        parts: Parts {
+            calls,
+            connections,
+            frames,
+            acknowledgements,
+            primary,
+            standby,
+        },
+    })
+}
+
+/// Connections that are over, to which these bytes were released.
+fn all_over(alloc: Global, released: Vec<Vec<u8>>) -> Result<Vec<Connection>, AllocError> {
+    let mut connections = Vec::with_capacity(alloc, released.len())?;
+    for bytes in released {
+        connections.push(Connection::Over(bytes))?;
+    }
+    Ok(connections)
+}
+
+/// The first two devices.
+fn first_two(devices: Vec<SimPmem>) -> (SimPmem, SimPmem)
+    requires { 2 ≤ vec_len devices }
+{
+    let mut devices = devices;
+    let primary = devices.remove(0);
+    let standby = devices.remove(0);
+    (primary, standby)
 }
 
 /// The outcome where the devices could not be formatted.
