@@ -1,4 +1,4 @@
-//! The first commit over a new image, whose position the local mark can be raised to.
+//! The first commit over a new image: where marks begin, and the position that the local one can be raised to.
 ghost use Rattle.std.specs.Prelude.{◌≡◌, IfOk};
 ghost use Rattle.bench.specs.First.{IsFirst};
 
@@ -22,18 +22,19 @@ fn first_group(alloc: Global) -> Result<Group, AllocError>
     })
 }
 
-/// Commits the first group of a list over a new image of a simulated device.
-pub fn first_commit(alloc: Global) -> Result<Committed, Refusal>
-    ensures { IfOk result (λ committed. committed ≡ 1) }
+/// Commits the first group of a list over a new image of a simulated device. Answers where the new image is durable, and where it is then.
+pub fn first_commit(alloc: Global) -> Result<(Committed, Committed), Refusal>
+    ensures { IfOk result (λ made. (made.0 ≡ 0) × (made.1 ≡ 1)) }
 {
     let group = first_group(alloc)?;
     let device = SimPmem::new(alloc, MIN_LINES)?;
     match WblEngine::format(device, Role::Primary) {
         Ok(engine) => {
             let mut engine = engine;
+            let formatted = engine.committed();
             let committed = engine.commit(&group);
             let _ = engine.into_device();
-            committed
+            Ok((formatted, committed?))
         }
         Err((refusal, _)) => Err(refusal),
     }

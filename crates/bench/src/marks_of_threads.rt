@@ -5,8 +5,10 @@ ghost use Rattle.marks.specs.View.{joined, opening};
 use crate::first_commit::first_commit;
 use crate::rate::a_second;
 use crate::refused::print_refusal;
+use arrayvec::ArrayVec;
+use frames::Ack;
 use marks::{Link, MarkSeat, Marks, Reader};
-use standby::Ack;
+use model::{FIRST_EPOCH, Record, Role};
 use std::alloc::Global;
 use std::io;
 use std::rt::Clock;
@@ -34,6 +36,22 @@ struct Found {
     remote: u64,
 }
 
+/// What a standby acknowledges whose record is at this position.
+fn ack_at(position: u64) -> Ack
+    ensures { result.position ≡ position }
+{
+    let current = Record {
+        number: 1,
+        position,
+        cp: 0,
+        cd: 1,
+        epoch: FIRST_EPOCH,
+        role: Role::Standby,
+        gaps: ArrayVec::new(),
+    };
+    Ack::of_record(&current)
+}
+
 /// Raises the remote mark to each position up to `count`.
 fn raise_all(marks: &Marks, seat: MarkSeat, count: u64) -> MarkSeat
     requires marks { seat.marks ≡ marks.now }
@@ -44,11 +62,7 @@ fn raise_all(marks: &Marks, seat: MarkSeat, count: u64) -> MarkSeat
 {
     let mut seat = seat;
     for position in 0..count {
-        let ack = Ack {
-            epoch: 1,
-            position: position + 1,
-        };
-        seat = marks.raise_remote(seat, ack);
+        seat = marks.raise_remote(seat, ack_at(position + 1));
     }
     seat
 }
@@ -270,11 +284,11 @@ pub fn time_marks<R: Threads + Wait + Sync + Print + Clock>(
     count: u64,
     timed: bool,
 ) -> io::Result<()> {
-    let committed = match first_commit(alloc) {
-        Ok(committed) => committed,
+    let (formatted, committed) = match first_commit(alloc) {
+        Ok(made) => made,
         Err(refusal) => return print_refusal(rt, "marks", refusal),
     };
-    let Ok((marks, seat)) = Marks::new(alloc, 0) else {
+    let Ok((marks, seat)) = Marks::new(alloc, &formatted) else {
         return Err(io::ErrorKind::OutOfMemory.into());
     };
     let start = Instant::now(rt)?;

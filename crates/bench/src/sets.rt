@@ -2,8 +2,8 @@
 ghost use Rattle.std.specs.Prelude.{◌≡◌, ◌+◌, ◌-◌, ◌^◌, min, length, IfOk};
 
 use cmd_core::stored;
+use frames::Frame;
 use kv_types::{Change, Key, RecordId, Value};
-use standby::Frame;
 use std::alloc::{AllocError, Global};
 
 /// The bytes of each value.

@@ -5,13 +5,13 @@ use crate::rate::hundredths_each;
 use crate::refused::print_refusal;
 use crate::sets::frame_of;
 use bytes::BytesMut;
+use frames::Frame;
 use kv_types::Refusal;
-use standby::Frame;
 use std::alloc::{AllocError, Global};
 use std::io;
 use std::rt::Clock;
 use std::time::Instant;
-use stream_codec::{Decoder, Message, write_frame};
+use stream_codec::{Decoder, Message, write_group};
 
 /// How many bytes each piece has.
 const PIECES: [usize; 3] = [1, 7, 4_096];
@@ -21,7 +21,7 @@ fn bytes_of_frames(alloc: Global, count: u64) -> Result<BytesMut, AllocError> {
     let mut text = BytesMut::new(alloc);
     for number in 0..count {
         let frame = frame_of(alloc, 1, number, number, 1)?;
-        write_frame(&Message::Group(frame), &mut text)?;
+        write_group(&frame, &mut text)?;
     }
     Ok(text)
 }

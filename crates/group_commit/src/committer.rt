@@ -25,7 +25,7 @@ use pipes::{Inlet, Outlet, PIPE_ITEMS};
 use pmem::Pmem;
 use std::alloc::Global;
 use std::collections::VecDeque;
-use wbl_engine::{Durable, Restarting, Versions};
+use wbl_engine::{Committed, Durable, Restarting, Versions};
 
 /// Commits groups, one at a time: each is durable before the local mark tells of it, and told of before it is handed on. Beside that it frees what
 /// has ended, once the standby has passed the ends, and clears gaps.
@@ -68,6 +68,14 @@ impl<E: Durable> Committer<E> {
         ensures { result ≡ (E.contents self.now.engine).current.position }
     {
         self.engine.position()
+    }
+
+    /// The position up to which everything is durable, as the engine established it.
+    pub fn committed(&self) -> Committed
+        requires { IsDurable (E.device self.now.engine) (E.contents self.now.engine) }
+        ensures { result ≡ (E.contents self.now.engine).current.position }
+    {
+        self.engine.committed()
     }
 
     /// How many lines the engine's image has.

@@ -2,8 +2,8 @@
 use Rattle.std.proofs.Common.{◌≡◌, ◌≢◌, ℕ, ◌<◌, ◌⊎◌, inl, inr, List, [], ◌∷◌, ◌++◌, Result, Ok, Err, IfErr, IsErrOf, OnOk, refl, sym, ap, subst, ◌∙◌, take, length, get_or, ◌+◌, append-nil, append_assoc, Option, Some, None}
 use Rattle.kv_types.specs.declared.refusal.Refusal.{Refusal}
 use Rattle.kv_types.specs.declared.refusal.Refusal.TheVariants.{Fault, Memory}
-use Rattle.standby.specs.declared.frame.Frame.{Frame}
-use Rattle.standby.specs.declared.frame.Ack.{Ack}
+use Rattle.frames.specs.declared.frame.Frame.{Frame}
+use Rattle.frames.specs.declared.ack.Ack.{Ack}
 use Rattle.model.specs.declared.record.Record.{Record}
 use Rattle.mv_keyspace.specs.Table.{records}
 use Rattle.standby.specs.Following.{IsHeld, IsTakenNext, HasTaken}
@@ -41,8 +41,8 @@ taken-freed before frame middle after freed taken = record {
   epoch = ap (λ (r : Record). r.epoch) freed.current ∙ taken.epoch;
 }
 
-pub moved-from : {at position told : ℕ} → position ≡ at → told ≢ position → told ≢ at
-moved-from was moved is = moved (is ∙ sym was)
+pub moved-by : {at position now told : ℕ} → position ≡ at → now ≡ told → now ≢ position → told ≢ at
+moved-by was same moved is = moved (same ∙ is ∙ sym was)
 
 pub acknowledges-freed : (before : Held) (frame : Frame) (ack : Ack) (middle after : Held) → ack.position ≢ before.contents.current.position → Acknowledges before frame ack middle → IsFreed middle after
     → Acknowledges before frame ack after

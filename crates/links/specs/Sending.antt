@@ -1,6 +1,6 @@
 -- What is sent on a link.
 use Rattle.std.specs.Prelude.{ℕ, List, [], Option, Some, None}
-use Rattle.standby.specs.declared.frame.Frame.{Frame}
+use Rattle.frames.specs.declared.frame.Frame.{Frame}
 use Rattle.stream_codec.specs.Message.{sent_of_frame, sent_text}
 
 -- a frame as bytes

@@ -11,8 +11,8 @@ use Rattle.pmem.specs.Device.{State}
 use Rattle.model.specs.Group.{Contents}
 use Rattle.mv_keyspace.specs.Table.{Table}
 use Rattle.wbl_engine.specs.Contents.{IsDurable}
-use Rattle.standby.specs.declared.frame.Frame.{Frame}
-use Rattle.standby.specs.declared.frame.Ack.{Ack}
+use Rattle.frames.specs.declared.frame.Frame.{Frame}
+use Rattle.frames.specs.declared.ack.Ack.{Ack}
 use Rattle.standby.specs.Following.{Follows, IsHeld, IsTakenNext, HasTaken}
 use Rattle.stream_codec.specs.Message.{Sent, sent_of_frame, sent_of_ack, sent_text}
 use Rattle.links.specs.declared.link_end.LinkEnd.{LinkEnd}

@@ -5,21 +5,22 @@ ghost use Rattle.kv_types.specs.declared.refusal.Refusal.TheVariants.{Fault, Mem
 ghost use Rattle.stream_codec.specs.Message.{sent_of};
 ghost use Rattle.stream_codec.specs.Scanning.{sent_of_all};
 ghost use Rattle.stream_codec.specs.Stream.{fed};
-ghost use Rattle.standby.specs.declared.frame.Ack.{Ack as Told};
+ghost use Rattle.frames.specs.declared.ack.Ack.{Ack as Told};
 ghost use Rattle.stream_codec.specs.declared.message.Message.TheVariants.{Ack as AckMessage};
 ghost use Rattle.links.specs.Serving.{Stands, held, Acknowledges, Answers, HasRun, IsFreed, Says, Served, ack_text, refusal_of_ack};
 ghost use Rattle.links.specs.declared.link_end.LinkEnd.TheVariants.{Closed, Refused, Stops};
 
 use crate::link_end::{LinkEnd, ends_by, refusal_of_ack};
 use crate::link_reader::{LinkReader, accept};
+use frames::{Ack, Frame};
 use kv_types::Refusal;
 use mv_keyspace::Keyspace;
-use standby::{Ack, Frame, Standby};
+use standby::Standby;
 use std::alloc::{AllocError, Global};
 use std::io;
 use std::io::{Read, Write};
 use std::net::TcpListener;
-use stream_codec::{Decoder, Message, write_frame};
+use stream_codec::{Decoder, Message, write_ack};
 use wbl_engine::Durable;
 
 /// How many bytes are read at once.
@@ -250,7 +251,7 @@ fn answer_frame<E: Durable, K: Keyspace, O: Write>(
     let ack = take_frame(alloc, node, frame)?;
     put_ack(ack, out)?;
     send(to, out)?;
-    if ack.position == position {
+    if ack.position() == position {
         return Ok(());
     }
     free_ended(alloc, node)?;
@@ -305,6 +306,6 @@ fn put_ack(ack: Ack, out: &mut Vec<u8>) -> Result<(), LinkEnd>
     ensures refused { OnErr result (out.new.items ≡ out.old.items) }
     ensures cause { IfErr result (λ end. end ≡ Refused Memory) }
 {
-    write_frame(&Message::Ack(ack), out)?;
+    write_ack(ack, out)?;
     Ok(())
 }

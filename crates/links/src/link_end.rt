@@ -2,8 +2,8 @@
 ghost use Rattle.std.specs.Prelude.{◌≡◌};
 ghost use Rattle.links.specs.Serving.{ends_by, refusal_of_ack};
 
+use frames::Ack;
 use kv_types::Refusal;
-use standby::Ack;
 use std::alloc::AllocError;
 
 /// Why a standby's link ended that the primary did not close.
@@ -42,7 +42,7 @@ pub(crate) fn ends_by(refusal: Refusal) -> LinkEnd
 pub(crate) fn refusal_of_ack(epoch: u64, ack: &Ack) -> Refusal
     ensures { result ≡ refusal_of_ack epoch ack.now }
 {
-    if ack.epoch == epoch {
+    if ack.epoch() == epoch {
         Refusal::PositionGap
     } else {
         Refusal::WrongEpoch

@@ -2,18 +2,18 @@
 ghost use Rattle.std.specs.Prelude.{◌≡◌, ◌⊎◌, ◌+◌, ◌<◌, ◌≤◌, ◌++◌, true, false, length, slice_get, Option, Some, None, OnOk, OnErr, IfOk, IfErr, IfSome};
 ghost use Rattle.kv_types.specs.declared.refusal.Refusal.TheVariants.{Memory, PositionGap};
 ghost use Rattle.model.specs.declared.group.Group.{Group as Item};
-ghost use Rattle.standby.specs.declared.frame.Frame.{Frame as Kept};
+ghost use Rattle.frames.specs.declared.frame.Frame.{Frame as Kept};
 ghost use Rattle.standby_stream.specs.Delta.{IsDelta};
 ghost use Rattle.standby_stream.specs.Stream.{IsDue, Frames, TakesNext, acknowledged};
 ghost use Rattle.links.specs.Sending.{frame_text, delta_text};
 
+use frames::Frame;
 use kv_types::Refusal;
 use model::Group;
 use pipes::Inlet;
-use standby::Frame;
 use standby_stream::{Link, Opening, delta};
 use std::alloc::Global;
-use stream_codec::{Message, write_frame};
+use stream_codec::write_group;
 
 /// How many frames are put together before they are written.
 const FRAMES_AT_ONCE: u32 = 16;
@@ -107,7 +107,7 @@ impl Outgoing {
         ensures cause { IfErr result (λ refusal. refusal ≡ Memory) }
     {
         match self.link.take_delta() {
-            Some(frame) => put_frame(frame, out),
+            Some(frame) => put_frame(&frame, out),
             None => Ok(()),
         }
     }
@@ -133,8 +133,7 @@ impl Outgoing {
         let Some(index) = self.link.next_frame(alloc, groups)? else {
             return Ok(None);
         };
-        let frame = self.link.frame(index).clone()?;
-        put_frame(frame, out)?;
+        put_frame(self.link.frame(index), out)?;
         Ok(Some(index))
     }
 
@@ -162,11 +161,11 @@ impl Outgoing {
 
 /// Puts a frame last, or nothing where memory is refused.
 #[tactic(auto, unfolding(crate::specs::Sending::frame_text))]
-fn put_frame(frame: Frame, out: &mut Vec<u8>) -> Result<(), Refusal>
-    ensures put { OnOk result (out.new.items ≡ out.old.items ++ frame_text frame) }
+fn put_frame(frame: &Frame, out: &mut Vec<u8>) -> Result<(), Refusal>
+    ensures put { OnOk result (out.new.items ≡ out.old.items ++ frame_text frame.now) }
     ensures refused { OnErr result (out.new.items ≡ out.old.items) }
     ensures cause { IfErr result (λ refusal. refusal ≡ Memory) }
 {
-    write_frame(&Message::Group(frame), out)?;
+    write_group(frame, out)?;
     Ok(())
 }

@@ -5,8 +5,8 @@ ghost use Rattle.standby_stream.specs.Stream.{counts};
 
 use crate::reading::{new_block, read_messages};
 use crate::remote_mark::RemoteMark;
+use frames::Ack;
 use kv_types::Refusal;
-use standby::Ack;
 use standby_stream::counts;
 use std::alloc::Global;
 use std::io::Read;

@@ -2,8 +2,8 @@
 ghost use Rattle.std.specs.Prelude.{◌≡◌, ◌≤◌, max, min, true, false};
 ghost use Rattle.std.specs.Arc.{arc_value};
 
+use frames::Ack;
 use marks::{MarkSeat, Marks};
-use standby::Ack;
 use std::sync::Arc;
 
 /// What the thread needs that raises the remote mark. Its seat is one of these marks, and it is the one that raises the remote mark.
@@ -34,12 +34,12 @@ impl RemoteMark {
     {
         let RemoteMark { marks, seat } = self;
         let (seat, seen) = marks.read(seat);
-        if ack.position > seen.local {
+        if ack.position() > seen.local {
             let both = seen.local.min(seen.remote);
             return (RemoteMark { marks, seat }, false, both);
         }
         let seat = marks.raise_remote(seat, ack);
-        let both = seen.local.min(seen.remote.max(ack.position));
+        let both = seen.local.min(seen.remote.max(ack.position()));
         (RemoteMark { marks, seat }, true, both)
     }
 }

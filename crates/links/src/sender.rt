@@ -178,10 +178,10 @@ impl LinkSender {
         if let Err(refusal) = heard {
             return (receiver, Err(Lost::Refused(refusal)));
         }
-        if let Err(refusal) = self.outgoing.open_at(alloc, ack.position) {
+        if let Err(refusal) = self.outgoing.open_at(alloc, ack.position()) {
             return (receiver, Err(Lost::Refused(refusal)));
         }
-        match share(alloc, stream, decoder, ack.position) {
+        match share(alloc, stream, decoder, ack.position()) {
             Ok(opened) => (receiver, Ok(opened)),
             Err(_) => (receiver, Err(Lost::Ended)),
         }

@@ -6,9 +6,9 @@ use crate::rule::{FindLocal, FindRemote, FindStop, MarkRule, RaiseLocal, RaiseRe
 use crate::seat::MarkSeat;
 use crate::view::{Both, Cut, Halves, MarkView};
 use atomic_table::Table;
+use frames::Ack;
 use kv_types::Refusal;
 use reply_gate::Seen;
-use standby::Ack;
 use std::alloc::Global;
 use std::marker::Model;
 use wbl_engine::Committed;
@@ -40,16 +40,17 @@ impl Model for Marks {
 }
 
 impl Marks {
-    /// Marks that begin at the engine's position (local) and at 0 (remote), with the seat that raises both.
+    /// Marks that begin where the engine's image is durable (local) and at 0 (remote), with the seat that raises both.
     ///
     /// # Errors
     ///
     /// Only `Memory`.
-    pub fn new(alloc: Global, local: u64) -> Result<(Marks, MarkSeat), Refusal>
+    pub fn new(alloc: Global, committed: &Committed) -> Result<(Marks, MarkSeat), Refusal>
         ensures marks { IfOk result (λ made. made.1.marks ≡ made.0) }
-        ensures knows { IfOk result (λ made. made.1.knows ≡ opening local) }
+        ensures knows { IfOk result (λ made. made.1.knows ≡ opening committed.now) }
         ensures err { IfErr result (λ refusal. refusal ≡ Refusal.Memory) }
     {
+        let local = committed.position();
         let (table, seat) = Table::of_words(alloc, &[local, 0, 0], &local)?;
         Ok((Marks { table }, MarkSeat { seat }))
     }
@@ -100,7 +101,7 @@ impl Marks {
         let MarkSeat { mut seat } = seat;
         self.table
             .shared
-            .fetch_max::<RaiseRemote>(&mut seat, REMOTE, ack.position);
+            .fetch_max::<RaiseRemote>(&mut seat, REMOTE, ack.position());
         MarkSeat { seat }
     }
 

@@ -11,7 +11,7 @@ use kv_types::Refusal;
 use model::{Group, Work};
 use pipes::{LocalPipe, Outlet};
 use std::alloc::Global;
-use wbl_engine::Durable;
+use wbl_engine::{Committed, Durable};
 
 /// A primary's committer, and the queue of what it is to do.
 #[derive(Drop)]
@@ -21,11 +21,12 @@ pub struct Back<E> {
 }
 
 impl<E: Durable> Back<E> {
-    /// The position up to which everything is durable on this node.
-    pub fn durable_position(&self) -> u64
+    /// The position up to which everything is durable on this node, as its engine established it.
+    pub fn committed(&self) -> Committed
+        requires { (s : Sequencing) × BackStands E.device E.contents self.now s [] }
         ensures { result ≡ (E.contents self.now.committer.engine).current.position }
     {
-        self.committer.position()
+        self.committer.committed()
     }
 
     /// The epoch of its record: which primary of the pair it is.

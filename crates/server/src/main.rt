@@ -7,7 +7,6 @@ mod failure;
 mod formatting;
 mod images;
 mod inspecting;
-mod opening;
 mod options;
 mod promoting;
 mod schedule;

@@ -9,7 +9,6 @@ ghost use Rattle.server.specs.Printed.{TellsPromotion};
 
 use crate::failure::Failure;
 use crate::images::Images;
-use crate::opening::open_standby;
 use crate::serve::ServeError;
 use failover::operator_fence;
 use kv_types::Refusal;
@@ -49,7 +48,7 @@ fn promote_image<P: Pmem + Drop, W: Write>(
     ensures told { IfOk result (λ left. TellsPromotion (P.state device).lines (image_of (P.state device).words) (P.state left)
         (W.contents writer.old) (W.contents writer.new)) }
 {
-    let standby: Standby<WblEngine<P>, MvKeyspace> = open_standby(alloc, device)?;
+    let standby: Standby<WblEngine<P>, MvKeyspace> = standby::open(alloc, device)?;
     let fenced = operator_fence(standby.epoch());
     let promoted = match failover::promote(standby, fenced) {
         Ok(promoted) => promoted,

@@ -1,7 +1,6 @@
 //! The subcommand `standby`.
 use crate::failure::Failure;
 use crate::images::Images;
-use crate::opening::open_standby;
 use links::{Log, News, follow};
 use mv_keyspace::{Keyspace, MvKeyspace};
 use standby::Standby;
@@ -22,7 +21,7 @@ pub fn stand_by<N: Net<Listener = TcpListener, Stream = TcpStream>, I: Images, E
 ) -> Result<(), Failure> {
     let mut log = Log::new(alloc, errors);
     let device = images.open(name)?;
-    let mut node: Standby<WblEngine<I::Device>, MvKeyspace> = open_standby(alloc, device)?;
+    let mut node: Standby<WblEngine<I::Device>, MvKeyspace> = standby::open(alloc, device)?;
     log.say(opened(&node));
     let Ok(listener) = TcpListener::bind(net, listen) else {
         return Err(Failure::CannotListen);
@@ -41,8 +40,8 @@ pub fn stand_by<N: Net<Listener = TcpListener, Stream = TcpStream>, I: Images, E
 fn opened<E: Durable, K: Keyspace>(node: &Standby<E, K>) -> News<'static> {
     let at = node.ack();
     News::Opened {
-        position: at.position,
-        epoch: at.epoch,
+        position: at.position(),
+        epoch: at.epoch(),
         keys: node.keyspace.count_keys(),
     }
 }

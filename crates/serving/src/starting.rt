@@ -29,7 +29,7 @@ use std::thread;
 use std::thread::Threads;
 use std::time::Clock;
 use wakes::{Bell, DueIn, DueOut, Flag, Idle, ReadyList, Sleeper, bell, due_list};
-use wbl_engine::Durable;
+use wbl_engine::{Committed, Durable};
 
 /// How often a thread gives way to others before it sleeps.
 const SPIN: u32 = 30;
@@ -113,8 +113,8 @@ pub fn run<
         epoch,
         ..
     } = opened;
-    let position = primary.back.durable_position();
-    match new_threading(alloc, position, opening, epoch, address) {
+    let committed = primary.back.committed();
+    match new_threading(alloc, &committed, opening, epoch, address) {
         Ok(threading) => start(rt, alloc, threading, listener, primary, log),
         Err(refusal) => refusal,
     }
@@ -225,12 +225,12 @@ fn start_acceptor<R: Threads + Wait + Clock + Copy + Send + 'static>(
 
 fn new_threading(
     alloc: Global,
-    position: u64,
+    committed: &Committed,
     opening: Opening,
     epoch: u64,
     address: String,
 ) -> Result<Threading, Refusal>
-    ensures { IfOk result (λ made. made.node.mark.seat.knows.local ≡ position) }
+    ensures { IfOk result (λ made. made.node.mark.seat.knows.local ≡ committed.now) }
 {
     let Seats {
         marks,
@@ -239,7 +239,7 @@ fn new_threading(
         remote,
         watch,
         sight,
-    } = new_seats(alloc, position)?;
+    } = new_seats(alloc, committed)?;
     let (sleeper, own) = bell(alloc)?;
     let outgoing = Outgoing::new(Link::new(alloc, epoch)?, opening);
     let LinkEnds {
@@ -329,11 +329,11 @@ fn new_house(
     })
 }
 
-/// Marks that begin at this position, with a seat for each thread.
-fn new_seats(alloc: Global, position: u64) -> Result<Seats, Refusal>
-    ensures { IfOk result (λ seats. seats.local.seat.knows.local ≡ position) }
+/// Marks that begin where the image is durable, with a seat for each thread.
+fn new_seats(alloc: Global, committed: &Committed) -> Result<Seats, Refusal>
+    ensures { IfOk result (λ seats. seats.local.seat.knows.local ≡ committed.now) }
 {
-    let (marks, root) = Marks::new(alloc, position)?;
+    let (marks, root) = Marks::new(alloc, committed)?;
     let mut root = root;
     let local = marks.split_seat::<Committer>(&mut root);
     let remote = marks.split_seat::<marks::Link>(&mut root);

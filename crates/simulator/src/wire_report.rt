@@ -101,8 +101,8 @@ fn write_message<W: Write>(out: &mut W, message: &Message) -> io::Result<()> {
             )
         }
         Message::Ack(ack) => {
-            let epoch = ack.epoch;
-            let position = ack.position;
+            let epoch = ack.epoch();
+            let position = ack.position();
             write!(out, "epoch {epoch}, position {position}, ")
         }
     }

@@ -34,7 +34,7 @@ use Rattle.wbl_engine.specs.Contents.{Exhausts, Keeps, Same}
 use Rattle.wbl_engine.specs.Lawful.{AreLawful}
 use Rattle.wbl_engine.proofs.ApartLemmas.{group_apart}
 use Rattle.wbl_engine.proofs.LawfulLemmas.{group_lawful}
-use Rattle.standby.specs.declared.frame.Frame.{Frame}
+use Rattle.frames.specs.declared.frame.Frame.{Frame}
 use Rattle.standby.specs.Following.{Follows, HasTaken, IsBeforeOrWhole, IsHeld, IsTakenNext, IsWhole, TakesEpoch, WouldExhaust}
 use Rattle.standby.proofs.EndedLemmas.{AreEnded-from_members, AreEnded-same, KeepsWithoutSome-none, listed-from_member}
 

@@ -27,7 +27,7 @@ use Rattle.wbl_engine.proofs.FreeingLemmas.{ended_within}
 use Rattle.wbl_engine.specs.Lawful.{AreLawful}
 use Rattle.wbl_engine.proofs.LawfulLemmas.{same_lawful}
 use Rattle.wbl_engine.proofs.WithoutLemmas.{IsMapOf-contents_without, consistent_without, lawful_without, was_there}
-use Rattle.standby.specs.declared.frame.Frame.{Frame}
+use Rattle.frames.specs.declared.frame.Frame.{Frame}
 use Rattle.standby.specs.Following.{EndsAs, Follows, HasFreed, IsBeforeOrWhole, IsWhole}
 use Rattle.standby.proofs.EndedLemmas.{all_extents, extents_apart, extents_counted, inside-from_keeps, of_listed, once-listed}
 use Rattle.standby.proofs.FollowingLemmas.{Follows-same, cell_along}

@@ -14,7 +14,7 @@ use Rattle.placing.specs.Place.{HasRoomFor}
 use Rattle.wbl_engine.specs.Contents.{Keeps, Same}
 use Rattle.wbl_engine.specs.Freeing.{AreEnded, KeepsWithoutSome, after_free, extents_of, is_listed}
 use Rattle.wbl_engine.specs.Lawful.{AreLawful}
-use Rattle.standby.specs.declared.frame.Frame.{Frame}
+use Rattle.frames.specs.declared.frame.Frame.{Frame}
 
 -- ---- the invariant
 
@@ -39,13 +39,6 @@ pub record HasFreed (ended : List EntryNo) (old new : Contents) (room room' : Ro
   pub none : left ≡ []
 
 -- ---- frames
-
--- the second says what the first says
-pub record IsCopy (frame copy : Frame) : Type 0 where
-  pub epoch : copy.epoch ≡ frame.epoch
-  pub before : copy.before ≡ frame.before
-  pub after : copy.after ≡ frame.after
-  pub changes : copy.changes.items ≡ frame.changes.items
 
 -- a node with this record takes frames of this epoch: its own, or, while it is at position 0, a higher one
 abbrev pub TakesEpoch : Record → ℕ → Type 0

@@ -4,8 +4,8 @@ ghost use Rattle.placing.specs.Left.{IsBeside};
 ghost use Rattle.placing.specs.Performs.{Performs};
 ghost use Rattle.placing.specs.Place.{HasRoomFor};
 
-use crate::frame::Frame;
 use extent_heap::ExtentHeap;
+use frames::Frame;
 use kv_types::Refusal;
 use model::Part;
 use mv_keyspace::Keyspace;

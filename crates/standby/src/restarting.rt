@@ -12,11 +12,11 @@ ghost use Rattle.wbl_engine.specs.Reopening.{RefusesReopening, StaysReadable};
 ghost use Rattle.standby.specs.Following.{Follows};
 ghost use Rattle.standby.specs.Restarting.{IsReopened};
 
+use crate::opening::read_back;
 use crate::standby::Standby;
 use kv_types::Refusal;
 use model::Role;
 use mv_keyspace::Keyspace;
-use placing::rebuild;
 use std::alloc::Global;
 use wbl_engine::Restarting;
 
@@ -67,18 +67,10 @@ impl<E: Restarting, K: Keyspace + Drop> Standby<E, K> {
             (StaysReadable (E.device self.old.engine).lines r (image_of (E.device self.old.engine).words)) }
     {
         let versions = self.engine.restart(alloc, Role::Standby)?;
-        let lines = self.engine.lines();
-        let mut keyspace = K::empty(alloc);
-        let rebuilt = rebuild(
-            alloc,
-            &mut keyspace,
-            lines,
-            versions.counted,
-            &versions.gapped,
-        )?;
+        let (keyspace, room) = read_back(alloc, self.engine.lines(), versions)?;
         self.keyspace = keyspace;
-        self.heap = rebuilt.heap;
-        self.ended = rebuilt.ended;
+        self.heap = room.heap;
+        self.ended = room.ended;
         Ok(())
     }
 }

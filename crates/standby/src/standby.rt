@@ -8,8 +8,8 @@ ghost use Rattle.wbl_engine.specs.Freeing.{KeepsWithoutSome};
 ghost use Rattle.wbl_engine.specs.Lawful.{AreLawful};
 ghost use Rattle.standby.specs.Following.{Follows, TakesEpoch, IsHeld, IsNext, IsTakenNext, HasFreed, HasTaken, AreGone, HasRoomOnceFreed, WouldExhaust, IsBeforeOrWhole, EndsAs};
 
-use crate::frame::{Ack, Frame};
 use extent_heap::ExtentHeap;
+use frames::{Ack, Frame};
 use kv_types::{EntryNo, Refusal};
 use mv_keyspace::Keyspace;
 use placing::Rebuilt;
@@ -57,10 +57,7 @@ impl<E: Durable, K: Keyspace> Standby<E, K> {
     pub fn ack(&self) -> Ack
         ensures { result ≡ record { epoch = (E.contents self.now.engine).current.epoch; position = (E.contents self.now.engine).current.position } }
     {
-        Ack {
-            epoch: self.epoch(),
-            position: self.position(),
-        }
+        Ack::of_record(self.engine.record())
     }
 
     /// Takes a frame, and frees what it ended: `take_frame` and then, where that moved the standby, `free_ended`. Where there is no memory to free what
@@ -131,7 +128,7 @@ impl<E: Durable, K: Keyspace> Standby<E, K> {
     {
         let position = self.position();
         let ack = self.take_frame(alloc, frame)?;
-        if ack.position == position {
+        if ack.position() == position {
             return Ok(ack);
         }
         only_fault(self.free_ended(alloc))?;

@@ -8,9 +8,9 @@ ghost use Rattle.wbl_engine.specs.Freeing.{KeepsWithoutSome, after_free};
 ghost use Rattle.wbl_engine.specs.Lawful.{AreLawful};
 ghost use Rattle.standby.specs.Following.{Follows, TakesEpoch, IsHeld, IsNext, IsTakenNext, HasFreed, HasTaken, AreGone, IsMadeAt, HasRoomOnceFreed, WouldExhaust, IsBeforeOrWhole, EndsAs};
 
-use crate::frame::{Ack, Frame};
 use crate::part::make_part;
 use crate::standby::Standby;
+use frames::{Ack, Frame};
 use kv_types::Refusal;
 use model::{COUNTER_LIMIT, Group, Record, STAMP_WINDOW};
 use mv_keyspace::Keyspace;

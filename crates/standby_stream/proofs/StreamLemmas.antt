@@ -1,7 +1,7 @@
 -- What a link holds after it took a group, and after it framed one.
 use Rattle.std.proofs.Common.{◌≡◌, ◌+◌, ◌++◌, [], ◌∷◌, Bool, true, List, Option, Some, None, refl, sym, ap, subst, ◌∙◌, true≢false}
 use Rattle.model.specs.declared.group.Group.{Group}
-use Rattle.standby.specs.declared.frame.Frame.{Frame}
+use Rattle.frames.specs.declared.frame.Frame.{Frame}
 use Rattle.standby_stream.specs.Stream.{Stream, TakesNext, Adds, Frames, IsFrameOf}
 
 -- a frame was added, and is sent

@@ -13,7 +13,7 @@ use Rattle.heap_layout.specs.declared.entry.Entry.{Entry}
 use Rattle.model.specs.declared.image.TheConstants.{MAX_LINES}
 use Rattle.model.specs.Group.{Contents, Versions, bytes_of_id}
 use Rattle.model.specs.Image.{IsLive, IsMapOf, Version, entries_of_lines, lines_of_bytes}
-use Rattle.standby.specs.declared.frame.Frame.{Frame}
+use Rattle.frames.specs.declared.frame.Frame.{Frame}
 use Rattle.mv_keyspace.specs.declared.row.Row.{Row}
 use Rattle.mv_keyspace.specs.Row.{table_of}
 use Rattle.mv_keyspace.specs.Table.{Table, IsTable, since}

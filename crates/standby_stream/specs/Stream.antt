@@ -3,8 +3,8 @@ use Rattle.std.specs.Prelude.{◌≡◌, ℕ, ◌+◌, ◌-◌, ◌<◌, ◌≤�
 use Rattle.model.specs.declared.group.Group.{Group}
 use Rattle.model.specs.Group.{changes_of_group, last_position}
 use Rattle.pipes.specs.declared.limits.TheConstants.{KEPT_GROUPS}
-use Rattle.standby.specs.declared.frame.Ack.{Ack}
-use Rattle.standby.specs.declared.frame.Frame.{Frame}
+use Rattle.frames.specs.declared.ack.Ack.{Ack}
+use Rattle.frames.specs.declared.frame.Frame.{Frame}
 
 -- what a link holds
 pub record Stream : Type 0 where

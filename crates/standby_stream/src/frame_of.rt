@@ -3,9 +3,9 @@ ghost use Rattle.std.specs.Prelude.{◌≡◌, ◌++◌, map, IfOk, OnOk};
 ghost use Rattle.model.specs.Group.{change_of};
 ghost use Rattle.standby_stream.specs.Stream.{IsFrameOf};
 
+use frames::Frame;
 use kv_types::Change;
 use model::{Group, PlacedChange};
-use standby::Frame;
 use std::alloc::{AllocError, Global};
 
 /// The frame of a group: its changes without their places. It shares the bytes of the group.

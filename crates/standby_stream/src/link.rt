@@ -7,10 +7,10 @@ ghost use Rattle.pipes.specs.declared.limits.TheConstants.{KEPT_GROUPS};
 ghost use Rattle.standby_stream.specs.Stream.{TakesNext, IsFull, IsDue, Adds, Frames, new_stream, above, acknowledged, counts};
 
 use crate::frame_of::frame_of;
+use frames::{Ack, Frame};
 use kv_types::Refusal;
 use model::Group;
 use pipes::{Inlet, KEPT_GROUPS};
-use standby::{Ack, Frame};
 use std::alloc::{AllocError, Global};
 use std::collections::VecDeque;
 use std::marker::Model;
@@ -141,10 +141,10 @@ impl Link {
         if !counts(self.epoch, ack) {
             return Err(Refusal::WrongEpoch);
         }
-        if ack.position > own {
+        if ack.position() > own {
             return Err(Refusal::StandbyAhead);
         }
-        self.reach(ack.position);
+        self.reach(ack.position());
         Ok(())
     }
 
@@ -196,7 +196,7 @@ impl Link {
 pub fn counts(epoch: u64, ack: Ack) -> bool
     ensures { result ≡ counts epoch ack }
 {
-    ack.epoch == epoch || (ack.position == 0 && ack.epoch < epoch)
+    ack.epoch() == epoch || (ack.position() == 0 && ack.epoch() < epoch)
 }
 
 /// Takes the next group, unless there is one that was taken before.

@@ -8,10 +8,10 @@ ghost use Rattle.mv_keyspace.specs.Row.{table_of};
 ghost use Rattle.mv_keyspace.specs.Table.{records, since};
 ghost use Rattle.standby_stream.specs.Delta.{IsDelta, ids_ended, put_of_row};
 
+use frames::Frame;
 use heap_layout::Entry;
 use kv_types::{Change, EntryNo, RecordId, Refusal};
 use mv_keyspace::{Keyspace, Row};
-use standby::Frame;
 use std::alloc::{AllocError, Global};
 
 /// What was in an image when its primary was opened, as far as a standby may have to be told. It shares the bytes of the keyspace.

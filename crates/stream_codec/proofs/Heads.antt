@@ -1,6 +1,7 @@
 -- The numbers of messages, as texts that are read.
 use Rattle.std.proofs.Common.{◌≡◌, ℕ, ◌+◌, ◌-◌, ◌^◌, ◌<◌, ◌≤◌, List, [], ◌∷◌, ◌++◌, Option, None, Some, Ok, Err, inl, inr, refl, sym, ap, subst, ◌∙◌, arith}
 use Rattle.std.proofs.lemmas.List.{append-nil}
+use Rattle.frames.specs.declared.ack.Ack.{Ack}
 use Rattle.stream_codec.specs.declared.reading.Stop.TheVariants.{Short, Broken}
 use Rattle.stream_codec.specs.declared.message.TheConstants.{MAX_BODY_BYTES}
 use Rattle.stream_codec.specs.declared.head.HeadKind.{HeadKind}
@@ -195,6 +196,12 @@ ack_reads =
     (Reads-then (long_at 0 (2 ^ 64 - 1)) position_at (IsLong 0 (2 ^ 64 - 1)) Position (long_reads 0 (2 ^ 64 - 1) (omega arith) (omega arith)) (λ epoch text i. position_reads epoch))
     (λ h text t. ack_to h text t)
     (λ h text i. ack_from h text i)
+
+-- the numbers of an acknowledgement, and what follows them
+pub ack_read : (ack : Ack) (bytes numbers rest : List ℕ) → numbers ≡ long ack.epoch ++ long ack.position → ack.epoch < 2 ^ 64 → ack.position < 2 ^ 64 → bytes ≡ numbers ++ rest
+    → head_of head_kind.Ack bytes ≡ Ok (head.Ack ack, rest)
+ack_read ack bytes numbers rest text epoch position is =
+    ap (head_of head_kind.Ack) is ∙ ack_reads.again (head.Ack ack) numbers rest (record { kind_is = refl; within = (epoch, position); text_is = text })
 
 numbers_read : (k : HeadKind) → Reads (head_of k) (AreNumbers k)
 numbers_read head_kind.Group = group_reads

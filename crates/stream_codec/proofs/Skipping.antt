@@ -8,7 +8,7 @@ use Rattle.kv_types.proofs.ChangeTextLemmas.{change_text_nonempty}
 use Rattle.stream_codec.specs.declared.reading.Stop.{Stop}
 use Rattle.stream_codec.specs.declared.reading.Stop.TheVariants.{Short, Broken}
 use Rattle.stream_codec.specs.declared.head.Head.TheVariants as head
-use Rattle.standby.specs.declared.frame.Ack.{Ack}
+use Rattle.frames.specs.declared.ack.Ack.{Ack}
 use Rattle.stream_codec.specs.Message.{Sent, Changes, Acknowledged, IsChange, sent_of}
 use Rattle.stream_codec.specs.Bytes.{Read, IsBytes, ◌>>=◌}
 use Rattle.stream_codec.specs.Reading.{change_at, changes_at, head_at, body_at, message_at}

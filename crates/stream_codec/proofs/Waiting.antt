@@ -15,10 +15,13 @@ use Rattle.kv_types.specs.declared.change.Change.{Change}
 use Rattle.kv_types.specs.declared.change.Change.TheVariants.{Put, Drop}
 use Rattle.stream_codec.specs.declared.change.Kind.{Kind}
 use Rattle.stream_codec.specs.declared.change.Kind.TheVariants as kind
+use Rattle.stream_codec.specs.declared.head.Head.{Head}
+use Rattle.stream_codec.specs.declared.head.Head.TheVariants as head
+use Rattle.stream_codec.specs.declared.head.HeadKind.TheVariants as head_kind
 use Rattle.stream_codec.specs.declared.step.Next.{Next}
 use Rattle.stream_codec.specs.declared.step.Next.TheVariants as next
 use Rattle.stream_codec.specs.Bytes.{Read, IsBytes, ◌>>=◌, eight_places, ArePlaces, number_at, bytes_at, counted_at}
-use Rattle.stream_codec.specs.Reading.{least_size, kind_at, name_at, value_at, change_of, change_at, changes_at, long_at}
+use Rattle.stream_codec.specs.Reading.{least_size, kind_at, name_at, value_at, change_of, change_at, changes_at, long_at, head_of}
 use Rattle.stream_codec.specs.declared.message.TheConstants.{MAX_BODY_BYTES}
 use Rattle.stream_codec.specs.Stepping.{IsMore, skipped, size_end, after_end, before_end, position_end, end_from}
 use Rattle.stream_codec.specs.Scanning.{Waits, field_and_value_at}
@@ -102,10 +105,10 @@ long_waits : (most : ℕ) → 2 ^ 64 ≤ most + 256 → (bytes : List ℕ) → I
 long_waits most wide bytes are h = number_waits eight_places most 0 are_eight (omega (arith, wide)) bytes are (omega (arith, h))
 
 -- a number that cannot be broken, and another reader behind it
-behind_long : {B : Type 0} (g : List ℕ → Result B Stop) → ((rest : List ℕ) → IsBytes rest → length rest < 8 → g rest ≡ Err Short) → (bytes : List ℕ) → IsBytes bytes → length bytes < 16 → (r : Read ℕ) → long_at 0 (2 ^ 64 - 1) bytes ≡ r → (r >>= λ n. g n.1) ≡ Err Short
+behind_long : {B : Type 0} (g : ℕ × List ℕ → Result B Stop) → ((n : ℕ) (rest : List ℕ) → IsBytes rest → length rest < 8 → g (n, rest) ≡ Err Short) → (bytes : List ℕ) → IsBytes bytes → length bytes < 16 → (r : Read ℕ) → long_at 0 (2 ^ 64 - 1) bytes ≡ r → (r >>= g) ≡ Err Short
 behind_long g waits bytes are h (Ok n) e =
     let t = number_grows eight_places 0 (2 ^ 64 - 1) 0 bytes [] n.0 n.1 e in
-    waits n.1 (IsBytes-end t.1 n.1 (subst IsBytes t.2 are)) (omega (arith, h, ap length t.2, length-append t.1 n.1, t.3))
+    waits n.0 n.1 (IsBytes-end t.1 n.1 (subst IsBytes t.2 are)) (omega (arith, h, ap length t.2, length-append t.1 n.1, t.3))
 behind_long g waits bytes are h (Err Short) e = refl
 behind_long g waits bytes are h (Err Broken) e = absurd (number_unbroken eight_places (2 ^ 64 - 1) 0 are_eight (omega arith) bytes are e)
 
@@ -115,6 +118,13 @@ before_waits bytes are h = ap (λ z. z >>= λ before. after_end (before.0 + 1) b
 position_waits : (bytes : List ℕ) → IsBytes bytes → length bytes < 8 → position_end bytes ≡ Err Short
 position_waits bytes are h = ap skipped (long_waits (2 ^ 64 - 1) (omega arith) bytes are h)
 
+-- the numbers of an acknowledgement are short until all of their bytes are there
+pub ack_waits : (bytes : List ℕ) → IsBytes bytes → length bytes < 16 → head_of head_kind.Ack bytes ≡ Err Short
+ack_waits bytes are h =
+    let ack : ℕ → ℕ × List ℕ → Read Head = λ epoch position. Ok (head.Ack (record { epoch = epoch; position = position.0 }), position.1) in
+    behind_long (λ epoch. long_at 0 (2 ^ 64 - 1) epoch.1 >>= ack epoch.0)
+    (λ epoch rest rest_are k. ap (λ z. z >>= ack epoch) (long_waits (2 ^ 64 - 1) (omega arith) rest rest_are k)) bytes are h (long_at 0 (2 ^ 64 - 1) bytes) refl
+
 -- what waits for so many bytes from its front on
 waits_until : (n m : Next) (count : ℕ) → n ≡ m → ((all : List ℕ) → IsBytes all → length all < count → end_from m all ≡ Err Short) → (bytes : List ℕ) (missing : ℕ) → IsBytes bytes → missing ≤ count - length bytes → Waits (end_from n) bytes missing
 waits_until n m count is waits bytes missing are fits more more_are h =
@@ -123,14 +133,14 @@ waits_until n m count is waits bytes missing are fits more more_are h =
 
 pub waits_epoch : (n : Next) (bytes : List ℕ) (missing : ℕ) → n ≡ next.Epoch → IsBytes bytes → missing ≤ 16 - length bytes → Waits (end_from n) bytes missing
 waits_epoch n bytes missing is are fits =
-    waits_until n next.Epoch 16 is (λ all all_are h. behind_long before_end before_waits all all_are h (long_at 0 (2 ^ 64 - 1) all) refl) bytes missing are fits
+    waits_until n next.Epoch 16 is (λ all all_are h. behind_long (λ n. before_end n.1) (λ n. before_waits) all all_are h (long_at 0 (2 ^ 64 - 1) all) refl) bytes missing are fits
 
 pub waits_before : (n : Next) (bytes : List ℕ) (missing : ℕ) → n ≡ next.Before → IsBytes bytes → missing ≤ 8 - length bytes → Waits (end_from n) bytes missing
 waits_before n bytes missing is are fits = waits_until n next.Before 8 is before_waits bytes missing are fits
 
 pub waits_ack_epoch : (n : Next) (bytes : List ℕ) (missing : ℕ) → n ≡ next.AckEpoch → IsBytes bytes → missing ≤ 16 - length bytes → Waits (end_from n) bytes missing
 waits_ack_epoch n bytes missing is are fits =
-    waits_until n next.AckEpoch 16 is (λ all all_are h. behind_long position_end position_waits all all_are h (long_at 0 (2 ^ 64 - 1) all) refl) bytes missing are fits
+    waits_until n next.AckEpoch 16 is (λ all all_are h. behind_long (λ n. position_end n.1) (λ n. position_waits) all all_are h (long_at 0 (2 ^ 64 - 1) all) refl) bytes missing are fits
 
 pub waits_ack_position : (n : Next) (bytes : List ℕ) (missing : ℕ) → n ≡ next.AckPosition → IsBytes bytes → missing ≤ 8 - length bytes → Waits (end_from n) bytes missing
 waits_ack_position n bytes missing is are fits = waits_until n next.AckPosition 8 is position_waits bytes missing are fits

@@ -8,8 +8,8 @@ use Rattle.kv_types.specs.declared.record_id.RecordId.TheVariants.{Str, Field}
 use Rattle.kv_types.specs.declared.change.Change.{Change}
 use Rattle.kv_types.specs.declared.change.Change.TheVariants.{Put, Drop, DropKey, Clear}
 use Rattle.kv_types.specs.Change.{changes_text, changes_size}
-use Rattle.standby.specs.declared.frame.Frame.{Frame}
-use Rattle.standby.specs.declared.frame.Ack.{Ack}
+use Rattle.frames.specs.declared.frame.Frame.{Frame}
+use Rattle.frames.specs.declared.ack.Ack.{Ack}
 use Rattle.stream_codec.specs.declared.message.TheConstants.{MAX_BODY_BYTES}
 use Rattle.stream_codec.specs.declared.message.Message.{Message}
 use Rattle.stream_codec.specs.declared.message.Message.TheVariants as message

@@ -4,9 +4,9 @@ ghost use Rattle.kv_types.specs.declared.refusal.Refusal.TheVariants.{FrameFault
 ghost use Rattle.stream_codec.specs.Stream.{fed};
 ghost use Rattle.stream_codec.specs.Scanning.{IsAt, sent_of_all, IsTaken};
 
-use crate::frames::split_frames;
 use crate::message::Message;
 use crate::scan::{Progress, START};
+use crate::whole_frames::split_frames;
 use bytes::{BufMut, BytesMut};
 use kv_types::Refusal;
 use std::alloc::{AllocError, Global};

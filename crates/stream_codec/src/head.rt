@@ -1,11 +1,12 @@
 //! The numbers of the message at the front of bytes.
 ghost use Rattle.std.specs.Prelude.{◌≡◌, ◌+◌, ◌-◌, ◌≤◌, length, IfOk};
 ghost use Rattle.stream_codec.specs.Bytes.{Gives};
+ghost use Rattle.stream_codec.specs.declared.head.HeadKind.TheVariants as head_kind;
 ghost use Rattle.stream_codec.specs.Reading.{head_kind_of, head_kind_at, head_of, head_at};
 
 use crate::message::MAX_BODY_BYTES;
 use crate::reading::{Stop, u64_at};
-use standby::Ack;
+use frames::Ack;
 
 /// The kinds of messages.
 #[derive(Clone, Copy, Debug, PartialEq, Eq)]
@@ -58,11 +59,17 @@ fn head_of(kind: HeadKind, bytes: &[u8]) -> Result<(Head, &[u8]), Stop>
             let (size, rest) = u64_at(rest, 0, MAX_BODY_BYTES)?;
             Ok((Head::Group(epoch, before, after, size), rest))
         }
-        HeadKind::Ack => {
-            let (epoch, rest) = u64_at(bytes, 0, u64::MAX)?;
-            let (position, rest) = u64_at(rest, 0, u64::MAX)?;
-            Ok((Head::Ack(Ack { epoch, position }), rest))
-        }
+        HeadKind::Ack => ack_at(bytes),
+    }
+}
+
+/// The numbers of an acknowledgement. No byte of theirs can break them.
+fn ack_at(bytes: &[u8]) -> Result<(Head, &[u8]), Stop>
+    ensures { Gives (λ x. (x.0, x.1.now)) result (head_of head_kind.Ack bytes.now) }
+{
+    match bytes.split_first_chunk::<16>() {
+        None => Err(Stop::Short),
+        Some((numbers, rest)) => Ok((Head::Ack(Ack::read(numbers)), rest)),
     }
 }
 

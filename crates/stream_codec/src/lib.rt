@@ -3,7 +3,6 @@
 
 mod change;
 mod decoder;
-mod frames;
 mod head;
 mod laws;
 mod message;
@@ -11,9 +10,10 @@ mod missing;
 mod reading;
 mod scan;
 mod step;
+mod whole_frames;
 mod writing;
 
 pub use decoder::Decoder;
 pub use laws::{frames_are_read, in_any_pieces, one_spelling, written_is_read};
 pub use message::{MAX_BODY_BYTES, Message};
-pub use writing::write_frame;
+pub use writing::{ACK_BYTES, GROUP_HEAD_BYTES, write_ack, write_frame, write_group};

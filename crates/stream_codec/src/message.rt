@@ -1,5 +1,5 @@
 //! What the two nodes tell each other.
-use standby::{Ack, Frame};
+use frames::{Ack, Frame};
 
 /// The most bytes that the changes of one group have together.
 pub const MAX_BODY_BYTES: u64 = 1 << 40;

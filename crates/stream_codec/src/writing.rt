@@ -8,12 +8,15 @@ ghost use Rattle.stream_codec.specs.Puts.{Puts};
 
 use crate::message::Message;
 use bytes::BufMut;
+use frames::{Ack, Frame};
 use kv_types::{Change, Key, MAX_KEY_BYTES, MAX_VALUE_BYTES, RecordId, Value};
-use standby::{Ack, Frame};
 use std::alloc::AllocError;
 
-/// How many bytes the numbers of a group's frame have, its first byte among them.
-const GROUP_HEAD_BYTES: u64 = 1 + 8 + 8 + 8 + 8;
+/// How many bytes the frame of a group has before its changes: the kind, the epoch, the positions before and after, and the length of the changes.
+pub const GROUP_HEAD_BYTES: usize = 1 + 8 + 8 + 8 + 8;
+
+/// How many bytes the frame of an acknowledgement has: the kind, the epoch and the position.
+pub const ACK_BYTES: usize = 1 + 8 + 8;
 
 /// Appends the bytes of a frame to `out`. It fails only if `out` had no room for them and could not make it, and then nothing is written. Keys, fields
 /// and values hold their limits, so each change that is written is within them.
@@ -24,25 +27,43 @@ pub fn write_frame<W: BufMut>(message: &Message, out: &mut W) -> Result<(), Allo
     ensures spare { OnOk result (W.spare out.old ≤ W.spare out.new + length (sent_text (sent_of message.now))) }
     ensures within { OnOk result (IsWithinLimits (sent_of message.now)) }
 {
-    let len = frame_len(message).ok_or(AllocError)?;
-    out.reserve(len)?;
     match message {
-        Message::Group(frame) => put_group(frame, out),
-        Message::Ack(ack) => put_ack(*ack, out),
+        Message::Group(frame) => write_group(frame, out),
+        Message::Ack(ack) => write_ack(*ack, out),
     }
 }
 
-/// How many bytes the frame has, or `None` if no memory could hold them.
-fn frame_len(message: &Message) -> Option<usize>
-    ensures { let len = length (sent_text (sent_of message.now)) in SomeIff result (len < 2 ^ 64) len }
+/// Appends the bytes of a group's frame to `out`, as `write_frame` does.
+pub fn write_group<W: BufMut>(frame: &Frame, out: &mut W) -> Result<(), AllocError>
+    ensures ok { OnOk result (W.written out.new ≡ W.written out.old ++ sent_text (sent_of_frame frame.now)) }
+    ensures err { OnErr result (W.written out.new ≡ W.written out.old) }
+    ensures succeeds { let text = sent_text (sent_of_frame frame.now) in length text < 2 ^ 64 → length text ≤ W.spare out.old → IsOk result }
+    ensures spare { OnOk result (W.spare out.old ≤ W.spare out.new + length (sent_text (sent_of_frame frame.now))) }
+    ensures within { OnOk result (IsWithinLimits (sent_of_frame frame.now)) }
 {
-    match message {
-        Message::Group(frame) => {
-            let len = body_len(frame.changes.as_slice())?.checked_add(GROUP_HEAD_BYTES)?;
-            Some(len as usize)
-        }
-        Message::Ack(_) => Some(1 + 8 + 8),
-    }
+    let len = group_len(frame).ok_or(AllocError)?;
+    out.reserve(len)?;
+    put_group(frame, out)
+}
+
+/// Appends the bytes of an acknowledgement's frame to `out`, as `write_frame` does.
+pub fn write_ack<W: BufMut>(ack: Ack, out: &mut W) -> Result<(), AllocError>
+    ensures ok { OnOk result (W.written out.new ≡ W.written out.old ++ sent_text (sent_of_ack ack)) }
+    ensures err { OnErr result (W.written out.new ≡ W.written out.old) }
+    ensures succeeds { ACK_BYTES ≤ W.spare out.old → IsOk result }
+    ensures spare { OnOk result (W.spare out.old ≤ W.spare out.new + ACK_BYTES) }
+    ensures within { IsWithinLimits (sent_of_ack ack) }
+{
+    out.reserve(ACK_BYTES)?;
+    put_ack(ack, out)
+}
+
+/// How many bytes the frame has, or `None` if no memory could hold them.
+fn group_len(frame: &Frame) -> Option<usize>
+    ensures { let len = length (sent_text (sent_of_frame frame.now)) in SomeIff result (len < 2 ^ 64) len }
+{
+    let len = body_len(frame.changes.as_slice())?.checked_add(GROUP_HEAD_BYTES as u64)?;
+    Some(len as usize)
 }
 
 /// How many bytes the changes have, or `None` if no memory could hold them.
@@ -61,7 +82,7 @@ fn put_ack<W: BufMut>(ack: Ack, out: &mut W) -> Result<(), AllocError>
     ensures within { IsWithinLimits (sent_of_ack ack) }
 {
     out.put_u8(2)?;
-    put_numbers(&[ack.epoch, ack.position], out)
+    put_numbers(&[ack.epoch(), ack.position()], out)
 }
 
 fn put_group<W: BufMut>(frame: &Frame, out: &mut W) -> Result<(), AllocError>

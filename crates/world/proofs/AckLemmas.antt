@@ -6,7 +6,7 @@ use Rattle.model.specs.declared.group.Group.{Group}
 use Rattle.machine.specs.Event.{Link as Machine, Span, above, knowing}
 use Rattle.machine.specs.Sound.{IsChain}
 use Rattle.pipes.specs.Waiting.{Waiting}
-use Rattle.standby.specs.declared.frame.Frame.{Frame}
+use Rattle.frames.specs.declared.frame.Frame.{Frame}
 use Rattle.standby_stream.specs.Stream.{Stream, above as frames_above, acknowledged}
 use Rattle.world.specs.Link.{AreFramesOf, LinkRefines}
 use Rattle.world.proofs.FrameLemmas.{length-frames}

@@ -6,7 +6,7 @@ use Rattle.model.specs.declared.call.Call.{Call}
 use Rattle.model.specs.Call.{is_nonempty}
 use Rattle.model.specs.Standing.{Holder}
 use Rattle.machine.specs.Event.{World, Frame as Sent, Acknowledgement, delivered, option_items, with_standby, with_acknowledged, without_first}
-use Rattle.standby.specs.declared.frame.Frame.{Frame}
+use Rattle.frames.specs.declared.frame.Frame.{Frame}
 use Rattle.stream_codec.specs.Message.{Sent as Told, IsSent, sent_of_frame, sent_text}
 use Rattle.world.specs.declared.arrivals.Arrivals.{Arrivals}
 use Rattle.connections.specs.Going.{Goes}

@@ -13,7 +13,7 @@ use Rattle.model.proofs.CallsLemmas.{IsPrefix-cut_at, cut_at-all, position_of-cu
 use Rattle.machine.specs.Event.{Span, Frame as Sent, Acknowledgement}
 use Rattle.machine.specs.Sound.{IsFrameWithin}
 use Rattle.machine.proofs.GrowLemmas.{cuts-stay}
-use Rattle.standby.specs.declared.frame.Frame.{Frame}
+use Rattle.frames.specs.declared.frame.Frame.{Frame}
 use Rattle.world.specs.declared.arrivals.Arrivals.{Arrivals}
 use Rattle.world.specs.Committing.{AreContentsAt, EngineStands, IsDown}
 use Rattle.world.specs.Link.{LiesWithin, IsFrameOf, IsFrameRead, AreFramesRead, AreFramesSent}

@@ -10,10 +10,10 @@ use Rattle.kv_types.specs.Keyspace.{play_all}
 use Rattle.model.specs.Call.{cut_at, keyspace_after}
 use Rattle.model.proofs.CallsLemmas.{keyspace_after-cut_at-append, position_of_grows}
 use Rattle.machine.specs.Event.{Span, Frame as Sent, Acknowledgement}
-use Rattle.standby.specs.declared.frame.Frame.{Frame}
-use Rattle.standby.specs.Following.{IsCopy}
+use Rattle.frames.specs.declared.frame.Frame.{Frame}
+use Rattle.frames.specs.Copy.{IsCopy}
 use Rattle.stream_codec.specs.Message.{Sent as Told, Changes, Acknowledged, IsSent, IsWithinLimits, sent_of_frame, sent_of_ack}
-use Rattle.standby.specs.declared.frame.Ack.{Ack}
+use Rattle.frames.specs.declared.ack.Ack.{Ack}
 use Rattle.world.specs.Standby.{told_by}
 use Rattle.world.specs.Link.{LiesWithin, IsFrameOf, AreFramesOf, IsFrameRead, AreFramesRead, IsFrameSent, AreFramesSent, IsAckSent, AreAcksSent}
 

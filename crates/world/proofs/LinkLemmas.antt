@@ -17,7 +17,7 @@ use Rattle.model.proofs.SizeLemmas.{changes_of_group_within}
 use Rattle.machine.specs.declared.event.TheConstants.{KEPT_GROUPS}
 use Rattle.machine.specs.Event.{Link as Machine, Span, option_items, sent_group, sent_next, sent_waiting, next_to_send}
 use Rattle.pipes.specs.Waiting.{Waiting, LocalTakes}
-use Rattle.standby.specs.declared.frame.Frame.{Frame}
+use Rattle.frames.specs.declared.frame.Frame.{Frame}
 use Rattle.standby_stream.specs.Stream.{Stream, TakesNext, IsFull, IsDue, Frames, IsFrameOf as IsFramed}
 use Rattle.world.specs.GroupSpan.{IsGroupOf, AreGroupsOf}
 use Rattle.world.specs.Link.{IsFrameOf, AreFramesOf, LinkRefines}

@@ -29,7 +29,7 @@ use Rattle.world.proofs.PairLemmas.{none-added, primary-stands, primary-within, 
 use Rattle.world.proofs.PairLives.{stays-acts}
 use Rattle.world.proofs.PairStandby.{arrivals-stand, follower}
 use Rattle.world.proofs.RecallLemmas.{recalls-crashed}
-use Rattle.standby.specs.declared.frame.Frame.{Frame}
+use Rattle.frames.specs.declared.frame.Frame.{Frame}
 use Rattle.world.specs.Link.{AreAcksSent, AreFramesRead}
 
 -- ---- a node that is crashed already

@@ -10,9 +10,8 @@ use Rattle.model.specs.Group.{Contents}
 use Rattle.model.specs.declared.call.Call.{Call}
 use Rattle.model.specs.Call.{IsLegal, is_nonempty}
 use Rattle.model.specs.Standing.{Holder}
-use Rattle.standby.specs.declared.frame.Ack.{Ack}
-use Rattle.standby.specs.declared.frame.Frame.{Frame}
-use Rattle.standby.specs.Following.{IsCopy}
+use Rattle.frames.specs.declared.ack.Ack.{Ack}
+use Rattle.frames.specs.declared.frame.Frame.{Frame}
 use Rattle.standby_stream.specs.declared.opening.Opening.{Opening}
 use Rattle.standby_stream.specs.Stream.{Stream, acknowledged, counts}
 use Rattle.redis_core.specs.Sequencing.{Sequencing}
@@ -30,7 +29,7 @@ use Rattle.world.specs.Link.{IsFrameOf, AreFramesOf, IsFrameSent, IsAckSent, Are
 use Rattle.world.specs.Recalling.{OpeningLeads}
 use Rattle.world.specs.Standby.{StandbyRefines, ArrivalsRefine, told_by}
 use Rattle.world.specs.Pair.{FreeingRefines, Pair, PartsRefine, Does}
-use Rattle.world.proofs.FrameLemmas.{AreFramesSent-push, IsFrameOf-copy, may_be_sent, ack_of_read, ack_of_number, length-acks}
+use Rattle.world.proofs.FrameLemmas.{AreFramesSent-push, may_be_sent, ack_of_read, ack_of_number, length-acks}
 use Rattle.world.proofs.LinkLemmas.{Answers as LinkAnswers, sends}
 use Rattle.world.proofs.AckLemmas.{knows}
 use Rattle.world.proofs.ArrivalLemmas.{ReadsAs, same_found}
@@ -139,11 +138,11 @@ after-none old link result new none taken does =
     let same : link ≡ old.link = taken ∙ ap (λ (d : Option Frame). record old.link { delta = d }) none in
     subst (λ (s : Stream). Does (record old { link = s }) events.Send result new) same does
 
--- a frame that was kept is sent, and the bytes of a copy of it pass
-pub send-does : (old : Pair) (waiting : Waiting Group) (link : Stream) (index : ℕ) (frame copy : Frame) (bytes : Vec ℕ Global) (frames : List (Vec ℕ Global)) → LinkAnswers old.link old.handed (Ok (Some index)) link waiting
-    → slice_get link.kept index ≡ Some frame → IsCopy frame copy → bytes.items ≡ sent_text (sent_of_frame copy) → IsWithinLimits (sent_of_frame copy) → frames ≡ old.frames ++ bytes ∷ []
+-- a frame that was kept is sent, and its bytes pass
+pub send-does : (old : Pair) (waiting : Waiting Group) (link : Stream) (index : ℕ) (frame : Frame) (bytes : Vec ℕ Global) (frames : List (Vec ℕ Global)) → LinkAnswers old.link old.handed (Ok (Some index)) link waiting
+    → slice_get link.kept index ≡ Some frame → bytes.items ≡ sent_text (sent_of_frame frame) → IsWithinLimits (sent_of_frame frame) → frames ≡ old.frames ++ bytes ∷ []
     → old.link.delta ≡ None → Does old events.Send (Ok true) (with_frames waiting link old.remote frames old)
-send-does old waiting link index frame copy bytes frames answers there same text within more none_before =
+send-does old waiting link index frame bytes frames answers there text within more none_before =
     record {
       steps = λ first second w stands.
           let parts = stands.parts in
@@ -152,10 +151,10 @@ send-does old waiting link index frame copy bytes frames answers there same text
           let calls = w.primary.calls in
           let at = sends calls old.link old.handed old.remote machine stands.sound.legal parts.link none_before (Ok (Some index)) link waiting answers in
           let own : at.frame ≡ frame = cc in
-          let is : IsFrameOf epoch calls copy at.span = IsFrameOf-copy epoch calls frame copy at.span (subst (λ (f : Frame). IsFrameOf epoch calls f at.span) own at.is) same in
+          let is : IsFrameOf epoch calls frame at.span = subst (λ (f : Frame). IsFrameOf epoch calls f at.span) own at.is in
           let passed : AreFramesSent epoch calls (old.frames ++ bytes ∷ []) (w.wire.frames ++ framed epoch (next_to_send machine)) =
           subst (λ (spans : List Span). AreFramesSent epoch calls (old.frames ++ bytes ∷ []) (w.wire.frames ++ framed epoch spans)) (sym at.next)
-          (AreFramesSent-push epoch calls old.frames w.wire.frames bytes (record { epoch = epoch; span = at.span }) parts.frames (passes epoch calls copy bytes at.span is text within)) in
+          (AreFramesSent-push epoch calls old.frames w.wire.frames bytes (record { epoch = epoch; span = at.span }) parts.frames (passes epoch calls frame bytes at.span is text within)) in
           let w' = record w { primary = record w.primary { link = sent_next machine.delta machine }; wire = record w.wire { frames = w.wire.frames ++ framed epoch (next_to_send machine) } } in
           let moved : PartsRefine first second (with_frames waiting link old.remote frames old) w' =
           subst (λ (fs : List (Vec ℕ Global)). PartsRefine first second (with_frames waiting link old.remote fs old) w') (sym more)

@@ -8,8 +8,8 @@ use Rattle.kv_types.specs.declared.change.Change.{Change}
 use Rattle.kv_types.specs.Change.{changes_size}
 use Rattle.kv_types.specs.Keyspace.{play_all}
 use Rattle.model.specs.Call.{cut_at, keyspace_after}
-use Rattle.standby.specs.declared.frame.Ack.{Ack}
-use Rattle.standby.specs.declared.frame.Frame.{Frame}
+use Rattle.frames.specs.declared.ack.Ack.{Ack}
+use Rattle.frames.specs.declared.frame.Frame.{Frame}
 use Rattle.standby_stream.specs.declared.opening.Opening.{Opening}
 use Rattle.standby_stream.specs.Delta.{IsDelta}
 use Rattle.stream_codec.specs.declared.message.TheConstants.{MAX_BODY_BYTES}

@@ -26,8 +26,8 @@ use Rattle.wbl_engine.proofs.FreeingLemmas.{ended_within}
 use Rattle.wbl_engine.proofs.WithoutLemmas.{IsMapOf-contents_without, consistent_without, lawful_without}
 use Rattle.machine.specs.declared.event.Event.TheVariants.{Apply}
 use Rattle.machine.specs.Event.{Standby as Machine, Span, Frame as Sent, Acknowledgement, Takes, acknowledgement_of, moved_to}
-use Rattle.standby.specs.declared.frame.Ack.{Ack}
-use Rattle.standby.specs.declared.frame.Frame.{Frame}
+use Rattle.frames.specs.declared.ack.Ack.{Ack}
+use Rattle.frames.specs.declared.frame.Frame.{Frame}
 use Rattle.standby.specs.Following.{Follows, HasFreed, IsNext, HasTaken, IsWhole, IsBeforeOrWhole, WouldExhaust}
 use Rattle.world.specs.Cause.{IsAtLimit, EndsBy}
 use Rattle.world.specs.Committing.{AreContentsAt, Moves, NearOnly, OpensAt, OpensAtEither, Rests, next_from}

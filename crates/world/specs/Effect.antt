@@ -14,7 +14,7 @@ use Rattle.wbl_engine.specs.Freeing.{Clears, after_free, extents_of}
 use Rattle.redis_core.specs.Sequencing.{Sequencing, TakesBack}
 use Rattle.primary.specs.Closing.{ClosesOne}
 use Rattle.primary.specs.Resuming.{IsOver}
-use Rattle.standby.specs.declared.frame.Frame.{Frame}
+use Rattle.frames.specs.declared.frame.Frame.{Frame}
 use Rattle.standby.specs.Following.{IsTakenNext}
 use Rattle.standby.specs.Restarting.{IsReopened}
 use Rattle.machine.specs.declared.event.Event.{Event}

@@ -8,7 +8,7 @@ use Rattle.kv_types.specs.Change.{changes_size}
 use Rattle.model.specs.Call.{cut_at, keyspace_after, position_of}
 use Rattle.machine.specs.Event.{Link as Machine, Span, Frame as Sent, Acknowledgement, option_items}
 use Rattle.pipes.specs.Waiting.{Waiting}
-use Rattle.standby.specs.declared.frame.Frame.{Frame}
+use Rattle.frames.specs.declared.frame.Frame.{Frame}
 use Rattle.standby_stream.specs.Stream.{Stream}
 use Rattle.stream_codec.specs.declared.message.TheConstants.{MAX_BODY_BYTES}
 use Rattle.stream_codec.specs.Message.{Acknowledged, IsSent, sent_of_frame, sent_text}

@@ -10,7 +10,7 @@ use Rattle.model.specs.Standing.{Holder}
 use Rattle.mv_keyspace.specs.Table.{Table, records}
 use Rattle.machine.specs.declared.event.Event.TheVariants.{Apply}
 use Rattle.machine.specs.Event.{Acknowledgement, World, Frame as Sent, Applies, may_happen}
-use Rattle.standby.specs.declared.frame.Ack.{Ack}
+use Rattle.frames.specs.declared.ack.Ack.{Ack}
 use Rattle.standby.specs.Following.{Follows}
 use Rattle.world.specs.Committing.{EngineStands, IsDown, Moves}
 use Rattle.world.specs.Link.{AreFramesRead, AreAcksSent}

@@ -14,13 +14,14 @@ ghost use Rattle.world.specs.Link.{AreFramesSent};
 ghost use Rattle.world.specs.Step.{AcksBy, AddsMessage};
 ghost use Rattle.world.specs.Standby.{StandbyStands, ArrivalsRefine, AppliesFirst, node_at, told_by};
 
-use crate::wire::{ACK_BYTES, decode, encode, encode_ack};
+use crate::wire::{decode, encode_ack, encode_ack_in};
+use frames::{Ack, Frame};
 use kv_types::Refusal;
 use mv_keyspace::Keyspace;
-use standby::{Ack, Frame, Standby};
+use standby::Standby;
 use std::alloc::Global;
 use std::collections::VecDeque;
-use stream_codec::Message;
+use stream_codec::{ACK_BYTES, Message};
 use wbl_engine::Durable;
 
 /// Frames on their way into the standby, and acknowledgements on their way out.
@@ -58,7 +59,7 @@ impl Arrivals {
             → ArrivalsRefine epoch w.primary.calls self.new w.standby.waiting (w.wire.acknowledgements ++ acknowledgement_of w.standby ∷ [])) }
         ensures cause { IfErr result (λ refusal. refusal ≡ Refusal.Memory) }
     {
-        let bytes = encode(alloc, &Message::Ack(ack))?;
+        let bytes = encode_ack(alloc, ack)?;
         self.acknowledgements.push(bytes)?;
         Ok(())
     }
@@ -134,7 +135,9 @@ impl Arrivals {
         let room = Vec::with_capacity(alloc, ACK_BYTES)?;
         self.acknowledgements.reserve(1)?;
         match standby.on_frame(alloc, frame) {
-            Ok(ack) => self.acknowledgements.push_reserved(encode_ack(ack, room)),
+            Ok(ack) => self
+                .acknowledgements
+                .push_reserved(encode_ack_in(ack, room)),
             Err(refusal) if goes_on(refusal) => {}
             Err(refusal) => return Err(refusal),
         }

@@ -1,6 +1,6 @@
 //! A pair of nodes with their connections, one event at a time.
 ghost use Rattle.std.specs.Prelude.{◌≡◌, ◌<◌, ◌≤◌, [], Ok, None, Some, true, IfErr, IfOk};
-ghost use Rattle.standby.specs.declared.frame.Frame.{Frame};
+ghost use Rattle.frames.specs.declared.frame.Frame.{Frame};
 ghost use Rattle.standby_stream.specs.Delta.{IsDelta};
 ghost use Rattle.machine.specs.declared.event.Event.TheVariants as events;
 ghost use Rattle.machine.specs.declared.event.Node.TheVariants as nodes;
@@ -15,6 +15,7 @@ use crate::restarting::{Serving, restart_primary};
 use crate::wire::{decode, pass};
 use bytes::Bytes;
 use connections::Sessions;
+use frames::Frame;
 use group_commit::{Committer, Done, Stage};
 use kv_types::Refusal;
 use machine::{Event, Mark, Node};
@@ -24,7 +25,7 @@ use pipes::LocalPipe;
 use primary::close_next;
 use redis_core::Sequencer;
 use reply_gate::Seen;
-use standby::{Frame, Standby};
+use standby::Standby;
 use standby_stream::{Link, Opening, delta};
 use std::alloc::Global;
 use std::collections::VecDeque;
@@ -303,7 +304,7 @@ impl<E: Restarting, K: Keyspace + Drop> Pair<E, K> {
         ensures leaves { Leaves events.OpenLink result (⟦<Pair<E, K> as Stepper>⟧.parts self.old) (⟦<Pair<E, K> as Stepper>⟧.parts self.new) }
     {
         let ack = self.standby.ack();
-        let delta = due_delta(self.alloc, &self.link, &self.opening, ack.position)?;
+        let delta = due_delta(self.alloc, &self.link, &self.opening, ack.position())?;
         self.arrivals.acknowledge(self.alloc, ack)?;
         self.link.reopen(delta);
         Ok(true)
@@ -316,7 +317,7 @@ impl<E: Restarting, K: Keyspace + Drop> Pair<E, K> {
         let Some(delta) = self.link.take_delta() else {
             return self.send_group();
         };
-        pass(self.alloc, &mut self.frames, delta)?;
+        pass(self.alloc, &mut self.frames, &delta)?;
         Ok(true)
     }
 
@@ -329,8 +330,7 @@ impl<E: Restarting, K: Keyspace + Drop> Pair<E, K> {
         let Some(index) = self.link.next_frame(self.alloc, &mut self.handed)? else {
             return Ok(false);
         };
-        let frame = self.link.frame(index).clone()?;
-        pass(self.alloc, &mut self.frames, frame)?;
+        pass(self.alloc, &mut self.frames, self.link.frame(index))?;
         Ok(true)
     }
 

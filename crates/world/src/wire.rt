@@ -3,21 +3,28 @@ ghost use Rattle.std.specs.Prelude.{◌≡◌, ◌≤◌, ℕ, [], ◌∷◌, �
 ghost use Rattle.std.specs.Global.{Global};
 ghost use Rattle.stream_codec.specs.Message.{Sent, IsSent, IsWithinLimits, sent_of, sent_of_ack, sent_of_frame, sent_text};
 
+use frames::{Ack, Frame};
 use kv_types::Refusal;
-use standby::{Ack, Frame};
 use std::alloc::{AllocError, Global};
-use stream_codec::{Decoder, Message, write_frame};
+use stream_codec::{ACK_BYTES, Decoder, Message, write_ack, write_group};
 
-/// How many bytes an acknowledgement has.
-pub(crate) const ACK_BYTES: usize = 1 + 8 + 8;
-
-/// The bytes of a message.
-pub(crate) fn encode(alloc: Global, message: &Message) -> Result<Vec<u8>, AllocError>
-    ensures text { IfOk result (λ bytes. bytes.items ≡ sent_text (sent_of message.now)) }
-    ensures within { OnOk result (IsWithinLimits (sent_of message.now)) }
+/// The bytes of an acknowledgement.
+pub(crate) fn encode_ack(alloc: Global, ack: Ack) -> Result<Vec<u8>, AllocError>
+    ensures text { IfOk result (λ bytes. bytes.items ≡ sent_text (sent_of_ack ack)) }
+    ensures within { OnOk result (IsWithinLimits (sent_of_ack ack)) }
 {
     let mut bytes = Vec::new(alloc);
-    write_frame(message, &mut bytes)?;
+    write_ack(ack, &mut bytes)?;
+    Ok(bytes)
+}
+
+/// The bytes of a frame.
+fn encode_frame(alloc: Global, frame: &Frame) -> Result<Vec<u8>, AllocError>
+    ensures text { IfOk result (λ bytes. bytes.items ≡ sent_text (sent_of_frame frame.now)) }
+    ensures within { OnOk result (IsWithinLimits (sent_of_frame frame.now)) }
+{
+    let mut bytes = Vec::new(alloc);
+    write_group(frame, &mut bytes)?;
     Ok(bytes)
 }
 
@@ -26,26 +33,26 @@ pub(crate) fn encode(alloc: Global, message: &Message) -> Result<Vec<u8>, AllocE
 /// # Errors
 ///
 /// Only `Memory`.
-pub(crate) fn pass(alloc: Global, frames: &mut Vec<Vec<u8>>, frame: Frame) -> Result<(), Refusal>
-    ensures passes { OnOk result ((bytes : Vec ℕ Global) × (bytes.items ≡ sent_text (sent_of_frame frame)) × IsWithinLimits (sent_of_frame frame)
+pub(crate) fn pass(alloc: Global, frames: &mut Vec<Vec<u8>>, frame: &Frame) -> Result<(), Refusal>
+    ensures passes { OnOk result ((bytes : Vec ℕ Global) × (bytes.items ≡ sent_text (sent_of_frame frame.now)) × IsWithinLimits (sent_of_frame frame.now)
         × (frames.new.items ≡ frames.old.items ++ bytes ∷ [])) }
     ensures kept { OnErr result (frames.new.items ≡ frames.old.items) }
     ensures cause { IfErr result (λ refusal. refusal ≡ Refusal.Memory) }
 {
-    let bytes = encode(alloc, &Message::Group(frame))?;
+    let bytes = encode_frame(alloc, frame)?;
     frames.push(bytes)?;
     Ok(())
 }
 
 /// The bytes of an acknowledgement, in room that was made for them.
-pub(crate) fn encode_ack(ack: Ack, room: Vec<u8>) -> Vec<u8>
+pub(crate) fn encode_ack_in(ack: Ack, room: Vec<u8>) -> Vec<u8>
     requires empty { room.items ≡ [] }
     requires fits { ACK_BYTES ≤ vec_capacity room }
     ensures text { result.items ≡ sent_text (sent_of_ack ack) }
     ensures may { IsSent (sent_of_ack ack) }
 {
     let mut bytes = room;
-    write_frame(&Message::Ack(ack), &mut bytes).unwrap();
+    write_ack(ack, &mut bytes).unwrap();
     bytes
 }
 

@@ -1,6 +1,6 @@
 use Rattle.std.proofs.Common.{subst}
 use Rattle.std.specs.Io.KnownBytes.{Appends}
-use Rattle.standby.specs.declared.frame.Ack.{Ack}
+use Rattle.frames.specs.declared.ack.Ack.{Ack}
 use Rattle.links.specs.Serving.{ack_text}
 use Rattle.links.proofs.following.serve_link.Goals as goal
 

@@ -39,9 +39,9 @@ free_ended-requires-clause-durable g c = c.in_ok-ack.ensures.durable (λ is. cc)
 -- the frame moved the standby
 next : (g : Over) (c : After-only_fault g) → IsTakenNext (g.E.Durable.contents c.args.self.now.engine).current c.args.frame.now
 next g c =
-    next-of_moved (g.E.Durable.contents c.args.self.now.engine).current c.args.frame.now c.position-position.result c.in_ok-ack.ack.position
+    next-of_moved (g.E.Durable.contents c.args.self.now.engine).current c.args.frame.now c.position-position.result c.position.result
     (λ (s : Standby g.row.E.Denot g.row.K.Denot g.row.E-Device.Denot). (g.E.Durable.contents s.engine).current.position) c.args.self.now c.take_frame.new.self
-    c.position-position.ensures c.in_ok-ack.ensures.one_epoch.2 c.if-ack-position.false c.in_ok-ack.ensures.answers
+    c.position-position.ensures (c.position.ensures ∙ c.in_ok-ack.ensures.one_epoch.2) c.if-position.false c.in_ok-ack.ensures.answers
 
 -- the engine held the whole frame
 whole : (g : Over) (c : After-only_fault g)

@@ -7,8 +7,8 @@ use Rattle.model.specs.Call.{is_nonempty}
 use Rattle.machine.specs.declared.event.Event.TheVariants.{Apply}
 use Rattle.machine.specs.Event.{World, Frame as Sent, Acknowledgement, without_first}
 use Rattle.machine.specs.Sound.{Sound}
-use Rattle.standby.specs.declared.frame.Ack.{Ack}
-use Rattle.standby.specs.declared.frame.Frame.{Frame}
+use Rattle.frames.specs.declared.ack.Ack.{Ack}
+use Rattle.frames.specs.declared.frame.Frame.{Frame}
 use Rattle.standby.specs.declared.standby.Standby.{Standby}
 use Rattle.standby.specs.Following.{HasFreed}
 use Rattle.world.specs.declared.arrivals.Arrivals.{Arrivals}
@@ -94,12 +94,12 @@ returns-clause-applies g c =
           let one = first g prefix w' arrives in
           let ack = w.in-Ok.ack in
           let acks = w'.wire.acknowledgements in
-          let written : new.acknowledgements.items ≡ c.args.self.now.acknowledgements.items ++ w.encode_ack.result ∷ [] =
-          ap (λ (a : Arrivals). a.acknowledgements.items) w.self-is ∙ w.push_reserved.ensures.items ∙ ap (λ (texts : List (Vec ℕ Global)). texts ++ w.encode_ack.result ∷ []) c.in_ok-reserve.ensures.items in
+          let written : new.acknowledgements.items ≡ c.args.self.now.acknowledgements.items ++ w.encode_ack_in.result ∷ [] =
+          ap (λ (a : Arrivals). a.acknowledgements.items) w.self-is ∙ w.push_reserved.ensures.items ∙ ap (λ (texts : List (Vec ℕ Global)). texts ++ w.encode_ack_in.result ∷ []) c.in_ok-reserve.ensures.items in
           applies holder epoch w' frame (told_by ack ∷ []) c.args.self.now new (node g c.args.standby.now) (node g c.on_frame.new.self)
           (c.pop_front.ensures.rest ∙ ap (λ (a : Arrivals). drop 1 a.delivered.items) w.self-is)
           (subst (λ (texts : List (Vec ℕ Global)). AreAcksSent texts (acks ++ told_by ack ∷ [])) (sym written)
-          (AreAcksSent-push c.args.self.now.acknowledgements.items acks w.encode_ack.result (told_by ack) arrives.acknowledged (record { text = w.encode_ack.ensures.text; may = w.encode_ack.ensures.may }))) one
+          (AreAcksSent-push c.args.self.now.acknowledgements.items acks w.encode_ack_in.result (told_by ack) arrives.acknowledged (record { text = w.encode_ack_in.ensures.text; may = w.encode_ack_in.ensures.may }))) one
           (takes_ok holder epoch w'.primary.calls (without_first w'.standby) frame one.span (node g c.args.standby.now) (node g c.on_frame.new.self) one.epoch_is epochs one.is stands ack (told g prefix (Ok ack) w.in-Ok.is))
       | in-Err w ↦ λ holder w' sound epochs arrives stands.
           let one = first g prefix w' arrives in
@@ -167,8 +167,8 @@ returns-clause-acknowledged g c =
     elim c.match-on_frame.branch [
       | in-Ok w ↦
           inl (
-            w.encode_ack.result,
-            ap (λ (a : Arrivals). a.acknowledgements.items) w.self-is ∙ w.push_reserved.ensures.items ∙ ap (λ (texts : List (Vec ℕ Global)). texts ++ w.encode_ack.result ∷ []) c.in_ok-reserve.ensures.items,
+            w.encode_ack_in.result,
+            ap (λ (a : Arrivals). a.acknowledgements.items) w.self-is ∙ w.push_reserved.ensures.items ∙ ap (λ (texts : List (Vec ℕ Global)). texts ++ w.encode_ack_in.result ∷ []) c.in_ok-reserve.ensures.items,
           )
       | in-Err w ↦ inr (ap (λ (a : Arrivals). a.acknowledgements.items) w.self-is ∙ c.in_ok-reserve.ensures.items)
     ]
@@ -184,8 +184,8 @@ returns-clause-answered g c =
     (λ next. elim c.match-on_frame.branch [
       | in-Ok w ↦
           inl (
-            w.encode_ack.result,
-            ap (λ (a : Arrivals). a.acknowledgements.items) w.self-is ∙ w.push_reserved.ensures.items ∙ ap (λ (texts : List (Vec ℕ Global)). texts ++ w.encode_ack.result ∷ []) c.in_ok-reserve.ensures.items,
+            w.encode_ack_in.result,
+            ap (λ (a : Arrivals). a.acknowledgements.items) w.self-is ∙ w.push_reserved.ensures.items ∙ ap (λ (texts : List (Vec ℕ Global)). texts ++ w.encode_ack_in.result ∷ []) c.in_ok-reserve.ensures.items,
           )
       | in-Err w ↦
           refused-full c.on_frame.result w.in-Err.refusal w.in-Err.is (w.goes_on.ensures.0 w.if-goes_on.true) (c.on_frame.ensures.causes next)

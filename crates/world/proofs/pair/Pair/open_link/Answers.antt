@@ -1,7 +1,7 @@
-use Rattle.std.proofs.Common.{◌≡◌, ◌∙◌}
+use Rattle.std.proofs.Common.{◌≡◌, ◌∙◌, ℕ, subst}
 use Rattle.std.proofs.lemmas.Result.{err_from_is_err_and}
 use Rattle.kv_types.specs.declared.refusal.Refusal.TheVariants.{Memory}
-use Rattle.world.proofs.PairStandby.{due_so, open-does, open-cut}
+use Rattle.world.proofs.PairStandby.{IsDue, due_so, open-does, open-cut}
 use Rattle.world.proofs.pair.Pair.open_link.Goals as goal
 
 pub returns-in_err-delta-clause-does : goal.returns-in_err-delta-clause-does
@@ -18,4 +18,5 @@ returns-in_err-acknowledge-clause-does g c =
 pub returns-clause-does : goal.returns-clause-does
 returns-clause-does g c =
     open-does _ c.acknowledge.new.self c.reopen.new.self c.ack-ack.result c.in_ok-delta.delta c.requires.follows c.ack-ack.ensures c.in_ok-acknowledge.ensures.stands
-    (due_so _ _ _ c.in_ok-delta.delta c.due_delta.result c.in_ok-delta.was c.due_delta.ensures.due c.due_delta.ensures.none) c.reopen.ensures
+    (subst (λ (position : ℕ). IsDue c.args.self.now.link.epoch c.args.self.now.opening position c.in_ok-delta.delta) c.position.ensures
+    (due_so _ _ _ c.in_ok-delta.delta c.due_delta.result c.in_ok-delta.was c.due_delta.ensures.due c.due_delta.ensures.none)) c.reopen.ensures

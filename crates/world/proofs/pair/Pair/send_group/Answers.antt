@@ -28,18 +28,6 @@ returns-in_default-clause-does g c =
     record { again = c.next_frame.ensures.again; full = c.next_frame.ensures.full; next = c.next_frame.ensures.next; refused = c.next_frame.ensures.refused } in
     send-none _ waiting link (subst (λ (r : Result (Option ℕ) Refusal). Answers old.link old.handed r link waiting) (c.in_ok-index.was ∙ ap Ok c.in_default.is) told) c.requires.none_before
 
-pub returns-in_err-frame-clause-does : goal.returns-in_err-frame-clause-does
-returns-in_err-frame-clause-does g c =
-    let old = c.args.self.now in
-    let link = c.next_frame.new.self in
-    let waiting = c.next_frame.new.groups in
-    let exit = err_from_is_err_and c.from_residual-in_err-frame.result c.from_residual-in_err-frame.ensures.1 in
-    let told : Answers old.link old.handed c.next_frame.result link waiting =
-    record { again = c.next_frame.ensures.again; full = c.next_frame.ensures.full; next = c.next_frame.ensures.next; refused = c.next_frame.ensures.refused } in
-    let answers = subst (λ (r : Result (Option ℕ) Refusal). Answers old.link old.handed r link waiting) (c.in_ok-index.was ∙ ap Ok c.in-Some.is) told in
-    send-cut _ waiting link _ c.from_residual-in_err-frame.result exit.0 exit.1 exit.2
-    (λ w legal stands. (sends w.primary.calls old.link old.handed old.remote w.primary.link legal stands c.requires.none_before (Ok (Some c.in-Some.index)) link waiting answers).may)
-
 pub returns-in_err-pass-clause-does : goal.returns-in_err-pass-clause-does
 returns-in_err-pass-clause-does g c =
     let old = c.args.self.now in
@@ -61,4 +49,4 @@ returns-clause-does g c =
     record { again = c.next_frame.ensures.again; full = c.next_frame.ensures.full; next = c.next_frame.ensures.next; refused = c.next_frame.ensures.refused } in
     let answers = subst (λ (r : Result (Option ℕ) Refusal). Answers old.link old.handed r link waiting) (c.in_ok-index.was ∙ ap Ok c.in-Some.is) told in
     let passed = c.in_ok-pass.ensures.passes in
-    send-does _ waiting link c.in-Some.index c.frame.result.now c.in_ok-frame.frame passed.0 c.pass.new.frames.items answers c.frame.ensures c.in_ok-frame.ensures.cases passed.1 passed.2 passed.3 c.requires.none_before
+    send-does _ waiting link c.in-Some.index c.frame.result.now passed.0 c.pass.new.frames.items answers c.frame.ensures passed.1 passed.2 passed.3 c.requires.none_before

@@ -1,0 +1,10 @@
+-- What a copy of a frame is.
+use Rattle.std.specs.Prelude.{◌≡◌}
+use Rattle.frames.specs.declared.frame.Frame.{Frame}
+
+-- the second says what the first says
+pub record IsCopy (frame copy : Frame) : Type 0 where
+  pub epoch : copy.epoch ≡ frame.epoch
+  pub before : copy.before ≡ frame.before
+  pub after : copy.after ≡ frame.after
+  pub changes : copy.changes.items ≡ frame.changes.items

@@ -1,0 +1,74 @@
+//! A standby that is made of its image.
+ghost use Rattle.std.specs.Prelude.{◌≡◌, ◌⊎◌, ℕ, false, IfOk, IfErr};
+ghost use Rattle.kv_types.specs.declared.refusal.Refusal.TheVariants.{Fault, Memory};
+ghost use Rattle.model.specs.declared.record.Role.TheVariants as role;
+ghost use Rattle.model.specs.Group.{Contents};
+ghost use Rattle.pmem.specs.Device.{Only};
+ghost use Rattle.pmem.specs.Crash.{image_of};
+ghost use Rattle.placing.specs.Read.{AreOf};
+ghost use Rattle.wbl_engine.specs.Contents.{IsDurable};
+ghost use Rattle.wbl_engine.specs.Reopening.{RefusesReopening};
+ghost use Rattle.standby.specs.Following.{Follows};
+ghost use Rattle.standby.specs.Restarting.{IsReopened};
+
+use crate::standby::Standby;
+use kv_types::Refusal;
+use mv_keyspace::Keyspace;
+use placing::{Rebuilt, rebuild};
+use pmem::Pmem;
+use std::alloc::Global;
+use wbl_engine::{Durable, Role, Versions, WblEngine};
+
+/// Opens a standby's image again: its keyspace and its heap are made of the versions that are there. Those that have ended are listed, and freed
+/// with the next frame.
+///
+/// # Errors
+///
+/// As at `WblEngine::reopen`, and `Memory` also after it: the image is the reopened one then.
+pub fn open<P: Pmem + Drop, K: Keyspace + Drop>(
+    alloc: Global,
+    device: P,
+) -> Result<Standby<WblEngine<P>, K>, Refusal>
+    requires settled { (word : ℕ) → Only ((P.state device).words word) (image_of (P.state device).words word) }
+    ensures reopens { IfOk result (λ node. IsReopened (P.state device).lines (image_of (P.state device).words) role.Standby
+        (⟦<WblEngine<P> as Durable>⟧.contents node.engine)) }
+    ensures follows { IfOk result (λ node. Follows (⟦<WblEngine<P> as Durable>⟧.contents node.engine) (K.table node.keyspace) node.heap node.ended.items) }
+    ensures durable { IfOk result (λ node. IsDurable (⟦<WblEngine<P> as Durable>⟧.device node.engine) (⟦<WblEngine<P> as Durable>⟧.contents node.engine)) }
+    ensures sound { IfOk result (λ node. ⟦<WblEngine<P> as Durable>⟧.is_faulted node.engine ≡ false) }
+    ensures refused { IfErr result (λ refusal. (refusal ≡ Fault) ⊎ ((refusal ≡ Memory)
+        ⊎ RefusesReopening (P.state device).lines (image_of (P.state device).words) role.Standby refusal)) }
+{
+    match WblEngine::reopen(alloc, device, Role::Standby) {
+        Ok((engine, versions)) => {
+            let (keyspace, room) = read_back(alloc, engine.lines(), versions)?;
+            Ok(Standby::new(engine, keyspace, room))
+        }
+        Err((refusal, _device)) => Err(refusal),
+    }
+}
+
+/// The keyspace of an image of `lines` lines, and its free room, made of the versions that were read of it.
+///
+/// # Errors
+///
+/// Only `Memory`.
+pub(crate) fn read_back<K: Keyspace + Drop>(
+    alloc: Global,
+    lines: u64,
+    versions: Versions,
+) -> Result<(K, Rebuilt), Refusal>
+    requires { (contents : Contents) × (contents.lines ≡ lines) × AreOf contents versions.counted.items versions.gapped.items }
+    ensures follows { IfOk result (λ made. (contents : Contents) → contents.lines ≡ lines → AreOf contents versions.counted.items versions.gapped.items
+        → Follows contents (K.table made.0) made.1.heap made.1.ended.items) }
+    ensures cause { IfErr result (λ refusal. refusal ≡ Memory) }
+{
+    let mut keyspace = K::empty(alloc);
+    let room = rebuild(
+        alloc,
+        &mut keyspace,
+        lines,
+        versions.counted,
+        &versions.gapped,
+    )?;
+    Ok((keyspace, room))
+}
