@@ -1,4 +1,3 @@
 pub mod CarriesLemmas
 pub mod OutboxLemmas
-pub mod ParserLemmas
 pub mod ReadingLemmas

@@ -1,20 +1,16 @@
 //! From a connection's bytes to the items of its ring.
-ghost use Rattle.std.specs.Prelude.{◌≡◌, ℕ, List, [], ◌++◌, ◌∷◌, true, false, length, IfOk, OnOk, OnErr, IfErr};
+ghost use Rattle.std.specs.Prelude.{◌≡◌, ℕ, List, [], ◌++◌, ◌∷◌, false, length, IfOk, OnOk, OnErr, IfErr};
 ghost use Rattle.std.specs.Io.KnownBytes.{Consumes, IsAtEnd};
-ghost use Rattle.std.specs.List.{list_any};
 ghost use Rattle.kv_types.specs.declared.item.Item.{Item};
-ghost use Rattle.model.specs.Call.{up_to_closing};
-ghost use Rattle.model.specs.Command.{closes};
-ghost use Rattle.resp_codec.specs.Parsing.{fed, ahead};
+ghost use Rattle.inbound.specs.ToCome.{with_piece, GivesAll};
 ghost use Rattle.clients.specs.Asked.{asked_by};
 
 use crate::broken_off::BrokenOff;
 use crate::post::Post;
 use bytes::{Bytes, BytesMut};
+use inbound::Inbound;
 use kv_types::Item;
-use model::closes;
 use pipes::Outlet;
-use resp_codec::Parser;
 use std::alloc::Global;
 use std::io::Read;
 use std::sync::Wait;
@@ -45,13 +41,13 @@ pub fn read_requests<R: Wait + Clock, S: Read, O: Outlet<Item = Item>>(
     ensures same { O.is_same outlet.old outlet.new }
 {
     let mut input = BytesMut::with_capacity(alloc, BLOCK_BYTES)?;
-    let mut parser = Parser::new(alloc);
+    let mut inbound = Inbound::new(alloc);
     for _ in rt.forever() {
         let piece = read_piece(stream, &mut input)?;
         if piece.is_empty() {
             return Ok(false);
         }
-        if take_piece(rt, &mut parser, piece, outlet, post)? {
+        if take_piece(rt, &mut inbound, piece, outlet, post)? {
             return Ok(true);
         }
         post.call(rt);
@@ -74,47 +70,39 @@ fn read_piece<S: Read>(stream: &mut S, input: &mut BytesMut) -> Result<Bytes, Br
     Ok(input.freeze_to(count)?)
 }
 
-/// Feeds a piece to the parser, and offers all that it has ready then.
+/// Feeds a piece, and offers all that it asks for. Says whether an item closed the connection.
 fn take_piece<R: Wait + Clock, O: Outlet<Item = Item>>(
     rt: &R,
-    parser: &mut Parser,
+    inbound: &mut Inbound,
     piece: Bytes,
     outlet: &mut O,
     post: &Post,
 ) -> Result<bool, BrokenOff>
     requires may { (other : O) (item : Item) → O.is_same outlet.old other → O.may_offer other item }
-    ensures offered { OnOk result (O.offered outlet.new ≡ O.offered outlet.old ++ up_to_closing (ahead (fed parser.old piece))) }
-    ensures drained { IfOk result (λ closed. closed ≡ false → ahead parser.new ≡ []) }
-    ensures later { IfOk result (λ closed. closed ≡ false → (more : List ℕ) → ahead (fed (fed parser.old piece) more) ≡ ahead (fed parser.old piece) ++ ahead (fed parser.new more)) }
-    ensures closes { IfOk result (λ closed. closed ≡ list_any closes (ahead (fed parser.old piece))) }
+    ensures gives { OnOk result (GivesAll (O.offered outlet.old) (O.offered outlet.new) (with_piece inbound.old piece) inbound.new) }
+    ensures closed { IfOk result (λ closed. closed ≡ inbound.new.is_closed) }
     ensures same { O.is_same outlet.old outlet.new }
 {
-    parser.feed(piece)?;
-    pass_on(rt, parser, outlet, post)
+    inbound.feed(piece)?;
+    pass_on(rt, inbound, outlet, post)?;
+    Ok(inbound.is_closed())
 }
 
-/// Offers all items that the parser has ready, in order, up to and including one that closes the connection. Says whether there was one.
+/// Offers all items that are to come, in order.
 pub(crate) fn pass_on<R: Wait + Clock, O: Outlet<Item = Item>>(
     rt: &R,
-    parser: &mut Parser,
+    inbound: &mut Inbound,
     outlet: &mut O,
     post: &Post,
-) -> Result<bool, BrokenOff>
+) -> Result<(), BrokenOff>
     requires may { (other : O) (item : Item) → O.is_same outlet.old other → O.may_offer other item }
-    ensures offered { OnOk result (O.offered outlet.new ≡ O.offered outlet.old ++ up_to_closing (ahead parser.old)) }
-    ensures drained { IfOk result (λ closed. closed ≡ false → ahead parser.new ≡ []) }
-    ensures later { IfOk result (λ closed. closed ≡ false → (more : List ℕ) → ahead (fed parser.old more) ≡ ahead parser.old ++ ahead (fed parser.new more)) }
-    ensures closes { IfOk result (λ closed. closed ≡ list_any closes (ahead parser.old)) }
+    ensures gives { OnOk result (GivesAll (O.offered outlet.old) (O.offered outlet.new) inbound.old inbound.new) }
     ensures same { O.is_same outlet.old outlet.new }
 {
-    while let Some(item) = parser.next()? {
-        let is_last = closes(&item);
+    while let Some(item) = inbound.next()? {
         put(rt, outlet, item, post)?;
-        if is_last {
-            return Ok(true);
-        }
     }
-    Ok(false)
+    Ok(())
 }
 
 /// Offers an item, and waits for room where there is none.

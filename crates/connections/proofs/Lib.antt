@@ -1,5 +1,4 @@
-pub mod ParserLemmas
-pub mod InboundLemmas
+pub mod AskingLemmas
 pub mod OutboundLemmas
 pub mod SessionLemmas
 pub mod PositionsLemmas

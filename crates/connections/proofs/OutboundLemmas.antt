@@ -1,11 +1,12 @@
 -- The outbound half of a connection still refines the machine's after each step.
-use Rattle.std.proofs.Common.{◌≡◌, ◌≢◌, ℕ, ◌+◌, ◌++◌, ◌&&◌, Bool, true, false, cond, nat_le, List, [], ◌∷◌, length, take, drop, refl, sym, ap, ap₂, subst, ◌∙◌, append_assoc, append-nil, arith, length-append}
+use Rattle.std.proofs.Common.{◌≡◌, ◌≢◌, ℕ, ◌+◌, ◌++◌, ◌&&◌, Bool, true, false, cond, nat_le, List, [], ◌∷◌, length, take, drop, Option, Some, None, refl, sym, ap, ap₂, subst, ◌∙◌, append_assoc, append-nil, arith, length-append}
 use Rattle.std.proofs.lemmas.List.{take_at, drop_at}
 use Rattle.kv_types.specs.declared.reply.Held.{Held}
 use Rattle.kv_types.specs.Reply.{text_of}
 use Rattle.model.specs.declared.call.Call.{Call}
 use Rattle.model.specs.Call.{is_nonempty}
 use Rattle.machine.specs.Connection.{Outbound as Machine, is_covered, covered_prefix, uncovered_rest, texts_of, held_first, having_released}
+use Rattle.pipes.specs.Waiting.{Waiting, LocalTakes}
 use Rattle.reply_gate.specs.declared.held_text.HeldText.{HeldText}
 use Rattle.reply_gate.specs.Gate.{Held as Gate, is_first_covered, covered_bytes}
 use Rattle.reply_gate.specs.Gate.{is_covered as is_text_covered, uncovered_rest as uncovered_texts}
@@ -101,6 +102,14 @@ pub record Takes (calls : List Call) (made : Made) (rest : List Made) (helds : L
 pub takes-first : (calls : List Call) (made : Made) (rest : List Made) (helds : List Held) → AreMade calls (made ∷ rest) helds → Takes calls made rest helds
 takes-first calls made rest [] are = absurd are
 takes-first calls made rest (held ∷ helds) are = record { first = held; others = helds; all = refl; is = are.0; are = are.1 }
+
+-- it was looked at first, and is taken now
+pub took-first : (before after : Waiting Made) (taken : Option Made) (made : Made) (rest : List Made) → LocalTakes before taken after → before.items ≡ made ∷ rest → before.items ≡ made ∷ after.items
+took-first before after None made rest gives is = cc
+took-first before after (Some item) made rest gives is = gives ∙ ap (λ (x : Made). x ∷ after.items) (first-of item made after.items rest (sym gives ∙ is))
+  where
+    first-of : (x y : Made) (xs ys : List Made) → x ∷ xs ≡ y ∷ ys → x ≡ y
+    first-of x y xs ys e = cc
 
 pub none-made : (calls : List Call) (helds : List Held) → AreMade calls [] helds → helds ≡ []
 none-made calls [] are = refl

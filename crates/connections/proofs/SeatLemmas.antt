@@ -12,14 +12,14 @@ use Rattle.model.proofs.SessionLemmas.{session_of_new}
 use Rattle.machine.specs.declared.event.TheConstants.{SEATS}
 use Rattle.machine.specs.Connection.{Connection as MachineConnection, new_connection, count_open, is_open_at, get_connection, changed_at, left}
 use Rattle.redis_core.specs.Sequencing.{Sequencing, MovesSeat, is_closed}
-use Rattle.connections.specs.declared.inbound.Inbound.{Inbound}
+use Rattle.connections.specs.declared.asking.Asking.{Asking}
 use Rattle.connections.specs.declared.outbound.Outbound.{Outbound}
 use Rattle.connections.specs.declared.connection.Client.{Client}
 use Rattle.connections.specs.declared.connection.Connection.{Connection}
 use Rattle.connections.specs.declared.connection.Connection.TheVariants.{Open, Over}
 use Rattle.connections.specs.declared.sessions.Sessions.{Sessions}
 use Rattle.connections.specs.Going.{Goes}
-use Rattle.connections.specs.Inbound.{InboundRefines}
+use Rattle.connections.specs.Asking.{AskingRefines}
 use Rattle.connections.specs.Outbound.{OutboundRefines}
 use Rattle.connections.specs.Session.{ConnectionRefines, ConnectionsRefine, HasSeat, KeepsSeats, SeatsRefine, SessionsRefine, SeatsFollow, IsListOf, bytes_of, count_seated, count_taken, seat_of, seats_of}
 use Rattle.connections.proofs.SessionLemmas.{ConnectionsRefine-changed, connection-stands, length-connections, room-same}
@@ -190,8 +190,8 @@ seats-pushed : (codes : List Connection) (client : Client) → seats_of (codes +
 seats-pushed codes client = map-append seat_of codes (Open client ∷ [])
 
 -- it took a free seat
-pub seated-goes : (machines : List MachineConnection) (list : List Call) (old new : Sessions) (seat : ℕ) (inbound : Inbound) (outbound : Outbound) {Stayed : Type 0} → SessionsRefine old machines list
-    → Moves old.lobby seat free taken new.lobby → InboundRefines inbound new_connection.inbound → OutboundRefines list outbound new_connection.outbound
+pub seated-goes : (machines : List MachineConnection) (list : List Call) (old new : Sessions) (seat : ℕ) (inbound : Asking) (outbound : Outbound) {Stayed : Type 0} → SessionsRefine old machines list
+    → Moves old.lobby seat free taken new.lobby → AskingRefines inbound new_connection.inbound → OutboundRefines list outbound new_connection.outbound
     → new.connections.items ≡ old.connections.items ++ Open (record { seat = seat; inbound = inbound; outbound = outbound }) ∷ [] → new.calls ≡ old.calls → new.positions ≡ old.positions → new.replies.items ≡ old.replies.items
     → Goes (nat_lt (count_open machines) SEATS) true (SessionsRefine new (machines ++ new_connection ∷ []) list) Stayed
 seated-goes machines list old new seat inbound outbound stand moves inbound_stands outbound_stands connections calls positions replies =
@@ -266,6 +266,33 @@ full-goes machines list old new stand all lobby connections calls positions repl
         positions_room = room-same old new calls positions stand.positions_room;
         no_reply = replies ∙ stand.no_reply;
       };
+    }
+
+-- ---- none enters
+
+set-back : {X : Type 0} (xs : List X) (i : ℕ) (old new : X) → slice_get xs i ≡ Some old → slice_set (slice_set xs i new) i old ≡ xs
+set-back [] i old new was = refl
+set-back (x ∷ xs) zero old new was = ap (λ y. y ∷ xs) (sym (some-same x old was))
+  where
+    some-same : {X : Type 0} (a b : X) → Some a ≡ Some b → a ≡ b
+    some-same a b e = cc
+set-back (x ∷ xs) (suc i) old new was = ap (λ ys. x ∷ ys) (set-back xs i old new was)
+
+-- the seat that was taken is given back
+pub returned-stands : (machines : List MachineConnection) (list : List Call) (old new : Sessions) (between : Book) (seat : ℕ) → Moves old.lobby seat free taken between → (slice_get between.statuses seat ≡ Some taken → Moves between seat taken free new.lobby)
+    → new.connections.items ≡ old.connections.items → new.calls ≡ old.calls → new.positions ≡ old.positions → new.replies.items ≡ old.replies.items → SessionsRefine old machines list → SessionsRefine new machines list
+returned-stands machines list old new between seat moves back connections calls positions replies stand =
+    let returns = back (ap (λ statuses. slice_get statuses seat) moves.becomes ∙ get-set_same old.lobby.statuses seat free taken moves.was) in
+    let same : new.lobby.statuses ≡ old.lobby.statuses =
+    returns.becomes ∙ ap (λ statuses. slice_set statuses seat free) moves.becomes ∙ set-back old.lobby.statuses seat free taken moves.was in
+    record {
+      seats = subst (λ (statuses : List Status). SeatsRefine statuses (seats_of new.connections.items)) (sym same)
+          (subst (λ codes. SeatsRefine old.lobby.statuses (seats_of codes)) (sym connections) stand.seats);
+      connections_stand = subst (λ codes. ConnectionsRefine list codes machines) (sym connections) stand.connections_stand;
+      calls_are = ap (λ (v : Vec Call Global). v.items) calls ∙ stand.calls_are;
+      positions = ap (λ (v : Vec ℕ Global). v.items) positions ∙ stand.positions;
+      positions_room = room-same old new calls positions stand.positions_room;
+      no_reply = replies ∙ stand.no_reply;
     }
 
 -- ---- a connection leaves

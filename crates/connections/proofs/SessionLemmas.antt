@@ -7,7 +7,7 @@ use Rattle.kv_types.specs.declared.reply.Held.{Held}
 use Rattle.model.specs.declared.call.Call.{Call}
 use Rattle.machine.specs.Connection.{Inbound as MachineInbound, Outbound as MachineOutbound, Connection as MachineConnection, is_open_at, get_connection, changed_at, with_inbound, with_outbound}
 use Rattle.machine.proofs.ConnectionLemmas.{get-past}
-use Rattle.connections.specs.declared.inbound.Inbound.{Inbound}
+use Rattle.connections.specs.declared.asking.Asking.{Asking}
 use Rattle.connections.specs.declared.outbound.Made.{Made}
 use Rattle.connections.specs.declared.outbound.Outbound.{Outbound}
 use Rattle.connections.specs.declared.connection.Client.{Client}
@@ -15,7 +15,7 @@ use Rattle.connections.specs.declared.connection.Connection.{Connection}
 use Rattle.connections.specs.declared.connection.Connection.TheVariants.{Open, Over}
 use Rattle.connections.specs.declared.sessions.Sessions.{Sessions}
 use Rattle.connections.specs.Going.{Goes}
-use Rattle.connections.specs.Inbound.{InboundRefines}
+use Rattle.connections.specs.Asking.{AskingRefines}
 use Rattle.connections.specs.Outbound.{IsMade, AreMade, OutboundRefines}
 use Rattle.connections.specs.Session.{ClientRefines, ConnectionRefines, ConnectionsRefine, HasSeat, KeepsSeats, SeatsRefine, SessionsRefine, TellsTheSame, bytes_of, released_of, seat_of, seats_of}
 
@@ -178,9 +178,9 @@ connection-goes test did machines list sessions c old new change within is stand
       };
     }
 
-pub inbound-goes : (test : Bool → Bool) (did : Bool) (machines : List MachineConnection) (list : List Call) (sessions : Sessions) (c : ℕ) (client : Client) (new : Inbound) (change : MachineInbound → MachineInbound)
+pub inbound-goes : (test : Bool → Bool) (did : Bool) (machines : List MachineConnection) (list : List Call) (sessions : Sessions) (c : ℕ) (client : Client) (new : Asking) (change : MachineInbound → MachineInbound)
     → c < length sessions.connections.items → Open client ≡ slice_index_or sessions.connections.items c (Open client) → SessionsRefine sessions machines list
-    → (let machine = (get_connection machines c).inbound in InboundRefines client.inbound machine → Goes (test true) did (InboundRefines new (change machine)) (InboundRefines new machine))
+    → (let machine = (get_connection machines c).inbound in AskingRefines client.inbound machine → Goes (test true) did (AskingRefines new (change machine)) (AskingRefines new machine))
     → let now = with_connection sessions c (Open (record { seat = client.seat; inbound = new; outbound = client.outbound })) in
     Goes (test (is_open_at machines c)) did (SessionsRefine now (changed_at c (with_inbound change) machines) list) (SessionsRefine now machines list)
 inbound-goes test did machines list sessions c client new change within is stand went =
@@ -206,6 +206,26 @@ outbound-goes test did machines list sessions c client new change within is stan
       goes = λ yes_did. record { is_open = stands.is_open; inbound = stands.inbound; outbound = goes.goes yes_did };
       stays = λ not_did. record { is_open = stands.is_open; inbound = stands.inbound; outbound = goes.stays not_did };
     })
+
+-- one of the connections changed, and stands for what it stood for
+client-same : (machines : List MachineConnection) (list : List Call) (sessions : Sessions) (c : ℕ) (old new : Client) → c < length sessions.connections.items → Open old ≡ slice_index_or sessions.connections.items c (Open old) → new.seat ≡ old.seat
+    → (ClientRefines list old (get_connection machines c) → ClientRefines list new (get_connection machines c)) → SessionsRefine sessions machines list → SessionsRefine (with_connection sessions c (Open new)) machines list
+client-same machines list sessions c old new within is seat same stand =
+    (connection-goes (λ b. false) false machines list sessions c old new (λ machine. machine) within is stand seat (λ stands. record { done = refl; goes = λ yes_did. cc; stays = λ not_did. same stands })).stays refl
+
+pub inbound-same : (machines : List MachineConnection) (list : List Call) (sessions : Sessions) (c : ℕ) (client : Client) (new : Asking) → c < length sessions.connections.items → Open client ≡ slice_index_or sessions.connections.items c (Open client)
+    → ((machine : MachineInbound) → AskingRefines client.inbound machine → AskingRefines new machine) → SessionsRefine sessions machines list
+    → SessionsRefine (with_connection sessions c (Open (record { seat = client.seat; inbound = new; outbound = client.outbound }))) machines list
+inbound-same machines list sessions c client new within is same stand =
+    client-same machines list sessions c client (record { seat = client.seat; inbound = new; outbound = client.outbound }) within is refl
+    (λ stands. record { is_open = stands.is_open; inbound = same _ stands.inbound; outbound = stands.outbound }) stand
+
+pub outbound-same : (machines : List MachineConnection) (list : List Call) (sessions : Sessions) (c : ℕ) (client : Client) (new : Outbound) → c < length sessions.connections.items → Open client ≡ slice_index_or sessions.connections.items c (Open client)
+    → ((machine : MachineOutbound) → OutboundRefines list client.outbound machine → OutboundRefines list new machine) → SessionsRefine sessions machines list
+    → SessionsRefine (with_connection sessions c (Open (record { seat = client.seat; inbound = client.inbound; outbound = new }))) machines list
+outbound-same machines list sessions c client new within is same stand =
+    client-same machines list sessions c client (record { seat = client.seat; inbound = client.inbound; outbound = new }) within is refl
+    (λ stands. record { is_open = stands.is_open; inbound = stands.inbound; outbound = same _ stands.outbound }) stand
 
 -- the event is enabled: the connection is open, and so is the rest of the test
 pub enabled-at : (test : Bool → Bool) (machines : List MachineConnection) (list : List Call) (sessions : Sessions) (c : ℕ) (old : Client) → c < length sessions.connections.items → Open old ≡ slice_index_or sessions.connections.items c (Open old)

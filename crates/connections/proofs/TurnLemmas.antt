@@ -18,17 +18,20 @@ use Rattle.machine.specs.declared.event.TheConstants.{PIPE_ITEMS, OPEN_CHANGES}
 use Rattle.machine.specs.Connection.{Inbound as MachineInbound, may_turn, Outbound as MachineOutbound, Connection as MachineConnection, asked, changed_at, get_connection, has_room, is_open_at, taken_first, with_inbound, with_made, with_outbound}
 use Rattle.redis_core.specs.Sequencing.{Sequencing, is_closed, state_of}
 use Rattle.redis_core.specs.Turn.{Answers, call_of}
+use Rattle.inbound.specs.declared.inbound.Inbound.{Inbound}
+use Rattle.inbound.specs.ToCome.{HasGiven}
 use Rattle.connections.specs.declared.connection.Client.{Client}
 use Rattle.connections.specs.declared.connection.Connection.{Connection}
 use Rattle.connections.specs.declared.connection.Connection.TheVariants.{Open}
-use Rattle.connections.specs.declared.inbound.Inbound.{Inbound}
+use Rattle.connections.specs.declared.asking.Asking.{Asking}
 use Rattle.connections.specs.declared.outbound.Made.{Made}
 use Rattle.connections.specs.declared.outbound.Outbound.{Outbound}
 use Rattle.connections.specs.declared.sessions.Sessions.{Sessions}
-use Rattle.connections.specs.Inbound.{HasParsed, InboundRefines}
+use Rattle.connections.specs.Asking.{AskingRefines}
 use Rattle.connections.specs.Outbound.{IsMade, AreMade, GateRefines, OutboundRefines}
 use Rattle.connections.specs.Running.{Runs}
 use Rattle.connections.specs.Session.{ClientRefines, ConnectionRefines, ConnectionsRefine, HasSeat, SeatsRefine, SessionsRefine, SeatsFollow, SequencerRefines, IsListOf, TakesTurn, seat_of, seats_of}
+use Rattle.connections.proofs.AskingLemmas.{same-stands}
 use Rattle.connections.proofs.SessionLemmas.{AreMade-grows, ConnectionsRefine-grows, ConnectionsRefine-replaced, connection-stands, none-open, over-goes, over-shut, room-same, same-seats, with_connection}
 use Rattle.connections.proofs.PositionsLemmas.{positions-pushed}
 use Rattle.connections.proofs.SeatLemmas.{has-at}
@@ -63,7 +66,7 @@ asked-first (a ∷ asked_items) (w ∷ waiting) rest item first is =
     ap (λ x. x ∷ asked_items) (head ∙ same)
 
 -- the first of the items asked for is the first that waits
-pub first-asked : (code : Inbound) (machine : MachineInbound) (item : Item) (rest : List Item) → InboundRefines code machine → code.waiting.items ≡ item ∷ rest → code.asked.items ≡ item ∷ drop 1 code.asked.items
+pub first-asked : (code : Asking) (machine : MachineInbound) (item : Item) (rest : List Item) → AskingRefines code machine → code.waiting.items ≡ item ∷ rest → code.asked.items ≡ item ∷ drop 1 code.asked.items
 first-asked code machine item rest stands is = asked-first code.asked.items machine.waiting rest item stands.first (sym stands.waits ∙ is)
 
 drop-more : (n : ℕ) (xs ys : List Item) (x : Item) → drop n xs ≡ x ∷ ys → drop (suc n) xs ≡ ys
@@ -81,16 +84,16 @@ drop-within (suc n) (y ∷ xs) ys x e = omega (arith, drop-within n xs ys x e)
 take-rest : (xs ys : List Item) (x : Item) → take (length (x ∷ ys)) (x ∷ xs) ≡ x ∷ ys → take (length ys) xs ≡ ys
 take-rest xs ys x e = cc
 
-inbound-taken : (old new : Inbound) (machine : MachineInbound) (item : Item) (rest others : List Item) → InboundRefines old machine → old.waiting.items ≡ item ∷ rest → old.asked.items ≡ item ∷ others
-    → new.parser ≡ old.parser → new.is_closed ≡ old.is_closed → new.asked.items ≡ others → new.waiting.items ≡ rest → InboundRefines new (taken_first machine)
-inbound-taken old new machine item rest others stands is asks parser is_closed asked_now waiting_now =
+inbound-taken : (old new : Asking) (machine : MachineInbound) (item : Item) (rest others : List Item) → AskingRefines old machine → old.waiting.items ≡ item ∷ rest → old.asked.items ≡ item ∷ others
+    → new.source ≡ old.source → new.asked.items ≡ others → new.waiting.items ≡ rest → AskingRefines new (taken_first machine)
+inbound-taken old new machine item rest others stands is asks source asked_now waiting_now =
     let waits : machine.waiting ≡ item ∷ rest = sym stands.waits ∙ is in
     let left : drop 1 machine.waiting ≡ rest = ap (drop 1) waits in
     let kept : drop stands.run (asked machine.fed) ≡ item ∷ others = stands.kept ∙ asks in
     let first : take (length (item ∷ rest)) (item ∷ others) ≡ item ∷ rest = ap₂ (λ (xs ys : List Item). take (length xs) ys) (sym waits) (sym asks) ∙ stands.first ∙ waits in
     record {
-      parsed = λ stays. subst (HasParsed machine.fed) (sym parser) (stands.parsed (sym is_closed ∙ stays));
-      closed = is_closed ∙ stands.closed;
+      given = subst (HasGiven machine.fed) (sym source) stands.given;
+      closed = ap (λ (inbound : Inbound). inbound.is_closed) source ∙ stands.closed;
       run = suc stands.run;
       within = drop-within stands.run (asked machine.fed) others item kept;
       counted = omega (arith, stands.counted, ap length waits, ap length left);
@@ -223,25 +226,12 @@ pub client-stands : (machines : List MachineConnection) (list : List Call) (c : 
     → Open code ≡ slice_index_or sessions.connections.items c (Open code) → ClientRefines list code (get_connection machines c)
 client-stands machines list c sessions code stands lt is = connection-stands list c sessions.connections.items machines (Open code) lt is stands.connections_stand
 
-inbound-same : (old new : Inbound) (machine : MachineInbound) → InboundRefines old machine → new.parser ≡ old.parser → new.is_closed ≡ old.is_closed → new.asked.items ≡ old.asked.items → new.waiting.items ≡ old.waiting.items → InboundRefines new machine
-inbound-same old new machine stands parser is_closed asked_same waiting_same = record {
-  parsed = λ stays. subst (HasParsed machine.fed) (sym parser) (stands.parsed (sym is_closed ∙ stays));
-  closed = is_closed ∙ stands.closed;
-  run = stands.run;
-  within = stands.within;
-  counted = stands.counted;
-  kept = stands.kept ∙ sym asked_same;
-  waits = waiting_same ∙ stands.waits;
-  first = ap (take (length machine.waiting)) asked_same ∙ stands.first;
-}
-
 -- what a turn leaves alone
 pub record LeavesRest (old new : Sessions) (c : ℕ) (code code' : Client) : Type 0 where
   pub lobby : new.lobby ≡ old.lobby
   pub connections : new.connections.items ≡ slice_set old.connections.items c (Open code')
   pub seat : code'.seat ≡ code.seat
-  pub parser : code'.inbound.parser ≡ code.inbound.parser
-  pub is_closed_same : code'.inbound.is_closed ≡ code.inbound.is_closed
+  pub source : code'.inbound.source ≡ code.inbound.source
   pub gate : code'.outbound.gate ≡ code.outbound.gate
   pub seen : code'.outbound.seen ≡ code.outbound.seen
   pub released : code'.outbound.released ≡ code.outbound.released
@@ -267,7 +257,7 @@ no-turn-unserved machines list closed c old new code code' s s' lt is never soun
     let machine = get_connection machines c in
     let at : ClientRefines list code' machine = record {
       is_open = here.is_open;
-      inbound = inbound-same code.inbound code'.inbound machine.inbound here.inbound rest.parser rest.is_closed_same asked_same waiting_same;
+      inbound = same-stands code.inbound code'.inbound machine.inbound here.inbound rest.source asked_same waiting_same;
       outbound = record {
         made = subst (λ (mades : List Made). AreMade list mades machine.outbound.made) (sym made_same) here.outbound.made;
         gate = subst (λ g. GateRefines g machine.outbound) (sym rest.gate) here.outbound.gate;
@@ -310,7 +300,7 @@ turn-taken machines list closed c old new code code' s s' held lt is room sound 
     let at : ClientRefines calls' code' (with_outbound (with_made reply) (with_inbound taken_first machine)) = record {
       is_open = here.is_open;
       inbound = inbound-taken code.inbound code'.inbound machine.inbound runs.item code'.inbound.waiting.items (drop 1 code.inbound.asked.items) here.inbound runs.first asks
-          rest.parser rest.is_closed_same asked_now refl;
+          rest.source asked_now refl;
       outbound = outbound-made list call held.position code.outbound code'.outbound machine.outbound here.outbound (runs.position ∙ after.position)
           (made_now ∙ ap (λ (calls : List Call). code.outbound.made.items ++ record { call = length calls; position = held.position } ∷ []) stands.calls_are) rest.gate rest.released rest.seen;
     } in

@@ -1,5 +1,5 @@
 pub mod Going
-pub mod Inbound
+pub mod Asking
 pub mod Outbound
 pub mod Session
 pub mod Running

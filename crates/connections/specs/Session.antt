@@ -18,7 +18,7 @@ use Rattle.mv_keyspace.specs.Table.{records}
 use Rattle.redis_core.specs.Sequencing.{Expects, IsAheadOf, Sequencing, is_closed}
 use Rattle.machine.specs.Connection.{Connection as MachineConnection, asked, changed_at, get_connection, is_open_at, may_turn, taken_first, with_inbound, with_made, with_outbound}
 use Rattle.machine.specs.Sound.{position_with}
-use Rattle.connections.specs.Inbound.{InboundRefines}
+use Rattle.connections.specs.Asking.{AskingRefines}
 use Rattle.connections.specs.Outbound.{OutboundRefines}
 use Rattle.connections.specs.declared.connection.Client.{Client}
 use Rattle.connections.specs.declared.connection.Connection.{Connection}
@@ -47,7 +47,7 @@ released_of = map bytes_of
 -- an open connection
 pub record ClientRefines (calls : List Call) (code : Client) (machine : MachineConnection) : Type 0 where
   pub is_open : machine.is_open ≡ true
-  pub inbound : InboundRefines code.inbound machine.inbound
+  pub inbound : AskingRefines code.inbound machine.inbound
   pub outbound : OutboundRefines calls code.outbound machine.outbound
 
 -- one that is over: nothing is left of it but what was written to it

@@ -2,7 +2,7 @@
 ghost use Rattle.std.specs.Prelude.{◌≡◌, None};
 ghost use Rattle.connections.specs.Session.{bytes_of, seat_of};
 
-use crate::inbound::Inbound;
+use crate::asking::Asking;
 use crate::outbound::Outbound;
 use pipes::Seat;
 use std::alloc::Global;
@@ -20,7 +20,7 @@ pub enum Connection {
 #[derive(Drop)]
 pub struct Client {
     pub(crate) seat: Seat,
-    pub(crate) inbound: Inbound,
+    pub(crate) inbound: Asking,
     pub(crate) outbound: Outbound,
 }
 

@@ -1,8 +1,8 @@
 //! The connections of clients, from the bytes that come in to those that go out, and the one list of calls that is made of their items.
 #![tactic(auto)]
 
+mod asking;
 mod connection;
-mod inbound;
 mod outbound;
 mod sessions;
 

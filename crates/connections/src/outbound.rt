@@ -46,19 +46,23 @@ impl Outbound {
         })
     }
 
-    /// The gate takes the first reply that waits. Returns whether there was one.
+    /// The gate takes the first reply that waits. Returns whether there was one. Where it is refused the reply waits on.
     pub(crate) fn hold(&mut self, calls: &[Call]) -> Result<bool, Refusal>
         ensures stands { IfOk result (λ did. (machine : Machine) → OutboundRefines calls.now self.old machine → HoldsFirst calls.now self.new did machine) }
         ensures cause { IfErr result (λ refusal. refusal ≡ Refusal.Memory) }
         ensures some { OnErr result (self.old.made.items ≢ []) }
+        ensures same { OnErr result (self.new ≡ self.old) }
         ensures released { self.new.released ≡ self.old.released }
     {
-        let Some(made) = self.made.take() else {
+        let Some(made) = self.made.first() else {
             return Ok(false);
         };
-        if let Some(call) = calls.get(made.call) {
-            self.gate.hold(&call.reply, made.position)?;
-        }
+        // The list has the call of each reply that was made.
+        let Some(call) = calls.get(made.call) else {
+            return Ok(false);
+        };
+        self.gate.hold(&call.reply, made.position)?;
+        let _ = self.made.take();
         Ok(true)
     }
 
@@ -91,6 +95,7 @@ impl Outbound {
         ensures cause { IfErr result (λ refusal. refusal ≡ Refusal.Memory) }
         ensures enough { OnErr result (n ≤ length self.old.gate.pending) }
         ensures released { OnErr result (self.new.released.items ≡ self.old.released.items) }
+        ensures same { OnErr result ((calls : List Call) (machine : Machine) → OutboundRefines calls self.old machine → OutboundRefines calls self.new machine) }
     {
         let pending = self.gate.pending();
         let count = n as usize;

@@ -1,5 +1,5 @@
 //! The connections, and the one list of calls that the sequencer makes of their items.
-ghost use Rattle.std.specs.Prelude.{◌≡◌, ◌≢◌, ℕ, ◌+◌, ◌<◌, ◌≤◌, ◌∷◌, ◌++◌, [], true, false, List, length, None, map, IfOk, IfErr, IfNone, IfSome, IsSome, OnOk, OnErr, slice_index_or, vec_len, vec_capacity};
+ghost use Rattle.std.specs.Prelude.{◌≡◌, ◌≢◌, ℕ, ◌+◌, ◌<◌, ◌≤◌, ◌∷◌, ◌++◌, [], true, false, List, length, None, Some, map, IfOk, IfErr, IfNone, IfSome, IsSome, OnOk, OnErr, slice_index_or, vec_len, vec_capacity};
 ghost use Rattle.kv_types.specs.declared.item.Item.{Item};
 ghost use Rattle.model.specs.declared.call.Call.{Call};
 ghost use Rattle.model.specs.Call.{cut_at};
@@ -7,12 +7,15 @@ ghost use Rattle.model.specs.declared.group.TheConstants.{MAX_PARTS};
 ghost use Rattle.machine.specs.Connection.{Connection as Machine, may_enter, may_feed, may_hold, may_offer, may_release, may_write, is_open_at, new_connection, changed_at, with_inbound, with_outbound, fed_with, offered_next, held_first, having_seen, having_released, written, left};
 ghost use Rattle.redis_core.specs.Sequencing.{MovesSeat, is_closed};
 ghost use Rattle.redis_core.specs.Turn.{call_of};
+ghost use Rattle.multi_watch.specs.Session.{idle_session};
+ghost use Rattle.connections.specs.Asking.{AskingRefines};
 ghost use Rattle.connections.specs.Going.{Goes};
+ghost use Rattle.connections.specs.Outbound.{OutboundRefines};
 ghost use Rattle.connections.specs.Running.{Runs};
 ghost use Rattle.connections.specs.Session.{SessionsRefine, SequencerRefines, SeatsRefine, SeatsFollow, IsListOf, StandsStill, HasSeat, KeepsSeats, AddsOne, TakesTurn, TellsTheSame, positions_of, released_of, seats_of};
 
+use crate::asking::Asking;
 use crate::connection::{Client, Connection};
-use crate::inbound::Inbound;
 use crate::outbound::{Made, Outbound};
 use bytes::Bytes;
 use kv_types::{Held, Item, Refusal};
@@ -106,7 +109,7 @@ impl Sessions {
     ///
     /// # Errors
     ///
-    /// `Memory` alone, where a seat is free and the room of the connection was refused. The list and what was written to the connections are as before.
+    /// `Memory` alone, where a seat is free and the room of the connection was refused. All is as before, in the sequencer too.
     pub fn enter<K: Keyspace>(
         &mut self,
         alloc: Global,
@@ -117,37 +120,46 @@ impl Sessions {
         // The sequencer finds the seat open and its session idle, whatever the connection before left there.
         ensures follow { IfOk result (λ did. (machines : List Machine) (list : List Call) → IsListOf machines list → SessionsRefine self.old machines list
             → SeatsFollow list (seats_of self.old.connections.items) sequencer.old → SeatsFollow list (seats_of self.new.connections.items) sequencer.new) }
+        ensures connections { OnErr result (self.new.connections.items ≡ self.old.connections.items) }
+        ensures unmoved { OnErr result (sequencer.new ≡ sequencer.old) }
         ensures sequencer { (calls : List Call) (closed : ℕ) → SequencerRefines calls closed sequencer.old → SequencerRefines calls closed sequencer.new }
         ensures stands { StandsStill sequencer.old sequencer.new }
+        ensures same { OnErr result ((machines : List Machine) (list : List Call) → SessionsRefine self.old machines list → SessionsRefine self.new machines list) }
         ensures told { OnErr result (TellsTheSame self.old self.new) }
         ensures cause { IfErr result (λ refusal. refusal ≡ Refusal.Memory) }
         ensures enabled { OnErr result ((machines : List Machine) (list : List Call) → SessionsRefine self.old machines list → may_enter machines ≡ true) }
         ensures calls { self.new.calls ≡ self.old.calls }
     {
-        // Where memory is refused the run ends, and the seat with it.
         let Ok(seat) = self.lobby.enter() else {
             return Ok(false);
         };
-        sequencer.open_seat(alloc, &seat)?;
-        self.connections.reserve(1)?;
-        self.connections.push_reserved(Connection::Open(Client {
-            seat,
-            inbound: Inbound::new(alloc)?,
-            outbound: Outbound::new(alloc)?,
-        }));
-        Ok(true)
+        match prepare(alloc, &mut self.connections, &seat, sequencer) {
+            Ok((inbound, outbound)) => {
+                self.connections.push_reserved(Connection::Open(Client {
+                    seat,
+                    inbound,
+                    outbound,
+                }));
+                Ok(true)
+            }
+            Err(refusal) => {
+                self.lobby.leave(seat);
+                Err(refusal)
+            }
+        }
     }
 
     /// Takes a piece of the bytes of connection `c`, any part of its requests, unless an item closed it. Returns whether it did.
     ///
     /// # Errors
     ///
-    /// `Memory` alone, where the connection is open and room for the piece or its items was refused. The list and what was written to the connections are as before.
+    /// `Memory` alone, where the connection is open and room for the piece or its items was refused. All is as before: nothing of the piece is taken.
     pub fn feed(&mut self, c: u64, piece: &Bytes) -> Result<bool, Refusal>
         ensures goes { IfOk result (λ did. (machines : List Machine) (list : List Call) → SessionsRefine self.old machines list
             → Goes (may_feed machines c) did
             (SessionsRefine self.new (changed_at c (with_inbound (fed_with piece.now)) machines) list)
             (SessionsRefine self.new machines list)) }
+        ensures same { OnErr result ((machines : List Machine) (list : List Call) → SessionsRefine self.old machines list → SessionsRefine self.new machines list) }
         ensures told { OnErr result (TellsTheSame self.old self.new) }
         ensures cause { IfErr result (λ refusal. refusal ≡ Refusal.Memory) }
         ensures enabled { OnErr result ((machines : List Machine) (list : List Call) → SessionsRefine self.old machines list → may_feed machines c ≡ true) }
@@ -168,12 +180,13 @@ impl Sessions {
     ///
     /// # Errors
     ///
-    /// `Memory` alone, where there is one and its clone was refused. The list and what was written to the connections are as before.
+    /// `Memory` alone, where there is one and its clone was refused. All is as before.
     pub fn offer(&mut self, c: u64) -> Result<bool, Refusal>
         ensures goes { IfOk result (λ did. (machines : List Machine) (list : List Call) → SessionsRefine self.old machines list
             → Goes (may_offer machines c) did
             (SessionsRefine self.new (changed_at c (with_inbound offered_next) machines) list)
             (SessionsRefine self.new machines list)) }
+        ensures same { OnErr result ((machines : List Machine) (list : List Call) → SessionsRefine self.old machines list → SessionsRefine self.new machines list) }
         ensures told { OnErr result (TellsTheSame self.old self.new) }
         ensures cause { IfErr result (λ refusal. refusal ≡ Refusal.Memory) }
         ensures enabled { OnErr result ((machines : List Machine) (list : List Call) → SessionsRefine self.old machines list → may_offer machines c ≡ true) }
@@ -193,12 +206,13 @@ impl Sessions {
     ///
     /// # Errors
     ///
-    /// `Memory` alone, where there is one and room for its text was refused. The list and what was written to the connections are as before.
+    /// `Memory` alone, where there is one and room for its text was refused. All is as before: the reply waits on.
     pub fn hold(&mut self, c: u64) -> Result<bool, Refusal>
         ensures goes { IfOk result (λ did. (machines : List Machine) (list : List Call) → SessionsRefine self.old machines list
             → Goes (may_hold machines c) did
             (SessionsRefine self.new (changed_at c (with_outbound held_first) machines) list)
             (SessionsRefine self.new machines list)) }
+        ensures same { OnErr result ((machines : List Machine) (list : List Call) → SessionsRefine self.old machines list → SessionsRefine self.new machines list) }
         ensures told { OnErr result (TellsTheSame self.old self.new) }
         ensures cause { IfErr result (λ refusal. refusal ≡ Refusal.Memory) }
         ensures enabled { OnErr result ((machines : List Machine) (list : List Call) → SessionsRefine self.old machines list → may_hold machines c ≡ true) }
@@ -257,12 +271,13 @@ impl Sessions {
     ///
     /// # Errors
     ///
-    /// `Memory` alone, where there are that many and room for them was refused. The list and what was written to the connections are as before.
+    /// `Memory` alone, where there are that many and room for them was refused. All is as before.
     pub fn write(&mut self, c: u64, n: u64) -> Result<bool, Refusal>
         ensures goes { IfOk result (λ did. (machines : List Machine) (list : List Call) → SessionsRefine self.old machines list
             → Goes (may_write machines c n) did
             (SessionsRefine self.new (changed_at c (with_outbound (written n)) machines) list)
             (SessionsRefine self.new machines list)) }
+        ensures same { OnErr result ((machines : List Machine) (list : List Call) → SessionsRefine self.old machines list → SessionsRefine self.new machines list) }
         ensures told { OnErr result (TellsTheSame self.old self.new) }
         ensures cause { IfErr result (λ refusal. refusal ≡ Refusal.Memory) }
         ensures enabled { OnErr result ((machines : List Machine) (list : List Call) → SessionsRefine self.old machines list → may_write machines c n ≡ true) }
@@ -361,6 +376,29 @@ impl Sessions {
     {
         (self.calls, self.connections)
     }
+}
+
+/// Opens a seat in the sequencer, and makes all that a connection in it needs, with room for the connection.
+fn prepare<K: Keyspace>(
+    alloc: Global,
+    connections: &mut Vec<Connection>,
+    seat: &Seat,
+    sequencer: &mut Sequencer<K>,
+) -> Result<(Asking, Outbound), Refusal>
+    ensures opens { OnOk result (MovesSeat sequencer.old seat.now (Some idle_session) sequencer.new) }
+    ensures inbound { IfOk result (λ parts. AskingRefines parts.0 new_connection.inbound) }
+    ensures outbound { IfOk result (λ parts. (list : List Call) → OutboundRefines list parts.1 new_connection.outbound) }
+    ensures connections { connections.new.items ≡ connections.old.items }
+    ensures room { OnOk result (vec_len connections.new < vec_capacity connections.new) }
+    ensures err { OnErr result (sequencer.new ≡ sequencer.old) }
+    ensures cause { IfErr result (λ refusal. refusal ≡ Refusal.Memory) }
+    ensures stands { StandsStill sequencer.old sequencer.new }
+{
+    connections.reserve(1)?;
+    let inbound = Asking::new(alloc)?;
+    let outbound = Outbound::new(alloc)?;
+    sequencer.open_seat(alloc, seat)?;
+    Ok((inbound, outbound))
 }
 
 /// Ends each connection that is open, and gives its seat back.

@@ -8,7 +8,7 @@ ghost use Rattle.resp_codec.specs.Parsing.{fed, ahead, Advances};
 use crate::reading::first_item;
 use bytes::{Bytes, BytesMut};
 use kv_types::{Item, Refusal};
-use std::alloc::Global;
+use std::alloc::{AllocError, Global};
 use std::marker::Model;
 
 /// Reads items from bytes that come in pieces. A clause sees the bytes that were fed and not yet given as items, or `None` once a
@@ -25,6 +25,21 @@ impl Model for Parser {
     ghost Value = { Option (List ℕ) };
 
     ghost view = { λ p. option_map (λ b. b.items) p.unread };
+}
+
+impl Clone for Parser {
+    ghost use Rattle.std.specs.Prelude.{◌≡◌};
+
+    ghost is_clone = { λ parser copy. copy ≡ parser };
+
+    fn clone(&self) -> Result<Parser, AllocError> {
+        let Some(unread) = &self.unread else {
+            return Ok(Parser { unread: None });
+        };
+        let mut copy = BytesMut::new(*unread.allocator());
+        copy.extend_from_slice(unread.as_slice())?;
+        Ok(Parser { unread: Some(copy) })
+    }
 }
 
 impl Parser {

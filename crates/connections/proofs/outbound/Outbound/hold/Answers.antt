@@ -5,14 +5,15 @@ use Rattle.model.specs.declared.call.Call.{Call}
 use Rattle.model.specs.Call.{is_nonempty}
 use Rattle.connections.specs.declared.outbound.Made.{Made}
 use Rattle.connections.specs.Outbound.{AreMade}
-use Rattle.connections.proofs.OutboundLemmas.{Takes, takes-first, gate-holds}
+use Rattle.connections.proofs.OutboundLemmas.{Takes, takes-first, took-first, gate-holds}
 use Rattle.connections.proofs.outbound.Outbound.hold.Goals as goal
 
-pub returns-in_ok-hold-clause-stands : goal.returns-in_ok-hold-clause-stands
-returns-in_ok-hold-clause-stands c = λ machine stands.
+pub returns-clause-stands : goal.returns-clause-stands
+returns-clause-stands c = λ machine stands.
     let calls = c.args.calls.now in
-    let made = c.in-Some.made in
-    let takes : Takes calls made c.take.new.self.items machine.made = takes-first calls made c.take.new.self.items machine.made (subst (λ (xs : List Made). AreMade calls xs machine.made) c.in-Some.ensures stands.made) in
+    let made = c.in-Some.made.now in
+    let takes : Takes calls made c.take.new.self.items machine.made = takes-first calls made c.take.new.self.items machine.made (subst (λ (xs : List Made). AreMade calls xs machine.made)
+    (took-first c.args.self.now.made c.take.new.self c.take.result made c.in-Some.ensures.0 c.take.ensures c.in-Some.ensures.1) stands.made) in
     let same : c.in-Some-get.call.now ≡ takes.is.call = c.in-Some-get.ensures.lookup.1 ∙ get_or_from_slice_get calls made.call takes.is.call c.in-Some-get.call.now takes.is.stands in
     record {
       done = sym (ap is_nonempty takes.all);
@@ -31,8 +32,9 @@ returns-in_ok-hold-clause-stands c = λ machine stands.
 pub returns-in_default-get-clause-stands : goal.returns-in_default-get-clause-stands
 returns-in_default-get-clause-stands c = λ machine stands.
     let calls = c.args.calls.now in
-    let made = c.in-Some.made in
-    let takes : Takes calls made c.take.new.self.items machine.made = takes-first calls made c.take.new.self.items machine.made (subst (λ (xs : List Made). AreMade calls xs machine.made) c.in-Some.ensures stands.made) in
+    let made = c.in-Some.made.now in
+    let rest = c.in-Some.ensures.0 in
+    let takes : Takes calls made rest machine.made = takes-first calls made rest machine.made (subst (λ (xs : List Made). AreMade calls xs machine.made) c.in-Some.ensures.1 stands.made) in
     let within : made.call < length calls = slice_get_within calls made.call takes.is.call takes.is.stands in
     let past : length calls ≤ made.call = c.in_default-get.ensures.lookup.3 in
     absurd (omega arith)

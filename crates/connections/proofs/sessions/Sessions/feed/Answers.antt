@@ -4,7 +4,7 @@ use Rattle.machine.specs.Connection.{fed_with, is_closed_by, get_connection}
 use Rattle.connections.specs.declared.connection.Client.{Client}
 use Rattle.connections.specs.declared.connection.Connection.{Connection}
 use Rattle.connections.specs.declared.connection.Connection.TheVariants.{Open}
-use Rattle.connections.proofs.SessionLemmas.{client-at, client-keeps, over-stays, inbound-goes, none-goes, enabled-at, tells-the-same, on_err_from}
+use Rattle.connections.proofs.SessionLemmas.{client-at, client-keeps, over-stays, inbound-goes, none-goes, enabled-at, inbound-same, tells-the-same, on_err_from}
 use Rattle.connections.proofs.sessions.Sessions.feed.Goals as goal
 
 pub returns-in-Open-clause-goes : goal.returns-in-Open-clause-goes
@@ -15,6 +15,10 @@ returns-in-Open-clause-goes c = IfOk-weaker c.feed.result _ _
     c.in-Some.ensures.item.3.0 (client-at c.args.self.now.connections.items c.args.c c.in-Some.connection.now c.in-Open.client c.in-Some.ensures.value c.in-Open.is) stand
     (λ stands. let went = feeds inbound stands in record { done = went.done; goes = went.taken; stays = went.stays }))
     c.feed.ensures.feeds
+
+pub returns-in-Open-clause-same : goal.returns-in-Open-clause-same
+returns-in-Open-clause-same c = on_err_weaker c.feed.result
+    (λ same. λ machines list stand. inbound-same machines list c.args.self.now c.args.c c.in-Open.client c.feed.new.self c.in-Some.ensures.item.3.0 (client-at c.args.self.now.connections.items c.args.c c.in-Some.connection.now c.in-Open.client c.in-Some.ensures.value c.in-Open.is) same stand) c.feed.ensures.same
 
 pub returns-in-Open-clause-told : goal.returns-in-Open-clause-told
 returns-in-Open-clause-told c =

@@ -1,4 +1,4 @@
-use Rattle.std.proofs.Common.{◌&&◌, List, refl, ap, subst, ◌∙◌}
+use Rattle.std.proofs.Common.{◌&&◌, List, refl, sym, ap, subst, ◌∙◌}
 use Rattle.std.proofs.lemmas.Result.{IfOk-weaker, on_err_weaker}
 use Rattle.model.specs.declared.call.Call.{Call}
 use Rattle.model.specs.Call.{is_nonempty}
@@ -6,8 +6,9 @@ use Rattle.machine.specs.Connection.{held_first, get_connection}
 use Rattle.connections.specs.declared.connection.Client.{Client}
 use Rattle.connections.specs.declared.connection.Connection.{Connection}
 use Rattle.connections.specs.declared.connection.Connection.TheVariants.{Open}
+use Rattle.connections.specs.declared.outbound.Outbound.{Outbound}
 use Rattle.connections.specs.Outbound.{OutboundRefines, HoldsFirst}
-use Rattle.connections.proofs.SessionLemmas.{client-at, client-keeps, over-stays, outbound-goes, none-goes, enabled-at, tells-the-same, on_err_from}
+use Rattle.connections.proofs.SessionLemmas.{client-at, client-keeps, over-stays, outbound-goes, none-goes, enabled-at, outbound-same, tells-the-same, on_err_from}
 use Rattle.connections.proofs.OutboundLemmas.{may-hold}
 use Rattle.connections.proofs.sessions.Sessions.hold.Goals as goal
 
@@ -23,6 +24,10 @@ returns-in-Open-clause-goes c = IfOk-weaker c.hold.result _ _
     (c.as_slice.ensures.value ∙ stand.calls_are) (holds outbound) stands in
     record { done = went.done; goes = went.held; stays = went.stays }))
     c.hold.ensures.stands
+
+pub returns-in-Open-clause-same : goal.returns-in-Open-clause-same
+returns-in-Open-clause-same c = on_err_weaker c.hold.result
+    (λ same. λ machines list stand. outbound-same machines list c.args.self.now c.args.c c.in-Open.client c.hold.new.self c.in-Some.ensures.item.3.0 (client-at c.args.self.now.connections.items c.args.c c.in-Some.connection.now c.in-Open.client c.in-Some.ensures.value c.in-Open.is) (λ machine. subst (λ (code : Outbound). OutboundRefines list code machine) (sym same)) stand) c.hold.ensures.same
 
 pub returns-in-Open-clause-told : goal.returns-in-Open-clause-told
 returns-in-Open-clause-told c =

@@ -1,5 +1,4 @@
-use Rattle.std.proofs.Common.{ap, sym, ◌∙◌, arith}
-use Rattle.connections.specs.Session.{positions_of}
+use Rattle.std.proofs.Common.{◌∙◌, arith}
 use Rattle.connections.proofs.PositionsLemmas.{room-made}
 use Rattle.connections.proofs.sessions.Sessions.make_room.Goals as goal
 

@@ -1,11 +1,13 @@
-use Rattle.std.proofs.Common.{◌&&◌, nat_lt, length, refl}
-use Rattle.std.proofs.lemmas.Result.{IfOk-weaker}
+use Rattle.std.proofs.Common.{◌&&◌, nat_lt, length, refl, sym, subst}
+use Rattle.std.proofs.lemmas.Result.{IfOk-weaker, on_err_weaker}
 use Rattle.machine.specs.Connection.{offered_next, asked, has_room, get_connection}
+use Rattle.connections.specs.Asking.{AskingRefines}
+use Rattle.connections.specs.declared.asking.Asking.{Asking}
 use Rattle.connections.specs.declared.connection.Client.{Client}
 use Rattle.connections.specs.declared.connection.Connection.{Connection}
 use Rattle.connections.specs.declared.connection.Connection.TheVariants.{Open}
-use Rattle.connections.proofs.SessionLemmas.{client-at, client-keeps, over-stays, inbound-goes, none-goes, enabled-at, tells-the-same, on_err_from, on_err_both}
-use Rattle.connections.proofs.InboundLemmas.{may-offer}
+use Rattle.connections.proofs.SessionLemmas.{client-at, client-keeps, over-stays, inbound-goes, none-goes, enabled-at, inbound-same, tells-the-same, on_err_from, on_err_both}
+use Rattle.connections.proofs.AskingLemmas.{may-offer}
 use Rattle.connections.proofs.sessions.Sessions.offer.Goals as goal
 
 pub returns-in-Open-clause-goes : goal.returns-in-Open-clause-goes
@@ -16,6 +18,10 @@ returns-in-Open-clause-goes c = IfOk-weaker c.offer.result _ _
     c.in-Some.ensures.item.3.0 (client-at c.args.self.now.connections.items c.args.c c.in-Some.connection.now c.in-Open.client c.in-Some.ensures.value c.in-Open.is) stand
     (λ stands. let went = offers inbound stands in record { done = went.done; goes = went.offered; stays = went.stays }))
     c.offer.ensures.offers
+
+pub returns-in-Open-clause-same : goal.returns-in-Open-clause-same
+returns-in-Open-clause-same c = on_err_weaker c.offer.result
+    (λ same. λ machines list stand. inbound-same machines list c.args.self.now c.args.c c.in-Open.client c.offer.new.self c.in-Some.ensures.item.3.0 (client-at c.args.self.now.connections.items c.args.c c.in-Some.connection.now c.in-Open.client c.in-Some.ensures.value c.in-Open.is) (λ machine. subst (λ (code : Asking). AskingRefines code machine) (sym same)) stand) c.offer.ensures.same
 
 pub returns-in-Open-clause-told : goal.returns-in-Open-clause-told
 returns-in-Open-clause-told c =

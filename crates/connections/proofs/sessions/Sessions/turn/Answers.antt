@@ -24,11 +24,11 @@ returns-then-len-eq-PIPE_ITEMS-clause-turns g c = λ machines list closed sound 
       | then-len-eq-PIPE_ITEMS-via-then-len-eq-PIPE_ITEMS b ↦
           subst (λ (x : Sessions). TakesTurn machines list closed c.args.c false x s s) (sym b.self-is)
           (no-turn-unserved machines list closed c.args.c old _ code code s s lt (client-at c.args.self.now.connections.items c.args.c c.in-Some.connection.now c.in-Open.client c.in-Some.ensures.value c.in-Open.is) (λ may. absurd (omega (arith, may.room, b.if-len-eq-PIPE_ITEMS.true, c.len.ensures))) sound stands sequencer follow
-          (record { lobby = refl; connections = refl; seat = refl; parser = refl; is_closed_same = refl; gate = refl; seen = refl; released = refl }) refl refl refl refl refl stands.no_reply refl)
+          (record { lobby = refl; connections = refl; seat = refl; source = refl; gate = refl; seen = refl; released = refl }) refl refl refl refl refl stands.no_reply refl)
       | then-len-eq-PIPE_ITEMS-via-else-len-eq-PIPE_ITEMS+then-is_empty b ↦
           subst (λ (x : Sessions). TakesTurn machines list closed c.args.c false x s s) (sym b.self-is)
           (no-turn-unserved machines list closed c.args.c old _ code code s s lt (client-at c.args.self.now.connections.items c.args.c c.in-Some.connection.now c.in-Open.client c.in-Some.ensures.value c.in-Open.is) (λ may. absurd (may.waits (none-wait code.inbound.waiting.items (sym b.is_empty.ensures ∙ b.if-is_empty.true)))) sound stands sequencer follow
-          (record { lobby = refl; connections = refl; seat = refl; parser = refl; is_closed_same = refl; gate = refl; seen = refl; released = refl }) refl refl refl refl refl stands.no_reply refl)
+          (record { lobby = refl; connections = refl; seat = refl; source = refl; gate = refl; seen = refl; released = refl }) refl refl refl refl refl stands.no_reply refl)
     ]
 
 pub returns-in_default-first_reply-clause-turns : goal.returns-in_default-first_reply-clause-turns
@@ -37,7 +37,7 @@ returns-in_default-first_reply-clause-turns g c = λ machines list closed sound 
     let stays = c.in_default-first_reply.ensures.stays stands.no_reply in
     no-turn-unserved machines list closed c.args.c c.args.self.now _ code _ c.args.sequencer.now c.first_reply.new.sequencer c.in-Some.ensures.item.3.0 (client-at c.args.self.now.connections.items c.args.c c.in-Some.connection.now c.in-Open.client c.in-Some.ensures.value c.in-Open.is)
     (λ may. cc (c.in_default-first_reply.ensures.otherwise stands.no_reply may.is_open may.few may.waits)) sound stands sequencer follow
-    (record { lobby = refl; connections = refl; seat = refl; parser = refl; is_closed_same = refl; gate = refl; seen = refl; released = refl })
+    (record { lobby = refl; connections = refl; seat = refl; source = refl; gate = refl; seen = refl; released = refl })
     refl stays.0 refl refl refl (c.in_default-first_reply.ensures.replies stands.no_reply) stays.1
 
 pub returns-clause-turns : goal.returns-clause-turns
@@ -55,7 +55,7 @@ returns-clause-turns g c = λ machines list closed sound stands sequencer follow
     let added = pushed-in-room old.calls old.positions list held.position c.push.result c.push.new.self stands.calls_are stands.positions stands.positions_room c.requires
     c.push.ensures.items c.push.ensures.succeeds c.push.ensures.capacity in
     turn-taken machines list closed c.args.c old _ code _ c.args.sequencer.now c.first_reply.new.sequencer held lt (client-at c.args.self.now.connections.items c.args.c c.in-Some.connection.now c.in-Open.client c.in-Some.ensures.value c.in-Open.is) room sound stands sequencer follow
-    (record { lobby = refl; connections = refl; seat = refl; parser = refl; is_closed_same = refl; gate = refl; seen = refl; released = refl }) runs
+    (record { lobby = refl; connections = refl; seat = refl; source = refl; gate = refl; seen = refl; released = refl }) runs
     written.1 written.2 written.0 added.0 (omega (arith, added.1, c.write_call.ensures.room.room)) (c.in-Some-first_reply.ensures.replies stands.no_reply)
 
 pub returns-in_default-connection-clause-turns : goal.returns-in_default-connection-clause-turns

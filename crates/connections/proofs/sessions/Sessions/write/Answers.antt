@@ -5,7 +5,7 @@ use Rattle.machine.specs.Connection.{written, get_connection}
 use Rattle.connections.specs.declared.connection.Client.{Client}
 use Rattle.connections.specs.declared.connection.Connection.{Connection}
 use Rattle.connections.specs.declared.connection.Connection.TheVariants.{Open}
-use Rattle.connections.proofs.SessionLemmas.{client-at, client-keeps, over-stays, outbound-goes, none-goes, enabled-at, tells-the-same}
+use Rattle.connections.proofs.SessionLemmas.{client-at, client-keeps, over-stays, outbound-goes, none-goes, enabled-at, outbound-same, tells-the-same}
 use Rattle.connections.proofs.sessions.Sessions.write.Goals as goal
 
 pub returns-in-Open-clause-goes : goal.returns-in-Open-clause-goes
@@ -16,6 +16,10 @@ returns-in-Open-clause-goes c = IfOk-weaker c.write.result _ _
     c.in-Some.ensures.item.3.0 (client-at c.args.self.now.connections.items c.args.c c.in-Some.connection.now c.in-Open.client c.in-Some.ensures.value c.in-Open.is) stand
     (λ stands. let went = writes list outbound stands in record { done = went.done; goes = went.out; stays = went.stays }))
     c.write.ensures.stands
+
+pub returns-in-Open-clause-same : goal.returns-in-Open-clause-same
+returns-in-Open-clause-same c = on_err_weaker c.write.result
+    (λ same. λ machines list stand. outbound-same machines list c.args.self.now c.args.c c.in-Open.client c.write.new.self c.in-Some.ensures.item.3.0 (client-at c.args.self.now.connections.items c.args.c c.in-Some.connection.now c.in-Open.client c.in-Some.ensures.value c.in-Open.is) (same list) stand) c.write.ensures.same
 
 pub returns-in-Open-clause-told : goal.returns-in-Open-clause-told
 returns-in-Open-clause-told c =
