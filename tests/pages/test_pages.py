@@ -36,7 +36,7 @@ LIMITS = [
     ("kv_types", "MAX_VALUE_BYTES", "README protocol commands replication"),
     ("model", "MAX_CHANGE_TEXT_BYTES", "README protocol commands worked-cases"),
     ("model", "MAX_PARTS", "promises architecture image replication simulator crates/redis_core"),
-    ("model", "MIN_LINES", "README image replication crates/pmem_file"),
+    ("model", "MIN_LINES", "README image replication worked-cases crates/pmem_file crates/server"),
     ("model", "MAX_LINES", "README image replication crates/pmem_file"),
     ("model", "COUNTER_LIMIT", "README commands promises replication"),
     ("model", "MAGIC", "image"),
@@ -51,13 +51,6 @@ LIMITS = [
     ("pmem_file", "LINES_A_WRITE", "crates/pmem_file"),
     ("simulator", "USUAL_LINES", "simulator"),
     ("simulator", "MOST_EVENTS", "simulator"),
-    ("server", "IMAGE_LINES", "image worked-cases crates/server"),
-    ("server", "MOST_VERSIONS", "README image worked-cases crates/server"),
-    ("server", "PIECE_BYTES", "crates/server"),
-    ("server", "SHORTEST_REQUEST", "crates/server"),
-    ("server", "MOST_CHANGES", "crates/server"),
-    ("server", "ROUND_ITEMS", "crates/server"),
-    ("server", "STRETCH_ROUNDS", "crates/server"),
 ]
 
 

@@ -102,6 +102,8 @@ class Memory(Cases):
 
     REQUESTS = 300 * SET_A + 3_000 * SHORTEST
     REPLIES = 300 * [OK] + 3_000 * [UNKNOWN]
+    # What is ample: each of ten threads takes 8 MiB of addresses for its stack, and some 64 or 128 for its heap.
+    AMPLE = 2**30
 
     def assert_told(self, finished):
         """Either nothing was written and the cause is told, or each request has its reply or was refused memory."""
@@ -117,14 +119,14 @@ class Memory(Cases):
         return None
 
     def test_less_and_less_memory(self):
-        ample = 2**20
-        first = least(lambda pages: serve_within(pages * PAGE, b"").status == 0, 0, ample)
-        whole = b"".join(self.REPLIES)
-        last = least(lambda pages: serve_within(pages * PAGE, self.REQUESTS).output == whole, first, ample)
-        self.assertLess(first, last)
+        """Which thread finds how much left differs from run to run, so the limits go from the least with which the program begins to one
+        that is ample."""
+        last = self.AMPLE // PAGE
+        first = least(lambda pages: serve_within(pages * PAGE, b"").status in (0, FAILED), 0, last)
         told = set()
-        for step in range(25):
-            pages = first + (last - first) * step // 25
+        for step in range(60):
+            pages = int(first * (last / first) ** (step / 60))
             with self.case("limit", pages=pages):
                 told.add(self.assert_told(serve_within(pages * PAGE, self.REQUESTS)))
         self.assertIn(NO_MEMORY, told)
+        self.assert_written(serve_within(self.AMPLE, self.REQUESTS), b"".join(self.REPLIES))

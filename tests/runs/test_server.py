@@ -6,6 +6,7 @@ import plain_redis
 import plain_replies
 import worked_cases as worked
 from common import Cases, run_in_pieces, run_program
+from plain_keyspace import Put
 from spelling import spell
 from worked_cases import GET_A, NULL, OK, ONE, SET_A, SHORTEST, STORE_IS_FULL, UNKNOWN
 
@@ -14,6 +15,8 @@ PROGRAMS = ["server"]
 # The lines of an image, and the versions that it takes.
 LINES = 4_096
 MOST_VERSIONS = 512
+# As many keys as there are versions.
+FULL = b"".join(spell("SET", f"k{number}", "v") for number in range(MOST_VERSIONS))
 
 
 def serve(data):
@@ -57,9 +60,9 @@ class FirstPath(Served):
     def test_no_input(self):
         self.assert_served(b"", b"")
 
-    def test_the_last_entry(self):
-        output = MOST_VERSIONS * OK + STORE_IS_FULL + ONE
-        self.assert_served((MOST_VERSIONS + 1) * SET_A + GET_A, output)
+    def test_more_versions_of_one_key_than_an_image_takes(self):
+        """Each SET ends the version before it, and what has ended is freed."""
+        self.assert_served(4 * MOST_VERSIONS * SET_A + GET_A, 4 * MOST_VERSIONS * OK + ONE)
 
 
 @worked.one_test_for_each(worked.FAULTS, "check_row")
@@ -151,8 +154,11 @@ class Limits(Served):
         self.assert_served(data + spell("SET", "a", 65_535 * "7") + spell("EXISTS", "d", "e"), output + OK + b":0\r\n")
 
     def test_what_makes_no_version_needs_no_room(self):
-        data = MOST_VERSIONS * SET_A + spell("SET", "a", "2") + spell("DEL", "a") + spell("SET", "a", "3") + spell("FLUSHDB")
-        self.assert_served(data + spell("DBSIZE"), MOST_VERSIONS * OK + STORE_IS_FULL + b":1\r\n" + STORE_IS_FULL + OK + b":0\r\n")
+        """Of as many keys as an image takes one is removed, which makes room for one more."""
+        data = FULL + spell("SET", "k0", "2") + spell("DEL", "k0") + spell("SET", "k0", "3") + spell("SET", "k1", "4")
+        data += spell("MGET", "k0", "k1") + spell("FLUSHDB") + spell("DBSIZE")
+        output = MOST_VERSIONS * OK + STORE_IS_FULL + b":1\r\n" + OK + STORE_IS_FULL
+        self.assert_served(data, output + b"*2\r\n$1\r\n3\r\n$1\r\nv\r\n" + OK + b":0\r\n")
 
 
 class Names(Served):
@@ -218,9 +224,29 @@ class Damaged(Served):
         self.check(3)
 
     def test_scripts(self):
-        for seed in range(8):
+        """Those that find room for each version that they write, so that nothing depends on what is freed when."""
+        for seed in (1, 2, 3, 4, 5, 7, 9, 10):
+            data = draws.Script(draws.numbers(f"script {seed}"), 400).text
             with self.case("script", seed=seed):
-                self.assert_plainly_served(draws.Script(draws.numbers(f"script {seed}"), 400).text)
+                self.assertNotIn(STORE_IS_FULL, plain_redis.served(data, plain_image.Room(LINES)))
+                self.assert_plainly_served(data)
+
+    def test_scripts_that_write_more_versions_than_an_image_takes(self):
+        """Of few and short records, so that there is room once what has ended is freed."""
+        for seed in range(4):
+            numbers, redis = draws.numbers(f"long script {seed}"), plain_redis.Redis()
+            rows = [row for row in self.long_script(numbers) if max(map(len, row)) <= 64]
+            with self.case("script", seed=seed):
+                output = b"".join(redis.call(0, row) for row in rows)
+                puts = sum(isinstance(change, Put) for part in redis.parts for change in part)
+                self.assertGreater(puts, MOST_VERSIONS)
+                self.assert_served(b"".join(spell(*row) for row in rows), output)
+
+    def long_script(self, numbers):
+        rows = []
+        while len(rows) < 8_000:
+            rows += draws.transaction(numbers) if numbers.randrange(8) == 0 else [draws.request(numbers, draws.NAMES_THAT_GO_ON)]
+        return rows
 
 
 class Large(Served):
@@ -255,13 +281,13 @@ class Large(Served):
                 self.assertEqual(len(output), length + 5)
                 self.assert_served(data, output)
 
-    def test_as_many_changes_as_versions_can_be_made_and_removed(self):
-        # each version is written and removed: 1,024 changing commands, one after another or 63 requests apart
+    def test_more_versions_made_and_removed_than_an_image_takes(self):
+        # each version is written and removed, one after another or 63 requests apart
         pair = spell("SET", "a", "1") + spell("DEL", "a")
-        self.assert_served(MOST_VERSIONS * pair + SET_A, MOST_VERSIONS * (OK + b":1\r\n") + STORE_IS_FULL)
+        self.assert_served(3 * MOST_VERSIONS * pair + SET_A, 3 * MOST_VERSIONS * (OK + b":1\r\n") + OK)
         apart = 63 * SHORTEST
-        data = MOST_VERSIONS * (SET_A + apart + spell("FLUSHDB") + apart)
-        self.assert_served(data, MOST_VERSIONS * 2 * (OK + 63 * UNKNOWN))
+        data = 2 * MOST_VERSIONS * (SET_A + apart + spell("FLUSHDB") + apart)
+        self.assert_served(data, 2 * MOST_VERSIONS * 2 * (OK + 63 * UNKNOWN))
 
     def test_store_is_full_and_stays_as_it_is(self):
         keys = [b"k%d" % number for number in range(MOST_VERSIONS)]

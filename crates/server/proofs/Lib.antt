@@ -1,5 +1,3 @@
-pub mod FeedingLemmas
-pub mod ScheduleLemmas
-pub mod AnswerLemmas
+pub mod AnsweringLemmas
 pub mod ServingLemmas
 pub mod PrintedLemmas

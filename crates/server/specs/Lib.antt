@@ -1,4 +1,3 @@
-pub mod Schedule
-pub mod Answer
+pub mod Served
 pub mod Printed
 pub mod Told

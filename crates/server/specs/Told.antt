@@ -6,7 +6,7 @@ use Rattle.kv_types.specs.Refusal.{refusal_number, refusal_text}
 use Rattle.model.specs.Image.{Image}
 use Rattle.wbl_engine.specs.Reopening.{RefusesReading}
 use Rattle.server.specs.declared.serve.ServeError.{ServeError}
-use Rattle.server.specs.declared.serve.ServeError.TheVariants.{Random, Read, Refused, Write}
+use Rattle.server.specs.declared.serve.ServeError.TheVariants.{Random, Read, Refused, Socket, Write}
 use Rattle.server.specs.declared.failure.Failure.{Failure}
 use Rattle.server.specs.declared.failure.Failure.TheVariants.{Misused, CannotListen, Stopped}
 
@@ -25,6 +25,7 @@ abbrev pub stop_text : ServeError → Option (List ℕ)
 stop_text (Refused refusal) = Some (codes "refusal " ++ decimal (refusal_number refusal) ++ codes ": " ++ refusal_text refusal ++ newline)
 stop_text (Read error) = None
 stop_text (Random error) = None
+stop_text (Socket error) = None
 stop_text (Write error) = None
 
 -- what is written to standard error, where it is known
@@ -38,6 +39,7 @@ abbrev pub IsReadingRefusal : ServeError → ℕ → Image → (before after : O
 IsReadingRefusal (Refused refusal) lines image before after = RefusesReading lines image refusal × Keeps before after
 IsReadingRefusal (Read error) lines image before after = ⊥
 IsReadingRefusal (Random error) lines image before after = ⊥
+IsReadingRefusal (Socket error) lines image before after = ⊥
 IsReadingRefusal (Write error) lines image before after = ⊤
 
 abbrev pub IsRefusalOf : (lines : ℕ) (image : Image) (before after : Option (List ℕ)) → Failure → Type 0

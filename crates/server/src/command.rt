@@ -1,7 +1,6 @@
 //! What the program does for the words of its command line.
 ghost use Rattle.std.specs.Prelude.{◌≡◌, ◌<◌, ◌≤◌, OnOk, length};
-ghost use Rattle.std.specs.Io.KnownBytes.{IsAtEnd};
-ghost use Rattle.server.specs.Answer.{IsServed};
+ghost use Rattle.server.specs.Served.{IsServed};
 ghost use Rattle.server.specs.Told.{status_after};
 
 use crate::failure::Failure;
@@ -10,12 +9,11 @@ use crate::images::Images;
 use crate::inspecting::inspect;
 use crate::options::{Task, options};
 use crate::promoting::promote;
-use crate::serve::{ServeError, serve};
+use crate::serve::serve;
 use crate::serving_clients::serve_clients;
 use crate::standing_by::stand_by;
 use pmem::Pmem;
 use std::alloc::Global;
-use std::hash::RandomState;
 use std::io::{Read, Write};
 use std::net::{Net, TcpListener, TcpStream};
 use std::random::RandomSource;
@@ -53,7 +51,7 @@ pub fn command<
 ) -> u8
     ensures status { result ≤ 2 }
     ensures served { length words.now ≤ 1 → result ≡ 0
-        → IsServed (R.remaining reader.old) (W.contents writer.old) (W.contents writer.new) }
+        → IsServed (R.remaining reader.old) (R.remaining reader.new) (W.contents writer.old) (W.contents writer.new) }
 {
     let mut errors = errors;
     match run(rt, alloc, words, images, reader, writer, errors) {
@@ -96,10 +94,10 @@ fn run<
     writer: &mut W,
     errors: E,
 ) -> Result<(), Failure>
-    ensures { length words.now ≤ 1 → OnOk result (IsServed (R.remaining reader.old) (W.contents writer.old) (W.contents writer.new)) }
+    ensures { length words.now ≤ 1 → OnOk result (IsServed (R.remaining reader.old) (R.remaining reader.new) (W.contents writer.old) (W.contents writer.new)) }
 {
     if words.len() <= 1 {
-        return connection(rt, alloc, reader, writer);
+        return Ok(serve(rt, alloc, reader, writer)?);
     }
     match options(alloc, words)? {
         Task::Format { image, lines, role } => format(images, image, lines, role, writer),
@@ -114,24 +112,5 @@ fn run<
             listen,
             link,
         } => serve_clients(rt, alloc, images, image, listen, link, errors),
-    }
-}
-
-/// Serves one connection over a reader and a writer with a pair of new nodes.
-fn connection<S: RandomSource, R: Read, W: Write>(
-    rt: &S,
-    alloc: Global,
-    reader: &mut R,
-    writer: &mut W,
-) -> Result<(), Failure>
-    ensures whole { OnOk result (IsAtEnd (R.remaining reader.new)) }
-    ensures served { OnOk result (IsServed (R.remaining reader.old) (W.contents writer.old) (W.contents writer.new)) }
-{
-    match RandomState::new(rt) {
-        Ok(hash_builder) => {
-            serve(alloc, reader, writer, hash_builder)?;
-            Ok(())
-        }
-        Err(error) => Err(Failure::Stopped(ServeError::Random(error))),
     }
 }

@@ -1,17 +1,21 @@
 //! The key-value server: a connection over standard input and output, and the subcommands over images.
 #![tactic(auto)]
 
-mod answer;
+mod answering;
+mod client;
 mod command;
+mod conversation;
 mod failure;
 mod formatting;
 mod images;
 mod inspecting;
+mod link_ear;
 mod options;
+mod pair;
 mod promoting;
-mod schedule;
 mod serve;
 mod serving_clients;
+mod simulated;
 mod standing_by;
 
 use crate::command::{command, tell};

@@ -1,20 +1,22 @@
-//! One connection over a reader and a writer.
-ghost use Rattle.std.specs.Prelude.{IfErr, IfOk, OnErr, OnOk};
-ghost use Rattle.std.specs.List.{concat};
+//! One connection over a reader and a writer, served by a pair of new nodes.
+ghost use Rattle.std.specs.Prelude.{IfErr, IfOk, OnOk};
 ghost use Rattle.std.specs.Io.KnownBytes.{Appends, Consumes, IsAtEnd};
-ghost use Rattle.server.specs.Answer.{AppendsPrefix, IsEarly, IsServed, IsServedUpTo};
+ghost use Rattle.server.specs.Served.{EachHasReply, IsEarly, IsServed, IsServedUpTo, asked_by, replies_in};
 
-use crate::answer::answer;
+use crate::answering::are_all_answered;
+use crate::conversation::converse;
+use crate::pair::start_pair;
 use bytes::Bytes;
 use kv_types::Refusal;
 use std::alloc::{AllocError, AllocFailed, Global};
 use std::error::Error;
-use std::hash::RandomState;
 use std::io::{ErrorKind, Read, Write};
+use std::net::{Net, TcpListener, TcpStream};
+use std::random::RandomSource;
+use std::sync::Wait;
+use std::thread::Threads;
+use std::time::Clock;
 use std::{fmt, io};
-
-/// The most bytes that are read at a time.
-const PIECE_BYTES: usize = 7;
 
 /// Why serving ended early.
 #[derive(Debug, Drop)]
@@ -23,8 +25,10 @@ pub enum ServeError {
     Read(io::Error),
     /// There were no random numbers for the hashes. Nothing was read or written.
     Random(io::Error),
-    /// A call of the server was refused. Nothing was written.
+    /// A call was refused, or a node has stopped. Nothing was written.
     Refused(Refusal),
+    /// A socket between the threads failed. Nothing was written.
+    Socket(io::Error),
     /// The replies could not be written, or not all of them.
     Write(io::Error),
 }
@@ -38,6 +42,7 @@ impl fmt::Display for ServeError {
                 let number = refusal.number();
                 write!(f, "refusal {number}: {refusal}")
             }
+            ServeError::Socket(error) => write!(f, "a socket failed: {error}"),
             ServeError::Write(error) => write!(f, "writing failed: {error}"),
         }
     }
@@ -80,73 +85,87 @@ impl<T: Drop> From<AllocFailed<T>> for ServeError {
     }
 }
 
-/// Reads one connection's bytes to their end, serves them with a pair of new nodes, and writes what is released.
+/// Reads one connection's bytes to their end, has a pair of new nodes serve them over sockets, and writes what came back.
 ///
-/// `Read` if a read failed, `Refused` if the server refused a call: nothing was written. `Write` if a write failed: what was written is a prefix
-/// of the replies.
-pub fn serve<R: Read, W: Write>(
-    alloc: Global,
-    reader: &mut R,
-    writer: &mut W,
-    hash_builder: RandomState,
-) -> Result<(), ServeError>
-    ensures whole { OnOk result (IsAtEnd (R.remaining reader.new)) }
-    ensures served { OnOk result (IsServed (R.remaining reader.old) (W.contents writer.old) (W.contents writer.new)) }
-    ensures ended { IfErr result (λ error. IsServedUpTo error (R.remaining reader.old) (W.contents writer.old) (W.contents writer.new)) }
+/// # Errors
+///
+/// Where it is not `Write`, nothing was written. `Refused` also where fewer replies came than the bytes have requests: a connection ends early only where
+/// memory, a thread or a descriptor is refused.
+pub fn serve<
+    N: RandomSource
+        + Threads
+        + Wait
+        + Clock
+        + Net<Listener = TcpListener, Stream = TcpStream>
+        + Copy
+        + Send
+        + 'static,
+    R: Read,
+    W: Write,
+>(rt: &N, alloc: Global, reader: &mut R, writer: &mut W) -> Result<(), ServeError>
+    ensures served { OnOk result (IsServed (R.remaining reader.old) (R.remaining reader.new) (W.contents writer.old) (W.contents writer.new)) }
+    ensures early { IfErr result (λ error. IsServedUpTo error (W.contents writer.old) (W.contents writer.new)) }
 {
-    let pieces = read_pieces(alloc, reader)?;
-    let replies = answer(alloc, pieces, hash_builder)?;
-    match write_replies(writer, &replies) {
+    let input = read_input(alloc, reader)?;
+    let replies = answer(rt, alloc, input)?;
+    write_replies(writer, replies.as_slice())
+}
+
+/// What a pair of new nodes answers to these bytes, to each request a reply.
+fn answer<
+    N: RandomSource
+        + Threads
+        + Wait
+        + Clock
+        + Net<Listener = TcpListener, Stream = TcpStream>
+        + Copy
+        + Send
+        + 'static,
+>(rt: &N, alloc: Global, input: Vec<u8>) -> Result<Bytes, ServeError>
+    ensures early { IfErr result IsEarly }
+    ensures all { IfOk result (λ replies. EachHasReply (asked_by input.items) (replies_in replies)) }
+{
+    let input = Bytes::from_vec(input)?;
+    let client = start_pair(rt, alloc)?;
+    let replies = Bytes::from_vec(converse(rt, alloc, &client, input.clone()?)?)?;
+    if are_all_answered(alloc, input, replies.clone()?)? {
+        Ok(replies)
+    } else {
+        Err(ServeError::Refused(Refusal::Memory))
+    }
+}
+
+/// The bytes of a reader up to its end.
+fn read_input<R: Read>(alloc: Global, reader: &mut R) -> Result<Vec<u8>, ServeError>
+    ensures whole { OnOk result (IsAtEnd (R.remaining reader.new)) }
+    ensures bytes { IfOk result (λ input. Consumes (R.remaining reader.old) (R.remaining reader.new) input.items) }
+    ensures early { IfErr result IsEarly }
+{
+    let mut input = Vec::new(alloc);
+    match reader.read_to_end(&mut input) {
+        Ok(_) => Ok(input),
+        Err(error) if error.kind() == ErrorKind::OutOfMemory => {
+            Err(ServeError::Refused(Refusal::Memory))
+        }
+        Err(error) => Err(ServeError::Read(error)),
+    }
+}
+
+/// Writes and flushes the replies.
+fn write_replies<W: Write>(writer: &mut W, replies: &[u8]) -> Result<(), ServeError>
+    ensures whole { OnOk result (Appends (W.contents writer.old) (W.contents writer.new) replies.now) }
+    ensures cause { IfErr result (λ error. ¬ IsEarly error) }
+{
+    match write_all(writer, replies) {
         Ok(()) => Ok(()),
         Err(error) => Err(ServeError::Write(error)),
     }
 }
 
-/// The bytes of a reader up to its end, in the pieces in which it returns them.
-fn read_pieces<R: Read>(alloc: Global, reader: &mut R) -> Result<Vec<Bytes>, ServeError>
-    ensures whole { OnOk result (IsAtEnd (R.remaining reader.new)) }
-    ensures pieces { IfOk result (λ pieces. Consumes (R.remaining reader.old) (R.remaining reader.new) (concat pieces.items)) }
-    ensures early { IfErr result IsEarly }
+fn write_all<W: Write>(writer: &mut W, bytes: &[u8]) -> io::Result<()>
+    ensures { OnOk result (Appends (W.contents writer.old) (W.contents writer.new) bytes.now) }
 {
-    let mut pieces = Vec::new(alloc);
-    let mut buffer = [0; PIECE_BYTES];
-    for _read in 0..u64::MAX {
-        match reader.read(&mut buffer) {
-            Ok(0) => return Ok(pieces),
-            Ok(count) => pieces.push(Bytes::copy_from_slice(alloc, &buffer[..count])?)?,
-            Err(error) if error.kind() == ErrorKind::Interrupted => {}
-            Err(error) => return Err(ServeError::Read(error)),
-        }
-    }
-    Err(ServeError::Read(io::Error::from(ErrorKind::FileTooLarge)))
-}
-
-/// Writes and flushes the replies. On `Err` a prefix of them was written, perhaps all.
-fn write_replies<W: Write>(writer: &mut W, replies: &[u8]) -> io::Result<()>
-    ensures whole { OnOk result (Appends (W.contents writer.old) (W.contents writer.new) replies.now) }
-    ensures prefix { OnErr result (AppendsPrefix (W.contents writer.old) (W.contents writer.new) replies.now) }
-{
-    write_bytes(writer, replies)?;
+    writer.write_all(bytes)?;
     writer.flush()?;
     Ok(())
-}
-
-/// Writes the bytes. On `Err` a prefix of them was written.
-fn write_bytes<W: Write>(writer: &mut W, bytes: &[u8]) -> io::Result<()>
-    ensures whole { OnOk result (Appends (W.contents writer.old) (W.contents writer.new) bytes.now) }
-    ensures prefix { OnErr result (AppendsPrefix (W.contents writer.old) (W.contents writer.new) bytes.now) }
-{
-    let mut rest = bytes;
-    for _write in 0..u64::MAX {
-        if rest.is_empty() {
-            return Ok(());
-        }
-        match writer.write(rest) {
-            Ok(0) => return Err(io::Error::from(ErrorKind::WriteZero)),
-            Ok(count) => rest = &rest[count..],
-            Err(error) if error.kind() == ErrorKind::Interrupted => {}
-            Err(error) => return Err(error),
-        }
-    }
-    Err(io::Error::from(ErrorKind::FileTooLarge))
 }

@@ -1,0 +1,169 @@
+//! A pair of new nodes, and a client that is connected to it.
+ghost use Rattle.std.specs.Prelude.{IfErr};
+ghost use Rattle.server.specs.Served.{IsEarly};
+
+use crate::client::Client;
+use crate::link_ear::LinkEar;
+use crate::serve::ServeError;
+use crate::simulated::new_image;
+use kv_types::Refusal;
+use links::{Log, follow};
+use mv_keyspace::MvKeyspace;
+use pmem::SimPmem;
+use primary::{Opened, open};
+use serving::run;
+use standby::Standby;
+use std::alloc::Global;
+use std::hash::RandomState;
+use std::net::{Net, SocketAddr, TcpListener, TcpStream};
+use std::random::RandomSource;
+use std::sync::{Arc, Wait};
+use std::thread::Threads;
+use std::time::Clock;
+use std::{io, thread};
+use wbl_engine::{Role, WblEngine};
+
+/// Where the nodes listen: at a port of this host that the system picks.
+const HERE: &str = "127.0.0.1:0";
+
+/// Starts a primary and its standby over new images, with a client that is connected to the primary. The threads of the nodes end with the program.
+pub fn start_pair<
+    N: RandomSource
+        + Threads
+        + Wait
+        + Clock
+        + Net<Listener = TcpListener, Stream = TcpStream>
+        + Copy
+        + Send
+        + 'static,
+>(rt: &N, alloc: Global) -> Result<Arc<Client>, ServeError>
+    ensures { IfErr result IsEarly }
+{
+    let hash_builder = random(rt)?;
+    let (clients, address) = listen(rt)?;
+    let client = Client::connect(rt, alloc, address)?;
+    let (link, address) = listen(rt)?;
+    let standby = format!(in alloc; "{address}")?;
+    start_standby(rt, alloc, link, Arc::try_clone(&client)?)?;
+    let theirs = Arc::try_clone(&client)?;
+    start_primary(*rt, alloc, hash_builder, clients, standby, theirs)?;
+    Ok(client)
+}
+
+/// What watched keys are hashed with.
+fn random<N: RandomSource>(rt: &N) -> Result<RandomState, ServeError>
+    ensures { IfErr result IsEarly }
+{
+    match RandomState::new(rt) {
+        Ok(hash_builder) => Ok(hash_builder),
+        Err(error) => Err(ServeError::Random(error)),
+    }
+}
+
+/// A listener of this host, and its address.
+fn listen<N: Net<Listener = TcpListener, Stream = TcpStream>>(
+    net: &N,
+) -> Result<(TcpListener, SocketAddr), ServeError>
+    ensures { IfErr result IsEarly }
+{
+    match bound(net) {
+        Ok(found) => Ok(found),
+        Err(error) => Err(ServeError::Socket(error)),
+    }
+}
+
+fn bound<N: Net<Listener = TcpListener, Stream = TcpStream>>(
+    net: &N,
+) -> io::Result<(TcpListener, SocketAddr)> {
+    let listener = TcpListener::bind(net, HERE)?;
+    let address = listener.local_addr()?;
+    Ok((listener, address))
+}
+
+/// Starts the standby's thread, which ends the client's connection once the node stops. Only `Memory`.
+fn start_standby<N: Threads>(
+    rt: &N,
+    alloc: Global,
+    listener: TcpListener,
+    client: Arc<Client>,
+) -> Result<(), Refusal> {
+    match thread::spawn(rt, move || client.stop(any(follow_anew(alloc, &listener)))) {
+        Ok(_) => Ok(()),
+        Err(_) => Err(Refusal::Memory),
+    }
+}
+
+/// Follows a primary over a new image until a step stops the node, and says why it did.
+///
+/// # Errors
+///
+/// What was refused before, or `Memory` where the listener failed: a descriptor or memory was refused.
+fn follow_anew(alloc: Global, listener: &TcpListener) -> Result<Refusal, Refusal> {
+    let device = new_image(alloc, Role::Standby)?;
+    let mut node: Standby<WblEngine<SimPmem>, MvKeyspace> = standby::open(alloc, device)?;
+    match follow(alloc, &mut node, listener) {
+        Ok(why) => Ok(why),
+        Err(_) => Err(Refusal::Memory),
+    }
+}
+
+/// Starts the primary's thread, which ends the client's connection once the node stops. Only `Memory`.
+fn start_primary<
+    N: Threads
+        + Wait
+        + Clock
+        + Net<Listener = TcpListener, Stream = TcpStream>
+        + Copy
+        + Send
+        + 'static,
+>(
+    rt: N,
+    alloc: Global,
+    hash_builder: RandomState,
+    listener: TcpListener,
+    standby: String,
+    client: Arc<Client>,
+) -> Result<(), Refusal> {
+    let serving = thread::spawn(&rt, move || {
+        let why = serve_anew(rt, alloc, hash_builder, listener, standby, &client);
+        client.stop(any(why));
+    });
+    match serving {
+        Ok(_) => Ok(()),
+        Err(_) => Err(Refusal::Memory),
+    }
+}
+
+/// Serves the client over a new image until a step stops the node, and says why it did.
+///
+/// # Errors
+///
+/// What was refused before.
+fn serve_anew<
+    N: Threads
+        + Wait
+        + Clock
+        + Net<Listener = TcpListener, Stream = TcpStream>
+        + Copy
+        + Send
+        + 'static,
+>(
+    rt: N,
+    alloc: Global,
+    hash_builder: RandomState,
+    listener: TcpListener,
+    standby: String,
+    client: &Arc<Client>,
+) -> Result<Refusal, Refusal> {
+    let ear = LinkEar::new(alloc, client, &standby)?;
+    let device = new_image(alloc, Role::Primary)?;
+    let opened: Opened<WblEngine<SimPmem>, MvKeyspace> = open(alloc, device, hash_builder)?;
+    Ok(run(rt, alloc, opened, listener, standby, Log::new(alloc, ear)))
+}
+
+/// Why a node serves no longer, wherever that came from.
+fn any(why: Result<Refusal, Refusal>) -> Refusal {
+    match why {
+        Ok(why) | Err(why) => why,
+    }
+}
