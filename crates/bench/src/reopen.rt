@@ -88,9 +88,10 @@ fn write_record<P: Pmem>(device: &mut P, versions: u64)
     ensures lines { (P.state device.new).lines ≡ (P.state device.old).lines }
 {
     let limit = versions.saturating_add(1 + STAMP_WINDOW);
+    let first_line = LAYOUT.slot_line(device.lines(), 1);
     store_words(
         device,
-        LINE_WORDS * LAYOUT.slot_line(1) + 1,
+        LINE_WORDS * first_line + 1,
         &[versions, versions, limit],
     );
 }

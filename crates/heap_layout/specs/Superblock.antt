@@ -4,19 +4,19 @@ use Rattle.kv_types.specs.declared.refusal.Refusal.{Refusal}
 use Rattle.kv_types.specs.declared.refusal.Refusal.TheVariants.{BadMagic, BadVersion, WrongSize, Damaged}
 use Rattle.model.specs.declared.image.TheConstants.{MIN_LINES, MAX_LINES}
 use Rattle.model.specs.declared.layout.TheConstants.{LAYOUT}
-use Rattle.model.specs.Image.{Image, magic_number, entries_of_lines}
+use Rattle.model.specs.Image.{Image, magic_number, directory_room}
 
 -- no image has this many lines
 abbrev pub is_wrong_size : ℕ → Bool
 is_wrong_size lines = nat_lt lines MIN_LINES || nat_lt MAX_LINES lines
 
 -- The first rule that a superblock breaks, on a device of `lines` lines: the size of the device, the magic, the version, the number of
--- lines, and the number of entries, in this order. Words 5 to 7 have no rule, and the root is the record's.
+-- lines, and how many of them are for the directory, in this order. The words after these have no rule, and the root is the record's.
 abbrev pub super_refusal : ℕ → Image → Option Refusal
 super_refusal lines image =
     if is_wrong_size lines then Some WrongSize
     else if not (image 0 == magic_number) then Some BadMagic
     else if not (image 1 == LAYOUT.version) then Some BadVersion
     else if not (image 2 == lines) then Some WrongSize
-    else if not (image 3 == entries_of_lines lines) then Some Damaged
+    else if not (image 3 == directory_room lines) then Some Damaged
     else None

@@ -2,7 +2,7 @@
 ghost use Rattle.std.specs.Prelude.{◌≡◌, ◌≤◌, Some, None, IfOk, IfErr};
 ghost use Rattle.pmem.specs.Crash.{image_of};
 ghost use Rattle.model.specs.declared.image.TheConstants.{MIN_LINES, MAX_LINES};
-ghost use Rattle.model.specs.Image.{HasSuperblock, root_word};
+ghost use Rattle.model.specs.Image.{HasSuperblock, entries_of_lines, root_word};
 ghost use Rattle.heap_layout.specs.Superblock.{super_refusal};
 
 use kv_types::Refusal;
@@ -21,14 +21,14 @@ pub struct Superblock {
 }
 
 /// Reads the superblock. `WrongSize` if the device has fewer than 4,096 lines or more than 2^31; then `BadMagic`; then `BadVersion`; then
-/// `WrongSize` if word 2 is not the number of the device's lines; then `Damaged` if word 3 is not the number of entries for so many.
+/// `WrongSize` if word 2 is not the number of the device's lines; then `Damaged` if word 3 is not how many of them are for the directory.
 pub fn read_super<P: Pmem>(device: &P) -> Result<Superblock, Refusal>
     ensures ok { IfOk result (λ s. HasSuperblock s.lines (image_of (P.state device.now).words)) }
     ensures lines { IfOk result (λ s. s.lines ≡ (P.state device.now).lines) }
     ensures many { IfOk result (λ s. MIN_LINES ≤ s.lines) }
     ensures few { IfOk result (λ s. s.lines ≤ MAX_LINES) }
     ensures root { IfOk result (λ s. s.root ≡ image_of (P.state device.now).words root_word) }
-    ensures entries { IfOk result (λ s. s.entries ≡ image_of (P.state device.now).words 3) }
+    ensures entries { IfOk result (λ s. s.entries ≡ entries_of_lines (P.state device.now).lines) }
     ensures whole { IfOk result (λ s. super_refusal (P.state device.now).lines (image_of (P.state device.now).words) ≡ None) }
     ensures err { IfErr result (λ refusal. super_refusal (P.state device.now).lines (image_of (P.state device.now).words) ≡ Some refusal) }
 {
@@ -45,13 +45,12 @@ pub fn read_super<P: Pmem>(device: &P) -> Result<Superblock, Refusal>
     if device.load(2) != lines {
         return Err(Refusal::WrongSize);
     }
-    let entries = device.load(3);
-    if entries != LAYOUT.entries_of_lines(lines) {
+    if device.load(3) != LAYOUT.directory_room(lines) {
         return Err(Refusal::Damaged);
     }
     Ok(Superblock {
         lines,
-        entries,
+        entries: LAYOUT.entries_of_lines(lines),
         root: device.load(LAYOUT.root_word),
     })
 }

@@ -200,7 +200,7 @@ no_map lines r image i s lt map (inr clash) has =
     omega arith
 
 -- where the entries have no map under the record that the image has, it is not whole
-pub not_whole : (words : List ℕ) (r : Record) → IsRecordOf (image_of words) r → (HasMap (line_count words) r (image_of words) → ⊥) → IsWhole words → ⊥
+pub not_whole : (words : List ℕ) (r : Record) → IsRecordOf (line_count words) (image_of words) r → (HasMap (line_count words) r (image_of words) → ⊥) → IsWhole words → ⊥
 not_whole words r is none whole =
-    let same : whole.current ≡ r = HasRecord-unique (image_of words) whole.current r whole.is_record.few whole.is_record.has_record is.has_record in
+    let same : whole.current ≡ r = HasRecord-unique (line_count words) (image_of words) whole.current r whole.is_record.few whole.is_record.has_record is.has_record in
     none (subst (λ current. HasMap (line_count words) current (image_of words)) same whole.has_map)

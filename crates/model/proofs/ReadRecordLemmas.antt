@@ -91,13 +91,13 @@ gaps_words-pairs gaps few =
 -- ---- a record
 
 -- the first word of the slot that the root names
-abbrev pub slot_word : ℕ → ℕ
-slot_word root = first_word (slot_line root)
+abbrev pub slot_word : ℕ → ℕ → ℕ
+slot_word lines root = first_word (slot_line lines root)
 
 -- the record is in its slot, word by word
-pub record StandsInSlot (image : Image) (first : ℕ) (r : Record) : Type 0 where
+pub record StandsInSlot (lines : ℕ) (image : Image) (first : ℕ) (r : Record) : Type 0 where
   pub root : image root_word ≡ r.number
-  pub slot : first ≡ slot_word r.number
+  pub slot : first ≡ slot_word lines r.number
   pub number : image first ≡ r.number
   pub position : image (first + 1) ≡ r.position
   pub cp : image (first + 2) ≡ r.cp
@@ -113,8 +113,8 @@ pub record StandsInSlot (image : Image) (first : ℕ) (r : Record) : Type 0 wher
 word_is : (image : Image) (a b : ℕ) (x : ℕ) → a ≡ b → image b ≡ x → image a ≡ x
 word_is image a b x same e = ap image same ∙ e
 
-pub IsRecordOf-slot : (image : Image) (first : ℕ) (r : Record) → StandsInSlot image first r → IsRecordOf image r
-IsRecordOf-slot image first r stands =
+pub IsRecordOf-slot : (lines : ℕ) (image : Image) (first : ℕ) (r : Record) → StandsInSlot lines image first r → IsRecordOf lines image r
+IsRecordOf-slot lines image first r stands =
     let pairs = flat_map gap_words r.gaps.items in
     let unused = 16 - 2 * length r.gaps.items in
     let ending = role_number r.role ∷ 0 ∷ [] in
@@ -141,15 +141,15 @@ IsRecordOf-slot image first r stands =
       ),
     ) in
     record {
-      has_record = record { root = stands.root; words = HasWords-at image first (record_word r.number 0) (record_words r) (stands.slot ∙ sym (add-zero (slot_word r.number))) words };
+      has_record = record { root = stands.root; words = HasWords-at image first (record_word lines r.number 0) (record_words r) (stands.slot ∙ sym (add-zero (slot_word lines r.number))) words };
       few = stands.few;
     }
 
 -- the words of a record are those that its slot has
-pub slot-IsRecordOf : (image : Image) (r : Record) → IsRecordOf image r → StandsInSlot image (slot_word r.number) r
-slot-IsRecordOf image r is =
-    let first = slot_word r.number in
-    let words : HasWords image first (record_words r) = HasWords-at image (record_word r.number 0) first (record_words r) (add-zero first) is.has_record.words in
+pub slot-IsRecordOf : (lines : ℕ) (image : Image) (r : Record) → IsRecordOf lines image r → StandsInSlot lines image (slot_word lines r.number) r
+slot-IsRecordOf lines image r is =
+    let first = slot_word lines r.number in
+    let words : HasWords image first (record_words r) = HasWords-at image (record_word lines r.number 0) first (record_words r) (add-zero first) is.has_record.words in
     let pairs = flat_map gap_words r.gaps.items in
     let unused = 16 - 2 * length r.gaps.items in
     let ending = role_number r.role ∷ 0 ∷ [] in
@@ -176,20 +176,20 @@ slot-IsRecordOf image r is =
 -- ---- no record
 
 -- what is known of a record's slot where the root is this number
-at_root : (image : Image) (number first : ℕ) (r : Record) → image root_word ≡ number → first ≡ slot_word number → IsRecordOf image r → StandsInSlot image first r
-at_root image number first r root slot is =
-    let stands = slot-IsRecordOf image r is in
-    subst (λ n. StandsInSlot image n r) (sym slot) (subst (λ n. StandsInSlot image (slot_word n) r) (sym stands.root ∙ root) stands)
+at_root : (lines : ℕ) (image : Image) (number first : ℕ) (r : Record) → image root_word ≡ number → first ≡ slot_word lines number → IsRecordOf lines image r → StandsInSlot lines image first r
+at_root lines image number first r root slot is =
+    let stands = slot-IsRecordOf lines image r is in
+    subst (λ n. StandsInSlot lines image n r) (sym slot) (subst (λ n. StandsInSlot lines image (slot_word lines n) r) (sym stands.root ∙ root) stands)
 
-pub no_record-role : (image : Image) (number first code : ℕ) → image root_word ≡ number → first ≡ slot_word number → image (first + LAYOUT.role_word) ≡ code → ((role : Role) → role_number role ≢ code) → (r : Record) → IsRecordOf image r → ⊥
-no_record-role image number first code root slot at none r is = let stands = at_root image number first r root slot is in none r.role (sym stands.role ∙ at)
+pub no_record-role : (lines : ℕ) (image : Image) (number first code : ℕ) → image root_word ≡ number → first ≡ slot_word lines number → image (first + LAYOUT.role_word) ≡ code → ((role : Role) → role_number role ≢ code) → (r : Record) → IsRecordOf lines image r → ⊥
+no_record-role lines image number first code root slot at none r is = let stands = at_root lines image number first r root slot is in none r.role (sym stands.role ∙ at)
 
-pub no_record-count : (image : Image) (number first count : ℕ) → image root_word ≡ number → first ≡ slot_word number → image (first + 5) ≡ count → MAX_GAPS < count → (r : Record) → IsRecordOf image r → ⊥
-no_record-count image number first count root slot at many r is = let stands = at_root image number first r root slot is in let same = sym stands.count ∙ at in let few = stands.few in omega arith
+pub no_record-count : (lines : ℕ) (image : Image) (number first count : ℕ) → image root_word ≡ number → first ≡ slot_word lines number → image (first + 5) ≡ count → MAX_GAPS < count → (r : Record) → IsRecordOf lines image r → ⊥
+no_record-count lines image number first count root slot at many r is = let stands = at_root lines image number first r root slot is in let same = sym stands.count ∙ at in let few = stands.few in omega arith
 
-pub no_record-filled : (image : Image) (number first count : ℕ) → image root_word ≡ number → first ≡ slot_word number → image (first + 5) ≡ count → (IsFilled image first number count → ⊥) → (r : Record) → IsRecordOf image r → ⊥
-no_record-filled image number first count root slot at none r is =
-    let stands = at_root image number first r root slot is in
+pub no_record-filled : (lines : ℕ) (image : Image) (number first count : ℕ) → image root_word ≡ number → first ≡ slot_word lines number → image (first + 5) ≡ count → (IsFilled image first number count → ⊥) → (r : Record) → IsRecordOf lines image r → ⊥
+no_record-filled lines image number first count root slot at none r is =
+    let stands = at_root lines image number first r root slot is in
     let count_is = sym stands.count ∙ at in
     none (record {
       number_is = stands.number ∙ sym stands.root ∙ root;
@@ -198,14 +198,14 @@ no_record-filled image number first count root slot at none r is =
     })
 
 -- a record that was read
-pub IsRecordOf-read : (image : Image) (number first count : ℕ) (r : Record) → image root_word ≡ number → first ≡ slot_word number → r.number ≡ number → image (first + 1) ≡ r.position → image (first + 2) ≡ r.cp
+pub IsRecordOf-read : (lines : ℕ) (image : Image) (number first count : ℕ) (r : Record) → image root_word ≡ number → first ≡ slot_word lines number → r.number ≡ number → image (first + 1) ≡ r.position → image (first + 2) ≡ r.cp
     → image (first + 3) ≡ r.cd → image (first + 4) ≡ r.epoch → image (first + 5) ≡ count → count ≤ MAX_GAPS → r.gaps.items ≡ gaps_from image (first + 6) count
-    → image (first + LAYOUT.role_word) ≡ role_number r.role → IsFilled image first number count → IsRecordOf image r
-IsRecordOf-read image number first count r root slot number_is position cp cd epoch at few gaps role filled =
+    → image (first + LAYOUT.role_word) ≡ role_number r.role → IsFilled image first number count → IsRecordOf lines image r
+IsRecordOf-read lines image number first count r root slot number_is position cp cd epoch at few gaps role filled =
     let len : length r.gaps.items ≡ count = ap length gaps ∙ length-gaps_from image (first + 6) count in
-    IsRecordOf-slot image first r (record {
+    IsRecordOf-slot lines image first r (record {
       root = root ∙ sym number_is;
-      slot = slot ∙ ap slot_word (sym number_is);
+      slot = slot ∙ ap (slot_word lines) (sym number_is);
       number = filled.number_is ∙ sym number_is;
       position = position;
       cp = cp;

@@ -87,9 +87,13 @@ same_record_words a b few same =
     let gaps = same_gaps a.gaps.items b.gaps.items 16 count (omega arith) parts.0 in
     λ i. record { number = number i; position = position i; cp = cp i; cd = cd i; epoch = epoch i; role = role i; gaps = record { items = gaps i } }
 
+-- an image of as many lines has the same record
+pub HasRecord-lines : {m n : ℕ} {r : Record} {image : Image} → m ≡ n → HasRecord m r image → HasRecord n r image
+HasRecord-lines {r = r} {image = image} e = subst (λ n. HasRecord n r image) e
+
 -- an image has one current record
-pub HasRecord-unique : (image : Image) (a b : Record) → length a.gaps.items ≤ MAX_GAPS → HasRecord a image → HasRecord b image → a ≡ b
-HasRecord-unique image a b few in_a in_b =
+pub HasRecord-unique : (lines : ℕ) (image : Image) (a b : Record) → length a.gaps.items ≤ MAX_GAPS → HasRecord lines a image → HasRecord lines b image → a ≡ b
+HasRecord-unique lines image a b few in_a in_b =
     let number : b.number ≡ a.number = sym in_b.root ∙ in_a.root in
-    let words : HasWords image (record_word a.number 0) (record_words b) = subst (λ n. HasWords image (record_word n 0) (record_words b)) number in_b.words in
-    same_record_words a b few (HasWords-same image (record_word a.number 0) (record_words a) (record_words b) (length-record_words a ∙ sym (length-record_words b)) in_a.words words)
+    let words : HasWords image (record_word lines a.number 0) (record_words b) = subst (λ n. HasWords image (record_word lines n 0) (record_words b)) number in_b.words in
+    same_record_words a b few (HasWords-same image (record_word lines a.number 0) (record_words a) (record_words b) (length-record_words a ∙ sym (length-record_words b)) in_a.words words)

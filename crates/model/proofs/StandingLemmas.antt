@@ -12,14 +12,14 @@ use Rattle.model.proofs.MapLemmas.{IsMapOf-unique, IsMapOf-same, map_below-map}
 use Rattle.model.proofs.RecordLemmas.{HasRecord-unique}
 
 -- an image with this record holds the map of the versions that its entries have
-pub Holds-versions : (lines : ℕ) (r : Record) (versions : ℕ → Option Version) (s : Keyspace) (image : Image) → HasSuperblock lines image → HasRecord r image
+pub Holds-versions : (lines : ℕ) (r : Record) (versions : ℕ → Option Version) (s : Keyspace) (image : Image) → HasSuperblock lines image → HasRecord lines r image
     → ((i : ℕ) → i < entries_of_lines lines → version_at r image i ≡ versions i) → IsMapOf versions (entries_of_lines lines) s → Holds lines r s image
 Holds-versions lines r versions s image superblock has_record same map =
     record { superblock = superblock; has_record = has_record; map = IsMapOf-same versions (version_at r image) (entries_of_lines lines) s (λ i lt. sym (same i lt)) map }
 
 -- an image holds one record and one keyspace
 pub Holds-record : {lines : ℕ} {a b : Record} {s t : Keyspace} {image : Image} → length a.gaps.items ≤ MAX_GAPS → Holds lines a s image → Holds lines b t image → a ≡ b
-Holds-record {a = a} {b = b} {image = image} few in_a in_b = HasRecord-unique image a b few in_a.has_record in_b.has_record
+Holds-record {lines} {a} {b} {image = image} few in_a in_b = HasRecord-unique lines image a b few in_a.has_record in_b.has_record
 
 pub Holds-keyspace : {lines : ℕ} {r : Record} {s t : Keyspace} {image : Image} → IsKeyspace s → IsKeyspace t → Holds lines r s image → Holds lines r t image → s ≡ t
 Holds-keyspace lawful_s lawful_t in_s in_t = IsMapOf-unique in_s.map in_t.map lawful_s lawful_t

@@ -82,7 +82,7 @@ set_map = refl
 
 set_holds : Holds 4096 record_two ((Str (codes "a"), codes "1") ∷ []) set_image
 set_holds = record {
-  superblock = record { magic = refl; version = refl; line_count = refl; entry_count = refl };
+  superblock = record { magic = refl; version = refl; line_count = refl; room = refl };
   has_record = record { root = refl; words = (refl, (refl, (refl, (refl, (refl, (refl, (refl, (refl, (refl, (refl, (refl, (refl, (refl, (refl, (refl, (refl, (refl, (refl, (refl, (refl, (refl, (refl, (refl, (refl, tt)))))))))))))))))))))))) };
   map = map_of_first (version_at record_two set_image) 512 ((Str (codes "a"), codes "1") ∷ []) refl set_map;
 }
@@ -110,7 +110,7 @@ lost_map = refl
 
 lost_holds : Holds 4096 record_one [] lost_image
 lost_holds = record {
-  superblock = record { magic = refl; version = refl; line_count = refl; entry_count = refl };
+  superblock = record { magic = refl; version = refl; line_count = refl; room = refl };
   has_record = record { root = refl; words = (refl, (refl, (refl, (refl, (refl, (refl, (refl, (refl, (refl, (refl, (refl, (refl, (refl, (refl, (refl, (refl, (refl, (refl, (refl, (refl, (refl, (refl, (refl, (refl, tt)))))))))))))))))))))))) };
   map = map_of_first (version_at record_one lost_image) 512 [] refl lost_map;
 }

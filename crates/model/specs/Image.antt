@@ -32,7 +32,11 @@ words_from image first (suc count) = image first ∷ words_from image (first + 1
 abbrev pub magic_number : ℕ
 magic_number = from_le_bytes w64 (codes "WBLIMG01")
 
--- how many entries the directory of an image of `lines` lines has
+-- how many lines an image of `lines` lines has for its directory, with the slots behind it
+abbrev pub directory_room : ℕ → ℕ
+directory_room lines = layouts.directory_room LAYOUT lines
+
+-- how many entries the directory has
 abbrev pub entries_of_lines : ℕ → ℕ
 entries_of_lines lines = layouts.entries_of_lines LAYOUT lines
 
@@ -44,16 +48,20 @@ pub record HasSuperblock (lines : ℕ) (image : Image) : Type 0 where
   pub magic : image 0 ≡ magic_number
   pub version : image 1 ≡ LAYOUT.version
   pub line_count : image 2 ≡ lines
-  pub entry_count : image 3 ≡ entries_of_lines lines
+  pub room : image 3 ≡ directory_room lines
 
 -- ---- records, in two slots that take turns
 
--- the first line of the slot of record n, and its word k
-abbrev pub slot_line : ℕ → ℕ
-slot_line n = layouts.slot_line LAYOUT n
+-- the first line of the slot of record n in an image of `lines` lines, and its word k
+abbrev pub slot_line : ℕ → ℕ → ℕ
+slot_line lines n = layouts.slot_line LAYOUT lines n
 
-abbrev pub record_word : ℕ → ℕ → ℕ
-record_word n k = layouts.line_word (slot_line n) k
+abbrev pub record_word : ℕ → ℕ → ℕ → ℕ
+record_word lines n k = layouts.line_word (slot_line lines n) k
+
+-- the line after both slots
+abbrev pub slots_end : ℕ → ℕ
+slots_end lines = layouts.slots_end LAYOUT lines
 
 abbrev pub role_number : Role → ℕ
 role_number Primary = 1
@@ -75,10 +83,10 @@ abbrev pub record_words : Record → List ℕ
 record_words r =
     r.number ∷ r.position ∷ r.cp ∷ r.cd ∷ r.epoch ∷ length r.gaps.items ∷ gaps_words r.gaps.items ++ role_number r.role ∷ 0 ∷ []
 
--- the image's current record: the root names it, and its slot holds it
-pub record HasRecord (r : Record) (image : Image) : Type 0 where
+-- the current record of an image of `lines` lines: the root names it, and its slot holds it
+pub record HasRecord (lines : ℕ) (r : Record) (image : Image) : Type 0 where
   pub root : image root_word ≡ r.number
-  pub words : HasWords image (record_word r.number 0) (record_words r)
+  pub words : HasWords image (record_word lines r.number 0) (record_words r)
 
 abbrev pub is_in_gap : ℕ → Gap → Bool
 is_in_gap stamp gap = nat_le gap.first stamp && nat_le stamp gap.last
@@ -87,7 +95,7 @@ is_in_gap stamp gap = nat_le gap.first stamp && nat_le stamp gap.last
 abbrev pub counts : Record → ℕ → Bool
 counts r stamp = nat_lt 0 stamp && nat_le stamp r.cp && not (list_any (is_in_gap stamp) r.gaps.items)
 
--- ---- the directory, one entry per line, and the extents after it
+-- ---- the directory, one entry per line, and the extents
 
 -- the line of entry i, and its word k
 abbrev pub entry_line : ℕ → ℕ
@@ -95,6 +103,10 @@ entry_line i = layouts.entry_line LAYOUT i
 
 abbrev pub entry_word : ℕ → ℕ → ℕ
 entry_word i k = layouts.line_word (entry_line i) k
+
+-- the line after the last entry
+abbrev pub directory_end : ℕ → ℕ
+directory_end lines = layouts.directory_end LAYOUT lines
 
 -- the first line of the extents
 abbrev pub first_extent_line : ℕ → ℕ
@@ -181,5 +193,5 @@ map_below versions (suc i) = with_version (versions i) (map_below versions i)
 -- the image is whole, has this record, and its map is this keyspace
 pub record Holds (lines : ℕ) (r : Record) (s : Keyspace) (image : Image) : Type 0 where
   pub superblock : HasSuperblock lines image
-  pub has_record : HasRecord r image
+  pub has_record : HasRecord lines r image
   pub map : IsMapOf (version_at r image) (entries_of_lines lines) s

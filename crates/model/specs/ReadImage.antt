@@ -34,9 +34,9 @@ pub record IsFilled (image : Image) (first number gaps : ℕ) : Type 0 where
   pub last : image (first + (LAYOUT.role_word + 1)) ≡ 0
   pub unused : AreZero image (first + GAPS_WORD + 2 * gaps) (gap_room - 2 * gaps)
 
--- the image has this record, which has no more gaps than there is room for
-pub record IsRecordOf (image : Image) (r : Record) : Type 0 where
-  pub has_record : HasRecord r image
+-- the image of `lines` lines has this record, which has no more gaps than there is room for
+pub record IsRecordOf (lines : ℕ) (image : Image) (r : Record) : Type 0 where
+  pub has_record : HasRecord lines r image
   pub few : length r.gaps.items ≤ MAX_GAPS
 
 -- the lengths of entry i are within the limits, and its extent is within the image
@@ -71,7 +71,7 @@ pub record HasMap (lines : ℕ) (r : Record) (image : Image) : Type 0 where
 pub record IsWhole (words : List ℕ) : Type 0 where
   pub current : Record
   pub superblock : HasSuperblock (line_count words) (image_of words)
-  pub is_record : IsRecordOf (image_of words) current
+  pub is_record : IsRecordOf (line_count words) (image_of words) current
   pub has_map : HasMap (line_count words) current (image_of words)
 
 -- ---- one entry at a time

@@ -34,15 +34,16 @@ pub fn has_superblock(words: &[u64]) -> bool
     word_at(words, 0) == MAGIC
         && word_at(words, 1) == LAYOUT.version
         && word_at(words, 2) == lines
-        && word_at(words, 3) == LAYOUT.entries_of_lines(lines)
+        && word_at(words, 3) == LAYOUT.directory_room(lines)
 }
 
 /// The current record, or `None` where the slot that the root names holds none.
 pub fn read_record(words: &[u64]) -> Option<Record>
-    ensures { MatchOption result ((r : CommitRecord) → ¬ IsRecordOf (image_of words.now) r) (λ r. IsRecordOf (image_of words.now) r) }
+    ensures { MatchOption result ((r : CommitRecord) → ¬ IsRecordOf (line_count words.now) (image_of words.now) r)
+        (λ r. IsRecordOf (line_count words.now) (image_of words.now) r) }
 {
     let number = word_at(words, LAYOUT.root_word);
-    let first = LINE_WORDS * LAYOUT.slot_line(number);
+    let first = LINE_WORDS * LAYOUT.slot_line(words.len() as u64 / LINE_WORDS, number);
     let gap_count = word_at(words, first + 5);
     let gaps = read_gaps(words, first + GAPS_WORD, gap_count)?;
     let role = read_role(word_at(words, first + LAYOUT.role_word))?;

@@ -1,5 +1,5 @@
 //! Laws of the definitions, each the contract of a function that does nothing.
-ghost use Rattle.std.specs.Prelude.{◌≡◌, ◌≢◌, ℕ, ◌+◌, ◌*◌, ◌<◌, ◌≤◌, ◌⊎◌, min, true, false, if◌then◌else◌, List, [], ◌∷◌, ◌++◌, length, Option, None};
+ghost use Rattle.std.specs.Prelude.{◌≡◌, ◌≢◌, ℕ, ◌+◌, ◌-◌, ◌*◌, ◌/◌, ◌<◌, ◌≤◌, ◌⊎◌, min, true, false, if◌then◌else◌, List, [], ◌∷◌, ◌++◌, length, Option, None};
 ghost use Rattle.kv_types.specs.declared.item.Item.TheVariants.{Request};
 ghost use Rattle.kv_types.specs.declared.reply.Reply.{Reply, Error, Array};
 ghost use Rattle.kv_types.specs.Keyspace.{Keyspace, IsKeyspace, play_all};
@@ -15,6 +15,8 @@ ghost use Rattle.model.specs.State.{State};
 ghost use Rattle.model.specs.Call.{MayReply, MayAnswer, admission_at, memory_reply, replies_in, all_made, changes_for, changes_of, is_memory, after_call, is_changing, AreAlike};
 ghost use Rattle.model.specs.Call.{IsLegal, state_after, keyspace_after, position_of, cut_at, items_of, IsPrefix};
 ghost use Rattle.model.specs.Position.{changes_at, changes_since};
+ghost use Rattle.model.specs.declared.layout.TheConstants.{LAYOUT, VERSION_1, VERSION_2};
+ghost use Rattle.model.specs.Layout.{first_word, directory_room, entries_of_lines as entries_in_layout, entry_line, directory_end, first_extent_line, slot_line, slots_end};
 ghost use Rattle.model.specs.Image.{Image, Version, IsMapOf, map_below, Holds, entries_of_lines};
 ghost use Rattle.model.specs.Group.{Contents, IsGroup, IsConsistent, after_group, changes_of_group};
 ghost use Rattle.model.specs.Standing.{Holder, StandsAt};
@@ -22,6 +24,23 @@ ghost use Rattle.model.specs.Standing.{Holder, StandsAt};
 use crate::call::MAX_CHANGE_TEXT_BYTES;
 use crate::group::MAX_PARTS;
 use crate::record::MAX_GAPS;
+
+/// Where the parts of an image of 4,096 lines lie by the layout of each version: the first of its entries, the slots of records 2 and 3, and the extents;
+/// and how many entries there are, and which word of a record is its role. A record fills its slot. In any image both versions have the extents from the
+/// same line on and the same word 3; and in one of 144 lines or more the slots of version 2 lie between its directory and its extents.
+pub fn layouts_place_the_parts()
+    ensures version_1 { (entries_in_layout VERSION_1 4096 ≡ 512) × (entry_line VERSION_1 0 ≡ 8) × (slot_line VERSION_1 4096 2 ≡ 1)
+        × (slot_line VERSION_1 4096 3 ≡ 4) × (slots_end VERSION_1 4096 ≡ 7) × (first_extent_line VERSION_1 4096 ≡ 520) × (VERSION_1.role_word ≡ 22) }
+    ensures version_2 { (entries_in_layout VERSION_2 4096 ≡ 494) × (entry_line VERSION_2 0 ≡ 8) × (slot_line VERSION_2 4096 2 ≡ 502)
+        × (slot_line VERSION_2 4096 3 ≡ 511) × (slots_end VERSION_2 4096 ≡ 520) × (first_extent_line VERSION_2 4096 ≡ 520) × (VERSION_2.role_word ≡ 70) }
+    ensures records { (VERSION_1.max_gaps ≡ 8) × (VERSION_2.max_gaps ≡ 32) × (VERSION_1.role_word + 2 ≡ first_word VERSION_1.slot_lines)
+        × (VERSION_2.role_word + 2 ≡ first_word VERSION_2.slot_lines) × (LAYOUT.max_gaps ≡ MAX_GAPS) }
+    ensures entries { (lines : ℕ) → (entries_in_layout VERSION_1 lines ≡ lines / 8) × (entries_in_layout VERSION_2 lines ≡ lines / 8 - 18) }
+    ensures extents { (lines : ℕ) → (first_extent_line VERSION_1 lines ≡ first_extent_line VERSION_2 lines)
+        × (directory_room VERSION_1 lines ≡ directory_room VERSION_2 lines) }
+    ensures behind { (lines : ℕ) → 18 ≤ lines / 8 → (slot_line VERSION_2 lines 0 ≡ directory_end VERSION_2 lines)
+        × (slots_end VERSION_2 lines ≡ first_extent_line VERSION_2 lines) }
+{}
 
 /// A list with one more call: it is legal where the call's reply may be given at its end, its state is that after the call, its keyspace the one
 /// that the call's changes lead to, and its position is higher by one exactly where there are any. A prefix of a legal list is legal.

@@ -1,5 +1,4 @@
 //! Where the parts of an image lie. Each version of the image has its layout, which is one value.
-use crate::record::MAX_GAPS;
 
 /// How many bytes a word has.
 pub const WORD_BYTES: u64 = 8;
@@ -16,15 +15,25 @@ pub const GAPS_WORD: u64 = 6;
 /// An entry's word of lengths is the key's length plus this many times the field's.
 pub const FIELD_LENGTH_UNIT: u64 = 65_536;
 
-/// Where the parts of an image lie, in lines. Line 0 is the superblock, and the extents begin right after the directory.
+/// Where the two record slots of an image stand, one right after the other.
+#[derive(Clone, Copy, Debug, PartialEq, Eq)]
+pub enum Slots {
+    /// Before the directory, from this line on.
+    BeforeDirectory(u64),
+    /// Right behind the directory, which has an entry fewer for each of their lines.
+    BehindDirectory,
+}
+
+/// Where the parts of an image lie, in lines. Line 0 is the superblock, and the extents begin right after the directory, or after the slots where
+/// these stand behind it.
 #[derive(Clone, Copy, Debug, PartialEq, Eq)]
 pub struct Layout {
     /// The version, which is word 1 of the image.
     pub version: u64,
     /// The word of the superblock that names the current record.
     pub root_word: u64,
-    /// The first line of record slot 0. Slot 1 follows it.
-    pub record_line: u64,
+    /// Where the record slots stand.
+    pub slots: Slots,
     /// How many lines a record slot has.
     pub slot_lines: u64,
     /// How many gaps a record holds at most.
@@ -33,7 +42,7 @@ pub struct Layout {
     pub role_word: u64,
     /// The line of entry 0.
     pub directory_line: u64,
-    /// How many lines an image has for each entry of its directory.
+    /// How many lines an image has for each line of its directory and of the slots behind it.
     pub entry_share: u64,
 }
 
@@ -41,10 +50,22 @@ pub struct Layout {
 pub const VERSION_1: Layout = Layout {
     version: 1,
     root_word: 4,
-    record_line: 1,
+    slots: Slots::BeforeDirectory(1),
     slot_lines: 3,
-    max_gaps: MAX_GAPS,
-    role_word: GAPS_WORD + 2 * MAX_GAPS as u64,
+    max_gaps: 8,
+    role_word: GAPS_WORD + 2 * 8,
+    directory_line: 8,
+    entry_share: 8,
+};
+
+/// The layout of version 2. Its records hold more gaps, and its slots stand behind the directory.
+pub const VERSION_2: Layout = Layout {
+    version: 2,
+    root_word: 5,
+    slots: Slots::BehindDirectory,
+    slot_lines: 9,
+    max_gaps: 32,
+    role_word: GAPS_WORD + 2 * 32,
     directory_line: 8,
     entry_share: 8,
 };
@@ -53,15 +74,28 @@ pub const VERSION_1: Layout = Layout {
 pub const LAYOUT: Layout = VERSION_1;
 
 impl Layout {
-    ghost use Rattle.std.specs.Prelude.{◌≡◌, ◌+◌, ◌<◌, ◌^◌};
+    ghost use Rattle.std.specs.Prelude.{◌≡◌, ◌+◌, ◌*◌, ◌<◌, ◌^◌};
     ghost use Rattle.model.specs.Layout as layouts;
+
+    /// How many lines an image of `lines` lines has for its directory, with the slots behind it. It is word 3 of the image.
+    pub fn directory_room(self, lines: u64) -> u64
+        requires { 0 < self.entry_share }
+        ensures { result ≡ layouts.directory_room self lines }
+    {
+        lines / self.entry_share
+    }
 
     /// How many entries the directory has in an image of `lines` lines.
     pub fn entries_of_lines(self, lines: u64) -> u64
-        requires { 0 < self.entry_share }
+        requires share { 0 < self.entry_share }
+        requires slots { 2 * self.slot_lines < 2 ^ 64 }
         ensures { result ≡ layouts.entries_of_lines self lines }
     {
-        lines / self.entry_share
+        let room = self.directory_room(lines);
+        match self.slots {
+            Slots::BeforeDirectory(_) => room,
+            Slots::BehindDirectory => room.saturating_sub(2 * self.slot_lines),
+        }
     }
 
     /// The line of entry `i`.
@@ -78,14 +112,27 @@ impl Layout {
         requires range { layouts.first_extent_line self lines < 2 ^ 64 }
         ensures { result ≡ layouts.first_extent_line self lines }
     {
-        self.directory_line + lines / self.entry_share
+        self.directory_line + self.directory_room(lines)
     }
 
-    /// The first line of the slot of record `n`: the two slots take turns.
-    pub fn slot_line(self, n: u64) -> u64
-        requires { self.record_line + self.slot_lines < 2 ^ 64 }
-        ensures { result ≡ layouts.slot_line self n }
+    /// The first line of slot 0 in an image of `lines` lines. Slot 1 follows it.
+    pub fn first_slot_line(self, lines: u64) -> u64
+        requires share { 0 < self.entry_share }
+        requires range { layouts.slots_end self lines < 2 ^ 64 }
+        ensures { result ≡ layouts.first_slot_line self lines }
     {
-        self.record_line + self.slot_lines * (n % 2)
+        match self.slots {
+            Slots::BeforeDirectory(line) => line,
+            Slots::BehindDirectory => self.directory_line + self.entries_of_lines(lines),
+        }
+    }
+
+    /// The first line of the slot of record `n` in an image of `lines` lines: the two slots take turns.
+    pub fn slot_line(self, lines: u64, n: u64) -> u64
+        requires share { 0 < self.entry_share }
+        requires range { layouts.slots_end self lines < 2 ^ 64 }
+        ensures { result ≡ layouts.slot_line self lines n }
+    {
+        self.first_slot_line(lines) + self.slot_lines * (n % 2)
     }
 }

@@ -20,12 +20,13 @@ pub use image_contents::{ImageContents, read_image};
 pub use laws::{
     calls_see_their_own_session, changes_lead_from_position_to_position,
     changes_stay_within_limits, cut_is_the_longest_prefix, images_hold_one_keyspace,
-    images_stand_while_the_list_grows, keyspace_of_a_cut_is_stable, list_grows,
-    lists_leave_keyspaces, map_is_computed, map_moves_by_the_group, refused_calls_change_nothing,
-    sessions_are_read_off_the_list, transactions_answer_each_request,
+    images_stand_while_the_list_grows, keyspace_of_a_cut_is_stable, layouts_place_the_parts,
+    list_grows, lists_leave_keyspaces, map_is_computed, map_moves_by_the_group,
+    refused_calls_change_nothing, sessions_are_read_off_the_list, transactions_answer_each_request,
 };
 pub use layout::{
-    FIELD_LENGTH_UNIT, GAPS_WORD, LAYOUT, LINE_BYTES, LINE_WORDS, Layout, VERSION_1, WORD_BYTES,
+    FIELD_LENGTH_UNIT, GAPS_WORD, LAYOUT, LINE_BYTES, LINE_WORDS, Layout, Slots, VERSION_1,
+    VERSION_2, WORD_BYTES,
 };
 pub use outcome::{Outcome, closes, outcome_of};
 pub use record::{FIRST_EPOCH, Gap, MAX_GAPS, Record, Role};

@@ -25,7 +25,7 @@ pub fn format<I: Images, W: Write>(
     ensures told { OnOk result (Appends (W.contents writer.old) (W.contents writer.new) (formatted_text lines)) }
 {
     let _engine = new_image(images, name, lines, role)?;
-    let entries = lines / LAYOUT.entry_share;
+    let entries = LAYOUT.entries_of_lines(lines);
     match writeln!(writer, "formatted {lines} lines, {entries} entries") {
         Ok(()) => Ok(()),
         Err(error) => Err(Failure::Stopped(ServeError::Write(error))),

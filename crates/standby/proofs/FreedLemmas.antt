@@ -196,7 +196,7 @@ lawful_freed contents new ended are same lawful =
 keeps_along : (old new : Contents) (image : Image) → new.current ≡ old.current → new.lines ≡ old.lines → ((i : ℕ) → new.versions i ≡ old.versions i) → Keeps old image → Keeps new image
 keeps_along old new image current lines versions keeps = record {
   superblock = subst (λ n. HasSuperblock n image) (sym lines) keeps.superblock;
-  has_record = subst (λ r. HasRecord r image) (sym current) keeps.has_record;
+  has_record = subst₂ (λ n r. HasRecord n r image) (sym lines) (sym current) keeps.has_record;
   versions = λ i lt. ap (λ r. version_at r image i) current ∙ keeps.versions i (subst (λ n. i < entries_of_lines n) lines lt) ∙ sym (versions i);
   entries = λ i lt. subst₂ (λ r n. IsUnder r n image i) (sym current) (sym lines) (keeps.entries i (subst (λ n. i < entries_of_lines n) lines lt));
 }

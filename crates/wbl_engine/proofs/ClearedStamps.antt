@@ -10,6 +10,7 @@ use Rattle.model.specs.declared.record.Gap.{Gap}
 use Rattle.model.specs.declared.record.Record.{Record}
 use Rattle.model.specs.Layout.{first_word}
 use Rattle.model.specs.Image.{Image, HasRecord, root_word, entry_word, entries_of_lines, first_extent_line, counts, is_in_gap}
+use Rattle.model.proofs.RecordLemmas.{HasRecord-lines}
 use Rattle.wbl_record.proofs.Mixing.{IsMixed, mixed, image_of-is}
 use Rattle.wbl_record.proofs.RecordWords.{HasRecord-same}
 use Rattle.wbl_engine.specs.Erasing.{zero_pairs, erase_pairs, erase_lines, stamped_below}
@@ -19,7 +20,7 @@ use Rattle.wbl_engine.proofs.CountLemmas.{counts-zero}
 use Rattle.wbl_engine.proofs.GapLemmas.{stamped_where, stamped_listed}
 use Rattle.wbl_engine.proofs.ErasedStamps.{zero_where, listed_zeroed, erase_line}
 use Rattle.wbl_engine.proofs.ReadsAs.{ReadsAs, undamaged_as}
-use Rattle.wbl_engine.proofs.Readable.{stamp_below, stays_as}
+use Rattle.wbl_engine.proofs.Readable.{in_directory, stamp_below, stays_as}
 
 -- ---- the stores
 
@@ -83,7 +84,7 @@ IsUncounted r gap = (stamp : ℕ) → IsTrue (is_in_gap stamp gap) → counts r 
 -- each word beside the records is as it was, or a stamp of the gap was erased there
 pub partly_reads : {lines : ℕ} {r : Record} {image image' : Image} (gap : Gap) → IsUncounted r gap
     → ((i k : ℕ) → i < entries_of_lines lines → k < 2 → image (entry_word i k) < r.cd) → 0 < r.cd
-    → ((word : ℕ) → IsBesideRecords word → (image' word ≡ image word) ⊎ IsStored (gap_pairs gap image lines) word (image' word))
+    → ((word : ℕ) → IsBesideRecords lines word → (image' word ≡ image word) ⊎ IsStored (gap_pairs gap image lines) word (image' word))
     → ReadsAs lines r image r image'
 partly_reads {lines} {r} {image} {image'} gap uncounted below some over =
     record {
@@ -96,26 +97,26 @@ partly_reads {lines} {r} {image} {image'} gap uncounted below some over =
       epoch = refl;
       role = refl;
       below = λ i k within low.
-          elim (over (entry_word i k) (inr (omega arith))) [
+          elim (over (entry_word i k) (in_directory lines i k within (omega (arith, low)))) [
             | inl same ↦ let was = below i k within low in omega (arith, same, was)
             | inr stored ↦
                 let at = gap_store_at gap image lines i k (image' (entry_word i k)) (omega (arith, low)) stored in omega (arith, at.0, some)
           ];
       stamps = λ i k within low.
-          elim (over (entry_word i k) (inr (omega arith))) [
+          elim (over (entry_word i k) (in_directory lines i k within (omega (arith, low)))) [
             | inl same ↦ ap (counts r) same
             | inr stored ↦
                 let at = gap_store_at gap image lines i k (image' (entry_word i k)) (omega (arith, low)) stored in
                 ap (counts r) at.0 ∙ counts-zero r ∙ sym (uncounted (image (entry_word i k)) at.2)
           ];
       words = λ i k within low high.
-          elim (over (entry_word i k) (inr (omega arith))) [
+          elim (over (entry_word i k) (in_directory lines i k within high)) [
             | inl same ↦ same
             | inr stored ↦
                 let at = gap_store_at gap image lines i k (image' (entry_word i k)) high stored in absurd (omega (arith, at.1, low))
           ];
       extents = λ word low.
-          elim (over word (inr (omega (arith, low)))) [
+          elim (over word (inr (inr low))) [
             | inl same ↦ same
             | inr stored ↦
                 let at = gap_store gap image lines word (image' word) stored in absurd (omega (arith, at.word_is, at.within, at.low, low))
@@ -124,7 +125,7 @@ partly_reads {lines} {r} {image} {image'} gap uncounted below some over =
 
 -- the record's words are not touched
 partly_recorded : {r : Record} {d : State} (gap : Gap) (image : Image) → IsReadable r d
-    → IsPartlyStored (gap_pairs gap (image_of d.words) d.lines) d.words image → HasRecord r image
+    → IsPartlyStored (gap_pairs gap (image_of d.words) d.lines) d.words image → HasRecord d.lines r image
 partly_recorded {r} {d} gap image readable partly =
     let Q : ℕ → Type 0 = λ word. IsStored (gap_pairs gap (image_of d.words) d.lines) word (image word) in
     let mix : IsMixed d.words Q image = mixed d.words Q image partly in
@@ -134,14 +135,14 @@ partly_recorded {r} {d} gap image readable partly =
       | inl e ↦ e
       | inr stored ↦ let at = gap_store gap (image_of d.words) d.lines word (image word) stored in absurd (omega (arith, at.word_is, low))
     ] in
-    HasRecord-same r mix.base image (same root_word (omega arith)) (λ word low high. same word (omega (arith, high)))
+    HasRecord-same d.lines r mix.base image (same root_word (omega arith)) (λ word low high. same word (omega (arith, high)))
     (readable.recorded mix.base mix.is)
 
 some_limit : {r : Record} {d : State} → IsReadable r d → 0 < r.cd
 some_limit readable = let limit = readable.undamaged.current.lawful.limit in omega (arith, limit)
 
 device_reads : {r : Record} {d : State} (gap : Gap) (image : Image) → IsReadable r d → IsUncounted r gap
-    → ((word : ℕ) → IsBesideRecords word → (image word ≡ image_of d.words word) ⊎ IsStored (gap_pairs gap (image_of d.words) d.lines) word (image word))
+    → ((word : ℕ) → IsBesideRecords d.lines word → (image word ≡ image_of d.words word) ⊎ IsStored (gap_pairs gap (image_of d.words) d.lines) word (image word))
     → ReadsAs d.lines r (image_of d.words) r image
 device_reads gap image readable uncounted over =
     partly_reads gap uncounted (stamp_below readable.undamaged) (some_limit readable) over
@@ -208,15 +209,16 @@ erased_readable {r} {d} {b} gap readable uncounted staged =
           inr (subst (λ (x : ℕ). IsStored pairs word x) (sym (staged.newest word ∙ stored_zero word stored.0 stored.1)) stored.1)
       | inr out ↦ inl (staged.newest word ∙ written-outside pairs base word out)
     ]) in
-    let recorded : (image : Image) → IsImage b.words image → HasRecord r image = λ image is. partly_recorded gap image readable (partly image is) in (
+    let recorded : (image : Image) → IsImage b.words image → HasRecord d.lines r image = λ image is. partly_recorded gap image readable (partly image is) in (
       record {
         many = omega (arith, readable.many, staged.stays.lines);
         few = omega (arith, readable.few, staged.stays.lines);
         undamaged = subst (λ (lines : ℕ). IsUndamaged lines r (image_of b.words)) (sym staged.stays.lines)
             (undamaged_as readable.undamaged reads
             (record { has_record = recorded (image_of b.words) (image_of-is b.words); lawful = readable.undamaged.current.lawful }));
-        recorded = recorded;
-        certain = λ word beside.
+        recorded = λ image is. HasRecord-lines (sym staged.stays.lines) (recorded image is);
+        certain = λ word beside_now.
+            let beside : IsBesideRecords d.lines word = subst (λ (n : ℕ). IsBesideRecords n word) staged.stays.lines beside_now in
             elim (stored_or_outside pairs word) [
               | inl stored ↦
                   let line = erase_line (stamped_below gap base 0 (entries_of_lines d.lines)) (stamped_below gap base 1 (entries_of_lines d.lines)) word stored.0 stored.1 in

@@ -11,6 +11,7 @@ use Rattle.pmem.proofs.Leaving.{LeavesOnly-then, LeavesOnly-weaken, none_leaves}
 use Rattle.model.specs.declared.record.Gap.{Gap}
 use Rattle.model.specs.declared.record.Record.{Record}
 use Rattle.model.specs.Image.{Image, Version, counts, entry_line, entry_word, entries_of_lines, is_in_gap, version_at, version_in}
+use Rattle.model.proofs.RecordLemmas.{HasRecord-lines}
 use Rattle.model.specs.Group.{Contents}
 use Rattle.wbl_record.specs.Current.{IsLawful}
 use Rattle.wbl_record.specs.Record.{IsRecorded, IsRecordWord, IsSucceeded, IsEitherRecord}
@@ -207,13 +208,13 @@ keeps_versions {r} {d} {gap} {begins} {ends} c clearing lines made =
 -- words that matter are in no record
 pub recorded_erased : {r : Record} {d b : State} {gap : Gap} {begins ends : List EntryNo} (c : State) (n : ℕ) → IsClearing r d gap begins ends
     → Staged d b (erase_pairs begins ends) (erase_lines begins ends)
-    → ((word : ℕ) → (IsRecordWord n word → ⊥) → image_of c.words word ≡ image_of b.words word) → AreErased r d begins ends (image_of c.words)
+    → ((word : ℕ) → (IsRecordWord b.lines n word → ⊥) → image_of c.words word ≡ image_of b.words word) → AreErased r d begins ends (image_of c.words)
 recorded_erased {r} {d} {b} {gap} {begins} {ends} c n clearing staged newest word matters =
     newest word (no_record_word n word clearing.rest.whole matters) ∙ staged.newest word
 
 either_erased : {r : Record} {d b : State} {gap : Gap} {begins ends : List EntryNo} {image : Image} (n : ℕ) → IsClearing r d gap begins ends
     → Staged d b (erase_pairs begins ends) (erase_lines begins ends)
-    → ((word : ℕ) → (IsRecordWord n word → ⊥) → MayBe (b.words word) (image word)) → AreErased r d begins ends image
+    → ((word : ℕ) → (IsRecordWord b.lines n word → ⊥) → MayBe (b.words word) (image word)) → AreErased r d begins ends image
 either_erased {r} {d} {b} {gap} {begins} {ends} {image} n clearing staged elsewhere word matters =
     (staged_certain begins ends clearing.rest staged word matters).only (image word)
     (elsewhere word (no_record_word n word clearing.rest.whole matters))
@@ -227,7 +228,7 @@ cleared_rest {r} {d} {b} {c} {gap} {begins} {ends} clearing lawful staged record
     erased_rest clearing.rest (cleared_new clearing (recorded_erased c n clearing staged recorded.newest)) lawful (omega arith) (omega arith)
     (recorded.stays.lines ∙ staged.stays.lines) recorded.durable
     (λ word matters.
-    let out : IsRecordWord n word → ⊥ = no_record_word n word clearing.rest.whole matters in
+    let out : IsRecordWord d.lines n word → ⊥ = no_record_word n word clearing.rest.whole matters in
     record {
       only = λ y may.
           (staged_certain begins ends clearing.rest staged word matters).only y (recorded.elsewhere word y out may)
@@ -255,18 +256,18 @@ erase_moments {r} {d} {b} {gap} {begins} {ends} clearing moments =
 
 clear_either : {r : Record} {d b : State} {gap : Gap} {begins ends : List EntryNo} {image : Image} → IsClearing r d gap begins ends
     → IsLawful (record_after_clearing r) → Staged d b (erase_pairs begins ends) (erase_lines begins ends)
-    → IsEitherRecord b.words r (record_after_clearing r) image → IsClearedOrNot r d image
+    → IsEitherRecord b r (record_after_clearing r) image → IsClearedOrNot r d image
 clear_either {r} {d} {b} {gap} {begins} {ends} {image} clearing lawful staged recorded =
     let made : AreErased r d begins ends image = either_erased (r.number + 1) clearing staged recorded.elsewhere in
     elim recorded.either [
-      | inl old ↦ inl (all_left (contents_of r d) (erased_keeps clearing.rest (cleared_old clearing made) clearing.rest.lawful (omega arith) (omega arith) old))
-      | inr new ↦ inr (all_left (contents_of r d) (erased_keeps clearing.rest (cleared_new clearing made) lawful (omega arith) (omega arith) new))
+      | inl old ↦ inl (all_left (contents_of r d) (erased_keeps clearing.rest (cleared_old clearing made) clearing.rest.lawful (omega arith) (omega arith) (HasRecord-lines staged.stays.lines old)))
+      | inr new ↦ inr (all_left (contents_of r d) (erased_keeps clearing.rest (cleared_new clearing made) lawful (omega arith) (omega arith) (HasRecord-lines staged.stays.lines new)))
     ]
 
 pub clear_moments : {r : Record} {d b c : State} {gap : Gap} {begins ends : List EntryNo} → IsClearing r d gap begins ends
     → IsLawful (record_after_clearing r) → Staged d b (erase_pairs begins ends) (erase_lines begins ends)
-    → ((current : Record) → IsSucceeded b.words current (record_after_clearing r)
-    → LeavesOnly b c (IsEitherRecord b.words current (record_after_clearing r)))
+    → ((current : Record) → IsSucceeded b current (record_after_clearing r)
+    → LeavesOnly b c (IsEitherRecord b current (record_after_clearing r)))
     → LeavesOnly d c (IsClearedOrNot r d)
 clear_moments {r} {d} {b} {c} {gap} {begins} {ends} clearing lawful staged moments =
     LeavesOnly-then (erase_moments clearing staged.moments)

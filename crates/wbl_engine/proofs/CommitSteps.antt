@@ -82,10 +82,10 @@ done_same {d} {b} {c} r next group is begun staged recorded =
 -- each crash of the whole call
 pub done_moments : {d b c : State} (r next : Record) (group : Group) → next ≡ next_record r group → IsCommitting r d group
     → Staged d b (parts_pairs (r.cp + 1) group.parts.items) (parts_lines group.parts.items)
-    → ((current : Record) → IsSucceeded b.words current next → LeavesOnly b c (IsEitherRecord b.words current next))
+    → ((current : Record) → IsSucceeded b current next → LeavesOnly b c (IsEitherRecord b current next))
     → LeavesOnly d c (IsBeforeOrAfter r d group)
 done_moments {d} {b} {c} r next group is begun staged moments =
     commit_moments r d b c group begun.rest begun.asked begun.writable staged
-    (subst (λ (q : Record). LeavesOnly b c (IsEitherRecord b.words r q)) is
-    (moments r (subst (λ (q : Record). IsSucceeded b.words r q) (sym is)
+    (subst (λ (q : Record). LeavesOnly b c (IsEitherRecord b r q)) is
+    (moments r (subst (λ (q : Record). IsSucceeded b r q) (sym is)
     (stage_succeeded r d b group begun.rest begun.asked begun.writable staged))))

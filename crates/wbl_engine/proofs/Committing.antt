@@ -9,6 +9,7 @@ use Rattle.pmem.proofs.Staging.{written-cases, written-outside, stored_or_outsid
 use Rattle.model.specs.declared.record.Record.{Record}
 use Rattle.model.specs.declared.group.Group.{Group}
 use Rattle.model.specs.Image.{Image, HasRecord, root_word}
+use Rattle.model.proofs.RecordLemmas.{HasRecord-lines}
 use Rattle.model.specs.Group.{Versions, IsGroup, next_record, after_group, parts_versions}
 use Rattle.wbl_engine.specs.AtRest.{contents_of, IsAtRest, Matters}
 use Rattle.wbl_engine.specs.Contents.{Keeps}
@@ -33,7 +34,7 @@ at_rest_staging {r} {lines} {image} {versions} fits =
 
 -- a word that matters belongs to no record
 pub no_record_word : (r : Record) (lines n : ℕ) (image : Image) (versions : Versions) → Fits r lines image versions → (word : ℕ)
-    → Matters r lines image word → IsRecordWord n word → ⊥
+    → Matters r lines image word → IsRecordWord lines n word → ⊥
 no_record_word r lines n image versions fits word (inl before) (inl root) = omega (arith, before, root)
 no_record_word r lines n image versions fits word (inl before) (inr slot) = omega (arith, before, slot.0)
 no_record_word r lines n image versions fits word (inr (inl directory)) (inl root) = omega (arith, directory.0, root)
@@ -47,7 +48,7 @@ no_record_word r lines n image versions fits word (inr (inr (i, within, begun, a
 late_keeps : (r : Record) (d b : State) (group : Group) (image : Image) → IsAtRest r d → IsGroup (contents_of r d) group
     → AllByRecursion IsWritable (puts_of_parts group.parts.items)
     → Staged d b (parts_pairs (r.cp + 1) group.parts.items) (parts_lines group.parts.items)
-    → ((word : ℕ) → (IsRecordWord (r.number + 1) word → ⊥) → MayBe (b.words word) (image word)) → HasRecord r image
+    → ((word : ℕ) → (IsRecordWord d.lines (r.number + 1) word → ⊥) → MayBe (b.words word) (image word)) → HasRecord d.lines r image
     → Keeps (contents_of r d) image
 late_keeps r d b group image rest asked writable staged elsewhere recorded =
     let parts = group.parts.items in
@@ -68,7 +69,7 @@ late_keeps r d b group image rest asked writable staged elsewhere recorded =
 new_keeps : (r : Record) (d b : State) (group : Group) (image : Image) → IsAtRest r d → IsGroup (contents_of r d) group
     → AllByRecursion IsWritable (puts_of_parts group.parts.items)
     → Staged d b (parts_pairs (r.cp + 1) group.parts.items) (parts_lines group.parts.items)
-    → ((word : ℕ) → (IsRecordWord (r.number + 1) word → ⊥) → MayBe (b.words word) (image word)) → HasRecord (next_record r group) image
+    → ((word : ℕ) → (IsRecordWord d.lines (r.number + 1) word → ⊥) → MayBe (b.words word) (image word)) → HasRecord d.lines (next_record r group) image
     → Keeps (after_group (contents_of r d) group) image
 new_keeps r d b group image rest asked writable staged elsewhere recorded =
     let parts = group.parts.items in
@@ -105,17 +106,17 @@ new_keeps r d b group image rest asked writable staged elsewhere recorded =
 pub record_keeps : (r : Record) (d b : State) (group : Group) (image : Image) → IsAtRest r d → IsGroup (contents_of r d) group
     → AllByRecursion IsWritable (puts_of_parts group.parts.items)
     → Staged d b (parts_pairs (r.cp + 1) group.parts.items) (parts_lines group.parts.items)
-    → IsEitherRecord b.words r (next_record r group) image → Keeps (contents_of r d) image ⊎ Keeps (after_group (contents_of r d) group) image
+    → IsEitherRecord b r (next_record r group) image → Keeps (contents_of r d) image ⊎ Keeps (after_group (contents_of r d) group) image
 record_keeps r d b group image rest asked writable staged recorded =
     elim recorded.either [
-      | inl old ↦ inl (late_keeps r d b group image rest asked writable staged recorded.elsewhere old)
-      | inr new ↦ inr (new_keeps r d b group image rest asked writable staged recorded.elsewhere new)
+      | inl old ↦ inl (late_keeps r d b group image rest asked writable staged recorded.elsewhere (HasRecord-lines staged.stays.lines old))
+      | inr new ↦ inr (new_keeps r d b group image rest asked writable staged recorded.elsewhere (HasRecord-lines staged.stays.lines new))
     ]
 
 -- the record is still there when the group is stored
 pub stage_succeeded : (r : Record) (d b : State) (group : Group) → IsAtRest r d → IsGroup (contents_of r d) group
     → AllByRecursion IsWritable (puts_of_parts group.parts.items)
-    → Staged d b (parts_pairs (r.cp + 1) group.parts.items) (parts_lines group.parts.items) → IsSucceeded b.words r (next_record r group)
+    → Staged d b (parts_pairs (r.cp + 1) group.parts.items) (parts_lines group.parts.items) → IsSucceeded b r (next_record r group)
 stage_succeeded r d b group rest asked writable staged =
     let pairs : List (ℕ × ℕ) = parts_pairs (r.cp + 1) group.parts.items in
     let staging = group_staging r d group rest asked writable in
@@ -133,8 +134,9 @@ stage_succeeded r d b group rest asked writable staged =
           let same : (word : ℕ) → word < 64 → image word ≡ mix.base word =
           λ word before.
           elim (mix.same word) [ inl e ↦ e | inr stored ↦ absurd (staging_before staging word stored.0 before stored.1) ] in
-          HasRecord-same r mix.base image (same root_word (omega arith)) (λ word low high. same word (omega (arith, high)))
-          (rest.recorded mix.base mix.is);
+          HasRecord-lines (sym staged.stays.lines)
+          (HasRecord-same d.lines r mix.base image (same root_word (omega arith)) (λ word low high. same word (omega (arith, high)))
+          (rest.recorded mix.base mix.is));
     }
 
 -- ---- the moments of a commit
@@ -158,7 +160,7 @@ stage_moments r d b group rest asked writable moments =
 pub commit_moments : (r : Record) (d b c : State) (group : Group) → IsAtRest r d → IsGroup (contents_of r d) group
     → AllByRecursion IsWritable (puts_of_parts group.parts.items)
     → Staged d b (parts_pairs (r.cp + 1) group.parts.items) (parts_lines group.parts.items)
-    → LeavesOnly b c (IsEitherRecord b.words r (next_record r group)) → LeavesOnly d c (IsBeforeOrAfter r d group)
+    → LeavesOnly b c (IsEitherRecord b r (next_record r group)) → LeavesOnly d c (IsBeforeOrAfter r d group)
 commit_moments r d b c group rest asked writable staged moments =
     LeavesOnly-then (stage_moments r d b group rest asked writable staged.moments)
     (LeavesOnly-weaken (IsBeforeOrAfter r d group) (λ image recorded. record_keeps r d b group image rest asked writable staged recorded) moments)

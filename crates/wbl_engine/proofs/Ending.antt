@@ -83,7 +83,7 @@ made_whole r lines base new image versions fits positions made before superblock
 
 -- what loads return for words that belong to no record
 pub recorded_made : (d b c : State) (next : Record) (pairs : List (ℕ × ℕ)) → ((word : ℕ) → image_of b.words word ≡ written pairs (image_of d.words) word)
-    → ((word : ℕ) → (IsRecordWord next.number word → ⊥) → image_of c.words word ≡ image_of b.words word)
+    → ((word : ℕ) → (IsRecordWord b.lines next.number word → ⊥) → image_of c.words word ≡ image_of b.words word)
     → IsMade (written pairs (image_of d.words)) (image_of c.words)
 recorded_made d b c next pairs staged recorded word which =
     recorded word

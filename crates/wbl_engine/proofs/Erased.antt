@@ -35,7 +35,7 @@ superblock_kept lines base image same has =
       magic = same 0 (omega arith) ∙ has.magic;
       version = same 1 (omega arith) ∙ has.version;
       line_count = same 2 (omega arith) ∙ has.line_count;
-      entry_count = same 3 (omega arith) ∙ has.entry_count;
+      room = same 3 (omega arith) ∙ has.room;
     }
 
 kind_kept : (kind field kind' field' : ℕ) → kind' ≡ kind → field' ≡ field → ((kind ≡ STRING_KIND) × (field ≡ 0)) ⊎ (kind ≡ FIELD_KIND)
@@ -146,7 +146,7 @@ version_within r d i within = cond-true (nat_lt i (entries_of_lines d.lines)) _ 
 
 -- If it has the record q, it keeps the contents without what is gone.
 pub erased_keeps : {r q : Record} {d : State} {gone : ℕ → Bool} {image : Image} → IsAtRest r d → IsErased r q d.lines gone (image_of d.words) image
-    → IsLawful q → r.cp ≤ q.cp → r.position ≤ q.position → HasRecord q image
+    → IsLawful q → r.cp ≤ q.cp → r.position ≤ q.position → HasRecord d.lines q image
     → Keeps (record (without gone (contents_of r d)) { current = q }) image
 erased_keeps {r} {q} {d} {gone} {image} rest erased lawful cp position recorded =
     let whole : IsWhole q d.lines image = erased_whole rest.whole erased cp position in
@@ -178,7 +178,7 @@ erased_matters {r} {q} {lines} {gone} {base} {image} erased word (inr (inr (i, w
     ))
 
 -- no such word belongs to a record
-pub no_record_word : {r : Record} {lines : ℕ} {base : Image} (n word : ℕ) → IsWhole r lines base → Matters r lines base word → IsRecordWord n word → ⊥
+pub no_record_word : {r : Record} {lines : ℕ} {base : Image} (n word : ℕ) → IsWhole r lines base → Matters r lines base word → IsRecordWord lines n word → ⊥
 no_record_word {r} {lines} {base} n word whole (inl before) (inl root) = omega (arith, before, root)
 no_record_word {r} {lines} {base} n word whole (inl before) (inr slot) = omega (arith, before, slot.0)
 no_record_word {r} {lines} {base} n word whole (inr (inl directory)) (inl root) = omega (arith, directory.0, root)
@@ -191,7 +191,7 @@ no_record_word {r} {lines} {base} n word whole (inr (inr (i, within, counted, at
 -- A device that lost nothing else is at rest, if each crash leaves the record q, and what loads return wherever the map depended.
 pub erased_rest : {r q : Record} {d b : State} {gone : ℕ → Bool} → IsAtRest r d → IsErased r q d.lines gone (image_of d.words) (image_of b.words)
     → IsLawful q → r.cp ≤ q.cp → r.position ≤ q.position → b.lines ≡ d.lines
-    → ((image : Image) → IsImage b.words image → HasRecord q image)
+    → ((image : Image) → IsImage b.words image → HasRecord b.lines q image)
     → ((word : ℕ) → Matters r d.lines (image_of d.words) word → Only (b.words word) (image_of b.words word)) → IsAtRest q b
 erased_rest {r} {q} {d} {b} {gone} rest erased lawful cp position lines recorded certain =
     record {

@@ -21,7 +21,7 @@ use Rattle.wbl_engine.proofs.ClearedStamps.{gap_pairs, erased_readable, erased_s
 use Rattle.wbl_engine.proofs.ClearingLemmas.{within_from}
 use Rattle.wbl_engine.proofs.GapLemmas.{stamped_where}
 use Rattle.wbl_engine.proofs.ReadsAs.{ReadsAs}
-use Rattle.wbl_engine.proofs.Readable.{CountAlike, stamp_below, beside_record, recorded_as, recorded_readable, either_stays}
+use Rattle.wbl_engine.proofs.Readable.{CountAlike, stamp_below, in_directory, beside_record, recorded_as, recorded_readable, either_stays}
 
 -- the entries with a begin, or an end, in the oldest gap
 pub record AreStamped (r : Record) (d : State) (begins ends : List EntryNo) : Type 0 where
@@ -117,13 +117,13 @@ cleared_reads {lines} {r} {image} {image'} test whole uncounted cleared =
 
 -- what is written beside the records leaves them cleared
 pub cleared_beside : {lines : ℕ} {test : ℕ → Bool} {a b c : Image} → AreCleared lines test a b
-    → ((word : ℕ) → IsBesideRecords word → c word ≡ b word) → AreCleared lines test a c
+    → ((word : ℕ) → IsBesideRecords lines word → c word ≡ b word) → AreCleared lines test a c
 cleared_beside {lines} {test} {a} {b} {c} cleared same =
     record {
       superblock = λ word low. same word (inl low) ∙ cleared.superblock word low;
-      stamps = λ i k within low. same (entry_word i k) (inr (omega arith)) ∙ cleared.stamps i k within low;
-      words = λ i k within low high. same (entry_word i k) (inr (omega arith)) ∙ cleared.words i k within low high;
-      extents = λ word low. same word (inr (omega (arith, low))) ∙ cleared.extents word low;
+      stamps = λ i k within low. same (entry_word i k) (in_directory lines i k within (omega (arith, low))) ∙ cleared.stamps i k within low;
+      words = λ i k within low high. same (entry_word i k) (in_directory lines i k within high) ∙ cleared.words i k within low high;
+      extents = λ word low. same word (inr (inr low)) ∙ cleared.extents word low;
     }
 
 -- ---- the record without the gap
@@ -146,9 +146,9 @@ without_alike {r} {d} {b} erased =
     subst (λ (lines : ℕ). CountAlike lines (image_of b.words) r (record_after_clearing r)) (sym erased.lines_are)
     (cleared_alike r d.lines (image_of d.words) (image_of b.words) erased.before.undamaged.current.lawful erased.some erased.cleared.stamps)
 
-pub without_succeeded : {r : Record} {d b : State} (next : Record) → IsErasedGap r d b → IsWithoutGap r next → IsSucceeded b.words r next
+pub without_succeeded : {r : Record} {d b : State} (next : Record) → IsErasedGap r d b → IsWithoutGap r next → IsSucceeded b r next
 without_succeeded {r} {d} {b} next erased without =
-    subst (λ (q : Record). IsSucceeded b.words r q) (sym without.is) (record { number = refl; durable = erased.readable.recorded })
+    subst (λ (q : Record). IsSucceeded b r q) (sym without.is) (record { number = refl; durable = erased.readable.recorded })
 
 pub without_readable : {r : Record} {d b c : State} (next : Record) → IsErasedGap r d b → IsWithoutGap r next → IsRecorded b c next
     → IsReadable (record_after_clearing r) c
@@ -159,14 +159,14 @@ without_readable {r} {d} {b} {c} next erased without recorded =
 
 pub without_cleared : {r : Record} {d b c : State} (next : Record) → IsErasedGap r d b → IsRecorded b c next
     → AreCleared d.lines (λ stamp. is_in_gap stamp (oldest_gap r)) (image_of d.words) (image_of c.words)
-without_cleared next erased recorded = cleared_beside erased.cleared (λ word beside. recorded.newest word (beside_record next.number word beside))
+without_cleared {d = d} next erased recorded = cleared_beside erased.cleared (λ word beside. recorded.newest word (beside_record d.lines next.number word beside))
 
 pub without_moments : {r : Record} {d b c : State} (next : Record) → IsErasedGap r d b → IsWithoutGap r next
-    → LeavesOnly d b (StaysReadable d.lines r (image_of d.words)) → LeavesOnly b c (IsEitherRecord b.words r next)
+    → LeavesOnly d b (StaysReadable d.lines r (image_of d.words)) → LeavesOnly b c (IsEitherRecord b r next)
     → LeavesOnly d c (StaysReadable d.lines r (image_of d.words))
 without_moments {r} {d} {b} {c} next erased without first second =
     moments_then erased.before.undamaged
     (cleared_reads (λ stamp. is_in_gap stamp (oldest_gap r)) erased.before.undamaged (oldest_uncounted r erased.some) erased.cleared)
     erased.lines_are first
     (either_stays erased.readable (cleared_later r) without.lawful (without_alike erased)
-    (subst (λ (q : Record). LeavesOnly b c (IsEitherRecord b.words r q)) without.is second))
+    (subst (λ (q : Record). LeavesOnly b c (IsEitherRecord b r q)) without.is second))

@@ -9,6 +9,7 @@ use Rattle.pmem.specs.Runs.{Staged, IsStored, IsPartlyStored, IsLine, written}
 use Rattle.pmem.proofs.Staging.{IsStored-append, IsStored-append_left, IsStored-append_right, written-cases, written-outside, written-stored, stored_or_outside}
 use Rattle.model.specs.declared.record.Record.{Record}
 use Rattle.model.specs.Image.{Image, HasRecord, root_word, entry_word, entries_of_lines, counts}
+use Rattle.model.proofs.RecordLemmas.{HasRecord-lines}
 use Rattle.wbl_record.proofs.Mixing.{IsMixed, mixed}
 use Rattle.wbl_record.proofs.RecordWords.{HasRecord-same}
 use Rattle.wbl_engine.specs.AtRest.{IsAtRest, IsWhole, Matters, contents_of}
@@ -205,7 +206,7 @@ partly_over {r} {d} {image} begins ends rest partly word matters =
 
 -- the record is still there
 partly_recorded : {r : Record} {d : State} {image : Image} (begins ends : List EntryNo) → IsAtRest r d
-    → IsErasing r d.lines (image_of d.words) begins ends → IsPartlyStored (erase_pairs begins ends) d.words image → HasRecord r image
+    → IsErasing r d.lines (image_of d.words) begins ends → IsPartlyStored (erase_pairs begins ends) d.words image → HasRecord d.lines r image
 partly_recorded {r} {d} {image} begins ends rest erasing partly =
     let Q : ℕ → Type 0 = λ word. IsStored (erase_pairs begins ends) word (image word) in
     let mix : IsMixed d.words Q image = mixed d.words Q image partly in
@@ -215,7 +216,7 @@ partly_recorded {r} {d} {image} begins ends rest erasing partly =
       | inl e ↦ e
       | inr stored ↦ absurd (omega (arith, low, (erased_inside erasing word (image word) stored).0))
     ] in
-    HasRecord-same r mix.base image (same root_word (omega arith)) (λ word low high. same word (omega (arith, high))) (rest.recorded mix.base mix.is)
+    HasRecord-same d.lines r mix.base image (same root_word (omega arith)) (λ word low high. same word (omega (arith, high))) (rest.recorded mix.base mix.is)
 
 -- a crash leaves the contents without what is gone
 pub partly_keeps : {r : Record} {d : State} (begins ends : List EntryNo) (gone : ℕ → Bool) (image : Image) → IsAtRest r d
@@ -325,7 +326,7 @@ staged_certain {r} {d} {b} begins ends rest staged word matters =
 
 -- and the record
 pub staged_recorded : {r : Record} {d b : State} (begins ends : List EntryNo) → IsAtRest r d → IsErasing r d.lines (image_of d.words) begins ends
-    → Staged d b (erase_pairs begins ends) (erase_lines begins ends) → (image : Image) → IsImage b.words image → HasRecord r image
+    → Staged d b (erase_pairs begins ends) (erase_lines begins ends) → (image : Image) → IsImage b.words image → HasRecord b.lines r image
 staged_recorded {r} {d} {b} begins ends rest erasing staged image is =
     let pairs : List (ℕ × ℕ) = erase_pairs begins ends in
     let Q : ℕ → Type 0 = λ word. (x : ℕ) × IsStored pairs word x in
@@ -342,7 +343,8 @@ staged_recorded {r} {d} {b} begins ends rest erasing staged image is =
       | inl e ↦ e
       | inr stored ↦ absurd (omega (arith, low, (erased_inside erasing word stored.0 stored.1).0))
     ] in
-    HasRecord-same r mix.base image (same root_word (omega arith)) (λ word low high. same word (omega (arith, high))) (rest.recorded mix.base mix.is)
+    HasRecord-lines (sym staged.stays.lines)
+    (HasRecord-same d.lines r mix.base image (same root_word (omega arith)) (λ word low high. same word (omega (arith, high))) (rest.recorded mix.base mix.is))
 
 -- The device is at rest again.
 pub staged_rest : {r : Record} {d b : State} (begins ends : List EntryNo) (gone : ℕ → Bool) → IsAtRest r d

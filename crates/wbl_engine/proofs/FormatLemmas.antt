@@ -10,6 +10,7 @@ use Rattle.pmem.proofs.Staging.{same_or_other, IsLine-lines_from}
 use Rattle.model.specs.declared.image.TheConstants.{MIN_LINES, MAX_LINES}
 use Rattle.model.specs.declared.record.Role.{Role}
 use Rattle.model.specs.Image.{Image, HasSuperblock, HasRecord, magic_number, entry_word, entries_of_lines, first_extent_line, record_words, version_at, counts}
+use Rattle.model.proofs.RecordLemmas.{HasRecord-lines}
 use Rattle.wbl_engine.specs.AtRest.{contents_of, IsWhole, IsAtRest, Matters}
 use Rattle.wbl_engine.specs.Contents.{Keeps, IsNew}
 use Rattle.wbl_engine.specs.Formatting.{first_record, superblock_words, new_contents, new_pairs, IsFormatting}
@@ -45,11 +46,11 @@ new_superblock lines role image magic has =
       magic = magic;
       version = has.super 0 (omega arith);
       line_count = has.super 1 (omega arith);
-      entry_count = has.super 2 (omega arith);
+      room = has.super 2 (omega arith);
     }
 
-new_record : (lines : ℕ) (role : Role) (image : Image) → HasNew lines role image → HasRecord (first_record role) image
-new_record lines role image has = record_is (first_record role) image (has.super 3 (omega arith)) has.first
+new_record : (lines : ℕ) (role : Role) (image : Image) → HasNew lines role image → HasRecord lines (first_record role) image
+new_record lines role image has = record_is lines (first_record role) image (has.super 3 (omega arith)) has.first
 
 -- no begin counts
 not_begun : (lines : ℕ) (role : Role) (image : Image) → HasNew lines role image → (i : ℕ) → i < entries_of_lines lines
@@ -230,7 +231,9 @@ format_rest {a} {b} {c} {d} role many few first second third =
             entries = λ i within begun. absurd (not_begun a.lines role (image_of d.words) now.1 i within begun);
             positions = λ i within begun. absurd (not_begun a.lines role (image_of d.words) now.1 i within begun);
           });
-      recorded = λ image is. new_record a.lines role image (finished a.lines role second third image (λ word below. is word)).1;
+      recorded = λ image is.
+          HasRecord-lines (sym lines)
+          (new_record a.lines role image (finished a.lines role second third image (λ word below. is word)).1);
       certain = λ word matters.
           certain_below a.lines role second third word
           (matters_below a.lines role (image_of d.words) now.1 word

@@ -34,9 +34,9 @@ record IsRunWord (super slot first rest : List ℕ) (word x : ℕ) : Type 0 wher
   in_first : 32 ≤ word → word < 56 → get_or first (word - 32) 0 ≡ x
   in_rest : 56 ≤ word → (word < 56 + length rest) × (get_or rest (word - 56) 0 ≡ x)
 
-run_word : (super slot first rest : List ℕ) (word x : ℕ) → AreRuns super slot first → IsStored (run_pairs super slot first rest) word x
+run_word : (lines : ℕ) (super slot first rest : List ℕ) (word x : ℕ) → AreRuns super slot first → IsStored (run_pairs lines super slot first rest) word x
     → IsRunWord super slot first rest word x
-run_word super slot first rest word x runs stored =
+run_word lines super slot first rest word x runs stored =
     let a : List (ℕ × ℕ) = pairs_from 1 super in
     let b : List (ℕ × ℕ) = pairs_from 8 slot in
     let c : List (ℕ × ℕ) = pairs_from 32 first in
@@ -86,48 +86,48 @@ run_word super slot first rest word x runs stored =
           }
     ]
 
-run_super : (super slot first rest : List ℕ) (base : Image) (k : ℕ) → AreRuns super slot first → k < 7
-    → written (run_pairs super slot first rest) base (1 + k) ≡ get_or super k 0
-run_super super slot first rest base k runs below =
+run_super : (lines : ℕ) (super slot first rest : List ℕ) (base : Image) (k : ℕ) → AreRuns super slot first → k < 7
+    → written (run_pairs lines super slot first rest) base (1 + k) ≡ get_or super k 0
+run_super lines super slot first rest base k runs below =
     let a : List (ℕ × ℕ) = pairs_from 1 super in
     let b : List (ℕ × ℕ) = pairs_from 8 slot in
     let c : List (ℕ × ℕ) = pairs_from 32 first in
     let x : ℕ = get_or super k 0 in
     let place : (1 + k) - 1 ≡ k = omega arith in
-    written-stored (run_pairs super slot first rest) base (1 + k) x
+    written-stored (run_pairs lines super slot first rest) base (1 + k) x
     (IsStored-append_left (a ++ b ++ c) (pairs_from 56 rest) (1 + k) x
     (IsStored-append_left (a ++ b) c (1 + k) x
     (IsStored-append_left a b (1 + k) x (pairs_from-IsStored 1 super k (omega (arith, below, runs.super_size))))))
     (λ y stored.
-    sym ((run_word super slot first rest (1 + k) y runs stored).in_super (omega (arith, below))) ∙ ap (λ (n : ℕ). get_or super n 0) place)
+    sym ((run_word lines super slot first rest (1 + k) y runs stored).in_super (omega (arith, below))) ∙ ap (λ (n : ℕ). get_or super n 0) place)
 
-run_first : (super slot first rest : List ℕ) (base : Image) (k : ℕ) → AreRuns super slot first → k < 24
-    → written (run_pairs super slot first rest) base (32 + k) ≡ get_or first k 0
-run_first super slot first rest base k runs below =
+run_first : (lines : ℕ) (super slot first rest : List ℕ) (base : Image) (k : ℕ) → AreRuns super slot first → k < 24
+    → written (run_pairs lines super slot first rest) base (32 + k) ≡ get_or first k 0
+run_first lines super slot first rest base k runs below =
     let a : List (ℕ × ℕ) = pairs_from 1 super in
     let b : List (ℕ × ℕ) = pairs_from 8 slot in
     let c : List (ℕ × ℕ) = pairs_from 32 first in
     let x : ℕ = get_or first k 0 in
     let place : (32 + k) - 32 ≡ k = omega arith in
-    written-stored (run_pairs super slot first rest) base (32 + k) x
+    written-stored (run_pairs lines super slot first rest) base (32 + k) x
     (IsStored-append_left (a ++ b ++ c) (pairs_from 56 rest) (32 + k) x
     (IsStored-append_right (a ++ b) c (32 + k) x (pairs_from-IsStored 32 first k (omega (arith, below, runs.first_size)))))
     (λ y stored.
-    sym ((run_word super slot first rest (32 + k) y runs stored).in_first (omega arith) (omega (arith, below)))
+    sym ((run_word lines super slot first rest (32 + k) y runs stored).in_first (omega arith) (omega (arith, below)))
     ∙ ap (λ (n : ℕ). get_or first n 0) place)
 
-run_rest : (super slot first rest : List ℕ) (base : Image) (j : ℕ) → AreRuns super slot first → j < length rest
-    → written (run_pairs super slot first rest) base (56 + j) ≡ get_or rest j 0
-run_rest super slot first rest base j runs below =
+run_rest : (lines : ℕ) (super slot first rest : List ℕ) (base : Image) (j : ℕ) → AreRuns super slot first → j < length rest
+    → written (run_pairs lines super slot first rest) base (56 + j) ≡ get_or rest j 0
+run_rest lines super slot first rest base j runs below =
     let a : List (ℕ × ℕ) = pairs_from 1 super in
     let b : List (ℕ × ℕ) = pairs_from 8 slot in
     let c : List (ℕ × ℕ) = pairs_from 32 first in
     let x : ℕ = get_or rest j 0 in
     let place : (56 + j) - 56 ≡ j = omega arith in
-    written-stored (run_pairs super slot first rest) base (56 + j) x
+    written-stored (run_pairs lines super slot first rest) base (56 + j) x
     (IsStored-append_right (a ++ b ++ c) (pairs_from 56 rest) (56 + j) x (pairs_from-IsStored 56 rest j below))
     (λ y stored.
-    sym ((run_word super slot first rest (56 + j) y runs stored).in_rest (omega arith)).1 ∙ ap (λ (n : ℕ). get_or rest n 0) place)
+    sym ((run_word lines super slot first rest (56 + j) y runs stored).in_rest (omega arith)).1 ∙ ap (λ (n : ℕ). get_or rest n 0) place)
 
 new_runs : (lines : ℕ) (role : Role) → AreRuns (superblock_words lines) (replicate 24 0) (record_words (first_record role))
 new_runs lines role =
@@ -139,7 +139,7 @@ unfolding new_pairs
 magic_outside lines role x stored =
     omega (
       arith,
-      (run_word (superblock_words lines) (replicate 24 0) (record_words (first_record role))
+      (run_word lines (superblock_words lines) (replicate 24 0) (record_words (first_record role))
           (replicate (8 + 8 * entries_of_lines lines) 0) 0 x (new_runs lines role) stored).low,
     )
 
@@ -147,7 +147,7 @@ magic_outside lines role x stored =
 pub new_covered : (lines : ℕ) (role : Role) (word x : ℕ) → IsStored (new_pairs lines role) word x → IsLine (lines_from 0 (8 + entries_of_lines lines)) (word / 8)
 unfolding new_pairs
 new_covered lines role word x stored =
-    let at = run_word (superblock_words lines) (replicate 24 0) (record_words (first_record role))
+    let at = run_word lines (superblock_words lines) (replicate 24 0) (record_words (first_record role))
     (replicate (8 + 8 * entries_of_lines lines) 0) word x (new_runs lines role) stored in
     IsLine-lines_from 0 (8 + entries_of_lines lines) (word / 8) (omega arith)
     (elim at.high [
@@ -160,7 +160,7 @@ pub new_super : (lines : ℕ) (role : Role) (base : Image) (k : ℕ) → k < 7
     → written (new_pairs lines role) base (1 + k) ≡ get_or (superblock_words lines) k 0
 unfolding new_pairs
 new_super lines role base k below =
-    run_super (superblock_words lines) (replicate 24 0) (record_words (first_record role)) (replicate (8 + 8 * entries_of_lines lines) 0) base k
+    run_super lines (superblock_words lines) (replicate 24 0) (record_words (first_record role)) (replicate (8 + 8 * entries_of_lines lines) 0) base k
     (new_runs lines role) below
 
 -- the record
@@ -168,7 +168,7 @@ pub new_first : (lines : ℕ) (role : Role) (base : Image) (k : ℕ) → k < 24
     → written (new_pairs lines role) base (32 + k) ≡ get_or (record_words (first_record role)) k 0
 unfolding new_pairs
 new_first lines role base k below =
-    run_first (superblock_words lines) (replicate 24 0) (record_words (first_record role)) (replicate (8 + 8 * entries_of_lines lines) 0) base k
+    run_first lines (superblock_words lines) (replicate 24 0) (record_words (first_record role)) (replicate (8 + 8 * entries_of_lines lines) 0) base k
     (new_runs lines role) below
 
 -- the directory
@@ -179,7 +179,7 @@ new_entry lines role base i k within below =
     let n : ℕ = 8 + 8 * entries_of_lines lines in
     let j : ℕ = entry_word i k - 56 in
     let at : 56 + j ≡ entry_word i k = omega arith in
-    ap (written (run_pairs (superblock_words lines) (replicate 24 0) (record_words (first_record role)) (replicate n 0)) base) (sym at)
-    ∙ run_rest (superblock_words lines) (replicate 24 0) (record_words (first_record role)) (replicate n 0) base j (new_runs lines role)
+    ap (written (run_pairs lines (superblock_words lines) (replicate 24 0) (record_words (first_record role)) (replicate n 0)) base) (sym at)
+    ∙ run_rest lines (superblock_words lines) (replicate 24 0) (record_words (first_record role)) (replicate n 0) base j (new_runs lines role)
     (omega (arith, length-zeros n, within, below, at))
     ∙ get_or-zeros n j

@@ -28,9 +28,9 @@ open_alike {r} {d} readable i k within low =
 pub open_is_lawful : {r : Record} {d : State} → IsReadable r d → HasRoom r → IsLawful (with_open_gap r)
 open_is_lawful {r} readable has = open_lawful r readable.undamaged.current.lawful has.room has.limit has.number
 
-pub open_succeeded : {r : Record} {d : State} (next : Record) → next ≡ with_open_gap r → IsReadable r d → IsSucceeded d.words r next
+pub open_succeeded : {r : Record} {d : State} (next : Record) → next ≡ with_open_gap r → IsReadable r d → IsSucceeded d r next
 open_succeeded {r} {d} next is readable =
-    subst (λ (q : Record). IsSucceeded d.words r q) (sym is) (record { number = refl; durable = readable.recorded })
+    subst (λ (q : Record). IsSucceeded d r q) (sym is) (record { number = refl; durable = readable.recorded })
 
 pub open_readable : {r : Record} {d c : State} (next : Record) → next ≡ with_open_gap r → IsReadable r d → HasRoom r → IsRecorded d c next
     → IsReadable (with_open_gap r) c
@@ -39,11 +39,11 @@ open_readable {r} {d} {c} next is readable has recorded =
     recorded_readable readable (open_is_lawful readable has) (recorded_as readable (open_later r) (open_alike readable) written) written
 
 pub open_moments : {r : Record} {d c : State} (next : Record) → next ≡ with_open_gap r → IsReadable r d → HasRoom r
-    → LeavesOnly d c (IsEitherRecord d.words r next) → LeavesOnly d c (StaysReadable d.lines r (image_of d.words))
+    → LeavesOnly d c (IsEitherRecord d r next) → LeavesOnly d c (StaysReadable d.lines r (image_of d.words))
 open_moments {r} {d} {c} next is readable has moments =
     either_stays readable (open_later r) (open_is_lawful readable has) (open_alike readable)
-    (subst (λ (q : Record). LeavesOnly d c (IsEitherRecord d.words r q)) is moments)
+    (subst (λ (q : Record). LeavesOnly d c (IsEitherRecord d r q)) is moments)
 
-pub open_beside : {d c : State} (next : Record) → IsRecorded d c next → (word : ℕ) → IsBesideRecords word
+pub open_beside : {d c : State} (next : Record) → IsRecorded d c next → (word : ℕ) → IsBesideRecords d.lines word
     → image_of c.words word ≡ image_of d.words word
-open_beside next recorded word beside = recorded.newest word (beside_record next.number word beside)
+open_beside {d} next recorded word beside = recorded.newest word (beside_record d.lines next.number word beside)

@@ -66,11 +66,11 @@ unchanged_new r d image agrees = unchanged r (promoted_record r) d image (λ sta
 
 -- whatever is stored in a record stays out of the words on which the map depends
 newest_agrees : {r : Record} {d : State} (c : State) (n : ℕ) → IsAtRest r d
-    → ((word : ℕ) → (IsRecordWord n word → ⊥) → image_of c.words word ≡ image_of d.words word) → AgreesWith r d (image_of c.words)
+    → ((word : ℕ) → (IsRecordWord d.lines n word → ⊥) → image_of c.words word ≡ image_of d.words word) → AgreesWith r d (image_of c.words)
 newest_agrees {r} {d} c n rest newest word matters = newest word (no_record_word n word rest.whole matters)
 
 left_agrees : {r : Record} {d : State} (n : ℕ) (image : Image) → IsAtRest r d
-    → ((word : ℕ) → (IsRecordWord n word → ⊥) → MayBe (d.words word) (image word)) → AgreesWith r d image
+    → ((word : ℕ) → (IsRecordWord d.lines n word → ⊥) → MayBe (d.words word) (image word)) → AgreesWith r d image
 left_agrees {r} {d} n image rest elsewhere word matters =
     (rest.certain word matters).only (image word) (elsewhere word (no_record_word n word rest.whole matters))
 
@@ -100,7 +100,7 @@ promoted_rest {r} {d} {c} next is lawful rest recorded =
     (erased_rest rest (unchanged_new r d (image_of c.words) (newest_agrees c (r.number + 1) rest written.newest)) (subst IsLawful is lawful)
     (omega arith) (omega arith) written.stays.lines written.durable
     (λ word matters.
-    let out : IsRecordWord (r.number + 1) word → ⊥ = no_record_word (r.number + 1) word rest.whole matters in
+    let out : IsRecordWord d.lines (r.number + 1) word → ⊥ = no_record_word (r.number + 1) word rest.whole matters in
     record { only = λ y may. (rest.certain word matters).only y (written.elsewhere word y out may) ∙ sym (written.newest word out) }))
 
 pub promoted_same : {r : Record} {d c : State} (next : Record) → next ≡ promoted_record r → IsAtRest r d → IsRecorded d c next
@@ -132,7 +132,7 @@ abbrev pub IsPromotedOrNot : Record → State → Image → Type 0
 IsPromotedOrNot r d image = Keeps (contents_of r d) image ⊎ Keeps (promoted (contents_of r d)) image
 
 either_promoted : {r : Record} {d : State} (image : Image) → IsLawful (promoted_record r) → IsAtRest r d
-    → IsEitherRecord d.words r (promoted_record r) image → IsPromotedOrNot r d image
+    → IsEitherRecord d r (promoted_record r) image → IsPromotedOrNot r d image
 either_promoted {r} {d} image lawful rest recorded =
     let agrees : AgreesWith r d image = left_agrees (r.number + 1) image rest recorded.elsewhere in
     elim recorded.either [
@@ -141,12 +141,12 @@ either_promoted {r} {d} image lawful rest recorded =
     ]
 
 pub promotion_moments : {r : Record} {d c : State} (next : Record) → next ≡ promoted_record r → IsLawful next → IsAtRest r d
-    → ((current : Record) → IsSucceeded d.words current next → LeavesOnly d c (IsEitherRecord d.words current next))
+    → ((current : Record) → IsSucceeded d current next → LeavesOnly d c (IsEitherRecord d current next))
     → LeavesOnly d c (IsPromotedOrNot r d)
 promotion_moments {r} {d} {c} next is lawful rest moments =
     LeavesOnly-weaken (IsPromotedOrNot r d) (λ image recorded. either_promoted image (subst IsLawful is lawful) rest recorded)
-    (subst (λ (q : Record). LeavesOnly d c (IsEitherRecord d.words r q)) is
-    (moments r (subst (λ (q : Record). IsSucceeded d.words r q) (sym is) (record { number = refl; durable = rest.recorded }))))
+    (subst (λ (q : Record). LeavesOnly d c (IsEitherRecord d r q)) is
+    (moments r (subst (λ (q : Record). IsSucceeded d r q) (sym is) (record { number = refl; durable = rest.recorded }))))
 
 -- where nothing was stored
 pub promotion_none : {r : Record} {d : State} → ((image : Image) → IsImage d.words image → Keeps (contents_of r d) image)

@@ -9,6 +9,7 @@ use Rattle.pmem.proofs.Leaving.{LeavesOnly-weaken, none_leaves}
 use Rattle.model.specs.declared.image.TheConstants.{MIN_LINES, MAX_LINES}
 use Rattle.model.specs.declared.record.Record.{Record}
 use Rattle.model.specs.Image.{Image, root_word, entry_word, entries_of_lines, counts}
+use Rattle.model.proofs.RecordLemmas.{HasRecord-lines}
 use Rattle.wbl_record.specs.Current.{IsCurrent, IsLawful}
 use Rattle.wbl_record.specs.Record.{IsRecordWord, IsRecorded, IsEitherRecord}
 use Rattle.wbl_record.proofs.Mixing.{image_of-is}
@@ -41,11 +42,15 @@ abbrev pub CountAlike : ℕ → Image → Record → Record → Type 0
 CountAlike lines image r s = (i k : ℕ) → i < entries_of_lines lines → k < 2 → counts s (image (entry_word i k)) ≡ counts r (image (entry_word i k))
 
 -- the second image has the words of the first beside the records
-abbrev pub IsSameBeside : Image → Image → Type 0
-IsSameBeside image image' = (word : ℕ) → IsBesideRecords word → image' word ≡ image word
+abbrev pub IsSameBeside : ℕ → Image → Image → Type 0
+IsSameBeside lines image image' = (word : ℕ) → IsBesideRecords lines word → image' word ≡ image word
+
+-- a word of an entry is beside the records
+pub in_directory : (lines i k : ℕ) → i < entries_of_lines lines → k < 8 → IsBesideRecords lines (entry_word i k)
+in_directory lines i k within below = inr (inl (omega arith, omega (arith, within, below)))
 
 pub reads_over : {lines : ℕ} {r s : Record} {image image' : Image} → IsUndamaged lines r image → IsLater r s → CountAlike lines image r s
-    → IsSameBeside image image' → ReadsAs lines r image s image'
+    → IsSameBeside lines image image' → ReadsAs lines r image s image'
 reads_over {lines} {r} {s} {image} {image'} whole later alike same =
     record {
       superblock = λ word low. same word (inl low);
@@ -53,16 +58,16 @@ reads_over {lines} {r} {s} {image} {image'} whole later alike same =
       epoch = later.epoch;
       role = later.role;
       below = λ i k within low.
-          let is = same (entry_word i k) (inr (omega arith)) in
+          let is = same (entry_word i k) (in_directory lines i k within (omega (arith, low))) in
           let was = stamp_below whole i k within low in
           omega (arith, is, was, later.limit);
-      stamps = λ i k within low. ap (counts s) (same (entry_word i k) (inr (omega arith))) ∙ alike i k within low;
-      words = λ i k within low high. same (entry_word i k) (inr (omega arith));
-      extents = λ word low. same word (inr (omega (arith, low)));
+      stamps = λ i k within low. ap (counts s) (same (entry_word i k) (in_directory lines i k within (omega (arith, low)))) ∙ alike i k within low;
+      words = λ i k within low high. same (entry_word i k) (in_directory lines i k within high);
+      extents = λ word low. same word (inr (inr low));
     }
 
 -- an image that reads as an undamaged one stays readable
-pub stays_as : {lines : ℕ} {r s : Record} {image image' : Image} → IsUndamaged lines r image → ReadsAs lines r image s image' → IsCurrent image' s
+pub stays_as : {lines : ℕ} {r s : Record} {image image' : Image} → IsUndamaged lines r image → ReadsAs lines r image s image' → IsCurrent lines image' s
     → StaysReadable lines r image image'
 stays_as {lines} {r} {s} {image} {image'} whole reads current =
     record {
@@ -78,7 +83,7 @@ stays_as {lines} {r} {s} {image} {image'} whole reads current =
 
 -- a crash leaves the words beside the records
 same_beside : {r : Record} {d : State} → IsReadable r d → (image : Image)
-    → ((word : ℕ) → IsBesideRecords word → MayBe (d.words word) (image word)) → IsSameBeside (image_of d.words) image
+    → ((word : ℕ) → IsBesideRecords d.lines word → MayBe (d.words word) (image word)) → IsSameBeside d.lines (image_of d.words) image
 same_beside readable image may word beside = (readable.certain word beside).only (image word) (may word beside)
 
 -- so it leaves a readable image
@@ -101,7 +106,7 @@ settled_readable r d many few settled whole =
       few = few;
       undamaged = whole;
       recorded = λ image is.
-          HasRecord-same r (image_of d.words) image ((settled root_word).only (image root_word) (is root_word))
+          HasRecord-same d.lines r (image_of d.words) image ((settled root_word).only (image root_word) (is root_word))
           (λ word low high. (settled word).only (image word) (is word)) whole.current.has_record;
       certain = λ word beside. settled word;
     }
@@ -115,24 +120,26 @@ settled_stays r d settled whole =
     stays_as whole
     (reads_over whole (IsLater-same r) (λ i k within low. refl) (λ word beside. (settled word).only (image word) (is word)))
     (record {
-      has_record = HasRecord-same r (image_of d.words) image ((settled root_word).only (image root_word) (is root_word))
+      has_record = HasRecord-same d.lines r (image_of d.words) image ((settled root_word).only (image root_word) (is root_word))
           (λ word low high. (settled word).only (image word) (is word)) whole.current.has_record;
       lawful = whole.current.lawful;
     }))
 
 -- ---- the next record
 
-pub beside_record : (n word : ℕ) → IsBesideRecords word → IsRecordWord n word → ⊥
-beside_record n word (inl before) (inl root) = omega (arith, before, root)
-beside_record n word (inl before) (inr slot) = omega (arith, before, slot.0)
-beside_record n word (inr behind) (inl root) = omega (arith, behind, root)
-beside_record n word (inr behind) (inr slot) = omega (arith, behind, slot.1)
+pub beside_record : (lines n word : ℕ) → IsBesideRecords lines word → IsRecordWord lines n word → ⊥
+beside_record lines n word (inl before) (inl root) = omega (arith, before, root)
+beside_record lines n word (inl before) (inr slot) = omega (arith, before, slot.0)
+beside_record lines n word (inr (inl directory)) (inl root) = omega (arith, directory.0, root)
+beside_record lines n word (inr (inl directory)) (inr slot) = omega (arith, directory.0, slot.1)
+beside_record lines n word (inr (inr extents)) (inl root) = omega (arith, extents, root)
+beside_record lines n word (inr (inr extents)) (inr slot) = omega (arith, extents, slot.1)
 
 -- what is read once it is written
 pub recorded_as : {r s : Record} {d c : State} → IsReadable r d → IsLater r s → CountAlike d.lines (image_of d.words) r s → IsRecorded d c s
     → ReadsAs d.lines r (image_of d.words) s (image_of c.words)
 recorded_as {r} {s} {d} {c} readable later alike recorded =
-    reads_over readable.undamaged later alike (λ word beside. recorded.newest word (beside_record s.number word beside))
+    reads_over readable.undamaged later alike (λ word beside. recorded.newest word (beside_record d.lines s.number word beside))
 
 pub recorded_readable : {r s : Record} {d c : State} → IsReadable r d → IsLawful s → ReadsAs d.lines r (image_of d.words) s (image_of c.words)
     → IsRecorded d c s → IsReadable s c
@@ -142,10 +149,14 @@ recorded_readable {r} {s} {d} {c} readable lawful reads recorded =
       few = omega (arith, readable.few, recorded.stays.lines);
       undamaged = subst (λ (lines : ℕ). IsUndamaged lines s (image_of c.words)) (sym recorded.stays.lines)
           (undamaged_as readable.undamaged reads
-          (record { has_record = recorded.durable (image_of c.words) (image_of-is c.words); lawful = lawful }));
+          (record {
+            has_record = HasRecord-lines recorded.stays.lines (recorded.durable (image_of c.words) (image_of-is c.words));
+            lawful = lawful;
+          }));
       recorded = recorded.durable;
-      certain = λ word beside.
-          let other = beside_record s.number word beside in
+      certain = λ word beside_now.
+          let beside : IsBesideRecords d.lines word = subst (λ (lines : ℕ). IsBesideRecords lines word) recorded.stays.lines beside_now in
+          let other = beside_record d.lines s.number word beside in
           record {
             only = λ y may.
                 (readable.certain word beside).only y (recorded.elsewhere word y other may) ∙ sym (recorded.newest word other);
@@ -154,14 +165,14 @@ recorded_readable {r} {s} {d} {c} readable lawful reads recorded =
 
 -- at any moment until then
 pub either_stays : {r s : Record} {d c : State} → IsReadable r d → IsLater r s → IsLawful s → CountAlike d.lines (image_of d.words) r s
-    → LeavesOnly d c (IsEitherRecord d.words r s) → LeavesOnly d c (StaysReadable d.lines r (image_of d.words))
+    → LeavesOnly d c (IsEitherRecord d r s) → LeavesOnly d c (StaysReadable d.lines r (image_of d.words))
 either_stays {r} {s} {d} {c} readable later lawful alike moments =
     LeavesOnly-weaken (StaysReadable d.lines r (image_of d.words)) leaves moments
   where
-    leaves : (image : Image) → IsEitherRecord d.words r s image → StaysReadable d.lines r (image_of d.words) image
+    leaves : (image : Image) → IsEitherRecord d r s image → StaysReadable d.lines r (image_of d.words) image
     leaves image either =
-        let same : IsSameBeside (image_of d.words) image =
-        same_beside readable image (λ word beside. either.elsewhere word (beside_record s.number word beside)) in
+        let same : IsSameBeside d.lines (image_of d.words) image =
+        same_beside readable image (λ word beside. either.elsewhere word (beside_record d.lines s.number word beside)) in
         elim either.either [
           | inl old ↦
               stays_as readable.undamaged (reads_over readable.undamaged (IsLater-same r) (λ i k within low. refl) same)
@@ -191,18 +202,18 @@ readable_rest {r} {d} readable low =
       certain = λ word matters. readable.certain word (beside word matters);
     }
   where
-    beside : (word : ℕ) → Matters r d.lines (image_of d.words) word → IsBesideRecords word
+    beside : (word : ℕ) → Matters r d.lines (image_of d.words) word → IsBesideRecords d.lines word
     beside word (inl before) = inl before
-    beside word (inr (inl directory)) = inr directory.0
+    beside word (inr (inl directory)) = inr (inl directory)
     beside word (inr (inr (i, within, begun, at))) =
-        inr (omega (arith, at.low, ((readable.undamaged.versions.entries i within).whole begun).above))
+        inr (inr (omega (arith, at.low, ((readable.undamaged.versions.entries i within).whole begun).above)))
 
 -- and it is durable
 pub readable_durable : {r : Record} {d : State} → IsReadable r d → IsDurable d (contents_of r d)
 readable_durable {r} {d} readable image is =
     let same = same_beside readable image (λ word beside. is word) in
     let reads = reads_over readable.undamaged (IsLater-same r) (λ i k within low. refl) same in
-    let current : IsCurrent image r = record { has_record = readable.recorded image is; lawful = readable.undamaged.current.lawful } in
+    let current : IsCurrent d.lines image r = record { has_record = readable.recorded image is; lawful = readable.undamaged.current.lawful } in
     let whole = undamaged_as readable.undamaged reads current in
     record {
       superblock = whole.superblock;

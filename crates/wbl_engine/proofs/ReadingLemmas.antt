@@ -6,22 +6,22 @@ use Rattle.heap_layout.specs.Superblock.{is_wrong_size, super_refusal}
 use Rattle.heap_layout.specs.Versions.{AreVersions}
 use Rattle.model.specs.declared.record.Record.{Record}
 use Rattle.model.specs.declared.layout.TheConstants.{LAYOUT}
-use Rattle.model.specs.Image.{Image, entries_of_lines, magic_number}
+use Rattle.model.specs.Image.{Image, directory_room, magic_number}
 use Rattle.model.proofs.RecordLemmas.{HasRecord-unique}
 use Rattle.wbl_record.specs.Current.{IsCurrent}
 use Rattle.wbl_engine.specs.Lawful.{IsUndamaged}
 use Rattle.wbl_engine.specs.Reopening.{RefusesReading}
 
 -- an undamaged image has one record
-pub undamaged_unique : {lines : ℕ} {image : Image} (r s : Record) → IsCurrent image r → IsUndamaged lines s image → s ≡ r
+pub undamaged_unique : {lines : ℕ} {image : Image} (r s : Record) → IsCurrent lines image r → IsUndamaged lines s image → s ≡ r
 undamaged_unique {lines} {image} r s current whole =
-    HasRecord-unique image s r whole.current.lawful.few whole.current.has_record current.has_record
+    HasRecord-unique lines image s r whole.current.lawful.few whole.current.has_record current.has_record
 
-pub no_record : (lines : ℕ) (image : Image) (refusal : Refusal) → refusal ≡ Damaged → ((r : Record) → IsCurrent image r → ⊥)
+pub no_record : (lines : ℕ) (image : Image) (refusal : Refusal) → refusal ≡ Damaged → ((r : Record) → IsCurrent lines image r → ⊥)
     → RefusesReading lines image refusal
 no_record lines image refusal is none = inr (inl (is, λ r whole. none r whole.current))
 
-pub no_versions : (lines : ℕ) (image : Image) (r : Record) (refusal : Refusal) → IsCurrent image r
+pub no_versions : (lines : ℕ) (image : Image) (r : Record) (refusal : Refusal) → IsCurrent lines image r
     → (refusal ≡ Damaged → AreVersions r lines image → ⊥) → (refusal ≡ Damaged) ⊎ (refusal ≡ Memory) → RefusesReading lines image refusal
 no_versions lines image r refusal current none (inl damaged) =
     inr (inl (
@@ -33,7 +33,7 @@ no_versions lines image r refusal current none (inr memory) = inr (inr memory)
 -- no superblock earns a fault
 pub super_no_fault : (lines : ℕ) (image : Image) → super_refusal lines image ≡ Some Fault → ⊥
 super_no_fault lines image =
-    none (is_wrong_size lines) (image 0 == magic_number) (image 1 == LAYOUT.version) (image 2 == lines) (image 3 == entries_of_lines lines)
+    none (is_wrong_size lines) (image 0 == magic_number) (image 1 == LAYOUT.version) (image 2 == lines) (image 3 == directory_room lines)
   where
     none : (size magic version count entries : Bool)
         → cond size (Some WrongSize) (cond (not magic) (Some BadMagic) (cond (not version) (Some BadVersion)

@@ -116,7 +116,7 @@ versions_as {lines} {r} {s} {image} {image'} whole reads i within =
 -- ---- images
 
 -- an image that reads as an undamaged one is undamaged
-pub undamaged_as : {lines : ℕ} {r s : Record} {image image' : Image} → IsUndamaged lines r image → ReadsAs lines r image s image' → IsCurrent image' s
+pub undamaged_as : {lines : ℕ} {r s : Record} {image image' : Image} → IsUndamaged lines r image → ReadsAs lines r image s image' → IsCurrent lines image' s
     → IsUndamaged lines s image'
 undamaged_as {lines} {r} {s} {image} {image'} whole reads current =
     record {
@@ -124,7 +124,7 @@ undamaged_as {lines} {r} {s} {image} {image'} whole reads current =
         magic = reads.superblock 0 (omega arith) ∙ whole.superblock.magic;
         version = reads.superblock 1 (omega arith) ∙ whole.superblock.version;
         line_count = reads.superblock 2 (omega arith) ∙ whole.superblock.line_count;
-        entry_count = reads.superblock 3 (omega arith) ∙ whole.superblock.entry_count;
+        room = reads.superblock 3 (omega arith) ∙ whole.superblock.room;
       };
       current = current;
       versions = record {

@@ -12,7 +12,7 @@ use Rattle.model.specs.declared.layout.TheConstants.{LAYOUT}
 use Rattle.model.specs.declared.record.Record.{Record}
 use Rattle.model.specs.declared.record.Role.{Role}
 use Rattle.model.specs.Group.{Contents}
-use Rattle.model.specs.Image.{HasSuperblock, Image, IsMapOf, Version, counts, entries_of_lines, entry_word, magic_number, version_at}
+use Rattle.model.specs.Image.{HasSuperblock, Image, IsMapOf, Version, counts, directory_room, entries_of_lines, entry_word, magic_number, version_at}
 use Rattle.model.proofs.MapLemmas.{IsMapOf-same}
 use Rattle.wbl_record.specs.Current.{IsLawful}
 use Rattle.wbl_engine.specs.Contents.{Keeps}
@@ -109,10 +109,10 @@ reopening_lawful old new image role counted gapped are keeps reopens =
 -- a superblock that breaks no rule earns no refusal
 super_none : (lines : ℕ) (image : Image) → MIN_LINES ≤ lines → lines ≤ MAX_LINES → HasSuperblock lines image → super_refusal lines image ≡ None
 super_none lines image many few has =
-    earns_none (is_wrong_size lines) (image 0 == magic_number) (image 1 == LAYOUT.version) (image 2 == lines) (image 3 == entries_of_lines lines)
+    earns_none (is_wrong_size lines) (image 0 == magic_number) (image 1 == LAYOUT.version) (image 2 == lines) (image 3 == directory_room lines)
     (or_from (nat_lt lines MIN_LINES) (nat_lt MAX_LINES lines) (le-ltb lines MIN_LINES many) (le-ltb MAX_LINES lines few))
     (eq-eqb (image 0) magic_number has.magic) (eq-eqb (image 1) LAYOUT.version has.version) (eq-eqb (image 2) lines has.line_count)
-    (eq-eqb (image 3) (entries_of_lines lines) has.entry_count)
+    (eq-eqb (image 3) (directory_room lines) has.room)
   where
     earns_none : (size magic version count entries : Bool)
         → size ≡ false → magic ≡ true → version ≡ true → count ≡ true → entries ≡ true

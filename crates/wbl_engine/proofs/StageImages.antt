@@ -20,13 +20,13 @@ HasSuperblock-same lines base image same has =
       magic = same 0 (omega arith) ∙ has.magic;
       version = same 1 (omega arith) ∙ has.version;
       line_count = same 2 (omega arith) ∙ has.line_count;
-      entry_count = same 3 (omega arith) ∙ has.entry_count;
+      room = same 3 (omega arith) ∙ has.room;
     }
 
 -- an image keeps the old versions if each word that matters is as before or as the group stores it
 pub keeps_old : (r : Record) (d : State) (count : ℕ) (puts : List Put) (pairs : List (ℕ × ℕ)) (image : Image) → IsAtRest r d
     → IsStaging r d.lines count (image_of d.words) (contents_of r d).versions puts pairs → count ≤ 64
-    → IsStagedOver r d.lines (image_of d.words) pairs image → HasRecord r image → Keeps (contents_of r d) image
+    → IsStagedOver r d.lines (image_of d.words) pairs image → HasRecord d.lines r image → Keeps (contents_of r d) image
 keeps_old r d count puts pairs image rest staging few over recorded =
     record {
       superblock = HasSuperblock-same d.lines (image_of d.words) image
@@ -52,7 +52,7 @@ staged_over r d pairs image rest partly word matters =
 
 -- and the record is unchanged
 staged_record : (r : Record) (d : State) (count : ℕ) (puts : List Put) (pairs : List (ℕ × ℕ)) (image : Image) → IsAtRest r d
-    → IsStaging r d.lines count (image_of d.words) (contents_of r d).versions puts pairs → IsPartlyStored pairs d.words image → HasRecord r image
+    → IsStaging r d.lines count (image_of d.words) (contents_of r d).versions puts pairs → IsPartlyStored pairs d.words image → HasRecord d.lines r image
 staged_record r d count puts pairs image rest staging partly =
     let mix : IsMixed d.words (λ word. IsStored pairs word (image word)) image = mixed d.words (λ word. IsStored pairs word (image word)) image partly in
     let same : (word : ℕ) → word < 64 → image word ≡ mix.base word =
@@ -61,7 +61,7 @@ staged_record r d count puts pairs image rest staging partly =
       | inl e ↦ e
       | inr stored ↦ absurd (staging_before staging word (image word) before stored)
     ] in
-    HasRecord-same r mix.base image (same root_word (omega arith)) (λ word low high. same word (omega (arith, high))) (rest.recorded mix.base mix.is)
+    HasRecord-same d.lines r mix.base image (same root_word (omega arith)) (λ word low high. same word (omega (arith, high))) (rest.recorded mix.base mix.is)
 
 -- Until the record is written, each crash leaves the old contents.
 pub stage_keeps : (r : Record) (d : State) (count : ℕ) (puts : List Put) (pairs : List (ℕ × ℕ)) (image : Image) → IsAtRest r d

@@ -10,7 +10,7 @@ use Rattle.model.specs.declared.layout.TheConstants.{LAYOUT}
 use Rattle.model.specs.declared.record.Gap.{Gap}
 use Rattle.model.specs.declared.record.Record.{Record}
 use Rattle.model.specs.Layout.{first_word}
-use Rattle.model.specs.Image.{Image, HasSuperblock, HasWords, HasRecord, root_word, entries_of_lines, first_extent_line, entry_word, field_bytes, version_at, counts}
+use Rattle.model.specs.Image.{Image, HasSuperblock, HasWords, HasRecord, root_word, entries_of_lines, directory_end, entry_word, field_bytes, version_at, counts}
 use Rattle.model.specs.Group.{Contents}
 use Rattle.heap_layout.specs.declared.entry.TheConstants.{STRING_KIND, FIELD_KIND}
 use Rattle.heap_layout.specs.Entry.{IsKind, IsEntry}
@@ -45,7 +45,7 @@ pub record IsInExtent (image : Image) (i word : ℕ) : Type 0 where
 abbrev pub Matters : Record → ℕ → Image → ℕ → Type 0
 Matters r lines image word =
     (word < root_word)
-    ⊎ ((first_word LAYOUT.directory_line ≤ word) × (word < first_word (first_extent_line lines)))
+    ⊎ ((first_word LAYOUT.directory_line ≤ word) × (word < first_word (directory_end lines)))
     ⊎ ((i : ℕ) × (i < entries_of_lines lines) × IsTrue (counts r (image (entry_word i 0))) × IsInExtent image i word)
 
 -- Each crash leaves the record, and each word on which the map depends as loads return it.
@@ -54,15 +54,15 @@ pub record IsAtRest (r : Record) (d : State) : Type 0 where
   pub few : d.lines ≤ MAX_LINES
   pub lawful : IsLawful r
   pub whole : IsWhole r d.lines (image_of d.words)
-  pub recorded : (image : Image) → IsImage d.words image → HasRecord r image
+  pub recorded : (image : Image) → IsImage d.words image → HasRecord d.lines r image
   pub certain : (word : ℕ) → Matters r d.lines (image_of d.words) word → Only (d.words word) (image_of d.words word)
 
 HasWords-prop : (image : Image) (first : ℕ) (values : List ℕ) → IsProp (HasWords image first values)
 HasWords-prop image first [] = hlevel props
 HasWords-prop image first (value ∷ values) = hlevel (props, HasWords-prop image (first + 1) values)
 
-HasRecord-prop : (r : Record) (image : Image) → IsProp (HasRecord r image)
-HasRecord-prop r image = hlevel (props, HasWords-prop)
+HasRecord-prop : (lines : ℕ) (r : Record) (image : Image) → IsProp (HasRecord lines r image)
+HasRecord-prop lines r image = hlevel (props, HasWords-prop)
 
 -- a kind is not both that of a string and that of a field
 one_kind : (kind : ℕ) → kind ≡ STRING_KIND → kind ≡ FIELD_KIND → ⊥

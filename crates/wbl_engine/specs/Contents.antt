@@ -14,7 +14,7 @@ use Rattle.heap_layout.specs.Version.{IsUnder}
 -- record: every stamp in it is below the record's limit.
 pub record Keeps (contents : Contents) (image : Image) : Type 0 where
   pub superblock : HasSuperblock contents.lines image
-  pub has_record : HasRecord contents.current image
+  pub has_record : HasRecord contents.lines contents.current image
   pub versions : (i : ℕ) → i < entries_of_lines contents.lines → version_at contents.current image i ≡ contents.versions i
   pub entries : (i : ℕ) → i < entries_of_lines contents.lines → IsUnder contents.current contents.lines image i
 

@@ -9,7 +9,7 @@ use Rattle.model.specs.declared.record.Record.{Record}
 use Rattle.model.specs.declared.record.TheConstants.{FIRST_EPOCH}
 use Rattle.model.specs.declared.record.Role.{Role}
 use Rattle.model.specs.Layout.{first_word}
-use Rattle.model.specs.Image.{Image, magic_number, entries_of_lines, record_words}
+use Rattle.model.specs.Image.{Image, magic_number, directory_room, entries_of_lines, record_words, slot_line}
 use Rattle.model.specs.Group.{Contents}
 use Rattle.wbl_engine.specs.Contents.{Keeps}
 
@@ -38,33 +38,34 @@ new_contents lines role =
 
 -- the superblock after the magic
 abbrev pub superblock_words : ℕ → List ℕ
-superblock_words lines = LAYOUT.version ∷ lines ∷ entries_of_lines lines ∷ 1 ∷ 0 ∷ 0 ∷ 0 ∷ []
+superblock_words lines = LAYOUT.version ∷ lines ∷ directory_room lines ∷ 1 ∷ 0 ∷ 0 ∷ 0 ∷ []
 
 -- how many words a record slot has, where the two slots begin, and where they end
 abbrev pub slot_words : ℕ
 slot_words = first_word LAYOUT.slot_lines
 
-abbrev pub slot_0 : ℕ
-slot_0 = first_word LAYOUT.record_line
+abbrev pub slot_0 : ℕ → ℕ
+slot_0 lines = first_word (slot_line lines 0)
 
-abbrev pub slot_1 : ℕ
-slot_1 = slot_0 + slot_words
+abbrev pub slot_1 : ℕ → ℕ
+slot_1 lines = first_word (slot_line lines 1)
 
-abbrev pub behind_slots : ℕ
-behind_slots = slot_1 + slot_words
+abbrev pub behind_slots : ℕ → ℕ
+behind_slots lines = slot_1 lines + slot_words
 
 -- these four runs of words, up to the extents
-abbrev pub run_pairs : List ℕ → List ℕ → List ℕ → List ℕ → List (ℕ × ℕ)
-run_pairs super slot first rest = pairs_from 1 super ++ pairs_from slot_0 slot ++ pairs_from slot_1 first ++ pairs_from behind_slots rest
+abbrev pub run_pairs : ℕ → List ℕ → List ℕ → List ℕ → List ℕ → List (ℕ × ℕ)
+run_pairs lines super slot first rest =
+    pairs_from 1 super ++ pairs_from (slot_0 lines) slot ++ pairs_from (slot_1 lines) first ++ pairs_from (behind_slots lines) rest
 
 -- how many words are between the slots and the extents: those before the directory, and its own
 abbrev pub rest_words : ℕ → ℕ
-rest_words lines = first_word LAYOUT.directory_line - behind_slots + first_word (entries_of_lines lines)
+rest_words lines = first_word LAYOUT.directory_line - behind_slots lines + first_word (entries_of_lines lines)
 
 -- all words of a new image but the magic, up to the extents
 unfoldable pub new_pairs : ℕ → Role → List (ℕ × ℕ)
 new_pairs lines role =
-    run_pairs (superblock_words lines) (replicate slot_words 0) (record_words (first_record role)) (replicate (rest_words lines) 0)
+    run_pairs lines (superblock_words lines) (replicate slot_words 0) (record_words (first_record role)) (replicate (rest_words lines) 0)
 
 -- What a crash leaves of a device of these words that is being formatted: an image from before, the new one whole, or one without the magic.
 abbrev pub IsFormatting : (ℕ → Word) → ℕ → Role → Image → Type 0

@@ -22,5 +22,5 @@ pub record AreLawful (contents : Contents) : Type 0 where
 -- The image breaks no rule of the format: this is its record, and each entry obeys its rules under it.
 pub record IsUndamaged (lines' : ℕ) (r : Record) (image : Image) : Type 0 where
   pub superblock : HasSuperblock lines' image
-  pub current : IsCurrent image r
+  pub current : IsCurrent lines' image r
   pub versions : AreVersions r lines' image

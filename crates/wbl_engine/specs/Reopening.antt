@@ -16,7 +16,7 @@ use Rattle.model.specs.declared.record.Record.{Record}
 use Rattle.model.specs.declared.record.Role.{Role}
 use Rattle.model.specs.declared.record.TheConstants.{MAX_GAPS}
 use Rattle.model.specs.Group.{Contents, IsConsistent}
-use Rattle.model.specs.Image.{Image, HasRecord, counts, entries_of_lines, entry_word, first_extent_line, is_in_gap, root_word, version_at}
+use Rattle.model.specs.Image.{Image, HasRecord, counts, directory_end, entries_of_lines, entry_word, first_extent_line, is_in_gap, root_word, version_at}
 use Rattle.wbl_engine.specs.Erasing.{oldest_gap}
 use Rattle.wbl_engine.specs.Freeing.{is_listed, record_after_clearing}
 use Rattle.wbl_engine.specs.Lawful.{IsUndamaged}
@@ -131,17 +131,20 @@ RefusesReopening lines image role refusal =
 
 -- ---- what a crash leaves
 
--- the word belongs to no record: it is before the root, or after the slots
-abbrev pub IsBesideRecords : ℕ → Type 0
-IsBesideRecords word = (word < root_word) ⊎ (first_word LAYOUT.directory_line ≤ word)
+-- in an image of `lines` lines the word belongs to no record: it is before the root, in the directory, or in an extent
+abbrev pub IsBesideRecords : ℕ → ℕ → Type 0
+IsBesideRecords lines word =
+    (word < root_word)
+    ⊎ ((first_word LAYOUT.directory_line ≤ word) × (word < first_word (directory_end lines)))
+    ⊎ (first_word (first_extent_line lines) ≤ word)
 
 -- Each crash leaves this record and, beside the records, what loads return; and that is an undamaged image.
 pub record IsReadable (r : Record) (d : State) : Type 0 where
   pub many : MIN_LINES ≤ d.lines
   pub few : d.lines ≤ MAX_LINES
   pub undamaged : IsUndamaged d.lines r (image_of d.words)
-  pub recorded : (image : Image) → IsImage d.words image → HasRecord r image
-  pub certain : (word : ℕ) → IsBesideRecords word → Only (d.words word) (image_of d.words word)
+  pub recorded : (image : Image) → IsImage d.words image → HasRecord d.lines r image
+  pub certain : (word : ℕ) → IsBesideRecords d.lines word → Only (d.words word) (image_of d.words word)
 
 -- The second image is undamaged, and has the versions that the first has under this record, and the record's position, epoch and role.
 -- So it can be reopened again.

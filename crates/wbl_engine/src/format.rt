@@ -14,18 +14,6 @@ use wbl_record::words_of;
 /// How many words a record slot has.
 const SLOT_WORDS: u64 = LINE_WORDS * LAYOUT.slot_lines;
 
-/// The first word of slot 0.
-const SLOT_0: u64 = LINE_WORDS * LAYOUT.record_line;
-
-/// The first word of slot 1.
-const SLOT_1: u64 = SLOT_0 + SLOT_WORDS;
-
-/// The first word after both slots.
-const BEHIND_SLOTS: u64 = SLOT_1 + SLOT_WORDS;
-
-/// How many words are between the slots and the directory.
-const BEFORE_DIRECTORY: u64 = LINE_WORDS * LAYOUT.directory_line - BEHIND_SLOTS;
-
 /// Formats a device: erases the magic, then writes everything else, then writes the magic.
 ///
 /// At any moment a crash leaves an image from before, the new one whole, or one without the magic. On `Err` a fence has failed.
@@ -55,14 +43,18 @@ fn write_new<P: Pmem>(device: &mut P, first: &Record) -> Result<(), Fault>
     ensures err { OnErr result (StageFailed (P.state device.old) (P.state device.new) (new_pairs (P.state device.old).lines first.now.role)) }
 {
     let lines = device.lines();
-    let entries = LAYOUT.entries_of_lines(lines);
-    store_words(device, 1, &[LAYOUT.version, lines, entries, 1, 0, 0, 0]);
-    clear_words(device, SLOT_0, SLOT_WORDS);
-    store_words(device, SLOT_1, &words_of(first));
+    let slot_0 = LINE_WORDS * LAYOUT.slot_line(lines, 0);
+    let slot_1 = LINE_WORDS * LAYOUT.slot_line(lines, 1);
+    let behind_slots = slot_1 + SLOT_WORDS;
+    let before_directory = LINE_WORDS * LAYOUT.directory_line - behind_slots;
+    let room = LAYOUT.directory_room(lines);
+    store_words(device, 1, &[LAYOUT.version, lines, room, 1, 0, 0, 0]);
+    clear_words(device, slot_0, SLOT_WORDS);
+    store_words(device, slot_1, &words_of(first));
     clear_words(
         device,
-        BEHIND_SLOTS,
-        BEFORE_DIRECTORY + LINE_WORDS * entries,
+        behind_slots,
+        before_directory + LINE_WORDS * LAYOUT.entries_of_lines(lines),
     );
     flush_lines(device, 0, LAYOUT.first_extent_line(lines));
     device.fence()

@@ -258,7 +258,7 @@ fn add_open_gap<P: Pmem>(device: &mut P, current: Record) -> Result<Record, Faul
     requires number { current.number + 1 < COUNTER_LIMIT }
     ensures next { IfOk result (λ next. next ≡ with_open_gap current) }
     ensures readable { OnOk result (IsReadable (with_open_gap current) (P.state device.new)) }
-    ensures beside { OnOk result ((word : ℕ) → IsBesideRecords word
+    ensures beside { OnOk result ((word : ℕ) → IsBesideRecords (P.state device.old).lines word
         → image_of (P.state device.new).words word ≡ image_of (P.state device.old).words word) }
     ensures lines { OnOk result ((P.state device.new).lines ≡ (P.state device.old).lines) }
     ensures sound { OnOk result ((P.state device.new).failures ≡ (P.state device.old).failures) }

@@ -1,7 +1,7 @@
 -- The two steps of writing a record: the body, and the root.
 use Rattle.std.proofs.Common.{◌≡◌, ◌≢◌, ◌⊎◌, ℕ, ◌+◌, ◌*◌, ◌/◌, ◌<◌, ◌≤◌, List, [], ◌∷◌, get_or, refl, inl, inr, sym, ap, subst, ◌∙◌, arith}
 use Rattle.std.proofs.lemmas.Bool.{cases_lt}
-use Rattle.pmem.specs.Device.{Word, State, MayBe}
+use Rattle.pmem.specs.Device.{State, MayBe}
 use Rattle.pmem.specs.Crash.{IsImage, image_of}
 use Rattle.pmem.specs.Runs.{LeavesOnly, Staged, StageFailed, IsPartlyStored, IsStored, IsOutside, IsLine, written, pairs_from, lines_from}
 use Rattle.pmem.proofs.Chaining.{Stays-then}
@@ -11,14 +11,15 @@ use Rattle.model.specs.declared.record.Record.{Record}
 use Rattle.model.specs.declared.layout.TheConstants.{LAYOUT}
 use Rattle.model.specs.Layout.{first_word}
 use Rattle.model.specs.Image.{Image, HasRecord, root_word, record_word, record_words, slot_line}
+use Rattle.model.proofs.RecordLemmas.{HasRecord-lines}
 use Rattle.wbl_record.specs.Record.{IsRecordWord, body_pairs, body_lines, root_pairs, IsRecorded, IsRecordFault, IsSucceeded, IsEitherRecord}
 use Rattle.wbl_record.proofs.Mixing.{IsMixed, mixed}
 use Rattle.wbl_record.proofs.RecordWords.{length-record_words, HasWords-at, HasRecord-same}
 
 -- a word that is not of the record is touched by neither step
-body_outside : (next : Record) (word : ℕ) → (IsRecordWord next.number word → ⊥) → IsOutside (body_pairs next) word
-body_outside next word other x stored =
-    let at = IsStored-pairs_from (8 * slot_line next.number) (record_words next) word x stored in
+body_outside : (lines : ℕ) (next : Record) (word : ℕ) → (IsRecordWord lines next.number word → ⊥) → IsOutside (body_pairs lines next) word
+body_outside lines next word other x stored =
+    let at = IsStored-pairs_from (8 * slot_line lines next.number) (record_words next) word x stored in
     other (inr (omega (arith, at.0), omega (arith, at.1, length-record_words next)))
 
 root_outside : (next : Record) (word : ℕ) → word ≢ root_word → IsOutside (root_pairs next) word
@@ -29,60 +30,58 @@ root_stored next word x (inl here) = (sym here.0, sym here.1)
 root_stored next word x (inr none) = absurd none
 
 -- the root is in no slot
-root_before : (next : Record) → IsOutside (body_pairs next) root_word
-root_before next x stored =
-    let at = IsStored-pairs_from (8 * slot_line next.number) (record_words next) root_word x stored in omega (arith, at.0)
-
-slot_word : (next : Record) (word : ℕ) → record_word next.number 0 ≤ word → word ≢ root_word
-slot_word next word low e = omega (arith, low, e)
+root_before : (lines : ℕ) (next : Record) → IsOutside (body_pairs lines next) root_word
+root_before lines next x stored =
+    let at = IsStored-pairs_from (8 * slot_line lines next.number) (record_words next) root_word x stored in omega (arith, at.0)
 
 -- where a record's body was stored
-pub record_is : (r : Record) (image : Image) → image root_word ≡ r.number
-    → ((k : ℕ) → k < 24 → image (8 * slot_line r.number + k) ≡ get_or (record_words r) k 0) → HasRecord r image
-record_is r image root each =
+pub record_is : (lines : ℕ) (r : Record) (image : Image) → image root_word ≡ r.number
+    → ((k : ℕ) → k < 24 → image (8 * slot_line lines r.number + k) ≡ get_or (record_words r) k 0) → HasRecord lines r image
+record_is lines r image root each =
     record {
       root = root;
-      words = HasWords-at image (record_word r.number 0) (record_words r)
+      words = HasWords-at image (record_word lines r.number 0) (record_words r)
           (λ k below.
-          let e : record_word r.number 0 + k ≡ 8 * slot_line r.number + k = omega arith in
+          let e : record_word lines r.number 0 + k ≡ 8 * slot_line lines r.number + k = omega arith in
           ap image e ∙ each k (omega (arith, below, length-record_words r)));
     }
 
 -- after the first step each word of the body is certain
-body_certain : {a b : State} (next : Record) → Staged a b (body_pairs next) (body_lines next) → (k : ℕ) → k < 24 → (y : ℕ)
-    → MayBe (b.words (8 * slot_line next.number + k)) y → y ≡ get_or (record_words next) k 0
+body_certain : {a b : State} (next : Record) → Staged a b (body_pairs a.lines next) (body_lines a.lines next) → (k : ℕ) → k < 24 → (y : ℕ)
+    → MayBe (b.words (8 * slot_line a.lines next.number + k)) y → y ≡ get_or (record_words next) k 0
 body_certain {a} {b} next body k below y may =
-    let word : ℕ = 8 * slot_line next.number + k in
-    let line : IsLine (body_lines next) (word / 8) = IsLine-lines_from (slot_line next.number) 3 (word / 8) (omega arith) (omega arith) in
+    let word : ℕ = 8 * slot_line a.lines next.number + k in
+    let line : IsLine (body_lines a.lines next) (word / 8) = IsLine-lines_from (slot_line a.lines next.number) 3 (word / 8) (omega arith) (omega arith) in
     (body.certain word line).only y may
-    ∙ written-pairs_from (8 * slot_line next.number) (record_words next) (image_of a.words) k (omega (arith, below, length-record_words next))
+    ∙ written-pairs_from (8 * slot_line a.lines next.number) (record_words next) (image_of a.words) k (omega (arith, below, length-record_words next))
 
 -- after the second the record is durable
-root_durable : {a b c : State} (next : Record) → Staged a b (body_pairs next) (body_lines next) → Staged b c (root_pairs next) (0 ∷ [])
-    → (image : Image) → IsImage c.words image → HasRecord next image
+root_durable : {a b c : State} (next : Record) → Staged a b (body_pairs a.lines next) (body_lines a.lines next) → Staged b c (root_pairs next) (0 ∷ [])
+    → (image : Image) → IsImage c.words image → HasRecord c.lines next image
 root_durable {a} {b} {c} next body root image is =
-    record_is next image
+    HasRecord-lines (sym (root.stays.lines ∙ body.stays.lines))
+    (record_is a.lines next image
     ((root.certain root_word (inl refl)).only (image root_word) (is root_word))
     (λ k below.
-    let word : ℕ = 8 * slot_line next.number + k in
+    let word : ℕ = 8 * slot_line a.lines next.number + k in
     body_certain next body k below (image word)
-    (root.elsewhere word (image word) (root_outside next word (λ e. omega (arith, e))) (is word)))
+    (root.elsewhere word (image word) (root_outside next word (λ e. omega (arith, e))) (is word))))
 
-elsewhere_kept : {a b c : State} (next : Record) → Staged a b (body_pairs next) (body_lines next) → Staged b c (root_pairs next) (0 ∷ [])
-    → (word y : ℕ) → (IsRecordWord next.number word → ⊥) → MayBe (c.words word) y → MayBe (a.words word) y
+elsewhere_kept : {a b c : State} (next : Record) → Staged a b (body_pairs a.lines next) (body_lines a.lines next) → Staged b c (root_pairs next) (0 ∷ [])
+    → (word y : ℕ) → (IsRecordWord a.lines next.number word → ⊥) → MayBe (c.words word) y → MayBe (a.words word) y
 elsewhere_kept {a} {b} {c} next body root word y other may =
-    body.elsewhere word y (body_outside next word other)
+    body.elsewhere word y (body_outside a.lines next word other)
     (root.elsewhere word y (root_outside next word (λ e. other (inl e))) may)
 
 newest_kept : (a b c : State) (next : Record) (word : ℕ)
-    → ((w : ℕ) → image_of b.words w ≡ written (body_pairs next) (image_of a.words) w)
+    → ((w : ℕ) → image_of b.words w ≡ written (body_pairs a.lines next) (image_of a.words) w)
     → ((w : ℕ) → image_of c.words w ≡ written (root_pairs next) (image_of b.words) w)
-    → (IsRecordWord next.number word → ⊥) → image_of c.words word ≡ image_of a.words word
+    → (IsRecordWord a.lines next.number word → ⊥) → image_of c.words word ≡ image_of a.words word
 newest_kept a b c next word body root other =
     root word ∙ written-outside (root_pairs next) (image_of b.words) word (root_outside next word (λ e. other (inl e)))
-    ∙ body word ∙ written-outside (body_pairs next) (image_of a.words) word (body_outside next word other)
+    ∙ body word ∙ written-outside (body_pairs a.lines next) (image_of a.words) word (body_outside a.lines next word other)
 
-pub recorded : {a b c : State} (next : Record) → Staged a b (body_pairs next) (body_lines next) → Staged b c (root_pairs next) (0 ∷ [])
+pub recorded : {a b c : State} (next : Record) → Staged a b (body_pairs a.lines next) (body_lines a.lines next) → Staged b c (root_pairs next) (0 ∷ [])
     → IsRecorded a c next
 recorded {a} {b} {c} next body root =
     record {
@@ -94,17 +93,17 @@ recorded {a} {b} {c} next body root =
     }
 
 -- the first fence failed
-pub body_fault : {a b : State} (next : Record) → StageFailed a b (body_pairs next) → IsRecordFault a b next
+pub body_fault : {a b : State} (next : Record) → StageFailed a b (body_pairs a.lines next) → IsRecordFault a b next
 body_fault {a} {b} next body =
     record {
       newest = λ word other.
-          body.newest word ∙ written-outside (body_pairs next) (image_of a.words) word (body_outside next word other);
+          body.newest word ∙ written-outside (body_pairs a.lines next) (image_of a.words) word (body_outside a.lines next word other);
       failures = omega (arith, body.failures);
       stays = body.stays;
     }
 
 -- the second fence failed
-pub root_fault : {a b c : State} (next : Record) → Staged a b (body_pairs next) (body_lines next) → StageFailed b c (root_pairs next)
+pub root_fault : {a b c : State} (next : Record) → Staged a b (body_pairs a.lines next) (body_lines a.lines next) → StageFailed b c (root_pairs next)
     → IsRecordFault a c next
 root_fault {a} {b} {c} next body root =
     record {
@@ -114,71 +113,71 @@ root_fault {a} {b} {c} next body root =
     }
 
 -- the current record's words are in none of the next one's
-current_outside : (current next : Record) (word : ℕ) → next.number ≡ current.number + 1 → record_word current.number 0 ≤ word
-    → word < record_word current.number 24 → IsOutside (body_pairs next) word
-current_outside current next word e low high =
-    elim (cases_lt word (8 * slot_line next.number)) [
-      | inl before ↦ pairs_from-outside (8 * slot_line next.number) (record_words next) word (inl before)
+current_outside : (lines : ℕ) (current next : Record) (word : ℕ) → next.number ≡ current.number + 1 → record_word lines current.number 0 ≤ word
+    → word < record_word lines current.number 24 → IsOutside (body_pairs lines next) word
+current_outside lines current next word e low high =
+    elim (cases_lt word (8 * slot_line lines next.number)) [
+      | inl before ↦ pairs_from-outside (8 * slot_line lines next.number) (record_words next) word (inl before)
       | inr behind ↦
-          pairs_from-outside (8 * slot_line next.number) (record_words next) word
+          pairs_from-outside (8 * slot_line lines next.number) (record_words next) word
           (inr (omega (arith, e, low, high, behind, length-record_words next)))
     ]
 
 -- a base that has the current record, and an image that agrees with it on the words of the record
-current_stays : (words : ℕ → Word) (current next : Record) (base image : Image) → IsSucceeded words current next → IsImage words base
+current_stays : (d : State) (current next : Record) (base image : Image) → IsSucceeded d current next → IsImage d.words base
     → image root_word ≡ base root_word
-    → ((word : ℕ) → record_word current.number 0 ≤ word → word < record_word current.number 24 → image word ≡ base word) → HasRecord current image
-current_stays words current next base image succeeded is root slot = HasRecord-same current base image root slot (succeeded.durable base is)
+    → ((word : ℕ) → record_word d.lines current.number 0 ≤ word → word < record_word d.lines current.number 24 → image word ≡ base word) → HasRecord d.lines current image
+current_stays d current next base image succeeded is root slot = HasRecord-same d.lines current base image root slot (succeeded.durable base is)
 
 -- while the body is stored, the root still names the current record
-body_leaves : (words : ℕ → Word) (current next : Record) (image : Image) → IsSucceeded words current next
-    → IsPartlyStored (body_pairs next) words image → IsEitherRecord words current next image
-body_leaves words current next image succeeded partly =
-    let mix : IsMixed words (λ word. IsStored (body_pairs next) word (image word)) image =
-    mixed words (λ word. IsStored (body_pairs next) word (image word)) image partly in
+body_leaves : (d : State) (current next : Record) (image : Image) → IsSucceeded d current next
+    → IsPartlyStored (body_pairs d.lines next) d.words image → IsEitherRecord d current next image
+body_leaves d current next image succeeded partly =
+    let mix : IsMixed d.words (λ word. IsStored (body_pairs d.lines next) word (image word)) image =
+    mixed d.words (λ word. IsStored (body_pairs d.lines next) word (image word)) image partly in
     record {
-      either = inl (current_stays words current next mix.base image succeeded mix.is
-          (elim (mix.same root_word) [ inl e ↦ e | inr stored ↦ absurd (root_before next (image root_word) stored) ])
+      either = inl (current_stays d current next mix.base image succeeded mix.is
+          (elim (mix.same root_word) [ inl e ↦ e | inr stored ↦ absurd (root_before d.lines next (image root_word) stored) ])
           (λ word low high.
           elim (mix.same word) [
             | inl e ↦ e
-            | inr stored ↦ absurd (current_outside current next word succeeded.number low high (image word) stored)
+            | inr stored ↦ absurd (current_outside d.lines current next word succeeded.number low high (image word) stored)
           ]));
       elsewhere = λ word other.
-          elim (partly word) [ inl may ↦ may | inr stored ↦ absurd (body_outside next word other (image word) stored) ];
+          elim (partly word) [ inl may ↦ may | inr stored ↦ absurd (body_outside d.lines next word other (image word) stored) ];
     }
 
 -- while the root is stored, the body is certain
-root_leaves : {a b : State} (current next : Record) (image : Image) → IsSucceeded a.words current next
-    → Staged a b (body_pairs next) (body_lines next) → IsPartlyStored (root_pairs next) b.words image → IsEitherRecord a.words current next image
+root_leaves : {a b : State} (current next : Record) (image : Image) → IsSucceeded a current next
+    → Staged a b (body_pairs a.lines next) (body_lines a.lines next) → IsPartlyStored (root_pairs next) b.words image → IsEitherRecord a current next image
 root_leaves {a} {b} current next image succeeded body partly =
     let may_b : (word : ℕ) → word ≢ root_word → MayBe (b.words word) (image word) =
     λ word other. elim (partly word) [ inl may ↦ may | inr stored ↦ absurd (other (root_stored next word (image word) stored).0) ] in
-    let may_a : (word : ℕ) → word ≢ root_word → IsOutside (body_pairs next) word → MayBe (a.words word) (image word) =
+    let may_a : (word : ℕ) → word ≢ root_word → IsOutside (body_pairs a.lines next) word → MayBe (a.words word) (image word) =
     λ word other out. body.elsewhere word (image word) out (may_b word other) in
     record {
       either =
           elim (partly root_word) [
             | inl may ↦
                 inl (root_current current next image succeeded body
-                (body.elsewhere root_word (image root_word) (root_before next) may) may_a)
+                (body.elsewhere root_word (image root_word) (root_before a.lines next) may) may_a)
             | inr stored ↦
-                inr (record_is next image (root_stored next root_word (image root_word) stored).1
+                inr (record_is a.lines next image (root_stored next root_word (image root_word) stored).1
                 (λ k below.
-                body_certain next body k below (image (8 * slot_line next.number + k))
-                (may_b (8 * slot_line next.number + k) (λ e. omega (arith, e)))))
+                body_certain next body k below (image (8 * slot_line a.lines next.number + k))
+                (may_b (8 * slot_line a.lines next.number + k) (λ e. omega (arith, e)))))
           ];
-      elsewhere = λ word other. may_a word (λ e. other (inl e)) (body_outside next word other);
+      elsewhere = λ word other. may_a word (λ e. other (inl e)) (body_outside a.lines next word other);
     }
   where
-    root_current : {a b : State} (current next : Record) (image : Image) → IsSucceeded a.words current next
-        → Staged a b (body_pairs next) (body_lines next) → MayBe (a.words root_word) (image root_word)
-        → ((word : ℕ) → word ≢ root_word → IsOutside (body_pairs next) word → MayBe (a.words word) (image word)) → HasRecord current image
+    root_current : {a b : State} (current next : Record) (image : Image) → IsSucceeded a current next
+        → Staged a b (body_pairs a.lines next) (body_lines a.lines next) → MayBe (a.words root_word) (image root_word)
+        → ((word : ℕ) → word ≢ root_word → IsOutside (body_pairs a.lines next) word → MayBe (a.words word) (image word)) → HasRecord a.lines current image
     root_current {a} {b} current next image succeeded body root may_a =
-        let Q : ℕ → Type 0 = λ word. (x : ℕ) × IsStored (body_pairs next) word x in
+        let Q : ℕ → Type 0 = λ word. (x : ℕ) × IsStored (body_pairs a.lines next) word x in
         let which : (word : ℕ) → MayBe (a.words word) (image word) ⊎ Q word =
         λ word.
-        elim (stored_or_outside (body_pairs next) word) [
+        elim (stored_or_outside (body_pairs a.lines next) word) [
           | inl stored ↦ inr stored
           | inr out ↦
               elim (same_or_other word root_word) [
@@ -187,36 +186,36 @@ root_leaves {a} {b} current next image succeeded body partly =
               ]
         ] in
         let mix : IsMixed a.words Q image = mixed a.words Q image which in
-        current_stays a.words current next mix.base image succeeded mix.is
-        (elim (mix.same root_word) [ inl e ↦ e | inr stored ↦ absurd (root_before next stored.0 stored.1) ])
+        current_stays a current next mix.base image succeeded mix.is
+        (elim (mix.same root_word) [ inl e ↦ e | inr stored ↦ absurd (root_before a.lines next stored.0 stored.1) ])
         (λ word low high.
         elim (mix.same word) [
           | inl e ↦ e
-          | inr stored ↦ absurd (current_outside current next word succeeded.number low high stored.0 stored.1)
+          | inr stored ↦ absurd (current_outside a.lines current next word succeeded.number low high stored.0 stored.1)
         ])
 
 -- Until the first fence.
-pub body_moments : {a b : State} (current next : Record) → IsSucceeded a.words current next → LeavesOnly a b (IsPartlyStored (body_pairs next) a.words)
-    → LeavesOnly a b (IsEitherRecord a.words current next)
+pub body_moments : {a b : State} (current next : Record) → IsSucceeded a current next → LeavesOnly a b (IsPartlyStored (body_pairs a.lines next) a.words)
+    → LeavesOnly a b (IsEitherRecord a current next)
 body_moments {a} {b} current next succeeded moments =
-    LeavesOnly-weaken (IsEitherRecord a.words current next) (λ image partly. body_leaves a.words current next image succeeded partly) moments
+    LeavesOnly-weaken (IsEitherRecord a current next) (λ image partly. body_leaves a current next image succeeded partly) moments
 
 -- From then to the second.
-pub root_moments : {a b c : State} (current next : Record) → IsSucceeded a.words current next → Staged a b (body_pairs next) (body_lines next)
-    → LeavesOnly b c (IsPartlyStored (root_pairs next) b.words) → LeavesOnly a c (IsEitherRecord a.words current next)
+pub root_moments : {a b c : State} (current next : Record) → IsSucceeded a current next → Staged a b (body_pairs a.lines next) (body_lines a.lines next)
+    → LeavesOnly b c (IsPartlyStored (root_pairs next) b.words) → LeavesOnly a c (IsEitherRecord a current next)
 root_moments {a} {b} {c} current next succeeded body moments =
     LeavesOnly-then (body_moments current next succeeded body.moments)
-    (LeavesOnly-weaken (IsEitherRecord a.words current next) (λ image partly. root_leaves current next image succeeded body partly) moments)
+    (LeavesOnly-weaken (IsEitherRecord a current next) (λ image partly. root_leaves current next image succeeded body partly) moments)
 
 -- the words that were stored are those of the record
-pub staged_body : {a b : State} (next : Record) (line : ℕ) (words : List ℕ) → line ≡ slot_line next.number → words ≡ record_words next
-    → Staged a b (pairs_from (first_word line) words) (lines_from line LAYOUT.slot_lines) → Staged a b (body_pairs next) (body_lines next)
+pub staged_body : {a b : State} (next : Record) (line : ℕ) (words : List ℕ) → line ≡ slot_line a.lines next.number → words ≡ record_words next
+    → Staged a b (pairs_from (first_word line) words) (lines_from line LAYOUT.slot_lines) → Staged a b (body_pairs a.lines next) (body_lines a.lines next)
 staged_body {a} {b} next line words at e staged =
-    subst (λ (values : List ℕ). Staged a b (pairs_from (first_word (slot_line next.number)) values) (body_lines next)) e
+    subst (λ (values : List ℕ). Staged a b (pairs_from (first_word (slot_line a.lines next.number)) values) (body_lines a.lines next)) e
     (subst (λ (n : ℕ). Staged a b (pairs_from (first_word n) words) (lines_from n LAYOUT.slot_lines)) at staged)
 
-pub failed_body : {a b : State} (next : Record) (line : ℕ) (words : List ℕ) → line ≡ slot_line next.number → words ≡ record_words next
-    → StageFailed a b (pairs_from (first_word line) words) → StageFailed a b (body_pairs next)
+pub failed_body : {a b : State} (next : Record) (line : ℕ) (words : List ℕ) → line ≡ slot_line a.lines next.number → words ≡ record_words next
+    → StageFailed a b (pairs_from (first_word line) words) → StageFailed a b (body_pairs a.lines next)
 failed_body {a} {b} next line words at e failed =
-    subst (λ (values : List ℕ). StageFailed a b (pairs_from (first_word (slot_line next.number)) values)) e
+    subst (λ (values : List ℕ). StageFailed a b (pairs_from (first_word (slot_line a.lines next.number)) values)) e
     (subst (λ (n : ℕ). StageFailed a b (pairs_from (first_word n) words)) at failed)

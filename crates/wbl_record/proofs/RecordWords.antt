@@ -53,12 +53,12 @@ HasWords-same base image first (value ∷ values) same has = (
 )
 
 -- the same root and the same slot hold the same record
-pub HasRecord-same : (r : Record) (base image : Image) → image root_word ≡ base root_word
-    → ((word : ℕ) → record_word r.number 0 ≤ word → word < record_word r.number 24 → image word ≡ base word) → HasRecord r base → HasRecord r image
-HasRecord-same r base image root slot has =
+pub HasRecord-same : (lines : ℕ) (r : Record) (base image : Image) → image root_word ≡ base root_word
+    → ((word : ℕ) → record_word lines r.number 0 ≤ word → word < record_word lines r.number 24 → image word ≡ base word) → HasRecord lines r base → HasRecord lines r image
+HasRecord-same lines r base image root slot has =
     record {
       root = root ∙ has.root;
-      words = HasWords-same base image (record_word r.number 0) (record_words r)
+      words = HasWords-same base image (record_word lines r.number 0) (record_words r)
           (λ word low high. slot word low (omega (arith, high, length-record_words r))) has.words;
     }
 

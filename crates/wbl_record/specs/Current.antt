@@ -24,7 +24,7 @@ pub record IsLawful (r : Record) : Type 0 where
   pub few : length r.gaps.items ≤ MAX_GAPS
   pub gaps : AreGaps 0 r.gaps.items r.cp
 
--- the image has this record, which obeys its rules
-pub record IsCurrent (image : Image) (r : Record) : Type 0 where
-  pub has_record : HasRecord r image
+-- the image of `lines` lines has this record, which obeys its rules
+pub record IsCurrent (lines : ℕ) (image : Image) (r : Record) : Type 0 where
+  pub has_record : HasRecord lines r image
   pub lawful : IsLawful r

@@ -3,7 +3,7 @@ ghost use Rattle.std.specs.Prelude.{◌≡◌, ◌≢◌, ◌↔◌, ◌+◌, �
 ghost use Rattle.pmem.specs.Crash.{image_of};
 ghost use Rattle.model.specs.declared.record.Record.{Record as CommitRecord};
 ghost use Rattle.model.specs.declared.record.Role.{Role as NodeRole};
-ghost use Rattle.model.specs.Image.{role_number};
+ghost use Rattle.model.specs.Image.{role_number, slots_end};
 ghost use Rattle.model.specs.ReadImage.{gaps_from, AreZero, IsFilled, IsRecordOf};
 ghost use Rattle.wbl_record.specs.Current.{AreGaps, IsLawful, IsCurrent};
 
@@ -20,9 +20,9 @@ use pmem::Pmem;
 ///
 /// `Damaged` where the root's slot does not bear the root's number, or a word of the record breaks its rule.
 pub fn read_current<P: Pmem>(device: &P) -> Result<Record, Refusal>
-    requires { LAYOUT.record_line + 2 * LAYOUT.slot_lines ≤ (P.state device.now).lines }
-    ensures ok { IfOk result (λ r. IsCurrent (image_of (P.state device.now).words) r) }
-    ensures damaged { OnErr result ((r : CommitRecord) → ¬ IsCurrent (image_of (P.state device.now).words) r) }
+    requires { slots_end (P.state device.now).lines ≤ (P.state device.now).lines }
+    ensures ok { IfOk result (λ r. IsCurrent (P.state device.now).lines (image_of (P.state device.now).words) r) }
+    ensures damaged { OnErr result ((r : CommitRecord) → ¬ IsCurrent (P.state device.now).lines (image_of (P.state device.now).words) r) }
     ensures cause { IfErr result (λ refusal. refusal ≡ Refusal.Damaged) }
 {
     let Some(current) = read_record(device) else {
@@ -37,12 +37,12 @@ pub fn read_current<P: Pmem>(device: &P) -> Result<Record, Refusal>
 
 /// The record that the root names, or `None` where its slot holds none. Whether the record obeys its rules is not looked at.
 fn read_record<P: Pmem>(device: &P) -> Option<Record>
-    requires { LAYOUT.record_line + 2 * LAYOUT.slot_lines ≤ (P.state device.now).lines }
-    ensures { MatchOption result ((r : CommitRecord) → ¬ IsRecordOf (image_of (P.state device.now).words) r)
-        (λ r. IsRecordOf (image_of (P.state device.now).words) r) }
+    requires { slots_end (P.state device.now).lines ≤ (P.state device.now).lines }
+    ensures { MatchOption result ((r : CommitRecord) → ¬ IsRecordOf (P.state device.now).lines (image_of (P.state device.now).words) r)
+        (λ r. IsRecordOf (P.state device.now).lines (image_of (P.state device.now).words) r) }
 {
     let number = device.load(LAYOUT.root_word);
-    let first = LINE_WORDS * LAYOUT.slot_line(number);
+    let first = LINE_WORDS * LAYOUT.slot_line(device.lines(), number);
     let gap_count = device.load(first + 5);
     let gaps = read_gaps(device, first + GAPS_WORD, gap_count)?;
     let role = role_of(device.load(first + LAYOUT.role_word))?;

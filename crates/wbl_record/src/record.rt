@@ -4,7 +4,7 @@ ghost use Rattle.pmem.specs.Device.{State};
 ghost use Rattle.pmem.specs.Runs.{LeavesOnly, Staged, StageFailed, pairs_from, lines_from};
 ghost use Rattle.model.specs.declared.record.Record.{Record};
 ghost use Rattle.model.specs.Layout.{first_word};
-ghost use Rattle.model.specs.Image.{record_words, role_number};
+ghost use Rattle.model.specs.Image.{record_words, role_number, slots_end};
 ghost use Rattle.wbl_record.specs.Record.{IsRecorded, IsRecordFault, IsSucceeded, IsEitherRecord};
 
 use arrayvec::ArrayVec;
@@ -16,13 +16,13 @@ use pmem::{Fault, Pmem, flush_lines, persist, store_words};
 ///
 /// On `Err` a fence has failed, and a crash may leave either record.
 pub fn write_next<P: Pmem>(device: &mut P, next: &Record) -> Result<(), Fault>
-    requires { LAYOUT.record_line + 2 * LAYOUT.slot_lines ≤ (P.state device.old).lines }
+    requires { slots_end (P.state device.old).lines ≤ (P.state device.old).lines }
     ensures ok { OnOk result (IsRecorded (P.state device.old) (P.state device.new) next.now) }
     ensures err { OnErr result (IsRecordFault (P.state device.old) (P.state device.new) next.now) }
-    ensures moments { (current : Record) → IsSucceeded (P.state device.old).words current next.now
-        → LeavesOnly (P.state device.old) (P.state device.new) (IsEitherRecord (P.state device.old).words current next.now) }
+    ensures moments { (current : Record) → IsSucceeded (P.state device.old) current next.now
+        → LeavesOnly (P.state device.old) (P.state device.new) (IsEitherRecord (P.state device.old) current next.now) }
 {
-    let first_line = LAYOUT.slot_line(next.number);
+    let first_line = LAYOUT.slot_line(device.lines(), next.number);
     persist_words(device, first_line, LAYOUT.slot_lines, &words_of(next))?;
     persist(device, &[(LAYOUT.root_word, next.number)], &[0])
 }

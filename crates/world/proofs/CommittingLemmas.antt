@@ -16,6 +16,7 @@ use Rattle.model.specs.declared.work.Work.{Work}
 use Rattle.model.specs.declared.work.Work.TheVariants as work
 use Rattle.model.specs.Call.{position_of}
 use Rattle.model.specs.Image.{Image}
+use Rattle.model.proofs.RecordLemmas.{HasRecord-lines}
 use Rattle.model.specs.Group.{AreParts, Contents, IsConsistent, IsGroup, Versions, after_group, last_position, part_versions}
 use Rattle.model.specs.Standing.{Holder}
 use Rattle.wbl_engine.specs.declared.freeing.Freed.{Freed}
@@ -225,7 +226,7 @@ parts-rise before versions (part ∷ parts) are = omega (arith, are.0, parts-ris
 -- a commit that would take a counter to the limit: a group takes one stamp per part, and its positions rise by at least one per part
 pub commit-limit : (holder : Holder) (w : World) (old : Committing) (lists : List FreeList) (group : Group) (new : Committing) (device : State) (contents : Contents) (is_faulted : Bool)
     → TakesGroup contents old lists group new → Exhausts contents group → CommittingRefines w.primary.calls old w.primary.committer → EngineStands holder w.primary.calls w.primary.committer.position device contents is_faulted
-    → (image : Image) → IsImage device.words image → IsAtLimit (next_primary w - w.primary.committer.position) (next_primary w - w.primary.committer.position) image
+    → (image : Image) → IsImage device.words image → IsAtLimit holder.lines (next_primary w - w.primary.committer.position) (next_primary w - w.primary.committer.position) image
 commit-limit holder w old lists group new device contents is_faulted takes exhausts stands engine image is =
     let position = w.primary.committer.position in
     let lawful = takes.lawful in
@@ -237,7 +238,7 @@ commit-limit holder w old lists group new device contents is_faulted takes exhau
     let few : contents.current.position + length group.parts.items ≤ next_primary w = omega (arith, last, lawful.before, parts-rise group.before contents.versions group.parts.items lawful.parts) in
     record {
       current = contents.current;
-      has_record = (engine.durable image is).has_record;
+      has_record = HasRecord-lines engine.contents_at.lines_are (engine.durable image is).has_record;
       reached = reached (next_primary w - position) exhausts (omega (arith, few, at)) (omega (arith, own, at, few));
     }
   where
@@ -276,7 +277,7 @@ commit-ends holder w old lists group new device device' contents is_faulted resu
         subst (λ (r : Refusal). EndsBy r Commit (λ last _. last holder w.primary.calls w.primary.committer.position (next_primary w) device device')) (sym cause)
         (record {
           rests = rests-same holder w.primary.calls w.primary.committer.position device device' told.1 (Opens-engine holder w.primary.calls w.primary.committer.position device contents is_faulted engine);
-          limit = subst (λ (d : State). (image : Image) → IsImage d.words image → IsAtLimit (next_primary w - w.primary.committer.position) (next_primary w - w.primary.committer.position) image) (sym told.1)
+          limit = subst (λ (d : State). (image : Image) → IsImage d.words image → IsAtLimit holder.lines (next_primary w - w.primary.committer.position) (next_primary w - w.primary.committer.position) image) (sym told.1)
               (commit-limit holder w old lists group new device contents is_faulted takes told.0 stands engine);
         })
 

@@ -16,6 +16,7 @@ use Rattle.model.specs.declared.record.Role.{Role}
 use Rattle.model.specs.declared.record.TheConstants.{MAX_GAPS}
 use Rattle.model.specs.Call.{keyspace_after, cut_at, position_of}
 use Rattle.model.specs.Image.{Image, IsMapOf, HasRecord, Holds, entries_of_lines}
+use Rattle.model.proofs.RecordLemmas.{HasRecord-lines}
 use Rattle.model.specs.Group.{Contents}
 use Rattle.model.specs.Standing.{Holder}
 use Rattle.model.proofs.MapLemmas.{IsMapOf-same}
@@ -206,7 +207,7 @@ restart-moments holder calls p device device' down moments =
 -- the image is reopened in its role, unless memory is refused or a counter of its record is at its limit
 pub restart-refused : (holder : Holder) (calls : List Call) (p : ℕ) (device : State) (refusal : Refusal) → IsDown holder calls p device
     → RefusesReopening device.lines (image_of device.words) holder.role refusal
-    → (refusal ≡ Memory) ⊎ ((refusal ≡ Exhausted) × ((r : Record) × HasRecord r (image_of device.words) × ExhaustsReopening r))
+    → (refusal ≡ Memory) ⊎ ((refusal ≡ Exhausted) × ((r : Record) × HasRecord holder.lines r (image_of device.words) × ExhaustsReopening r))
 restart-refused holder calls p device refusal down refuses =
     let image = image_of device.words in
     let contents = down.contents in
@@ -215,5 +216,5 @@ restart-refused holder calls p device refusal down refuses =
     (subst (λ n. RefusesReopening n image holder.role refusal) (sym down.sized) refuses) in
     elim (lawful_refusal contents image refusal down.lawful down.keeps own) [
       | inl memory ↦ inl memory
-      | inr exhausted ↦ inr (exhausted.0, (contents.current, down.keeps.has_record, exhausted.1))
+      | inr exhausted ↦ inr (exhausted.0, (contents.current, HasRecord-lines down.contents_at.lines_are down.keeps.has_record, exhausted.1))
     ]

@@ -74,14 +74,14 @@ pub opened-breaks : (holder : Holder) (calls : List Call) (p next : ℕ) (old ne
 opened-breaks holder calls p next old new down stays failures =
     record { leaves = LeavesOnly-weaken (OpensAtEither holder calls p next) (λ image stands. inl stands) (restart-moments holder calls p old new down stays); failures = failures }
 
-pub opened-limit : (holder : Holder) (calls : List Call) (p next : ℕ) (old new : State) (r : Record) → IsDown holder calls p old → StaysSo old new → new ≡ old → HasRecord r (image_of old.words) → ExhaustsReopening r
+pub opened-limit : (holder : Holder) (calls : List Call) (p next : ℕ) (old new : State) (r : Record) → IsDown holder calls p old → StaysSo old new → new ≡ old → HasRecord holder.lines r (image_of old.words) → ExhaustsReopening r
     → RestsBeforeReopening holder calls p next old new
 opened-limit holder calls p next old new r down stays same has limit =
     record {
       rests = opened-rests holder calls p old new down stays (ap (λ (d : State). d.failures) same);
       current = r;
       has_record = λ image is.
-          subst (HasRecord r) (sym (settled-image old.words image down.settled (subst (λ (d : State). IsImage d.words image) same is))) has;
+          subst (HasRecord holder.lines r) (sym (settled-image old.words image down.settled (subst (λ (d : State). IsImage d.words image) same is))) has;
       limit = limit;
     }
 

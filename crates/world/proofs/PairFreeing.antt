@@ -22,6 +22,7 @@ use Rattle.model.specs.declared.work.Work.TheVariants as work
 use Rattle.model.specs.Call.{cut_at, is_nonempty, keyspace_after}
 use Rattle.model.specs.Group.{AreEnded, Contents, Versions, after_free, extents_of, without}
 use Rattle.model.specs.Image.{Image, IsMapOf, entries_of_lines}
+use Rattle.model.proofs.RecordLemmas.{HasRecord-lines}
 use Rattle.model.specs.Standing.{Holder}
 use Rattle.wbl_engine.specs.declared.freeing.Freed.{Freed}
 use Rattle.wbl_engine.specs.Contents.{IsDurable, Keeps, Same}
@@ -867,8 +868,8 @@ module _ {E : Type 0} (device : E → State) (contents : E → Contents) (is_fau
           ends first second w stands limit =
               let told = one.clears.exhausted (ap Err limit) in
               let same : new.device ≡ from.device = ap device told.1 in
-              let at : (image : Image) → IsImage from.device.words image → IsAtLimit (next_primary w - w.primary.committer.position) (next_primary w - w.primary.committer.position) image =
-              λ image is. record { current = from.contents.current; has_record = (stands.parts.engine.durable image is).has_record; reached = inr (inr told.0) } in
+              let at : (image : Image) → IsImage from.device.words image → IsAtLimit first.lines (next_primary w - w.primary.committer.position) (next_primary w - w.primary.committer.position) image =
+              λ image is. record { current = from.contents.current; has_record = HasRecord-lines stands.parts.engine.contents_at.lines_are (stands.parts.engine.durable image is).has_record; reached = inr (inr told.0) } in
               cut-for first second events.ClearGap refusal from new w (nodes-refine stands) (tells sessions) (enabled-is (own-runs stands events.ClearGap refl) ∙ clear_may first second w stands)
               (subst (λ (r : Refusal). EndsBy r events.ClearGap (Led first second from new w)) (sym limit) (
                 subst (λ (d : State). RestsAtLimit first w.primary.calls w.primary.committer.position (next_primary w) from.device d) (sym same)

@@ -13,6 +13,7 @@ use Rattle.model.specs.declared.image.TheConstants.{COUNTER_LIMIT, STAMP_WINDOW}
 use Rattle.model.specs.declared.record.Record.{Record}
 use Rattle.model.specs.Call.{keyspace_after, cut_at, position_of}
 use Rattle.model.specs.Image.{Image, IsMapOf, entries_of_lines}
+use Rattle.model.proofs.RecordLemmas.{HasRecord-lines}
 use Rattle.kv_types.specs.declared.place.EntryNo.{EntryNo}
 use Rattle.model.specs.Group.{Contents, is_ended_version}
 use Rattle.model.specs.Standing.{Holder}
@@ -377,9 +378,9 @@ module _ (holder : Holder) (epoch : ℕ) (calls : List Call) (machine : Machine)
       above lt = ⊎_elim (joins lt) (λ (ne : span.before ≢ machine.position). still (answers.gap epoch_same (is_above lt) (is_apart ne)).1) (cases_eq span.before machine.position)
 
   -- a frame that would take a counter to the limit: it takes one stamp
-  frame-limit : machine.position < span.after → span.before ≡ machine.position → WouldExhaust old.contents.current frame → (image : Image) → IsImage old.device.words image → IsAtLimit 1 (next - machine.position) image
+  frame-limit : machine.position < span.after → span.before ≡ machine.position → WouldExhaust old.contents.current frame → (image : Image) → IsImage old.device.words image → IsAtLimit holder.lines 1 (next - machine.position) image
   frame-limit lt e would image at_image =
-      record { current = old.contents.current; has_record = (stands.engine.durable image at_image).has_record; reached = reached (next - machine.position) (omega (arith, lt, next-joined e), omega (arith, lt, next-joined e, is.after, at)) would }
+      record { current = old.contents.current; has_record = HasRecord-lines stands.engine.contents_at.lines_are (stands.engine.durable image at_image).has_record; reached = reached (next - machine.position) (omega (arith, lt, next-joined e), omega (arith, lt, next-joined e, is.after, at)) would }
     where
       reached : (more : ℕ) → (0 < more) × (frame.after ≡ old.contents.current.position + more) → WouldExhaust old.contents.current frame
           → (COUNTER_LIMIT ≤ old.contents.current.cp + 1 + 1 + STAMP_WINDOW) ⊎ (COUNTER_LIMIT ≤ old.contents.current.position + more) ⊎ (COUNTER_LIMIT ≤ old.contents.current.number + 1)
@@ -417,7 +418,7 @@ module _ (holder : Holder) (epoch : ℕ) (calls : List Call) (machine : Machine)
           subst Ends (sym exhausted)
           (record {
             rests = rests_now same;
-            limit = subst (λ (d : State). (image : Image) → IsImage d.words image → IsAtLimit 1 (next - machine.position) image) (sym same) (frame-limit lt e told.0);
+            limit = subst (λ (d : State). (image : Image) → IsImage d.words image → IsAtLimit holder.lines 1 (next - machine.position) image) (sym same) (frame-limit lt e told.0);
           })
 
       joins : machine.position < span.after → span.before ≡ machine.position → Ends refusal

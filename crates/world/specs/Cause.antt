@@ -46,29 +46,29 @@ pub record Breaks (holder : Holder) (calls : List Call) (position next : ℕ) (o
   pub leaves : NearOnly holder calls position next old new
   pub failures : old.failures < new.failures
 
--- so many stamps, or `more` positions, or one record more would take a counter of the image's record to the limit
-pub record IsAtLimit (stamps more : ℕ) (image : Image) : Type 0 where
+-- so many stamps, or `more` positions, or one record more would take a counter of the record of an image of `lines` lines to the limit
+pub record IsAtLimit (lines stamps more : ℕ) (image : Image) : Type 0 where
   pub current : Record
-  pub has_record : HasRecord current image
+  pub has_record : HasRecord lines current image
   pub reached : (COUNTER_LIMIT ≤ current.cp + stamps + 1 + STAMP_WINDOW) ⊎ (COUNTER_LIMIT ≤ current.position + more) ⊎ (COUNTER_LIMIT ≤ current.number + 1)
 
 -- Each crash between these two states leaves an image that stands at this position of the list, no fence failed, and a counter is at its limit, with a stamp for
 -- each position.
 pub record RestsAtLimit (holder : Holder) (calls : List Call) (position next : ℕ) (old new : State) : Type 0 where
   pub rests : Rests holder calls position old new
-  pub limit : (image : Image) → IsImage new.words image → IsAtLimit (next - position) (next - position) image
+  pub limit : (image : Image) → IsImage new.words image → IsAtLimit holder.lines (next - position) (next - position) image
 
 -- the same, with one stamp for all of them, as a frame takes
 pub record RestsAtFrameLimit (holder : Holder) (calls : List Call) (position next : ℕ) (old new : State) : Type 0 where
   pub rests : Rests holder calls position old new
-  pub limit : (image : Image) → IsImage new.words image → IsAtLimit 1 (next - position) image
+  pub limit : (image : Image) → IsImage new.words image → IsAtLimit holder.lines 1 (next - position) image
 
 -- Each crash between these two states leaves an image that stands at this position of the list, no fence failed, and the reopening of the image would take a counter
 -- of its record to the limit.
 pub record RestsBeforeReopening (holder : Holder) (calls : List Call) (position next : ℕ) (old new : State) : Type 0 where
   pub rests : Rests holder calls position old new
   pub current : Record
-  pub has_record : (image : Image) → IsImage new.words image → HasRecord current image
+  pub has_record : (image : Image) → IsImage new.words image → HasRecord holder.lines current image
   pub limit : ExhaustsReopening current
 
 -- the event may ask for memory, so that its refusal ends the run. (A turn that is refused memory replies so, and the run goes on.)

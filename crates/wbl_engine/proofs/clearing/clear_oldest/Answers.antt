@@ -74,7 +74,7 @@ returns-in_err-write_next-clause-moments g c =
     let after = g.P.Pmem.state c.write_next.new.device in
     let next = c.without_oldest_gap-next in
     clear_moments begun next.ensures.lawful staged
-    (subst (λ (q : Record). (current : Record) → IsSucceeded b.words current q → LeavesOnly b after (IsEitherRecord b.words current q))
+    (subst (λ (q : Record). (current : Record) → IsSucceeded b current q → LeavesOnly b after (IsEitherRecord b current q))
     next.ensures.next c.write_next.ensures.moments)
 
 pub returns-clause-rest : goal.returns-clause-rest
@@ -119,5 +119,5 @@ returns-clause-moments g c =
     let after = g.P.Pmem.state c.write_next.new.device in
     let next = c.without_oldest_gap-next in
     clear_moments begun next.ensures.lawful staged
-    (subst (λ (q : Record). (current : Record) → IsSucceeded b.words current q → LeavesOnly b after (IsEitherRecord b.words current q))
+    (subst (λ (q : Record). (current : Record) → IsSucceeded b current q → LeavesOnly b after (IsEitherRecord b current q))
     next.ensures.next c.write_next.ensures.moments)
