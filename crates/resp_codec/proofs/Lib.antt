@@ -1,4 +1,3 @@
-pub mod FirstItem
 pub mod Pieces
 pub mod ReplyAgain
 pub mod ReplyBegins
@@ -9,4 +8,5 @@ pub mod ReplyParts
 pub mod ReplyPieces
 pub mod ReplyTakes
 pub mod ReplyTexts
-pub mod WordsRead
+pub mod Standing
+pub mod UnreadReads

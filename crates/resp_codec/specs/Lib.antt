@@ -1,7 +1,10 @@
 pub mod Gives
 pub mod GivesReplies
+pub mod Lines
 pub mod Parsing
 pub mod Puts
 pub mod ReplyGrammar
 pub mod ReplyParsing
 pub mod ReplyReading
+pub mod RequestReading
+pub mod Unread

@@ -11,6 +11,8 @@ mod reply_laws;
 mod reply_limits;
 mod reply_parser;
 mod reply_reading;
+mod request_reading;
+mod unread;
 
 pub use laws::in_any_pieces;
 pub use parser::Parser;

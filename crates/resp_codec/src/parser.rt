@@ -5,8 +5,8 @@ ghost use Rattle.kv_types.specs.declared.item.Item.TheVariants.{Fault};
 ghost use Rattle.kv_types.specs.declared.refusal.Refusal.TheVariants.{Memory};
 ghost use Rattle.resp_codec.specs.Parsing.{fed, ahead, Advances};
 
-use crate::reading::first_item;
-use bytes::{Bytes, BytesMut};
+use crate::request_reading::Reading;
+use bytes::Bytes;
 use kv_types::{Item, Refusal};
 use std::alloc::{AllocError, Global};
 use std::marker::Model;
@@ -16,15 +16,18 @@ use std::marker::Model;
 #[derive(Drop)]
 pub struct Parser {
     /// `None` once a fault was given: bytes are no longer read, so they are not kept either.
-    unread: Option<BytesMut>,
+    reading: Option<Reading>,
 }
 
 impl Model for Parser {
-    ghost use Rattle.std.specs.Prelude.{ℕ, List, Option, option_map};
+    ghost use Rattle.std.specs.Prelude.{ℕ, List, Option, IfSome, option_map};
+    ghost use Rattle.resp_codec.specs.RequestReading.{held, IsStanding};
 
     ghost Value = { Option (List ℕ) };
 
-    ghost view = { λ p. option_map (λ b. b.items) p.unread };
+    ghost view = { λ p. option_map held p.reading };
+
+    ghost invariant = { λ p. IfSome p.reading IsStanding };
 }
 
 impl Clone for Parser {
@@ -33,12 +36,12 @@ impl Clone for Parser {
     ghost is_clone = { λ parser copy. copy ≡ parser };
 
     fn clone(&self) -> Result<Parser, AllocError> {
-        let Some(unread) = &self.unread else {
-            return Ok(Parser { unread: None });
+        let Some(reading) = &self.reading else {
+            return Ok(Parser { reading: None });
         };
-        let mut copy = BytesMut::new(*unread.allocator());
-        copy.extend_from_slice(unread.as_slice())?;
-        Ok(Parser { unread: Some(copy) })
+        Ok(Parser {
+            reading: Some(reading.copy()?),
+        })
     }
 }
 
@@ -48,7 +51,7 @@ impl Parser {
         ensures { result ≡ Some [] }
     {
         Parser {
-            unread: Some(BytesMut::new(alloc)),
+            reading: Some(Reading::new(alloc)),
         }
     }
 
@@ -58,8 +61,8 @@ impl Parser {
         ensures err { OnErr result (self.new ≡ self.old) }
         ensures cause { IfErr result (λ refusal. refusal ≡ Memory) }
     {
-        if let Some(unread) = &mut self.unread {
-            unread.extend_from_slice(piece.as_slice())?;
+        if let Some(reading) = &mut self.reading {
+            reading.feed(piece)?;
         }
         Ok(())
     }
@@ -76,15 +79,12 @@ impl Parser {
         ensures err { OnErr result (self.new ≡ self.old) }
         ensures cause { IfErr result (λ refusal. refusal ≡ Memory) }
     {
-        let Some(unread) = &mut self.unread else {
+        let Some(reading) = &mut self.reading else {
             return Ok(None);
         };
-        let alloc = *unread.allocator();
-        let (item, rest) = first_item(alloc, unread.as_slice())?;
-        let taken = unread.len() - rest.len();
-        unread.advance(taken);
+        let item = reading.next()?;
         if let Some(Item::Fault(_)) = &item {
-            self.unread = None;
+            self.reading = None;
         }
         Ok(item)
     }

@@ -1,17 +1,25 @@
-//! Reading items from the front of bytes.
-ghost use Rattle.std.specs.Prelude.{◌≡◌, ℕ, ◌+◌, ◌-◌, ◌*◌, ◌<◌, ◌≤◌, ◌&&◌, List, [], ◌++◌, nat_lt, nat_le, if◌then◌else◌, IfOk, MatchResult};
-ghost use Rattle.kv_types.specs.Reading.{is_digit, after_byte, number_from, number_at, after_dollar, payload_at, word_at, words_at, request_at};
-ghost use Rattle.resp_codec.specs.Gives.{stop_of, Gives, skipped, IsWhole, IsFirst};
+//! Reading the parts of a request from the front of bytes.
+ghost use Rattle.std.specs.Prelude.{◌≡◌, ◌+◌, ◌-◌, ◌*◌, ◌&&◌, nat_lt, nat_le, if◌then◌else◌};
+ghost use Rattle.kv_types.specs.Reading.{is_digit, after_byte, number_from, number_at, after_dollar, payload_at};
+ghost use Rattle.resp_codec.specs.Gives.{Gives};
+ghost use Rattle.resp_codec.specs.Lines.{line_at};
 
-use bytes::Bytes;
-use kv_types::{Item, Limits, ProtocolFault, REQUEST_LIMITS, Request};
-use std::alloc::{AllocError, Global};
+use kv_types::{ProtocolFault, REQUEST_LIMITS};
 
 /// Why there is no whole request at the front: further bytes may complete one, or no further bytes can.
 #[derive(Clone, Copy, Debug, PartialEq, Eq)]
 pub(crate) enum Stop {
     Short,
     Broken(ProtocolFault),
+}
+
+/// A line of a request that holds a number.
+#[derive(Clone, Copy, Debug, PartialEq, Eq)]
+pub(crate) enum Line {
+    /// How many words the request has.
+    Count,
+    /// How many bytes its next word has.
+    Length,
 }
 
 /// What follows a first byte, which must be `expected`.
@@ -117,91 +125,26 @@ pub(crate) fn payload_at(bytes: &[u8], len: u64) -> Result<(&[u8], &[u8]), Stop>
     Ok((word, rest))
 }
 
-/// The word at the front, and what follows it.
-fn word_at(bytes: &[u8], limits: Limits) -> Result<(&[u8], &[u8]), Stop>
-    ensures { Gives (λ x. (x.0.now, x.1.now)) result (word_at limits bytes.now) }
+/// The number of a line, and what follows the line.
+pub(crate) fn line_at(bytes: &[u8], line: Line) -> Result<(u64, &[u8]), Stop>
+    ensures { Gives (λ x. (x.0, x.1.now)) result (line_at line bytes.now) }
 {
-    let rest = after_dollar(bytes)?;
-    let (len, rest) = number_at(rest, limits.word_bytes, ProtocolFault::InvalidBulkLength)?;
-    payload_at(rest, len)
-}
-
-/// What follows the first `count` words.
-fn skip_words(bytes: &[u8], limits: Limits, count: u64) -> Result<&[u8], Stop>
-    ensures { Gives (λ rest. rest.now) result (skipped (words_at limits count bytes.now)) }
-{
-    let mut rest = bytes;
-    for _i in 0..count {
-        let (_, after) = word_at(rest, limits)?;
-        rest = after;
-    }
-    Ok(rest)
-}
-
-/// Copies of the first `count` words, if they are all there.
-fn copy_words(
-    alloc: Global,
-    bytes: &[u8],
-    limits: Limits,
-    count: u64,
-) -> Result<Vec<Bytes>, AllocError>
-    ensures { IfOk result (λ v. (words : List (List ℕ)) (rest : List ℕ) →
-        words_at limits count bytes.now ≡ Ok (words, rest) → v.items ≡ words) }
-{
-    let mut words = Vec::with_capacity(alloc, count as usize)?;
-    let mut rest = bytes;
-    for _i in 0..count {
-        let Ok((word, after)) = word_at(rest, limits) else {
-            break;
-        };
-        words.push(Bytes::copy_from_slice(alloc, word)?)?;
-        rest = after;
-    }
-    Ok(words)
-}
-
-/// A request whose bytes are all there.
-#[derive(Drop)]
-struct Whole<'a> {
-    /// How many words it has.
-    count: u64,
-    /// The bytes from its first word on.
-    inside: &'a [u8],
-    /// The bytes after it.
-    rest: &'a [u8],
-}
-
-/// The request at the front. Takes no memory.
-fn whole_request(bytes: &[u8], limits: Limits) -> Result<Whole<'_>, Stop>
-    ensures { MatchResult result (λ w. IsWhole limits bytes.now w.count w.inside.now w.rest.now)
-        (λ stop. request_at limits bytes.now ≡ Err (stop_of stop)) }
-{
-    let rest = after_byte(bytes, b'*', ProtocolFault::ExpectedArray)?;
-    let (count, inside) = number_at(rest, limits.words, ProtocolFault::InvalidMultibulkLength)?;
-    let rest = skip_words(inside, limits, count)?;
-    Ok(Whole {
-        count,
-        inside,
-        rest,
-    })
-}
-
-/// The first item of the bytes, if there is one, and the bytes after it. Requests of no words are skipped.
-pub(crate) fn first_item(alloc: Global, bytes: &[u8]) -> Result<(Option<Item>, &[u8]), AllocError>
-    ensures { IfOk result (λ x. IsFirst bytes.now x.0 x.1.now) }
-{
-    let mut rest = bytes;
-    loop {
-        match whole_request(rest, REQUEST_LIMITS) {
-            Ok(whole) => {
-                if whole.count > 0 {
-                    let words = copy_words(alloc, whole.inside, REQUEST_LIMITS, whole.count)?;
-                    return Ok((Some(Item::Request(Request::new(words))), whole.rest));
-                }
-                rest = whole.rest;
-            }
-            Err(Stop::Short) => return Ok((None, rest)),
-            Err(Stop::Broken(fault)) => return Ok((Some(Item::Fault(fault)), rest)),
+    match line {
+        Line::Count => {
+            let rest = after_byte(bytes, b'*', ProtocolFault::ExpectedArray)?;
+            number_at(
+                rest,
+                REQUEST_LIMITS.words,
+                ProtocolFault::InvalidMultibulkLength,
+            )
+        }
+        Line::Length => {
+            let rest = after_dollar(bytes)?;
+            number_at(
+                rest,
+                REQUEST_LIMITS.word_bytes,
+                ProtocolFault::InvalidBulkLength,
+            )
         }
     }
 }
