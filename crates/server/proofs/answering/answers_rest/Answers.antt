@@ -11,7 +11,7 @@ returns-then-closes c = λ yes.
     let answered = c.has_reply.ensures (c.in_ok-has_reply.was ∙ ap Ok c.if-not-branch.false) in
     c.loop-item.invariant
     (step-last (ahead c.loop-item.asking) (ahead c.next.new.self) (replies_ahead c.loop-item.answering) (replies_ahead c.has_reply.new.answering) c.in-Some.item answered.0 given answered.1
-     (sym c.closes.ensures ∙ c.if-closes.true))
+    (sym c.closes.ensures ∙ c.if-closes.true))
 
 pub loop-item-smaller-else-closes : goal.loop-item-smaller-else-closes
 loop-item-smaller-else-closes c =
@@ -24,7 +24,7 @@ loop-item-preserved-else-closes c = λ rest.
     let answered = c.has_reply.ensures (c.in_ok-has_reply.was ∙ ap Ok c.if-not-branch.false) in
     c.loop-item.invariant
     (step-open (ahead c.loop-item.asking) (ahead c.next.new.self) (replies_ahead c.loop-item.answering) (replies_ahead c.has_reply.new.answering) c.in-Some.item answered.0 given answered.1
-     (sym c.closes.ensures ∙ c.if-closes.false) rest)
+    (sym c.closes.ensures ∙ c.if-closes.false) rest)
 
 pub returns : goal.returns
 returns c = λ yes.
