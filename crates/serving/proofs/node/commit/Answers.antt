@@ -1,5 +1,4 @@
-use Rattle.std.proofs.Common.{None, Option, subst, sym}
-use Rattle.serving.specs.declared.errand.Errand.{Errand}
+use Rattle.std.proofs.Common.{subst, sym}
 use Rattle.serving.specs.Errand.{IsHereOrLent}
 use Rattle.serving.proofs.node.commit.Goals as goal
 

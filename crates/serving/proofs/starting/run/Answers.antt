@@ -1,4 +1,4 @@
 use Rattle.serving.proofs.starting.run.Goals as goal
 
-pub committed-requires : goal.committed-requires
-committed-requires g c = (c.args.opened.primary.front.sequencer, c.requires)
+pub committed-committed-requires : goal.committed-committed-requires
+committed-committed-requires g c = (c.args.opened.primary.front.sequencer, c.requires)
