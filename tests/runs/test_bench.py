@@ -30,6 +30,10 @@ class Measured(common.Cases):
             "stream: 100000 frames, 10000000 bytes",
             *(f"stream: pieces of {piece}: position 100000" for piece in (1, 7, 4096)),
         ],
+        "requests": [
+            "requests: 10000 requests, 1000000 bytes",
+            *(f"requests: pieces of {piece}: 10000 requests" for piece in (1, 63, 4096)),
+        ],
         "turns": [
             *3 * [f"turns: {name}: 10000 of 10000 replies right" for name in ASKED],
             *(f"turns: {records + 11} keys" for records in (1_000, 100_000, 1_000_000)),

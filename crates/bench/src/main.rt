@@ -1,5 +1,5 @@
-//! What the layers cost: extents of a heap, calls of a simulated device, the calls of a commit, an image that is reopened, frames in pieces,
-//! turns of a sequencer over many records, items through a pipe between two threads, raises and readings of the marks from three, arrivals
+//! What the layers cost: extents of a heap, calls of a simulated device, the calls of a commit, an image that is reopened, frames and requests
+//! in pieces, turns of a sequencer over many records, items through a pipe between two threads, raises and readings of the marks from three, arrivals
 //! from one thread to another, and fences of a device over a file. Without an argument it makes some of each but the last, and prints what
 //! they did. With the name of one it makes many, and prints their figures too.
 #![tactic(auto)]
@@ -16,6 +16,7 @@ mod marks_of_threads;
 mod rate;
 mod refused;
 mod reopen;
+mod requests;
 mod ring;
 mod sets;
 mod stream;
@@ -28,6 +29,7 @@ use crate::fences::time_fences;
 use crate::heap::time_heap;
 use crate::marks_of_threads::time_marks;
 use crate::reopen::time_reopen;
+use crate::requests::time_requests;
 use crate::ring::time_ring;
 use crate::stream::time_stream;
 use crate::turns::time_turns;
@@ -47,6 +49,10 @@ const MANY_ARRIVALS: u64 = 100_000;
 const SOME_FRAMES: u64 = 100;
 
 const MANY_FRAMES: u64 = 100_000;
+
+const SOME_REQUESTS: u64 = 100;
+
+const MANY_REQUESTS: u64 = 10_000;
 
 fn main(rt: HostRuntime) -> io::Result<()> {
     let words: Vec<String> = env::args(&rt)?.skip(1).collect(rt.alloc())?;
@@ -70,6 +76,7 @@ fn make_some(
     print_commits(rt, alloc)?;
     time_reopen(rt, alloc, reopen::SMALL, false)?;
     time_stream(rt, alloc, SOME_FRAMES, false)?;
+    time_requests(rt, alloc, SOME_REQUESTS, false)?;
     time_turns(rt, alloc, turns::SMALL, false)?;
     make_some_between_threads(rt, alloc)
 }
@@ -95,6 +102,7 @@ fn make_many(
         "engine" => print_commits(rt, alloc),
         "reopen" => time_reopen(rt, alloc, reopen::LARGE, true),
         "stream" => time_stream(rt, alloc, MANY_FRAMES, true),
+        "requests" => time_requests(rt, alloc, MANY_REQUESTS, true),
         "turns" => time_all_turns(rt, alloc),
         _ => make_many_between_threads(rt, alloc, name),
     }
