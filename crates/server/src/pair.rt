@@ -1,5 +1,7 @@
 //! A pair of new nodes, and a client that is connected to it.
-ghost use Rattle.std.specs.Prelude.{IfErr};
+ghost use Rattle.std.specs.Prelude.{ℕ, IfErr};
+ghost use Rattle.pmem.specs.Device.{Only};
+ghost use Rattle.pmem.specs.Crash.{image_of};
 ghost use Rattle.server.specs.Served.{IsEarly};
 
 use crate::client::Client;
@@ -9,7 +11,7 @@ use crate::simulated::new_image;
 use kv_types::Refusal;
 use links::{Log, follow};
 use mv_keyspace::MvKeyspace;
-use pmem::SimPmem;
+use pmem::{Pmem, SimPmem};
 use primary::{Opened, open};
 use serving::run;
 use standby::Standby;
@@ -157,7 +159,35 @@ fn serve_anew<
 ) -> Result<Refusal, Refusal> {
     let ear = LinkEar::new(alloc, client, &standby)?;
     let device = new_image(alloc, Role::Primary)?;
-    let opened: Opened<WblEngine<SimPmem>, MvKeyspace> = open(alloc, device, hash_builder)?;
+    serve_over(rt, alloc, hash_builder, device, listener, standby, ear)
+}
+
+/// Serves clients over the image of this device until a step stops the node, and says why it did.
+///
+/// # Errors
+///
+/// As at `primary::open`.
+fn serve_over<
+    N: Threads
+        + Wait
+        + Clock
+        + Net<Listener = TcpListener, Stream = TcpStream>
+        + Copy
+        + Send
+        + 'static,
+    D: Pmem + Drop + Send + 'static,
+>(
+    rt: N,
+    alloc: Global,
+    hash_builder: RandomState,
+    device: D,
+    listener: TcpListener,
+    standby: String,
+    ear: LinkEar,
+) -> Result<Refusal, Refusal>
+    requires { (word : ℕ) → Only ((D.state device).words word) (image_of (D.state device).words word) }
+{
+    let opened: Opened<WblEngine<D>, MvKeyspace> = open(alloc, device, hash_builder)?;
     Ok(run(rt, alloc, opened, listener, standby, Log::new(alloc, ear)))
 }
 
