@@ -15,12 +15,12 @@ PROGRAMS = ["server"]
 IS_SLOW = True
 
 FEW, MANY = 500, 5_000
-# What is walked over costs some ten times as much; what is looked up by halving, or in groups of another size, less than this.
-MOST_RATIO = 1.6
+# What is walked over costs more than this, one instruction a record at the least; what is looked up by halving, or in groups of another size, less.
+MOST_RATIO = 2
 LINES = 262_144
 AT_A_TIME = 500
 # How often each cost is counted.
-TIMES = 4
+TIMES = 8
 # Connections that watch keys, and how many keys they do together.
 WATCHING, FEW_WATCHED, MANY_WATCHED = 10, 1_000, 10_000
 

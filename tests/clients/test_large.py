@@ -1,11 +1,11 @@
-"""What is large, over sockets and on both nodes: frames and free lists above 1,024 changes, read from the standby's image once it is promoted, and
-replies above a mebibyte through wbl-cli. The lists of changes, of frees and of a frame grow past the room that they begin with."""
+"""What is large, over sockets and on both nodes: frames and free lists above 1,024 changes, read from the standby's image once it is promoted, values
+that replies share with the keyspace, and replies above a mebibyte through wbl-cli. The lists of changes, of frees and of a frame grow past the room that they begin with."""
 
 import struct
 
 from common import run_program
 from pair import LINES, PairCases, wait_until
-from plain_replies import OK, QUEUED, array, bulk, integer
+from plain_replies import OK, QUEUED, array, bulk, integer, simple
 from spelling import MOST_BYTES, MOST_WORDS, spell
 
 PROGRAMS = ["server", "client"]
@@ -87,6 +87,45 @@ class Frames(Large):
         self.fail_over()
         self.assert_values(self.ALL, value_of)
         self.assertEqual(self.assert_positions(self.nodes), (2, 2))
+
+
+class Values(Large):
+    """Values about as long as those that a reply shares with the keyspace: alone, beside small ones, in arrays, and replaced or removed while their
+    replies wait. It catches a part of a reply that is lost, sent twice or put elsewhere, and a value that changes under its reply."""
+
+    LENGTHS = (0, 1, 32_767, 32_768, 32_769, 65_536)
+
+    def setUp(self):
+        super().setUp()
+        self.start(lines=131_072)
+        self.values = {f"v{length}": (f"{length} of {length} " * 8_192).encode()[:length] for length in self.LENGTHS}
+
+    def ask_each(self, rows, replies):
+        """All in one send, and then one at a time."""
+        self.assertEqual(self.client.ask_all(rows), replies)
+        self.assertEqual([self.client.ask(*row) for row in rows], replies)
+
+    def test_of_strings(self):
+        keys, bulks = list(self.values), [bulk(value) for value in self.values.values()]
+        self.assertEqual(self.client.ask("MSET", *(word for pair in self.values.items() for word in pair)), OK)
+        self.ask_each([("GET", key) for key in keys], bulks)
+        self.ask_each([("MGET", *keys, *reversed(keys)), ("PING",)], [array([*bulks, *reversed(bulks)]), simple(b"PONG")])
+        self.ask_each([("ECHO", value) for value in self.values.values()], bulks)
+        self.assertEqual(self.run_transaction([("GET", key) for key in keys] + [("MGET", *keys)]), array([*bulks, array(bulks)]))
+
+    def test_of_hashes(self):
+        fields = sorted(self.values)
+        pairs = [word for field in fields for word in (field, self.values[field])]
+        self.assertEqual(self.client.ask("HSET", "h", *pairs), integer(len(fields)))
+        wanted = array([bulk(word if isinstance(word, bytes) else word.encode()) for word in pairs])
+        self.ask_each([("HGETALL", "h"), ("HVALS", "h")], [wanted, array([bulk(self.values[field]) for field in fields])])
+
+    def test_of_replies_that_wait(self):
+        """Each reply has the value of its time."""
+        old, new = self.values["v65536"], self.values["v32768"]
+        rows = [("SET", "k", old), ("GET", "k"), ("SET", "k", new), ("GET", "k"), ("APPEND", "k", b"x"), ("GET", "k"), ("GETDEL", "k"), ("GET", "k")]
+        replies = [OK, bulk(old), OK, bulk(new), integer(len(new) + 1), bulk(new + b"x"), bulk(new + b"x"), b"$-1\r\n"]
+        self.assertEqual(self.client.ask_all(20 * rows), 20 * replies)
 
 
 class FreeLists(Large):

@@ -17,7 +17,7 @@ LAST_REPLY = bulk(b"the last of them")
 
 
 class Rows(PairCases):
-    """Rows of docs/worked-cases.md of one connection, each over a connection of its own to one pair, which is emptied after each."""
+    """The cases of worked_cases, each over a connection of its own to one pair, which is emptied after each."""
 
     def setUp(self):
         super().setUp()

@@ -1,5 +1,5 @@
-"""The cases of docs/worked-cases.md that the programs of today show, with the bytes in and out that are on that page.
-Each has the name of its row."""
+"""Cases of one connection that the programs show, by name, with the bytes in and out. docs/worked-cases.md has those that teach most, each as it is
+here and by its name."""
 
 import typing
 
@@ -29,7 +29,7 @@ BAD_LENGTH = b"-ERR Protocol error: invalid bulk length\r\n"
 NO_STAR = b"-ERR Protocol error: expected '*'\r\n"
 NO_LINE_END = b"-ERR Protocol error: expected CRLF\r\n"
 
-# Rows of "The first path" of one connection: what comes in, and all that goes out.
+# The first path: what comes in, and all that goes out.
 FIRST_PATH = {
     "first_set": (SET_A, OK),
     "set_and_get": (SET_A + GET_A, OK + ONE),
@@ -47,7 +47,7 @@ FIRST_PATH = {
     "input_that_ends_in_a_request": (SET_A + b"*2\r\n$3\r\nGE", OK),
 }
 
-# Rows of "Protocol": bytes that are at fault at the last of them, and the reply.
+# Bytes that are at fault at the last of them, and the reply. Nothing is answered before it, and nothing is read after it.
 FAULTS = {
     "no_star": (b"P", NO_STAR),
     "leading_zero": (b"*01", BAD_COUNT),
@@ -65,8 +65,8 @@ FAULTS = {
 
 
 class Session(typing.NamedTuple):
-    """Requests of one connection and the replies, as the page spells them, and the position of the list after them. A word
-    `""` is empty; a reply lacks its last line end."""
+    """Requests of one connection and the replies, as pages spell them, and the position of the list after them: how many of the
+    requests changed something. A word `""` is empty; a reply lacks its last line end."""
 
     requests: list
     replies: list
@@ -84,7 +84,7 @@ NO_INTEGER = "-ERR value is not an integer or out of range"
 NO_OPPOSITE = "-ERR decrement would overflow"
 WRONG_TYPE = "-WRONGTYPE Operation against a key holding the wrong kind of value"
 
-# Rows of "Commands".
+# Commands outside transactions.
 COMMANDS = {
     "options_of_set": Session(
         ["SET k v NX", "SET k w NX", "SET z w XX", "SET k w XX", "GET k", "EXISTS z"],
@@ -181,7 +181,7 @@ COMMANDS = {
 
 ABORTED = "-EXECABORT Transaction discarded because of previous errors."
 
-# Rows of "Transactions" of one connection.
+# Transactions of one connection.
 TRANSACTIONS = {
     "an_error_among_others": Session(
         ["MULTI", "SET a x", "INCR a", "SET b y", "EXEC", "GET b"],

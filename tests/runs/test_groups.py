@@ -76,6 +76,7 @@ class Groups(Runs):
         self.assertEqual(trace.released, [OK + ONE + 2 * OK])
 
     def test_a_frame_of_three_changes_that_comes_again(self):
+        # it is taken once, under one stamp, and acknowledged each time
         schedule = Schedule(1)
         schedule.group(0, *self.SETS)
         schedule.group(0, SET_A, SET_B)

@@ -152,8 +152,8 @@ class Faults(Parsed):
 
 @worked.one_test_for_each(worked.FAULTS, "check_row")
 class FaultsAtTheirLastByte(Runs):
-    """Rows of "Protocol" in docs/worked-cases.md, from bytes in to bytes out: three connections, one without the last
-    byte, one with it, and one with a request after it."""
+    """The faults of worked_cases, from bytes in to bytes out: three connections, one without the last byte, one with it, and one
+    with a request after it."""
 
     def check_row(self, data, output):
         schedule = Schedule(3)

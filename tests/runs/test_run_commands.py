@@ -1,5 +1,5 @@
-"""Rows of "Commands" and "Transactions" in docs/worked-cases.md through the simulator, and connections that QUIT. Each run is compared with
-the plain machine too (simulation.Runs)."""
+"""The commands and transactions of worked_cases through the simulator, and connections that QUIT. Each run is compared with the plain machine
+too (simulation.Runs)."""
 
 import worked_cases as worked
 from simulation import Runs, Schedule
@@ -13,7 +13,7 @@ SET_B = spell("SET", "b", "2")
 
 @worked.one_test_for_each(worked.COMMANDS, "check_row")
 class Commands(Runs):
-    """Rows of "Commands" in docs/worked-cases.md."""
+    """In one piece and byte by byte."""
 
     def check_row(self, *row):
         session = worked.Session(*row)
@@ -55,6 +55,6 @@ class Commands(Runs):
 
 @worked.one_test_for_each(worked.TRANSACTIONS, "check_row")
 class Transactions(Runs):
-    """Rows of "Transactions" in docs/worked-cases.md."""
+    """The same of transactions."""
 
     check_row = Commands.check_row

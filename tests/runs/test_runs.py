@@ -21,7 +21,7 @@ def in_bytes(data):
 
 @worked.one_test_for_each(worked.FIRST_PATH, "check_row")
 class FirstPath(Runs):
-    """Rows of "The first path" in docs/worked-cases.md."""
+    """The first path of worked_cases, in one piece, byte by byte and of two connections at once."""
 
     def check_row(self, data, output):
         for name, pieces in [("in one piece", [data]), ("byte by byte", in_bytes(data))]:
@@ -71,6 +71,7 @@ class FirstPath(Runs):
         self.assertEqual([node.position for node in trace.nodes.values()], [513, 512])
 
     def test_every_seat_once(self):
+        # the numbers 0 to 1,023; with one more to enter none is free
         schedule = Schedule(1_025)
         for c in (0, 1_023, 1_024):
             schedule.feed(c, PING)

@@ -51,7 +51,7 @@ class Served(Cases):
 
 @worked.one_test_for_each(worked.FIRST_PATH, "check_row")
 class FirstPath(Served):
-    """Rows of "The first path" in docs/worked-cases.md."""
+    """The first path of worked_cases, and every prefix of it."""
 
     def check_row(self, data, output):
         self.check_pieces(data, output)
@@ -67,8 +67,7 @@ class FirstPath(Served):
 
 @worked.one_test_for_each(worked.FAULTS, "check_row")
 class Faults(Served):
-    """Rows of "Protocol" in docs/worked-cases.md: nothing is answered before the last byte, and nothing is read after
-    it."""
+    """The faults of worked_cases: nothing is answered before the last byte, and nothing is read after it."""
 
     def check_row(self, data, output):
         self.check_pieces(data, output)
@@ -90,7 +89,7 @@ class Faults(Served):
 
 @worked.one_test_for_each(worked.COMMANDS, "check_row")
 class Commands(Served):
-    """Rows of "Commands" in docs/worked-cases.md."""
+    """The commands of worked_cases."""
 
     def check_row(self, *row):
         session = worked.Session(*row)
@@ -105,7 +104,7 @@ class Commands(Served):
 
 @worked.one_test_for_each(worked.TRANSACTIONS, "check_row")
 class Transactions(Served):
-    """Rows of "Transactions" in docs/worked-cases.md."""
+    """The transactions of worked_cases."""
 
     def check_row(self, *row):
         session = worked.Session(*row)
@@ -114,7 +113,7 @@ class Transactions(Served):
 
 
 class Limits(Served):
-    """Rows of "Limits" in docs/worked-cases.md."""
+    """What clients meet at their limits, and one above (docs/protocol.md, "Limits that a client meets")."""
 
     LONGEST = bytes(range(256)) * 256
 
