@@ -1,11 +1,11 @@
 -- One run of calls after another.
-use Rattle.std.proofs.Common.{◌≡◌, ℕ, suc, ◌+◌, ◌≤◌, List, [], ◌∷◌, length, refl, sym, ap, subst, ◌∙◌, ◌<◌, take, get_or, ◌⊎◌, Bool, true, false, ◌||◌, inl, inr}
+use Rattle.std.proofs.Common.{◌≡◌, ℕ, suc, ◌+◌, ◌≤◌, List, [], ◌∷◌, length, refl, sym, ap, subst, ◌∙◌, ◌<◌, take, get_or}
 use Rattle.std.proofs.lemmas.List.{take_more, take_all}
-use Rattle.pmem.specs.Device.{Word, State, Fences, Steps, MayBe, Only, store_at, flush_at, fenced, fences_after, is_asked, is_unsure, must_fail, may_fail}
+use Rattle.pmem.specs.Device.{Word, State, Fences, Steps, MayBe, Only, store_at, flush_at, fenced, fences_after}
 use Rattle.pmem.specs.Crash.{IsImage, image_of}
-use Rattle.pmem.specs.Runs.{LeavesOnly, Runs, Stays, Staged, StageFailed, stores, flushes, written, IsPartlyStored, HasCause}
+use Rattle.pmem.specs.Runs.{LeavesOnly, Runs, Stays, Staged, StageFailed, stores, flushes, written, IsPartlyStored}
 use Rattle.pmem.proofs.Leaving.{step_leaves, none_leaves, LeavesOnly-then, LeavesOnly-weaken}
-use Rattle.pmem.proofs.Staging.{IsImage-store_at, IsImage-stores, flush_at-IsImage, flushes-IsImage, IsImage-fenced, image_of-staged, Only-staged, IsPartlyStored-staged, MayBe-staged, stores-append, flushes-append}
+use Rattle.pmem.proofs.Staging.{store_at-MayBe, IsImage-stores, flush_at-MayBe, flushes-IsImage, IsImage-fenced, image_of-staged, Only-staged, IsPartlyStored-staged, MayBe-staged, stores-append, flushes-append}
 
 pub Stays-none : (d : State) → Stays d d
 Stays-none d = record { lines = refl; kept = refl; starved = λ e. e }
@@ -43,29 +43,29 @@ Runs-then {a} {b} {c} {u} {v} first second grows =
       moments = LeavesOnly-then (LeavesOnly-weaken (IsImage v) grows first.moments) second.moments;
     }
 
--- one store
-pub Runs-step_store : {a b : State} (at x : ℕ) → Steps a b (store_at at x a.words) a.failures a.fences → Runs a b (store_at at x a.words)
-Runs-step_store {a} {b} at x step =
+-- a call leads to a run, if each candidate is kept
+steps_leave : {a b : State} {u : ℕ → Word} {failures : ℕ} {fences : Fences} → Steps a b u failures fences → (P : (ℕ → ℕ) → Type 0)
+    → ((image : ℕ → ℕ) → IsImage a.words image → P image) → ((image : ℕ → ℕ) → IsImage u image → P image) → LeavesOnly a b P
+steps_leave {a} {b} step P from_old from_new =
+    step_leaves a b P step.past from_old (λ image is. from_new image (subst (λ (w : ℕ → Word). IsImage w image) step.words is))
+
+Runs-step : {a b : State} (u : ℕ → Word) → Steps a b u a.failures a.fences → ((word y : ℕ) → MayBe (a.words word) y → MayBe (u word) y) → Runs a b u
+Runs-step {a} {b} u step grows =
     record {
       words = step.words;
       failures = step.failures;
       fences = step.fences;
       stays = Stays-step step;
-      moments = step_leaves a b (IsImage (store_at at x a.words)) step.past (IsImage-store_at at x a.words)
-          (λ image is. subst (λ (w : ℕ → Word). IsImage w image) step.words is);
+      moments = steps_leave step (IsImage u) (λ image is word. grows word (image word) (is word)) (λ image is. is);
     }
+
+-- one store
+pub Runs-step_store : {a b : State} (at x : ℕ) → Steps a b (store_at at x a.words) a.failures a.fences → Runs a b (store_at at x a.words)
+Runs-step_store {a} {b} at x step = Runs-step (store_at at x a.words) step (store_at-MayBe at x a.words)
 
 -- one flush
 pub Runs-step_flush : {a b : State} (line : ℕ) → Steps a b (flush_at line a.words) a.failures a.fences → Runs a b (flush_at line a.words)
-Runs-step_flush {a} {b} line step =
-    record {
-      words = step.words;
-      failures = step.failures;
-      fences = step.fences;
-      stays = Stays-step step;
-      moments = step_leaves a b (IsImage (flush_at line a.words)) step.past (flush_at-IsImage line a.words)
-          (λ image is. subst (λ (w : ℕ → Word). IsImage w image) step.words is);
-    }
+Runs-step_flush {a} {b} line step = Runs-step (flush_at line a.words) step (flush_at-MayBe line a.words)
 
 -- a run continues with stores
 pub Runs-stores : {a b c : State} {u : ℕ → Word} (pairs : List (ℕ × ℕ)) → Runs a b u → Runs b c (stores pairs b.words) → Runs a c (stores pairs u)
@@ -83,47 +83,31 @@ pub Runs-next_store : {a b c : State} (pairs : List (ℕ × ℕ)) (i : ℕ) → 
     → Runs a c (stores (take (i + 1) pairs) a.words)
 Runs-next_store {a} {b} {c} pairs i below run step =
     let pair : ℕ × ℕ = get_or pairs i (0, 0) in
-    subst (λ (w : ℕ → Word). Runs a c w)
-    (sym (stores-append (take i pairs) (pair ∷ []) a.words) ∙ ap (λ (p : List (ℕ × ℕ)). stores p a.words) (sym (take_more pairs i (0, 0) below)))
-    (Runs-stores (pair ∷ []) run (Runs-step_store pair.0 pair.1 step))
+    rw (take_more pairs i (0, 0) below, stores-append (take i pairs) (pair ∷ []) a.words) (Runs-stores (pair ∷ []) run (Runs-step_store pair.0 pair.1 step))
 
 -- and of the loop over the lines
 pub Runs-next_flush : {a b c : State} (lines : List ℕ) (i : ℕ) → i < length lines → Runs a b (flushes (take i lines) a.words)
     → Steps b c (flush_at (get_or lines i 0) b.words) b.failures b.fences
     → Runs a c (flushes (take (i + 1) lines) a.words)
 Runs-next_flush {a} {b} {c} lines i below run step =
-    subst (λ (w : ℕ → Word). Runs a c w)
-    (sym (flushes-append (take i lines) (get_or lines i 0 ∷ []) a.words) ∙ ap (λ (l : List ℕ). flushes l a.words) (sym (take_more lines i 0 below)))
-    (Runs-flushes (get_or lines i 0 ∷ []) run (Runs-step_flush (get_or lines i 0) step))
+    rw (take_more lines i 0 below, flushes-append (take i lines) (get_or lines i 0 ∷ []) a.words) (Runs-flushes (get_or lines i 0 ∷ []) run (Runs-step_flush (get_or lines i 0) step))
 
 -- the loops end
 pub Runs-all_stored : {a b : State} (pairs : List (ℕ × ℕ)) (i : ℕ) → length pairs ≤ i → Runs a b (stores (take i pairs) a.words)
     → Runs a b (stores pairs a.words)
-Runs-all_stored {a} {b} pairs i all run =
-    subst (λ (p : List (ℕ × ℕ)). Runs a b (stores p a.words)) (take_all i pairs all) run
+Runs-all_stored {a} {b} pairs i all run = rw (take_all i pairs all) at run
 
 pub Runs-all_flushed : {a b : State} (lines : List ℕ) (i : ℕ) → length lines ≤ i → Runs a b (flushes (take i lines) a.words)
     → Runs a b (flushes lines a.words)
-Runs-all_flushed {a} {b} lines i all run =
-    subst (λ (l : List ℕ). Runs a b (flushes l a.words)) (take_all i lines all) run
+Runs-all_flushed {a} {b} lines i all run = rw (take_all i lines all) at run
 
--- a fence that succeeds leaves nothing new
-pub fence_leaves : {a b : State} {failures : ℕ} {fences : Fences} → Steps a b (fenced a.words) failures fences → LeavesOnly a b (IsImage a.words)
-fence_leaves {a} {b} step =
-    step_leaves a b (IsImage a.words) step.past (λ image is. is)
-    (λ image is. IsImage-fenced a.words image (subst (λ (w : ℕ → Word). IsImage w image) step.words is))
-
--- nor does one that fails
-pub fault_leaves : {a b : State} {failures : ℕ} {fences : Fences} → Steps a b a.words failures fences → LeavesOnly a b (IsImage a.words)
-fault_leaves {a} {b} step =
-    step_leaves a b (IsImage a.words) step.past (λ image is. is)
-    (λ image is. subst (λ (w : ℕ → Word). IsImage w image) step.words is)
-
-staged_moments : {a b c : State} (pairs : List (ℕ × ℕ)) (lines : List ℕ) → Runs a b (flushes lines (stores pairs a.words))
-    → LeavesOnly b c (IsImage b.words) → LeavesOnly a c (IsPartlyStored pairs a.words)
-staged_moments {a} {b} {c} pairs lines run fence =
-    LeavesOnly-weaken (IsPartlyStored pairs a.words) (λ image is. IsPartlyStored-staged pairs lines a.words image is)
-    (LeavesOnly-then run.moments (subst (λ (w : ℕ → Word). LeavesOnly b c (IsImage w)) run.words fence))
+-- a fence leaves nothing new
+staged_moments : {a b c : State} {u : ℕ → Word} {failures : ℕ} {fences : Fences} (pairs : List (ℕ × ℕ)) (lines : List ℕ)
+    → Runs a b (flushes lines (stores pairs a.words)) → Steps b c u failures fences
+    → ((image : ℕ → ℕ) → IsImage u image → IsImage b.words image) → LeavesOnly a c (IsPartlyStored pairs a.words)
+staged_moments {a} {b} {c} pairs lines run step old =
+    LeavesOnly-weaken (IsPartlyStored pairs a.words) (IsPartlyStored-staged pairs lines a.words)
+    (LeavesOnly-then run.moments (subst (λ (w : ℕ → Word). LeavesOnly b c (IsImage w)) run.words (steps_leave step (IsImage b.words) (λ image is. is) old)))
 
 -- stores, flushes and a fence that succeeds
 pub stage_ok : {a b c : State} (pairs : List (ℕ × ℕ)) (lines : List ℕ) → Runs a b (flushes lines (stores pairs a.words))
@@ -140,7 +124,7 @@ stage_ok {a} {b} {c} pairs lines run step =
       failures = step.failures ∙ run.failures;
       fences = step.fences ∙ ap fences_after run.fences;
       stays = Stays-then run.stays (Stays-step step);
-      moments = staged_moments pairs lines run (fence_leaves step);
+      moments = staged_moments pairs lines run step (IsImage-fenced b.words);
     }
 
 -- and one that fails
@@ -153,36 +137,5 @@ stage_err {a} {b} {c} pairs lines run step =
       failures = step.failures ∙ ap suc run.failures;
       fences = step.fences ∙ ap fences_after run.fences;
       stays = Stays-then run.stays (Stays-step step);
-      moments = staged_moments pairs lines run (fault_leaves step);
+      moments = staged_moments pairs lines run step (λ image is. is);
     }
-
-or-true_left : (a b : Bool) → b ≡ true → (a || b) ≡ true
-or-true_left true b e = refl
-or-true_left false b e = e
-
-or_cases : (a b : Bool) → (a || b) ≡ true → (a ≡ true) ⊎ (b ≡ true)
-or_cases true b e = inl refl
-or_cases false b e = inr e
-
--- If the fence after a run was asked to fail, or the device was starved, it fails.
-pub stage_must_fail : {a b : State} {u : ℕ → Word} → Runs a b u → must_fail a ≡ true → must_fail b ≡ true
-stage_must_fail {a} {b} run asked =
-    let go : (starved : Bool) → a.starved ≡ starved → (starved || is_asked a.fences) ≡ true → must_fail b ≡ true =
-    elim [
-      | true ↦ λ was e. ap (λ (s : Bool). s || is_asked b.fences) (run.stays.starved was)
-      | false ↦ λ was e. or-true_left b.starved (is_asked b.fences) (ap is_asked run.fences ∙ e)
-    ] in
-    go a.starved refl asked
-
--- If it failed, it had a cause.
-pub stage_cause : {a b c : State} {u v : ℕ → Word} {failures : ℕ} {fences : Fences} → Runs a b u → Steps b c v failures fences → may_fail b ≡ true
-    → HasCause a.fences c
-stage_cause {a} {b} {c} run step may =
-    elim (or_cases (must_fail b) (is_unsure b.fences) may) [
-      | inl must ↦
-          elim (or_cases b.starved (is_asked b.fences) must) [
-            | inl starved ↦ inl (step.starved starved)
-            | inr asked ↦ inr (inl (ap is_asked (sym run.fences) ∙ asked))
-          ]
-      | inr unsure ↦ inr (inr (ap is_unsure (sym run.fences) ∙ unsure))
-    ]

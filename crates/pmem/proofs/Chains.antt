@@ -1,5 +1,5 @@
 -- The pool of older candidates, chained by line.
-use Rattle.std.proofs.Common.{◌≡◌, ◌≢◌, ◌⊎◌, ℕ, zero, suc, ◌*◌, ◌/◌, ◌<◌, ◌≤◌, Bool, true, false, cond, ◌==◌, ◌||◌, List, [], ◌∷◌, ◌++◌, length, get_or, set, Option, Some, None, refl, inl, inr, sym, subst, ap, ◌∙◌, arith, length-append, get_or-set_same, get_or-set_other}
+use Rattle.std.proofs.Common.{◌≡◌, ◌≢◌, ℕ, zero, suc, ◌*◌, ◌/◌, ◌<◌, ◌≤◌, Bool, true, false, cond, ◌==◌, ◌||◌, List, [], ◌∷◌, ◌++◌, length, get_or, set, Option, Some, None, refl, inl, inr, sym, subst, ap, ◌∙◌, arith, length-append, get_or-set_same, get_or-set_other}
 use Rattle.std.proofs.Math.ListN.{get_or-append}
 use Rattle.std.proofs.Math.Seq.{get_or-append_seam}
 use Rattle.std.proofs.lemmas.Bool.{cond-true, cond-false, eq-eqb, eqb-true}
@@ -7,18 +7,10 @@ use Rattle.std.proofs.lemmas.List.{length-set, append-nil}
 use Rattle.pmem.specs.declared.cells.Candidate.{Candidate}
 use Rattle.pmem.specs.Device.{Older, Word, MayBe, IsOlder, store_at}
 use Rattle.pmem.specs.Cell.{at, last_below, older_of, older_below, older_in, IsChained, HoldsIn, is_older, may_be}
-use Rattle.pmem.proofs.Words.{IsOlder-append_cases, MayBe-store_word}
-use Rattle.pmem.proofs.Staging.{same_or_other, unequal, store_at-same, store_at-other}
+use Rattle.pmem.proofs.Words.{or-true, true-or, IsOlder-append_cases}
+use Rattle.pmem.proofs.Staging.{same_or_other, unequal, by_test, store_at-cases, store_at-MayBe}
 
 -- Tests and facts
-
-or-true : (a b : Bool) → (a || b) ≡ true → (a ≡ true) ⊎ (b ≡ true)
-or-true true b e = inl refl
-or-true false b e = inr e
-
-true-or : (a b : Bool) → b ≡ true → (a || b) ≡ true
-true-or true b e = refl
-true-or false b e = e
 
 pub is_older-IsOlder : (older : List Older) (x : ℕ) → is_older older x ≡ true → IsOlder older x
 is_older-IsOlder [] x h = absurd (cc)
@@ -61,9 +53,6 @@ older_below-same f h word (suc n) same =
 
 -- One more candidate
 
-none : Candidate
-none = record { word = 0; value = 0; passed = false; next = None }
-
 pub at-push : (pool : List Candidate) (c : Candidate) (k : ℕ) → k < length pool → at (pool ++ c ∷ []) k ≡ at pool k
 at-push pool c k below = get_or-append pool (c ∷ []) (record { word = 0; value = 0; passed = false; next = None }) k below
 
@@ -75,10 +64,9 @@ length-push pool c = let e = length-append pool (c ∷ []) in omega (arith, e)
 
 pub older_in-push : (pool : List Candidate) (c : Candidate) (word : ℕ) → older_in (pool ++ c ∷ []) word ≡ older_in pool word ++ older_of c word
 older_in-push pool c word =
-    ap (λ (n : ℕ). older_below (at (pool ++ c ∷ [])) word n) (length-push pool c)
-    ∙ ap (λ (os : List Older). os ++ older_of (at (pool ++ c ∷ []) (length pool)) word)
-    (older_below-same (at (pool ++ c ∷ [])) (at pool) word (length pool) (λ k below. ap (λ (x : Candidate). older_of x word) (at-push pool c k below)))
-    ∙ ap (λ (x : Candidate). older_in pool word ++ older_of x word) (at-pushed pool c)
+    rw (length-push pool c, at-pushed pool c)
+    (ap (λ (os : List Older). os ++ older_of c word)
+    (older_below-same (at (pool ++ c ∷ [])) (at pool) word (length pool) (λ k below. ap (λ (x : Candidate). older_of x word) (at-push pool c k below))))
 
 last_below-push : (pool : List Candidate) (c : Candidate) (line n : ℕ) → n ≤ length pool
     → last_below (at (pool ++ c ∷ [])) line n ≡ last_below (at pool) line n
@@ -89,9 +77,15 @@ last_below-push pool c line n low =
 last-push : (pool : List Candidate) (c : Candidate) (line : ℕ)
     → last_below (at (pool ++ c ∷ [])) line (length (pool ++ c ∷ [])) ≡ cond (c.word / 8 == line) (Some (length pool)) (last_below (at pool) line (length pool))
 last-push pool c line =
-    ap (λ (n : ℕ). last_below (at (pool ++ c ∷ [])) line n) (length-push pool c)
-    ∙ ap (λ (x : Candidate). cond (x.word / 8 == line) (Some (length pool)) (last_below (at (pool ++ c ∷ [])) line (length pool))) (at-pushed pool c)
-    ∙ ap (λ (rest : Option ℕ). cond (c.word / 8 == line) (Some (length pool)) rest) (last_below-push pool c line (length pool) (omega arith))
+    rw (length-push pool c, at-pushed pool c, last_below-push pool c line (length pool) (omega arith))
+
+by_push : (pool : List Candidate) (c : Candidate) (P : ℕ → Candidate → Type 0) → ((k : ℕ) → k < length pool → P k (at pool k)) → P (length pool) c
+    → (k : ℕ) → k < length (pool ++ c ∷ []) → P k (at (pool ++ c ∷ []) k)
+by_push pool c P old new k in_range =
+    elim (same_or_other k (length pool)) [
+      | inl e ↦ rw (e, at-pushed pool c) new
+      | inr n ↦ let under : k < length pool = omega (arith, length-push pool c) in rw (at-push pool c k under) (old k under)
+    ]
 
 -- the head of its line leads to a new candidate, which leads to the previous one
 pub IsChained-push : (heads : List (Option ℕ)) (pool : List Candidate) (c : Candidate) → IsChained heads pool → c.word / 8 < length heads
@@ -100,36 +94,14 @@ IsChained-push heads pool c chained below next =
     record {
       heads = λ line in_range.
           let inside : line < length heads = omega (arith, length-set heads (c.word / 8) (Some (length pool))) in
-          elim (same_or_other line (c.word / 8)) [
-            | inl e ↦
-                subst (λ (l : ℕ). get_or (set heads (c.word / 8) (Some (length pool))) l None ≡ Some (length pool)) (sym e)
-                (get_or-set_same heads (c.word / 8) (Some (length pool)) None below)
-                ∙ sym (last-push pool c line ∙ cond-true (c.word / 8 == line) _ _ (eq-eqb (c.word / 8) line (sym e)))
-            | inr n ↦
-                get_or-set_other heads (c.word / 8) line (Some (length pool)) None n
-                ∙ chained.heads line inside
-                ∙ sym (last-push pool c line ∙ cond-false (c.word / 8 == line) _ _ (unequal (c.word / 8) line (λ e. n (sym e))))
-          ];
-      nexts = λ k in_range.
-          elim (same_or_other k (length pool)) [
-            | inl e ↦
-                subst (λ (j : ℕ). (at (pool ++ c ∷ []) j).next ≡ last_below (at (pool ++ c ∷ [])) ((at (pool ++ c ∷ []) j).word / 8) j) (sym e)
-                (subst (λ (x : Candidate). x.next ≡ last_below (at (pool ++ c ∷ [])) (x.word / 8) (length pool)) (sym (at-pushed pool c))
-                (next ∙ chained.heads (c.word / 8) below ∙ sym (last_below-push pool c (c.word / 8) (length pool) (omega arith))))
-            | inr n ↦
-                let old : k < length pool = omega (arith, length-push pool c) in
-                subst (λ (x : Candidate). x.next ≡ last_below (at (pool ++ c ∷ [])) (x.word / 8) k) (sym (at-push pool c k old))
-                (chained.nexts k old ∙ sym (last_below-push pool c ((at pool k).word / 8) k (omega arith)))
-          ];
-      lines = λ k in_range.
-          subst (λ (n : ℕ). (at (pool ++ c ∷ []) k).word / 8 < n) (sym (length-set heads (c.word / 8) (Some (length pool))))
-          (elim (same_or_other k (length pool)) [
-            | inl e ↦ subst (λ (j : ℕ). (at (pool ++ c ∷ []) j).word / 8 < length heads) (sym e)
-                (subst (λ (x : Candidate). x.word / 8 < length heads) (sym (at-pushed pool c)) below)
-            | inr n ↦
-                let old : k < length pool = omega (arith, length-push pool c) in
-                subst (λ (x : Candidate). x.word / 8 < length heads) (sym (at-push pool c k old)) (chained.lines k old)
-          ]);
+          by_test (λ h. get_or (set heads (c.word / 8) (Some (length pool))) line None ≡ h) (c.word / 8) line (Some (length pool)) _
+          (λ e. rw (← e) (get_or-set_same heads (c.word / 8) (Some (length pool)) None below))
+          (λ n. get_or-set_other heads (c.word / 8) line (Some (length pool)) None (λ e. n (sym e)) ∙ chained.heads line inside)
+          ∙ sym (last-push pool c line);
+      nexts = by_push pool c (λ k x. x.next ≡ last_below (at (pool ++ c ∷ [])) (x.word / 8) k)
+          (λ k old. chained.nexts k old ∙ sym (last_below-push pool c ((at pool k).word / 8) k (omega arith)))
+          (next ∙ chained.heads (c.word / 8) below ∙ sym (last_below-push pool c (c.word / 8) (length pool) (omega arith)));
+      lines = rw (length-set heads (c.word / 8) (Some (length pool))) (by_push pool c (λ k x. x.word / 8 < length heads) chained.lines below);
     }
 
 -- A store
@@ -137,36 +109,23 @@ IsChained-push heads pool c chained below next =
 newest-set : (newest : List ℕ) (words : ℕ → Word) (at' x : ℕ) → at' < length newest → ((word : ℕ) → get_or newest word 0 ≡ (words word).newest)
     → (word : ℕ) → get_or (set newest at' x) word 0 ≡ (store_at at' x words word).newest
 newest-set newest words at' x below same word =
-    elim (same_or_other word at') [
-      | inl e ↦
-          subst (λ (w : ℕ). get_or (set newest at' x) w 0 ≡ x) (sym e) (get_or-set_same newest at' x 0 below)
-          ∙ sym (ap (λ (w : Word). w.newest) (store_at-same at' x words word e))
-      | inr n ↦
-          get_or-set_other newest at' word x 0 n ∙ same word ∙ sym (ap (λ (w : Word). w.newest) (store_at-other at' x words word n))
-    ]
+    store_at-cases (λ w. get_or (set newest at' x) word 0 ≡ w.newest) at' x words word
+    (λ e. rw e (get_or-set_same newest at' x 0 below)) (λ n. get_or-set_other newest at' word x 0 n ∙ same word)
 
-store_at-MayBe : (at' x : ℕ) (words : ℕ → Word) (word y : ℕ) → MayBe (words word) y → MayBe (store_at at' x words word) y
-store_at-MayBe at' x words word y may =
-    elim (same_or_other word at') [
-      | inl e ↦ subst (λ (w : Word). MayBe w y) (sym (store_at-same at' x words word e)) (MayBe-store_word x (words word) y may)
-      | inr n ↦ subst (λ (w : Word). MayBe w y) (sym (store_at-other at' x words word n)) may
-    ]
+pub older_of-hit : (c : Candidate) (word : ℕ) → word ≡ c.word → older_of c word ≡ record { value = c.value; passed = c.passed } ∷ []
+older_of-hit c word e = cond-true (word == c.word) _ _ (eq-eqb word c.word e)
+
+pub older_of-miss : (c : Candidate) (word : ℕ) → word ≢ c.word → older_of c word ≡ []
+older_of-miss c word n = cond-false (word == c.word) _ _ (unequal word c.word n)
 
 -- the candidate that a store adds to the pool
 abbrev pub overtaken : List ℕ → List (Option ℕ) → ℕ → Candidate
 overtaken newest heads word = record { word = word; value = get_or newest word 0; passed = false; next = get_or heads (word / 8) None }
 
-abbrev fresh : ℕ → List Older
-fresh x = record { value = x; passed = false } ∷ []
-
-overtaken-same : (newest : List ℕ) (heads : List (Option ℕ)) (words : ℕ → Word) (at' word : ℕ) → ((w : ℕ) → get_or newest w 0 ≡ (words w).newest)
-    → word ≡ at' → older_of (overtaken newest heads at') word ≡ record { value = (words word).newest; passed = false } ∷ []
-overtaken-same newest heads words at' word same e =
-    cond-true (word == at') _ _ (eq-eqb word at' e)
-    ∙ ap fresh (subst (λ (w : ℕ). get_or newest w 0 ≡ (words word).newest) e (same word))
-
-overtaken-other : (newest : List ℕ) (heads : List (Option ℕ)) (at' word : ℕ) → word ≢ at' → older_of (overtaken newest heads at') word ≡ []
-overtaken-other newest heads at' word n = cond-false (word == at') _ _ (unequal word at' n)
+IsOlder-older_of : (c : Candidate) (word y : ℕ) → IsOlder (older_of c word) y → (word ≡ c.word) × (y ≡ c.value)
+IsOlder-older_of c word y new =
+    by_test (λ os. IsOlder os y → (word ≡ c.word) × (y ≡ c.value)) word c.word (record { value = c.value; passed = c.passed } ∷ []) []
+    (λ e h. elim h [ inl is ↦ (e, is) | inr nothing ↦ absurd nothing ]) (λ n h. absurd h) new
 
 pub HoldsIn-store : (newest : List ℕ) (heads : List (Option ℕ)) (pool : List Candidate) (words : ℕ → Word) (starved : Bool) (at' x : ℕ)
     → at' < length newest → HoldsIn newest heads pool words starved
@@ -179,17 +138,11 @@ HoldsIn-store newest heads pool words starved at' x below holds =
       newest = newest-set newest words at' x below holds.newest;
       exact = λ fed word.
           older_in-push pool c word ∙
-          elim (same_or_other word at') [
-            | inl e ↦
-                ap (λ (os : List Older). older_in pool word ++ os) (overtaken-same newest heads words at' word holds.newest e)
-                ∙ ap (λ (os : List Older). os ++ record { value = (words word).newest; passed = false } ∷ []) (holds.exact fed word)
-                ∙ sym (ap (λ (w : Word). w.older) (store_at-same at' x words word e))
-            | inr n ↦
-                ap (λ (os : List Older). older_in pool word ++ os) (overtaken-other newest heads at' word n)
-                ∙ append-nil (older_in pool word)
-                ∙ holds.exact fed word
-                ∙ sym (ap (λ (w : Word). w.older) (store_at-other at' x words word n))
-          ];
+          store_at-cases (λ w. older_in pool word ++ older_of c word ≡ w.older) at' x words word
+          (λ e.
+          let v : get_or newest at' 0 ≡ (words word).newest = ap (λ (w : ℕ). get_or newest w 0) (sym e) ∙ holds.newest word in
+          rw (older_of-hit c word e, v, holds.exact fed word))
+          (λ n. rw (older_of-miss c word n, append-nil (older_in pool word)) (holds.exact fed word));
       within = λ word y is.
           MayBe-may_be (store_at at' x words word) y
           (store_at-MayBe at' x words word y
@@ -197,14 +150,8 @@ HoldsIn-store newest heads pool words starved at' x below holds =
           (subst (λ (os : List Older). IsOlder os y) (older_in-push pool c word) (is_older-IsOlder (older_in (pool ++ c ∷ []) word) y is))) [
             | inl was ↦ may_be-MayBe (words word) y (holds.within word y (IsOlder-is_older (older_in pool word) y was))
             | inr new ↦
-                elim (same_or_other word at') [
-                  | inl e ↦
-                      elim (subst (λ (os : List Older). IsOlder os y) (overtaken-same newest heads words at' word holds.newest e) new) [
-                        | inl is' ↦ inl is'
-                        | inr nothing ↦ absurd nothing
-                      ]
-                  | inr n ↦ absurd (subst (λ (os : List Older). IsOlder os y) (overtaken-other newest heads at' word n) new)
-                ]
+                let p = IsOlder-older_of c word y new in
+                inl (p.1 ∙ ap (λ (w : ℕ). get_or newest w 0) (sym p.0) ∙ holds.newest word)
           ]));
     }
 
@@ -221,18 +168,3 @@ HoldsIn-starved_store newest heads pool words starved at' x below holds =
           MayBe-may_be (store_at at' x words word) y
           (store_at-MayBe at' x words word y (may_be-MayBe (words word) y (holds.within word y is)));
     }
-
--- the same, in terms of what the code reads and writes
-pub HoldsIn-stored : (newest : List ℕ) (heads : List (Option ℕ)) (pool pool' : List Candidate) (words : ℕ → Word) (starved : Bool) (at' x value place : ℕ)
-    (next : Option ℕ) → at' < length newest → value ≡ get_or newest at' 0 → next ≡ get_or heads (at' / 8) None → place ≡ length pool
-    → pool' ≡ pool ++ record { word = at'; value = value; passed = false; next = next } ∷ []
-    → HoldsIn newest heads pool words starved
-    → HoldsIn (set newest at' x) (set heads (at' / 8) (Some place)) pool' (store_at at' x words) starved
-HoldsIn-stored newest heads pool pool' words starved at' x value place next below value_is next_is place_is pool_is holds =
-    let same : pool' ≡ pool ++ overtaken newest heads at' ∷ [] =
-    pool_is
-    ∙ ap (λ (v : ℕ). pool ++ record { word = at'; value = v; passed = false; next = next } ∷ []) value_is
-    ∙ ap (λ (n : Option ℕ). pool ++ record { word = at'; value = get_or newest at' 0; passed = false; next = n } ∷ []) next_is in
-    subst (λ (p : List Candidate). HoldsIn (set newest at' x) (set heads (at' / 8) (Some place)) p (store_at at' x words) starved) (sym same)
-    (subst (λ (k : ℕ). HoldsIn (set newest at' x) (set heads (at' / 8) (Some k)) (pool ++ overtaken newest heads at' ∷ []) (store_at at' x words) starved)
-    (sym place_is) (HoldsIn-store newest heads pool words starved at' x below holds))

@@ -1,10 +1,8 @@
 -- What a crash at any moment of a run leaves.
-use Rattle.std.proofs.Common.{◌≡◌, ◌⊎◌, ℕ, ◌≤◌, Bool, true, false, cond, nat_le, List, [], ◌∷◌, ◌++◌, length, Option, Some, None, refl, inl, inr, sym, ap, subst, ◌∙◌, arith, append_assoc, length-append}
-use Rattle.std.proofs.lemmas.Bool.{leb-true}
-use Rattle.std.specs.Option.{ForSome}
+use Rattle.std.proofs.Common.{◌≡◌, ◌⊎◌, ℕ, ◌≤◌, List, [], ◌∷◌, ◌++◌, length, refl, inl, inr, sym, ap, subst, ◌∙◌, arith, append_assoc, length-append}
 use Rattle.pmem.specs.Device.{Word, State, moment}
-use Rattle.pmem.specs.Crash.{IsImage, HadImage, MayLeave, words_at, words_to_crash}
-use Rattle.pmem.specs.Runs.{HasPassed, LeavesOnly, words_gone_through}
+use Rattle.pmem.specs.Crash.{IsImage, HadImage, MayLeave}
+use Rattle.pmem.specs.Runs.{HasPassed, LeavesOnly}
 
 -- no past words are of the present moment or later
 HadImage-none : (past : List (ℕ → Word)) (t : ℕ) (image : ℕ → ℕ) → length past ≤ t → HadImage past t image → ⊥
@@ -18,20 +16,6 @@ MayLeave-now d image (inl now) = now
 MayLeave-now d image (inr had) = absurd (HadImage-none d.past (moment d) image (omega arith) had)
 
 -- ---- a state that was passed
-
-pub HasPassed-none : (d : State) → HasPassed d d
-HasPassed-none d = record { more = []; goes_on = refl }
-
--- one call leads from old to new
-pub HasPassed-step : (old new : State) → new.past ≡ old.words ∷ old.past → HasPassed old new
-HasPassed-step old new e = record { more = new.words ∷ []; goes_on = ap (λ (past : List (ℕ → Word)). new.words ∷ past) e }
-
-pub HasPassed-then : {a b c : State} → HasPassed a b → HasPassed b c → HasPassed a c
-HasPassed-then {a} {b} {c} first second =
-    record {
-      more = second.more ++ first.more;
-      goes_on = second.goes_on ∙ ap (λ (gone : List (ℕ → Word)). second.more ++ gone) first.goes_on ∙ sym (append_assoc second.more first.more (words_gone_through a));
-    }
 
 -- what a crash at some moment since t leaves, of all that a device has gone through
 abbrev Left : List (ℕ → Word) → ℕ → (ℕ → ℕ) → Type 0
@@ -73,7 +57,7 @@ MayLeave-passed {old} {new} passed t image may =
 pub step_leaves : (old new : State) (P : (ℕ → ℕ) → Type 0) → new.past ≡ old.words ∷ old.past
     → ((image : ℕ → ℕ) → IsImage old.words image → P image)
     → ((image : ℕ → ℕ) → IsImage new.words image → P image) → LeavesOnly old new P
-step_leaves old new P e from_old from_new = record { passed = HasPassed-step old new e; each = each }
+step_leaves old new P e from_old from_new = record { passed = record { more = new.words ∷ []; goes_on = ap (λ (past : List (ℕ → Word)). new.words ∷ past) e }; each = each }
   where
     each : (image : ℕ → ℕ) → MayLeave new (moment old) image → P image
     each image (inl is) = from_new image is
@@ -85,13 +69,16 @@ step_leaves old new P e from_old from_new = record { passed = HasPassed-step old
 
 -- no call at all
 pub none_leaves : (d : State) (P : (ℕ → ℕ) → Type 0) → ((image : ℕ → ℕ) → IsImage d.words image → P image) → LeavesOnly d d P
-none_leaves d P from_now = record { passed = HasPassed-none d; each = λ image may. from_now image (MayLeave-now d image may) }
+none_leaves d P from_now = record { passed = record { more = []; goes_on = refl }; each = λ image may. from_now image (MayLeave-now d image may) }
 
 -- One run after another.
 pub LeavesOnly-then : {a b c : State} {P : (ℕ → ℕ) → Type 0} → LeavesOnly a b P → LeavesOnly b c P → LeavesOnly a c P
 LeavesOnly-then {a} {b} {c} {P} first second =
     record {
-      passed = HasPassed-then first.passed second.passed;
+      passed = record {
+        more = second.passed.more ++ first.passed.more;
+        goes_on = rw append_assoc (second.passed.goes_on ∙ ap (λ (gone : List (ℕ → Word)). second.passed.more ++ gone) first.passed.goes_on);
+      };
       each = λ image may.
           elim (MayLeave-passed second.passed (moment a) image may) [
             | inl was ↦ first.each image was
@@ -103,33 +90,3 @@ LeavesOnly-then {a} {b} {c} {P} first second =
 pub LeavesOnly-weaken : {a b : State} {P : (ℕ → ℕ) → Type 0} (Q : (ℕ → ℕ) → Type 0) → ((image : ℕ → ℕ) → P image → Q image)
     → LeavesOnly a b P → LeavesOnly a b Q
 LeavesOnly-weaken {a} {b} {P} Q so run = record { passed = run.passed; each = λ image may. so image (run.each image may) }
-
--- A crash picks from the words of a moment since t, if the requested moment is since t.
-words_at-MayLeave : (now : ℕ → Word) (past : List (ℕ → Word)) (moment' t : ℕ) (image : ℕ → ℕ) → t ≤ moment' → IsImage (words_at now past moment') image
-    → IsImage now image ⊎ HadImage past t image
-words_at-MayLeave now [] moment' t image since is = inl is
-words_at-MayLeave now (words ∷ past) moment' t image since is =
-    let go : (come : Bool) → nat_le moment' (length past) ≡ come → IsImage (cond come (words_at words past moment') now) image
-    → IsImage now image ⊎ HadImage (words ∷ past) t image =
-    elim [
-      | true ↦ λ e before.
-          let low : moment' ≤ length past = leb-true moment' (length past) e in
-          elim (words_at-MayLeave words past moment' t image since before) [
-            | inl here ↦ inr (inl (omega arith, here))
-            | inr there ↦ inr (inr there)
-          ]
-      | false ↦ λ e here. inl here
-    ] in
-    go (nat_le moment' (length past)) refl is
-
--- A crash leaves an image of a moment since t, if no moment was requested or one since t was.
-pub crash_leaves : (d : State) (t : ℕ) (image : ℕ → ℕ) → ForSome d.kept (λ moment'. t ≤ moment')
-    → IsImage (words_to_crash d d.kept) image ⊎ IsImage d.words image → MayLeave d t image
-crash_leaves d t image since (inr now) = inl now
-crash_leaves d t image since (inl kept) =
-    let go : (k : Option ℕ) → ForSome k (λ moment'. t ≤ moment') → IsImage (words_to_crash d k) image → MayLeave d t image =
-    elim [
-      | None ↦ λ s is. inl is
-      | Some moment' ↦ λ s is. words_at-MayLeave d.words d.past moment' t image (s moment' refl) is
-    ] in
-    go d.kept since kept

@@ -1,3 +1,4 @@
+pub mod CutsLemmas
 pub mod Chaining
 pub mod Chains
 pub mod Compacting

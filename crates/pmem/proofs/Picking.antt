@@ -1,43 +1,32 @@
 -- A crash picks one of the candidates of each word.
-use Rattle.std.proofs.Common.{◌≡◌, ℕ, zero, suc, ◌+◌, ◌-◌, ◌*◌, ◌/◌, ◌%◌, ◌<◌, ◌≤◌, false, ◌==◌, List, [], ◌∷◌, ◌++◌, length, map, get_or, set, Option, Some, None, refl, inl, inr, sym, subst, ap, ◌∙◌, arith, length-append, get_or-set_same, get_or-set_other, add-one}
+use Rattle.std.proofs.Common.{◌≡◌, ℕ, zero, suc, ◌+◌, ◌-◌, ◌*◌, ◌/◌, ◌%◌, ◌<◌, ◌≤◌, false, List, [], ◌∷◌, ◌++◌, length, map, get_or, set, Option, Some, None, refl, inl, inr, sym, subst, ap, ◌∙◌, arith, length-append, get_or-set_same, get_or-set_other, add-one}
 use Rattle.std.proofs.Math.ListN.{get_or-append}
-use Rattle.std.proofs.Math.Seq.{get_or-append_seam}
-use Rattle.std.proofs.lemmas.Bool.{cond-true, cond-false, eq-eqb}
 use Rattle.std.proofs.lemmas.List.{length-set, get_or_read_under, append-nil, map-append, length-map}
 use Rattle.pmem.specs.declared.cells.Candidate.{Candidate}
 use Rattle.pmem.specs.Device.{Older, candidates}
 use Rattle.pmem.specs.Crash.{picked, several_below, has_several}
 use Rattle.pmem.specs.Cell.{at, last_below, older_of, older_below, older_in, IsChained, held_in}
-use Rattle.pmem.proofs.Staging.{same_or_other, unequal}
-use Rattle.pmem.proofs.Walks.{end_of, last_below-found, last_below-again, end_of-last_below, older_of-hit, older_of-miss, below_or_past}
+use Rattle.pmem.proofs.Staging.{same_or_other, by_test}
+use Rattle.pmem.proofs.Walks.{end_of, last_below-found, last_below-again, end_of-last_below, below_or_past}
+use Rattle.pmem.proofs.Chains.{older_of-hit, older_of-miss}
 
 module _ (f : ℕ → Candidate) (word line : ℕ) (of_line : word / 8 ≡ line) where
   -- no candidate of the word lies between the last candidate of its line and n
   pub older_below-skip : (n : ℕ) → older_below f word n ≡ older_below f word (end_of (last_below f line n))
   older_below-skip zero = refl
   older_below-skip (suc n) =
-      elim (same_or_other ((f n).word / 8) line) [
-        | inl hit ↦
-            let e : last_below f line (suc n) ≡ Some n = cond-true ((f n).word / 8 == line) _ _ (eq-eqb ((f n).word / 8) line hit) in
-            subst (λ (p : Option ℕ). older_below f word (suc n) ≡ older_below f word (end_of p)) (sym e) refl
-        | inr miss ↦
-            let e : last_below f line (suc n) ≡ last_below f line n = cond-false ((f n).word / 8 == line) _ _ (unequal ((f n).word / 8) line miss) in
-            subst (λ (p : Option ℕ). older_below f word (suc n) ≡ older_below f word (end_of p)) (sym e)
-            (ap (λ (os : List Older). older_below f word n ++ os)
-            (older_of-miss (f n) word (λ h. miss (ap (λ (w : ℕ). w / 8) (sym h) ∙ of_line)))
-            ∙ append-nil (older_below f word n)
-            ∙ older_below-skip n)
-      ]
+      by_test (λ p. older_below f word (suc n) ≡ older_below f word (end_of p)) ((f n).word / 8) line (Some n) (last_below f line n)
+      (λ hit. refl)
+      (λ miss.
+      rw (older_of-miss (f n) word (λ h. miss (ap (λ (w : ℕ). w / 8) (sym h) ∙ of_line))) (append-nil (older_below f word n) ∙ older_below-skip n))
 
 length-older_below : (f : ℕ → Candidate) (word n : ℕ) → length (older_below f word n) ≤ n
 length-older_below f word zero = omega arith
 length-older_below f word (suc n) =
     let less = length-older_below f word n in
     let sum = length-append (older_below f word n) (older_of (f n) word) in
-    elim (same_or_other word (f n).word) [
-      | inl hit ↦ let one : length (older_of (f n) word) ≡ 1 = ap length (older_of-hit (f n) word hit) in omega (arith, less, sum, one)
-      | inr miss ↦ let no_one : length (older_of (f n) word) ≡ 0 = ap length (older_of-miss (f n) word miss) in omega (arith, less, sum, no_one)
-    ]
+    let one : length (older_of (f n) word) ≤ 1 = by_test (λ os. length os ≤ 1) word (f n).word _ _ (λ e. omega arith) (λ e. omega arith) in
+    omega (arith, less, sum, one)
 
 pub length-older_in : (pool : List Candidate) (word : ℕ) → length (older_in pool word) ≤ length pool
 length-older_in pool word = length-older_below (at pool) word (length pool)
@@ -54,11 +43,10 @@ Walking-start heads pool word chained below place read =
     let head : place ≡ last_below (at pool) (word / 8) (length pool) =
     get_or_read_under heads (word / 8) (length heads) place None read below refl ∙ chained.heads (word / 8) below in (
       record {
-        chain = subst (λ (p : Option ℕ). p ≡ last_below (at pool) (word / 8) (end_of p)) (sym head) (last_below-again (at pool) (word / 8) (length pool));
-        inside = subst (λ (p : Option ℕ). end_of p ≤ length pool) (sym head) (end_of-last_below (at pool) (word / 8) (length pool));
+        chain = rw head (last_below-again (at pool) (word / 8) (length pool));
+        inside = rw head (end_of-last_below (at pool) (word / 8) (length pool));
       },
-      subst (λ (p : Option ℕ). older_below (at pool) word (end_of p) ≡ older_in pool word) (sym head)
-          (sym (older_below-skip (at pool) word (word / 8) refl (length pool))),
+      rw head (sym (older_below-skip (at pool) word (word / 8) refl (length pool))),
     )
 
 -- the walk goes on to the previous candidate
@@ -68,8 +56,8 @@ pub Walking-next : (heads : List (Option ℕ)) (pool : List Candidate) (word : �
     × (older_below (at pool) word (end_of place) ≡ older_below (at pool) word (end_of c.next) ++ older_of c word)
 Walking-next heads pool word place k c chained going is_k read =
     let chain : Some k ≡ last_below (at pool) (word / 8) (suc k) =
-    subst (λ (p : Option ℕ). p ≡ last_below (at pool) (word / 8) (end_of p)) is_k going.chain in
-    let inside : k < length pool = subst (λ (p : Option ℕ). end_of p ≤ length pool) is_k going.inside in
+    rw is_k at going.chain in
+    let inside : k < length pool = rw is_k at going.inside in
     let is : c ≡ at pool k = get_or_read_under pool k (length pool) c (record { word = 0; value = 0; passed = false; next = None }) read inside refl in
     let here : (at pool k).word / 8 ≡ word / 8 = (last_below-found (at pool) (word / 8) (suc k) k (sym chain)).1 in
     let next : c.next ≡ last_below (at pool) (word / 8) k =
@@ -79,10 +67,9 @@ Walking-next heads pool word place k c chained going is_k read =
         chain = subst (λ (p : Option ℕ). p ≡ last_below (at pool) (word / 8) (end_of p)) (sym next) (last_below-again (at pool) (word / 8) k);
         inside = omega arith;
       },
-      subst (λ (p : Option ℕ). end_of c.next < end_of p) (sym is_k) (let l : end_of c.next < suc k = omega arith in l),
+      rw is_k (let l : end_of c.next < suc k = omega arith in l),
       is,
-      subst (λ (p : Option ℕ). older_below (at pool) word (end_of p) ≡ older_below (at pool) word (end_of c.next) ++ older_of c word) (sym is_k)
-          (ap (λ (os : List Older). os ++ older_of (at pool k) word)
+      rw is_k (ap (λ (os : List Older). os ++ older_of (at pool k) word)
           (older_below-skip (at pool) word (word / 8) refl k ∙ ap (λ (p : Option ℕ). older_below (at pool) word (end_of p)) (sym next))
           ∙ ap (λ (x : Candidate). older_below (at pool) word (end_of c.next) ++ older_of x word) (sym is)),
     )
@@ -92,48 +79,11 @@ pub record Seeking (pool : List Candidate) (word n number newer : ℕ) : Type 0 
   pub same : get_or (map (λ o. o.value) (older_below (at pool) word n)) number 0 ≡ get_or (map (λ o. o.value) (older_in pool word)) number 0
   pub left : number + 1 + newer ≡ length (older_below (at pool) word n)
 
--- The count rises by one at a candidate of the word
-pub count-hit : (os rest : List Older) (c : Candidate) (word count total : ℕ) → os ≡ rest ++ older_of c word → c.word ≡ word
-    → count + length os ≡ total → (count + 1) + length rest ≡ total
-count-hit os rest c word count total split hit counted =
-    let one : length (older_of c word) ≡ 1 = ap length (older_of-hit c word (sym hit)) in
-    omega (arith, ap length split, length-append rest (older_of c word), one, counted)
-
--- and stays the same at any other
-pub count-miss : (os rest : List Older) (c : Candidate) (word count total : ℕ) → os ≡ rest ++ older_of c word → (c.word ≡ word → ⊥)
-    → count + length os ≡ total → count + length rest ≡ total
-count-miss os rest c word count total split miss counted =
-    let nothing : length (older_of c word) ≡ 0 = ap length (older_of-miss c word (λ e. miss (sym e))) in
-    omega (arith, ap length split, length-append rest (older_of c word), nothing, counted)
-
 module _ (pool : List Candidate) (word n m number newer : ℕ) (c : Candidate)
     (split : older_below (at pool) word n ≡ older_below (at pool) word m ++ older_of c word) (seeking : Seeking pool word n number newer) where
-  values : List Older → List ℕ
-  values os = map (λ o. o.value) os
-
   split_values : map (λ o. o.value) (older_below (at pool) word n) ≡ map (λ o. o.value) (older_below (at pool) word m) ++ map (λ o. o.value) (older_of c word)
   split_values =
       ap (map (λ o. o.value)) split ∙ map-append (λ (o : Older). o.value) (older_below (at pool) word m) (older_of c word)
-
-  -- the search ends at a candidate of the word with no newer one to skip
-  pub seek-found : c.word ≡ word → newer ≡ 0 → c.value ≡ get_or (map (λ o. o.value) (older_in pool word)) number 0
-  seek-found hit zero_left =
-      let one : older_of c word ≡ record { value = c.value; passed = c.passed } ∷ [] = older_of-hit c word (sym hit) in
-      let last : number ≡ length (map (λ o. o.value) (older_below (at pool) word m)) =
-      omega (
-        arith,
-        seeking.left,
-        ap length split,
-        length-append (older_below (at pool) word m) (older_of c word),
-        ap length one,
-        zero_left,
-        length-map (older_below (at pool) word m) (λ o. o.value),
-      ) in
-      sym (get_or-append_seam (map (λ o. o.value) (older_below (at pool) word m)) c.value [] 0)
-      ∙ ap (λ (k : ℕ). get_or (map (λ o. o.value) (older_below (at pool) word m) ++ c.value ∷ []) k 0) (sym last)
-      ∙ ap (λ (xs : List ℕ). get_or xs number 0)
-      (ap (λ (os : List Older). map (λ o. o.value) (older_below (at pool) word m) ++ map (λ o. o.value) os) (sym one) ∙ sym split_values)
-      ∙ seeking.same
 
   seek-before : number + 1 ≤ length (older_below (at pool) word m)
       → get_or (map (λ o. o.value) (older_below (at pool) word m)) number 0 ≡ get_or (map (λ o. o.value) (older_in pool word)) number 0
@@ -175,10 +125,6 @@ pub record Picked (newest newest' : List ℕ) (pool : List Candidate) (picks : L
   pub done : (word : ℕ) → word < n → get_or newest' word 0 ≡ picked (held_in newest pool) picks word
   pub rest : (word : ℕ) → n ≤ word → get_or newest' word 0 ≡ get_or newest word 0
 
-pub Picked-start : (newest : List ℕ) (pool : List Candidate) (picks : List ℕ) → Picked newest newest pool picks 0 0
-Picked-start newest pool picks =
-    record { size = refl; used = refl; low = omega arith; done = λ word below. absurd (omega arith); rest = λ word over. refl }
-
 has_several-none : (older : List Older) → length older ≡ 0 → has_several older ≡ 0
 has_several-none [] e = refl
 has_several-none (o ∷ older) e = absurd (cc)
@@ -189,10 +135,6 @@ older_below-beyond f word lines (suc n) in_range beyond =
     let here = in_range n (omega arith) in
     ap (λ (os : List Older). os ++ older_of (f n) word) (older_below-beyond f word lines n (λ k below. in_range k (omega arith)) beyond)
     ∙ older_of-miss (f n) word (λ e. omega (arith, here, beyond, e))
-
--- a word past the end of the device has no older candidates
-pub older_in-beyond : (heads : List (Option ℕ)) (pool : List Candidate) (word : ℕ) → IsChained heads pool → 8 * length heads ≤ word → older_in pool word ≡ []
-older_in-beyond heads pool word chained beyond = older_below-beyond (at pool) word (length heads) (length pool) chained.lines beyond
 
 has_several-positive : (older : List Older) → 0 < length older → has_several older ≡ 1
 has_several-positive [] some = absurd (omega arith)
@@ -217,18 +159,13 @@ Picked-hit newest newest' newest'' pool picks n used' used'' pick value below go
     ∙ ap (λ (k : ℕ). get_or (candidates (held_in newest pool n)) (pick % k) 0) (sym (length-candidates newest pool n))
     ∙ ap (λ (p : ℕ). get_or (candidates (held_in newest pool n)) (p % length (candidates (held_in newest pool n))) 0)
     (pick_is ∙ ap (λ (u : ℕ). get_or picks u 0) going.used) in
-    subst (λ (xs : List ℕ). Picked newest xs pool picks (n + 1) used'') (sym newest_is)
-    (record {
+    rw newest_is (record {
       size = length-set newest' n value ∙ going.size;
-      used =
-          let one = has_several-positive (older_in pool n) several in
-          omega (arith, used_is, going.used, several-next newest pool n, one);
+      used = let one = has_several-positive (older_in pool n) several in omega (arith, used_is, going.used, several-next newest pool n, one);
       low = omega (arith, used_is, going.low);
       done = λ word under.
           elim (same_or_other word n) [
-            | inl e ↦
-                subst (λ (w : ℕ). get_or (set newest' n value) w 0 ≡ picked (held_in newest pool) picks w) (sym e)
-                (get_or-set_same newest' n value 0 (omega (arith, going.size)) ∙ right)
+            | inl e ↦ rw e (get_or-set_same newest' n value 0 (omega (arith, going.size)) ∙ right)
             | inr other ↦ get_or-set_other newest' n word value 0 other ∙ going.done word (omega arith)
           ];
       rest = λ word over.
@@ -244,18 +181,13 @@ pub Picked-miss : (newest newest' newest'' : List ℕ) (pool : List Candidate) (
     → Picked newest newest' pool picks n used' → length (older_in pool n) ≡ 0
     → newest'' ≡ newest' → used'' ≡ used' → Picked newest newest'' pool picks (n + 1) used''
 Picked-miss newest newest' newest'' pool picks n used' used'' going alone newest_is used_is =
-    subst (λ (xs : List ℕ). Picked newest xs pool picks (n + 1) used'') (sym newest_is)
-    (record {
+    rw newest_is (record {
       size = going.size;
-      used =
-          let nothing : has_several (older_in pool n) ≡ 0 = has_several-none (older_in pool n) alone in
-          omega (arith, used_is, going.used, several-next newest pool n, nothing);
+      used = let nothing = has_several-none (older_in pool n) alone in omega (arith, used_is, going.used, several-next newest pool n, nothing);
       low = omega (arith, used_is, going.low);
       done = λ word under.
           elim (same_or_other word n) [
-            | inl e ↦
-                subst (λ (w : ℕ). get_or newest' w 0 ≡ picked (held_in newest pool) picks w) (sym e)
-                (going.rest n (omega arith)
+            | inl e ↦ rw e (going.rest n (omega arith)
                 ∙ sym (alone-picked (older_in pool n) (get_or newest n 0) (get_or picks (several_below (held_in newest pool) n) 0) alone))
             | inr other ↦ going.done word (omega arith)
           ];
@@ -272,5 +204,5 @@ Picked-end newest newest' heads pool picks n used' chained sizes all going word 
       | inr over ↦
           going.rest word over
           ∙ sym (alone-picked (older_in pool word) (get_or newest word 0) (get_or picks (several_below (held_in newest pool) word) 0)
-          (ap length (older_in-beyond heads pool word chained (omega (arith, sizes)))))
+          (ap length (older_below-beyond (at pool) word (length heads) (length pool) chained.lines (omega (arith, sizes)))))
     ]

@@ -1,5 +1,5 @@
 -- A call of the simulated device maintains its invariants.
-use Rattle.std.proofs.Common.{◌≡◌, ◌⊎◌, ℕ, Bool, true, false, ◌||◌, is_err, OnOk, OnErr, Result, Ok, Err, refl, inl, inr, sym, subst, ap, ◌∙◌}
+use Rattle.std.proofs.Common.{◌≡◌, ◌⊎◌, ℕ, arith, Bool, true, false, ◌||◌, is_err, OnOk, OnErr, Result, Ok, Err, refl, inl, inr, sym, ◌∙◌}
 use Rattle.std.specs.declared.alloc.AllocError.{AllocError}
 use Rattle.pmem.specs.declared.cells.Cells.{Cells}
 use Rattle.pmem.specs.declared.keep.Keep.{Keep}
@@ -10,16 +10,14 @@ use Rattle.pmem.specs.Cell.{Holds}
 use Rattle.pmem.specs.Keep.{HoldsKept, is_forgotten}
 use Rattle.pmem.proofs.Keeping.{HoldsIn-weaken}
 
-or-true_right : (a : Bool) → (a || true) ≡ true
-or-true_right true = refl
-or-true_right false = refl
-
 -- a store, whether or not there was memory for it
 pub Holds-stored : (r : Result (Unit {0}) AllocError) (refused : Bool) (cells : Cells) (words : ℕ → Word) (starved : Bool) → refused ≡ is_err r
     → OnOk r (Holds cells words starved) → OnErr r (Holds cells words true) → Holds cells words (starved || refused)
 Holds-stored (Ok done) refused cells words starved e ok err = HoldsIn-weaken starved refused ok
 Holds-stored (Err error) refused cells words starved e ok err =
-    subst (λ (b : Bool). Holds cells words b) (sym (ap (λ (b : Bool). starved || b) e ∙ or-true_right starved)) err
+    let refusal : refused ≡ true = e in
+    let full : (starved || refused) ≡ true = grind arith in
+    rw full err
 
 forgotten-starved : (keep : Keep) (lines : ℕ) (now : History) (starved : Bool) → HoldsKept keep lines now starved → is_forgotten keep ≡ true → starved ≡ true
 forgotten-starved Unasked lines now starved kept e = cc
@@ -48,7 +46,3 @@ store_starves false false forgotten P Q full awaits e = elim (awaits e) [ inl wa
 pub err-refused : {P : Type 0} (r : Result (Unit {0}) AllocError) (refused : Bool) → refused ≡ is_err r → OnErr r P → refused ≡ true → P
 err-refused (Ok done) refused e p is = absurd (let h : false ≡ true = sym e ∙ is in cc)
 err-refused (Err error) refused e p is = p
-
-pub or-false_right : (a b : Bool) → (a || b) ≡ false → b ≡ false
-or-false_right true b e = absurd (let h : true ≡ false = e in cc)
-or-false_right false b e = e

@@ -4,7 +4,7 @@ use Rattle.std.proofs.lemmas.Bool.{cond-true, cond-false, eqb-true, eq-eqb, eqb-
 use Rattle.pmem.specs.Device.{Word, MayBe, Only, store_word, flush_word, fence_word, store_at, flush_at, fenced}
 use Rattle.pmem.specs.Crash.{IsImage, IsSettled, image_of}
 use Rattle.pmem.specs.Runs.{stores, flushes, IsStored, IsOutside, IsLine, written, IsPartlyStored, pairs_from, lines_from}
-use Rattle.pmem.proofs.Words.{IsNoted, MayBe-store_word, MayBe-store_word-cases, MayBe-flush_word, flush_word-MayBe, MayBe-fence_word, IsNoted-flush_word, older-fence_word, MayBe-alone, Only-alone}
+use Rattle.pmem.proofs.Words.{MayBe-store_word, MayBe-store_word-cases, MayBe-flush_word, flush_word-MayBe, MayBe-fence_word, none-passed, MayBe-alone, Only-alone}
 
 pub same_or_other : (a b : ℕ) → (a ≡ b) ⊎ (a ≢ b)
 same_or_other a b =
@@ -17,6 +17,11 @@ unequal a b n =
     let go : (t : Bool) → (a == b) ≡ t → (a == b) ≡ false =
     elim [ true ↦ λ e. absurd (n (eqb-true a b e)) | false ↦ λ e. e ] in
     go (a == b) refl
+
+-- what holds of both branches of a test of equality holds of their join
+pub by_test : {A : Type 0} (P : A → Type 0) (a b : ℕ) (u v : A) → (a ≡ b → P u) → (a ≢ b → P v) → P (cond (a == b) u v)
+by_test P a b u v same other =
+    (elim (a == b) as (λ t. (a == b) ≡ t → P (cond t u v)) [ true ↦ λ e. same (eqb-true a b e) | false ↦ λ e. other (eqb-false a b e) ]) refl
 
 -- One call
 
@@ -32,43 +37,36 @@ flush_at-same line words word e = cond-true (word / 8 == line) _ _ (eq-eqb (word
 pub flush_at-other : (line : ℕ) (words : ℕ → Word) (word : ℕ) → word / 8 ≢ line → flush_at line words word ≡ words word
 flush_at-other line words word n = cond-false (word / 8 == line) _ _ (unequal (word / 8) line n)
 
--- a store keeps each image
-pub IsImage-store_at : (at x : ℕ) (words : ℕ → Word) (image : ℕ → ℕ) → IsImage words image → IsImage (store_at at x words) image
-IsImage-store_at at x words image is word =
-    elim (same_or_other word at) [
-      | inl e ↦ subst (λ (w : Word). MayBe w (image word)) (sym (store_at-same at x words word e))
-          (MayBe-store_word x (words word) (image word) (is word))
-      | inr n ↦ subst (λ (w : Word). MayBe w (image word)) (sym (store_at-other at x words word n)) (is word)
-    ]
+-- what holds of a word with and without the call
+pub store_at-cases : (P : Word → Type 0) (at x : ℕ) (words : ℕ → Word) (word : ℕ) → (word ≡ at → P (store_word x (words word)))
+    → (word ≢ at → P (words word)) → P (store_at at x words word)
+store_at-cases P at x words word same other = by_test P word at (store_word x (words word)) (words word) same other
 
--- and adds a candidate to one word
+pub flush_at-cases : (P : Word → Type 0) (line : ℕ) (words : ℕ → Word) (word : ℕ) → (word / 8 ≡ line → P (flush_word (words word)))
+    → (word / 8 ≢ line → P (words word)) → P (flush_at line words word)
+flush_at-cases P line words word same other = by_test P (word / 8) line (flush_word (words word)) (words word) same other
+
+-- a store keeps each candidate
+pub store_at-MayBe : (at x : ℕ) (words : ℕ → Word) (word y : ℕ) → MayBe (words word) y → MayBe (store_at at x words word) y
+store_at-MayBe at x words word y may =
+    store_at-cases (λ w. MayBe w y) at x words word (λ e. MayBe-store_word x (words word) y may) (λ n. may)
+
+-- and adds one to one word
 pub MayBe-store_at : (at x : ℕ) (words : ℕ → Word) (word y : ℕ) → MayBe (store_at at x words word) y
     → MayBe (words word) y ⊎ ((at ≡ word) × (x ≡ y))
 MayBe-store_at at x words word y may =
-    elim (same_or_other word at) [
-      | inl e ↦
-          elim (MayBe-store_word-cases x (words word) y (subst (λ (w : Word). MayBe w y) (store_at-same at x words word e) may)) [
-            | inl was ↦ inl was
-            | inr is ↦ inr (sym e, is)
-          ]
-      | inr n ↦ inl (subst (λ (w : Word). MayBe w y) (store_at-other at x words word n) may)
-    ]
+    store_at-cases (λ w. MayBe w y → MayBe (words word) y ⊎ ((at ≡ word) × (x ≡ y))) at x words word
+    (λ e m. elim (MayBe-store_word-cases x (words word) y m) [ inl was ↦ inl was | inr is ↦ inr (sym e, is) ])
+    (λ n m. inl m) may
 
--- a flush changes no image
-pub flush_at-IsImage : (line : ℕ) (words : ℕ → Word) (image : ℕ → ℕ) → IsImage words image → IsImage (flush_at line words) image
-flush_at-IsImage line words image is word =
-    elim (same_or_other (word / 8) line) [
-      | inl e ↦ subst (λ (w : Word). MayBe w (image word)) (sym (flush_at-same line words word e))
-          (flush_word-MayBe (words word) (image word) (is word))
-      | inr n ↦ subst (λ (w : Word). MayBe w (image word)) (sym (flush_at-other line words word n)) (is word)
-    ]
+-- a flush changes no candidate
+pub flush_at-MayBe : (line : ℕ) (words : ℕ → Word) (word y : ℕ) → MayBe (words word) y → MayBe (flush_at line words word) y
+flush_at-MayBe line words word y may =
+    flush_at-cases (λ w. MayBe w y) line words word (λ e. flush_word-MayBe (words word) y may) (λ n. may)
 
 pub MayBe-flush_at : (line : ℕ) (words : ℕ → Word) (word y : ℕ) → MayBe (flush_at line words word) y → MayBe (words word) y
 MayBe-flush_at line words word y may =
-    elim (same_or_other (word / 8) line) [
-      | inl e ↦ MayBe-flush_word (words word) y (subst (λ (w : Word). MayBe w y) (flush_at-same line words word e) may)
-      | inr n ↦ subst (λ (w : Word). MayBe w y) (flush_at-other line words word n) may
-    ]
+    flush_at-cases (λ w. MayBe w y → MayBe (words word) y) line words word (λ e m. MayBe-flush_word (words word) y m) (λ n m. m) may
 
 -- a fence adds no image
 pub IsImage-fenced : (words : ℕ → Word) (image : ℕ → ℕ) → IsImage (fenced words) image → IsImage words image
@@ -79,19 +77,14 @@ newest-store_at at x words word =
     elim (word == at) as (λ b. (cond b (store_word x (words word)) (words word)).newest ≡ cond b x (words word).newest) [ true ↦ refl | false ↦ refl ]
 
 pub newest-flush_at : (line : ℕ) (words : ℕ → Word) (word : ℕ) → (flush_at line words word).newest ≡ (words word).newest
-newest-flush_at line words word =
-    elim (word / 8 == line) as (λ b. (cond b (flush_word (words word)) (words word)).newest ≡ (words word).newest) [ true ↦ refl | false ↦ refl ]
-
-IsNoted-flush_at : (line : ℕ) (words : ℕ → Word) (word : ℕ) → IsNoted (words word) → IsNoted (flush_at line words word)
-IsNoted-flush_at line words word noted =
-    elim (word / 8 == line) as (λ b. IsNoted (cond b (flush_word (words word)) (words word))) [ true ↦ IsNoted-flush_word (words word) | false ↦ noted ]
+newest-flush_at line words word = flush_at-cases (λ w. w.newest ≡ (words word).newest) line words word (λ e. refl) (λ n. refl)
 
 -- Runs of stores
 
 pub IsImage-stores : (pairs : List (ℕ × ℕ)) (words : ℕ → Word) (image : ℕ → ℕ) → IsImage words image → IsImage (stores pairs words) image
 IsImage-stores [] words image is = is
 IsImage-stores (pair ∷ pairs) words image is =
-    IsImage-stores pairs (store_at pair.0 pair.1 words) image (IsImage-store_at pair.0 pair.1 words image is)
+    IsImage-stores pairs (store_at pair.0 pair.1 words) image (λ word. store_at-MayBe pair.0 pair.1 words word (image word) (is word))
 
 -- the candidates of a word are those that it had and those that the pairs store there
 pub MayBe-stores : (pairs : List (ℕ × ℕ)) (words : ℕ → Word) (word y : ℕ) → MayBe (stores pairs words word) y
@@ -103,13 +96,6 @@ MayBe-stores (pair ∷ pairs) words word y may =
           elim (MayBe-store_at pair.0 pair.1 words word y before) [ inl was ↦ inl was | inr is ↦ inr (inl is) ]
       | inr later ↦ inr (inr later)
     ]
-
--- words that no pair stores to stay unchanged
-pub stores-outside : (pairs : List (ℕ × ℕ)) (words : ℕ → Word) (word : ℕ) → IsOutside pairs word → stores pairs words word ≡ words word
-stores-outside [] words word out = refl
-stores-outside (pair ∷ pairs) words word out =
-    stores-outside pairs (store_at pair.0 pair.1 words) word (λ x later. out x (inr later))
-    ∙ store_at-other pair.0 pair.1 words word (λ e. out pair.1 (inl (sym e, refl)))
 
 pub stores-append : (a b : List (ℕ × ℕ)) (words : ℕ → Word) → stores (a ++ b) words ≡ stores b (stores a words)
 stores-append [] b words = refl
@@ -129,19 +115,6 @@ newest-stores (pair ∷ pairs) words word =
     ∙ written-same pairs (image_of (store_at pair.0 pair.1 words)) (λ w. cond (w == pair.0) pair.1 (words w).newest) word
     (λ w. newest-store_at pair.0 pair.1 words w)
 
--- a pair stores to this word, or none does
-pub stored_or_outside : (pairs : List (ℕ × ℕ)) (word : ℕ) → ((x : ℕ) × IsStored pairs word x) ⊎ IsOutside pairs word
-stored_or_outside [] word = inr (λ x h. h)
-stored_or_outside (pair ∷ pairs) word =
-    elim (same_or_other pair.0 word) [
-      | inl e ↦ inl (pair.1, inl (e, refl))
-      | inr n ↦
-          elim (stored_or_outside pairs word) [
-            | inl found ↦ inl (found.0, inr found.1)
-            | inr out ↦ inr (λ x h. elim h [ inl here ↦ n here.0 | inr later ↦ out x later ])
-          ]
-    ]
-
 -- Runs of flushes
 
 pub MayBe-flushes : (lines : List ℕ) (words : ℕ → Word) (word y : ℕ) → MayBe (flushes lines words word) y → MayBe (words word) y
@@ -149,30 +122,29 @@ MayBe-flushes [] words word y may = may
 MayBe-flushes (line ∷ lines) words word y may =
     MayBe-flush_at line words word y (MayBe-flushes lines (flush_at line words) word y may)
 
-pub IsImage-flushes : (lines : List ℕ) (words : ℕ → Word) (image : ℕ → ℕ) → IsImage (flushes lines words) image → IsImage words image
-IsImage-flushes lines words image is word = MayBe-flushes lines words word (image word) (is word)
-
 pub flushes-IsImage : (lines : List ℕ) (words : ℕ → Word) (image : ℕ → ℕ) → IsImage words image → IsImage (flushes lines words) image
 flushes-IsImage [] words image is = is
 flushes-IsImage (line ∷ lines) words image is =
-    flushes-IsImage lines (flush_at line words) image (flush_at-IsImage line words image is)
+    flushes-IsImage lines (flush_at line words) image (λ word. flush_at-MayBe line words word (image word) (is word))
 
 pub newest-flushes : (lines : List ℕ) (words : ℕ → Word) (word : ℕ) → (flushes lines words word).newest ≡ (words word).newest
 newest-flushes [] words word = refl
 newest-flushes (line ∷ lines) words word = newest-flushes lines (flush_at line words) word ∙ newest-flush_at line words word
 
-pub IsNoted-flushes : (lines : List ℕ) (words : ℕ → Word) (word : ℕ) → IsNoted (words word) → IsNoted (flushes lines words word)
-IsNoted-flushes [] words word noted = noted
-IsNoted-flushes (line ∷ lines) words word noted =
-    IsNoted-flushes lines (flush_at line words) word (IsNoted-flush_at line words word noted)
+-- a word that had one candidate after a fence has one after flushes and a fence
+none-flushes : (lines : List ℕ) (words : ℕ → Word) (word : ℕ) → (fenced words word).older ≡ [] → (fenced (flushes lines words) word).older ≡ []
+none-flushes [] words word none = none
+none-flushes (line ∷ lines) words word none =
+    none-flushes lines (flush_at line words) word
+    (flush_at-cases (λ w. (fence_word w).older ≡ []) line words word (λ e. none-passed (words word).older) (λ n. none))
 
--- each word of a line that was flushed is noted
-pub IsNoted-flushed : (lines : List ℕ) (words : ℕ → Word) (word : ℕ) → IsLine lines (word / 8) → IsNoted (flushes lines words word)
-IsNoted-flushed [] words word none = absurd none
-IsNoted-flushed (line ∷ lines) words word (inl is) =
-    IsNoted-flushes lines (flush_at line words) word
-    (subst IsNoted (sym (flush_at-same line words word (sym is))) (IsNoted-flush_word (words word)))
-IsNoted-flushed (line ∷ lines) words word (inr later) = IsNoted-flushed lines (flush_at line words) word later
+-- and so has each word of a line that was flushed
+none-flushed : (lines : List ℕ) (words : ℕ → Word) (word : ℕ) → IsLine lines (word / 8) → (fenced (flushes lines words) word).older ≡ []
+none-flushed [] words word none = absurd none
+none-flushed (line ∷ lines) words word (inl is) =
+    none-flushes lines (flush_at line words) word
+    (flush_at-cases (λ w. (fence_word w).older ≡ []) line words word (λ e. none-passed (words word).older) (λ n. absurd (n (sym is))))
+none-flushed (line ∷ lines) words word (inr later) = none-flushed lines (flush_at line words) word later
 
 pub flushes-append : (a b : List ℕ) (words : ℕ → Word) → flushes (a ++ b) words ≡ flushes b (flushes a words)
 flushes-append [] b words = refl
@@ -191,13 +163,13 @@ pub Only-staged : (pairs : List (ℕ × ℕ)) (lines : List ℕ) (words : ℕ �
 Only-staged pairs lines words word line =
     let after : Word = flushes lines (stores pairs words) word in
     subst (λ (x : ℕ). Only (fence_word after) x) (image_of-staged pairs lines words word)
-    (Only-alone (fence_word after) (older-fence_word after (IsNoted-flushed lines (stores pairs words) word line)))
+    (Only-alone (fence_word after) (none-flushed lines (stores pairs words) word line))
 
 -- until the fence a crash leaves each word as it could before, or as one of the pairs stores it
 pub IsPartlyStored-staged : (pairs : List (ℕ × ℕ)) (lines : List ℕ) (words : ℕ → Word) (image : ℕ → ℕ)
     → IsImage (flushes lines (stores pairs words)) image → IsPartlyStored pairs words image
 IsPartlyStored-staged pairs lines words image is word =
-    MayBe-stores pairs words word (image word) (IsImage-flushes lines (stores pairs words) image is word)
+    MayBe-stores pairs words word (image word) (MayBe-flushes lines (stores pairs words) word (image word) (is word))
 
 -- where no pair stores, a crash after it leaves nothing that it could not leave before
 pub MayBe-staged : (pairs : List (ℕ × ℕ)) (lines : List ℕ) (words : ℕ → Word) (word y : ℕ) → IsOutside pairs word
@@ -271,12 +243,6 @@ IsLine-lines_from first (suc n) line low high =
       | inr n' ↦ inr (IsLine-lines_from (first + 1) n line (omega arith) (omega arith))
     ]
 
-pub lines_from-IsLine : (first count line : ℕ) → IsLine (lines_from first count) line → (first ≤ line) × (line < first + count)
-lines_from-IsLine first zero line none = absurd none
-lines_from-IsLine first (suc n) line (inl here) = (omega arith, omega arith)
-lines_from-IsLine first (suc n) line (inr later) =
-    let more = lines_from-IsLine (first + 1) n line later in (omega (arith, more.0), omega (arith, more.1))
-
 -- Concatenated lists
 
 pub IsStored-append : (a b : List (ℕ × ℕ)) (word x : ℕ) → IsStored (a ++ b) word x → IsStored a word x ⊎ IsStored b word x
@@ -293,12 +259,6 @@ IsStored-append_left (pair ∷ a) b word x (inr later) = inr (IsStored-append_le
 pub IsStored-append_right : (a b : List (ℕ × ℕ)) (word x : ℕ) → IsStored b word x → IsStored (a ++ b) word x
 IsStored-append_right [] b word x h = h
 IsStored-append_right (pair ∷ a) b word x h = inr (IsStored-append_right a b word x h)
-
-pub IsLine-append : (a b : List ℕ) (line : ℕ) → IsLine (a ++ b) line → IsLine a line ⊎ IsLine b line
-IsLine-append [] b line h = inr h
-IsLine-append (l ∷ a) b line (inl here) = inl (inl here)
-IsLine-append (l ∷ a) b line (inr later) =
-    elim (IsLine-append a b line later) [ inl prefix ↦ inl (inr prefix) | inr back ↦ inr back ]
 
 pub IsLine-append_left : (a b : List ℕ) (line : ℕ) → IsLine a line → IsLine (a ++ b) line
 IsLine-append_left [] b line h = absurd h
@@ -326,18 +286,19 @@ pub written-cases : (pairs : List (ℕ × ℕ)) (image : ℕ → ℕ) (word : �
     → (IsOutside pairs word × (written pairs image word ≡ image word)) ⊎ IsStored pairs word (written pairs image word)
 written-cases [] image word = inl (λ x h. h, refl)
 written-cases (pair ∷ pairs) image word =
+    let x : ℕ = written (pair ∷ pairs) image word in
     elim (written-cases pairs (λ w. cond (w == pair.0) pair.1 (image w)) word) [
       | inl out ↦
-          elim (same_or_other word pair.0) [
-            | inl e ↦ inr (inl (sym e, sym (out.1 ∙ cond-true (word == pair.0) pair.1 (image word) (eq-eqb word pair.0 e))))
-            | inr n ↦
-                inl (
-                  λ x h. elim h [ inl here ↦ n (sym here.0) | inr later ↦ out.0 x later ],
-                  out.1 ∙ cond-false (word == pair.0) pair.1 (image word) (unequal word pair.0 n),
-                )
-          ]
+          by_test (λ v. x ≡ v → (IsOutside (pair ∷ pairs) word × (x ≡ image word)) ⊎ IsStored (pair ∷ pairs) word x) word pair.0 pair.1 (image word)
+          (λ e is. inr (inl (sym e, sym is)))
+          (λ n is. inl (λ y h. elim h [ inl here ↦ n (sym here.0) | inr later ↦ out.0 y later ], is)) out.1
       | inr later ↦ inr (inr later)
     ]
+
+-- a pair stores to this word, or none does
+pub stored_or_outside : (pairs : List (ℕ × ℕ)) (word : ℕ) → ((x : ℕ) × IsStored pairs word x) ⊎ IsOutside pairs word
+stored_or_outside pairs word =
+    elim (written-cases pairs (λ w. 0) word) [ inl out ↦ inr out.0 | inr stored ↦ inl (written pairs (λ w. 0) word, stored) ]
 
 -- where the pairs store only this value at a word, it holds that
 pub written-stored : (pairs : List (ℕ × ℕ)) (image : ℕ → ℕ) (word x : ℕ) → IsStored pairs word x

@@ -1,6 +1,14 @@
 -- What the calls of a device do to the candidates of a word.
-use Rattle.std.proofs.Common.{◌≡◌, ◌⊎◌, ℕ, Bool, true, false, not, cond, List, [], ◌∷◌, ◌++◌, map, filter, refl, inl, inr, sym, subst, ap, ◌∙◌}
+use Rattle.std.proofs.Common.{◌≡◌, ◌⊎◌, ℕ, Bool, true, false, not, ◌||◌, cond, List, [], ◌∷◌, ◌++◌, map, filter, refl, inl, inr, sym, subst}
 use Rattle.pmem.specs.Device.{Older, Word, IsOlder, MayBe, Only, store_word, flush_word, fence_word}
+
+pub or-true : (a b : Bool) → (a || b) ≡ true → (a ≡ true) ⊎ (b ≡ true)
+or-true true b e = inl refl
+or-true false b e = inr e
+
+pub true-or : (a b : Bool) → b ≡ true → (a || b) ≡ true
+true-or true b e = refl
+true-or false b e = e
 
 pub IsOlder-append_left : (a b : List Older) (x : ℕ) → IsOlder a x → IsOlder (a ++ b) x
 IsOlder-append_left [] b x h = absurd h
@@ -52,61 +60,28 @@ pub flush_word-MayBe : (word : Word) (x : ℕ) → MayBe word x → MayBe (flush
 flush_word-MayBe word x (inl newest) = inl newest
 flush_word-MayBe word x (inr older) = inr (IsOlder-to_passed word.older x older)
 
-IsOlder-cond : (b : Bool) (o : Older) (older : List Older) (x : ℕ) → IsOlder (cond b (o ∷ older) older) x → (x ≡ o.value) ⊎ IsOlder older x
-IsOlder-cond true o older x h = h
-IsOlder-cond false o older x h = inr h
-
 IsOlder-fence : (older : List Older) (x : ℕ) → IsOlder (filter (λ o. not o.passed) older) x → IsOlder older x
 IsOlder-fence [] x h = h
 IsOlder-fence (o ∷ older) x h =
-    elim (IsOlder-cond (not o.passed) o (filter (λ o. not o.passed) older) x h) [
-      | inl here ↦ inl here
-      | inr there ↦ inr (IsOlder-fence older x there)
-    ]
+    (elim (not o.passed) as (λ b. IsOlder (cond b (o ∷ filter (λ o. not o.passed) older) (filter (λ o. not o.passed) older)) x → IsOlder (o ∷ older) x) [
+      | true ↦ λ k. elim k [ inl here ↦ inl here | inr there ↦ inr (IsOlder-fence older x there) ]
+      | false ↦ λ k. inr (IsOlder-fence older x k)
+    ]) h
 
 -- a fence adds no candidate
 pub MayBe-fence_word : (word : Word) (x : ℕ) → MayBe (fence_word word) x → MayBe word x
 MayBe-fence_word word x (inl newest) = inl newest
 MayBe-fence_word word x (inr older) = inr (IsOlder-fence word.older x older)
 
-abbrev AllPassed : List Older → Type 0
-AllPassed [] = Unit {0}
-AllPassed (o ∷ older) = (o.passed ≡ true) × AllPassed older
+-- after a flush a fence leaves only the newest candidate
+pub none-passed : (older : List Older) → filter (λ (o : Older). not o.passed) (map (λ (o : Older). record { value = o.value; passed = true }) older) ≡ []
+none-passed [] = refl
+none-passed (o ∷ older) = none-passed older
 
--- a fence that succeeds leaves only the newest candidate of this word
-pub record IsNoted (word : Word) : Type 0 where
-  pub all : AllPassed word.older
-
-AllPassed-passed : (older : List Older) → AllPassed (map (λ o. record { value = o.value; passed = true }) older)
-AllPassed-passed [] = tt
-AllPassed-passed (o ∷ older) = (refl, AllPassed-passed older)
-
--- after a flush the newest candidate is noted
-pub IsNoted-flush_word : (word : Word) → IsNoted (flush_word word)
-IsNoted-flush_word word = record { all = AllPassed-passed word.older }
-
-none-passed : (older : List Older) → AllPassed older → filter (λ o. not o.passed) older ≡ []
-none-passed [] h = refl
-none-passed (o ∷ older) h =
-    ap (λ (b : Bool). cond (not b) (o ∷ filter (λ o. not o.passed) older) (filter (λ o. not o.passed) older)) h.0
-    ∙ none-passed older h.1
-
--- a fence leaves only the newest candidate of a word that is noted
-pub older-fence_word : (word : Word) → IsNoted word → (fence_word word).older ≡ []
-older-fence_word word h = none-passed word.older h.all
-
--- a word with one candidate is noted
-pub IsNoted-alone : (word : Word) → word.older ≡ [] → IsNoted word
-IsNoted-alone word e = record { all = subst AllPassed (sym e) tt }
-
--- and has no other value
+-- a word with one candidate has no other value
 pub MayBe-alone : (word : Word) (x : ℕ) → word.older ≡ [] → MayBe word x → x ≡ word.newest
 MayBe-alone word x e (inl newest) = newest
 MayBe-alone word x e (inr older) = absurd (subst (λ (older : List Older). IsOlder older x) e older)
 
 pub Only-alone : (word : Word) → word.older ≡ [] → Only word word.newest
 Only-alone word e = record { only = λ y may. MayBe-alone word y e may }
-
--- a load returns the only value that a crash leaves
-pub newest-only : (word : Word) (x : ℕ) → Only word x → word.newest ≡ x
-newest-only word x only = only.only word.newest (inl refl)

@@ -1,5 +1,6 @@
 pub mod Cell
 pub mod Crash
+pub mod Cuts
 pub mod Device
 pub mod History
 pub mod Keep

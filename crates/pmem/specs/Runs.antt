@@ -1,5 +1,5 @@
 -- What runs of calls do, for the layers above.
-use Rattle.std.specs.Prelude.{◌≡◌, ◌⊎◌, ℕ, zero, suc, ◌+◌, ◌/◌, ◌≤◌, true, ◌==◌, if◌then◌else◌, List, [], ◌∷◌, ◌++◌}
+use Rattle.std.specs.Prelude.{◌≡◌, ◌⊎◌, ℕ, zero, suc, ◌+◌, ◌/◌, true, ◌==◌, if◌then◌else◌, List, [], ◌∷◌, ◌++◌}
 use Rattle.pmem.specs.Device.{Word, State, Fences, MayBe, Only, store_at, flush_at, moment, fences_after, is_asked, is_unsure}
 use Rattle.pmem.specs.Crash.{IsImage, MayLeave, image_of}
 

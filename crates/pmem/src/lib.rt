@@ -5,10 +5,12 @@ mod cells;
 mod device;
 mod history;
 mod keep;
+mod laws;
 mod runs;
 mod sim;
 
 pub use device::{Crashing, Fault, Pmem};
 pub use history::History;
+pub use laws::{no_cut_explains_a_fall, passed_states_are_told_by_their_moments};
 pub use runs::{flush_all, flush_lines, persist, store_all, store_words};
 pub use sim::SimPmem;

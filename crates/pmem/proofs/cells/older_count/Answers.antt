@@ -1,7 +1,8 @@
-use Rattle.std.proofs.Common.{◌<◌, ◌/◌, ◌+◌, length, ap, arith, ◌∙◌, ℕ}
-use Rattle.pmem.specs.Cell.{at, older_below, older_in}
+use Rattle.std.proofs.Common.{length-append, sym, ◌<◌, ◌/◌, length, ap, arith, ◌∙◌}
+use Rattle.pmem.specs.Cell.{at, older_below, older_of}
+use Rattle.pmem.proofs.Chains.{older_of-hit, older_of-miss}
 use Rattle.pmem.proofs.Walks.{end_of}
-use Rattle.pmem.proofs.Picking.{Walking-start, Walking-next, count-hit, count-miss, length-older_in}
+use Rattle.pmem.proofs.Picking.{Walking-start, Walking-next, length-older_in}
 use Rattle.pmem.proofs.cells.older_count.Goals as goal
 use Rattle.pmem.proofs.cells.older_count.Goals.{then-candidate-word, else-candidate-word}
 
@@ -30,19 +31,17 @@ loop-place-preserved c =
     let candidate = c.index-candidate.result.now in
     let next = Walking-next c.args.heads.now.items pool c.args.word c.loop-place.place c.in-Some.k candidate
     c.requires.chained c.loop-place.invariant.walking c.in-Some.is c.index-candidate.ensures in
-    let os = older_below (at pool) c.args.word (end_of c.loop-place.place) in
-    let rest = older_below (at pool) c.args.word (end_of candidate.next) in
-    let total = length (older_in pool c.args.word) in
+    let split = ap length next.3 ∙ length-append (older_below (at pool) c.args.word (end_of candidate.next)) (older_of candidate c.args.word) in
     record {
       walking = next.0;
       counted =
           elim c.if-candidate-word.branch [
             | then-candidate-word w ↦
-                ap (λ (n : ℕ). n + length rest) w.count-is
-                ∙ count-hit os rest candidate c.args.word c.loop-place.count total next.3 w.if-candidate-word.true c.loop-place.invariant.counted
+                let one = ap length (older_of-hit candidate c.args.word (sym w.if-candidate-word.true)) in
+                omega (arith, w.count-is, split, one, c.loop-place.invariant.counted)
             | else-candidate-word w ↦
-                ap (λ (n : ℕ). n + length rest) w.count-is
-                ∙ count-miss os rest candidate c.args.word c.loop-place.count total next.3 w.if-candidate-word.false c.loop-place.invariant.counted
+                let none = ap length (older_of-miss candidate c.args.word (λ e. w.if-candidate-word.false (sym e))) in
+                omega (arith, w.count-is, split, none, c.loop-place.invariant.counted)
           ];
     }
 

@@ -1,8 +1,6 @@
-use Rattle.std.proofs.Common.{ℕ, ◌<◌, List, Option, None, length, refl, sym, subst, ap, arith}
+use Rattle.std.proofs.Common.{◌<◌, None, length, refl, arith}
 use Rattle.std.proofs.lemmas.List.{get_or_read_under}
-use Rattle.pmem.specs.Device.{flush_at}
-use Rattle.pmem.specs.Cell.{HoldsIn}
-use Rattle.pmem.proofs.Walks.{Flushing, Flushing-start, Flushing-turn, Flushing-end, HoldsIn-flush}
+use Rattle.pmem.proofs.Walks.{Flushing, Flushing-start, Flushing-turn, HoldsIn-flush}
 use Rattle.pmem.proofs.cells.Cells.flush.Goals as goal
 
 pub loop-place-init : goal.loop-place-init
@@ -34,10 +32,7 @@ loop-place-preserved c =
 pub returns-clause-held : goal.returns-clause-held
 returns-clause-held c words starved holds =
     let cells = c.args.self.now in
-    let done = subst (λ (p : Option ℕ). Flushing cells.pool.items c.loop-place.self.pool.items c.args.line p) c.in_default.is c.loop-place.invariant.flushing in
-    subst (λ (newest : List ℕ). HoldsIn newest c.loop-place.self.heads.items c.loop-place.self.pool.items (flush_at c.args.line words) starved)
-    (sym (ap (λ v. v.items) c.loop-place.invariant.newest))
-    (subst (λ (heads : List (Option ℕ)). HoldsIn cells.newest.items heads c.loop-place.self.pool.items (flush_at c.args.line words) starved)
-    (sym (ap (λ v. v.items) c.loop-place.invariant.heads))
-    (HoldsIn-flush cells.newest.items cells.heads.items cells.pool.items c.loop-place.self.pool.items c.args.line done.size (Flushing-end done)
-    words starved holds))
+    let done : Flushing cells.pool.items c.loop-place.self.pool.items c.args.line None = rw c.in_default.is at c.loop-place.invariant.flushing in
+    rw (c.loop-place.invariant.newest, c.loop-place.invariant.heads)
+    (HoldsIn-flush cells.newest.items cells.heads.items cells.pool.items c.loop-place.self.pool.items c.args.line done.size (λ k under. done.beyond k (omega arith) under)
+    words starved holds)
